@@ -1,0 +1,22 @@
+//! What every other crate speaks of: values and their text, names of tries, and lists and texts that
+//! contracts see as lists.
+//!
+//! A value is what a task pushes by the last line of its output. `read_line` reads it from that line, and
+//! `text_of` writes it as compact JSON, which reads back as the same value.
+#![tactic(auto)]
+
+mod line;
+mod memory;
+mod name;
+mod reading;
+mod sequence;
+mod text;
+mod xval;
+
+pub use line::last_line;
+pub use memory::OutOfMemory;
+pub use name::JobName;
+pub use reading::{LineFault, read_line, text_of, text_reads_back};
+pub use sequence::Sequence;
+pub use text::Text;
+pub use xval::{Values, Xval};
