@@ -1,0 +1,3 @@
+pub mod Plans
+pub mod Sound
+pub mod Checked

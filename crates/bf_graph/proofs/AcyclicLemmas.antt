@@ -1,0 +1,35 @@
+-- Where each task has a rank, ranks rise along edges, and there is no cycle.
+use Rattle.std.proofs.Common.{inl, inr, ℕ, suc, ◌<◌, List, [], ◌∷◌, ◌++◌, length, get_or, Contains, subst, arith}
+use Rattle.std.proofs.lemmas.Bool.{cases_lt}
+use Rattle.std.proofs.lemmas.List.{get_or_past}
+use Rattle.bf_graph.specs.Edges.{IsUpstream, IsRank, IsChain, IsCycle}
+use Rattle.bf_graph.specs.Shape.{HasRanks}
+
+none_in : (u : ℕ) → Contains [] u → ⊥
+none_in u (k, h, e) = omega arith
+
+-- only tasks have upstreams
+task_within : (ups : List (List ℕ)) (u t : ℕ) → IsUpstream ups u t → t < length ups
+task_within ups u t up = elim (cases_lt t (length ups)) [
+  | inl h ↦ h
+  | inr h ↦ absurd (none_in u (let P : List ℕ → Type 0 = λ us. Contains us u in subst P (get_or_past ups t [] h) up))
+]
+
+pub rank_rises : (ups : List (List ℕ)) (t u q r : ℕ) → IsRank ups u q → IsRank ups t r → IsUpstream ups u t → q < r
+rank_rises ups t u q r low high up = high.longest (suc q) (u, up, low.path)
+
+module _ (ups : List (List ℕ)) (ranks : List ℕ) (kept : HasRanks ups ranks) where
+  rank : ℕ → ℕ
+  rank t = get_or ranks t 0
+
+  rises : (u t : ℕ) → IsUpstream ups u t → rank u < rank t
+  unfolding rank
+  rises u t up = rank_rises ups t u (get_or ranks u 0) (get_or ranks t 0) (kept.rank u (kept.in_range t u up)) (kept.rank t (task_within ups u t up)) up
+
+  chain_rises : (t : ℕ) (ts : List ℕ) (last : ℕ) → IsChain ups (t ∷ ts ++ last ∷ []) → rank t < rank last
+  chain_rises t [] last c = rises t last c.0
+  chain_rises t (u ∷ us) last c = let step = rises t u c.0 in let rest = chain_rises u us last c.1 in omega (arith, step, rest)
+
+  pub no_cycle : (ts : List ℕ) → IsCycle ups ts → ⊥
+  no_cycle [] c = c
+  no_cycle (t ∷ ts) c = let up = chain_rises t ts t c in omega (arith, up)

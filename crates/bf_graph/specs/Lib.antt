@@ -1,0 +1,5 @@
+pub mod Edges
+pub mod Ranks
+pub mod Shape
+pub mod Faults
+pub mod Reach

@@ -1,0 +1,12 @@
+//! Graphs of tasks without cycles: what is upstream of what, by how many edges, and which tasks reach which.
+//!
+//! A task is its number in file order. The rank of a task is the number of edges of the longest path that
+//! ends in it, so ranks rise along edges, and going through tasks by rank meets each after its upstreams.
+#![tactic(auto)]
+
+mod cycles;
+mod graph;
+mod ranking;
+mod reach;
+
+pub use graph::{Graph, GraphFault};

@@ -1,0 +1,9 @@
+//! Data intervals.
+use jiff::Timestamp;
+
+/// A data interval (Airflow's "Data Interval"). Its start is the run's logical date.
+#[derive(Clone, Copy, Debug, PartialEq, Eq)]
+pub struct Interval {
+    pub start: Timestamp,
+    pub end: Timestamp,
+}

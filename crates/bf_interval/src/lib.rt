@@ -1,0 +1,6 @@
+//! The data intervals of a schedule.
+#![tactic(auto)]
+
+mod interval;
+
+pub use interval::Interval;

@@ -1,0 +1,16 @@
+-- The items that a source gives an expansion.
+use Rattle.std.specs.Prelude.{List, Some}
+use Rattle.std.specs.List.{filter_map}
+use Rattle.bf_value.specs.declared.xval.Xval.{Xval}
+use Rattle.bf_value.specs.declared.xval.Xval.TheVariants.{List as ListOf}
+use Rattle.bf_value.specs.Views.{xvals_of}
+use Rattle.bf_mapped.specs.declared.items.SourceValues.{SourceValues}
+use Rattle.bf_mapped.specs.declared.items.SourceValues.TheVariants.{Pushed, Each, Absent}
+use Rattle.bf_mapped.specs.declared.items.Items.{Items}
+
+-- an unmapped source gives the list that it pushed, an expanded one what its instances pushed, in index order
+abbrev pub items_of : SourceValues → Items
+items_of (Pushed (Some (ListOf values))) = Items.List (xvals_of values)
+items_of (Pushed _) = Items.Missing
+items_of (Each values) = Items.List (filter_map (λ v. v) values)
+items_of Absent = Items.Missing

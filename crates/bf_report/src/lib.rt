@@ -1,0 +1,2 @@
+//! (being written)
+#![tactic(auto)]

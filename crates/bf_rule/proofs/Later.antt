@@ -1,0 +1,54 @@
+-- A verdict that was taken is not revised by what finishes later.
+use Rattle.std.proofs.Common.{◌≡◌, ◌≢◌, ℕ, suc, zero, ◌+◌, ◌<◌, ◌≤◌, ◌==◌, nat_lt, Bool, true, false, not, ◌&&◌, ◌||◌, refl, sym, ap, ◌∙◌, arith, ltb-true, ltb-false, lt-ltb, le-ltb}
+use Rattle.std.proofs.lemmas.Bool.Decides.{nat_tests}
+use Rattle.bf_rule.specs.declared.rule.Rule.{Rule}
+use Rattle.bf_rule.specs.declared.rule.Rule.TheVariants.{AllSuccess as All_success, AllFailed as All_failed, AllSkipped as All_skipped, AllDone as All_done, OneSuccess as One_success, OneFailed as One_failed, OneDone as One_done, NoneFailed as None_failed, NoneFailedMinOneSuccess as None_failed_min_one_success, NoneSkipped as None_skipped, Always}
+use Rattle.bf_rule.specs.declared.rule.Counts.{Counts}
+use Rattle.bf_rule.specs.declared.rule.Verdict.{Verdict}
+use Rattle.bf_rule.specs.declared.rule.Verdict.TheVariants.{Wait, Run, Skip, UpstreamFailed as Upstream_fail, Blocked as Block}
+use Rattle.bf_rule.specs.Verdicts.{is_waiting, verdict_of, fires, finished, failures, total, table, add}
+
+-- the second counts came later: more has finished, and nothing changed if all had
+pub record IsLater (c d : Counts) : Type 0 where
+  pub success : c.success ≤ d.success
+  pub failed : c.failed ≤ d.failed
+  pub upstream_failed : c.upstream_failed ≤ d.upstream_failed
+  pub done : c.unfinished ≡ 0 → c ≡ d
+
+pub fires-later : (rule : Rule) (c d : Counts) → IsLater c d → fires rule c ≡ true → fires rule d ≡ true
+fires-later One_success c d later e = grind (arith, nat_tests, later.success)
+fires-later One_failed c d later e = grind (arith, nat_tests, later.failed, later.upstream_failed)
+fires-later One_done c d later e = grind (arith, nat_tests, later.failed, later.success)
+fires-later Always c d later e = refl
+fires-later _ c d later e = cc
+
+or_true : (b : Bool) → (b || true) ≡ true
+or_true true = refl
+or_true false = refl
+
+fired : (rule : Rule) (c : Counts) → fires rule c ≡ true → verdict_of rule c ≡ Run
+unfolding verdict_of
+fired rule c e = rw (e, or_true (finished c + c.blocked + c.unfinished == 0))
+
+not_fired : (rule : Rule) (c : Counts) (n : ℕ) → c.unfinished ≡ suc n → fires rule c ≡ false → verdict_of rule c ≡ Wait
+unfolding verdict_of
+not_fired rule c n e f =
+    let some : (finished c + c.blocked + c.unfinished == 0) ≡ false = grind (arith, nat_tests) in
+    let more : nat_lt 0 c.unfinished ≡ true = grind (arith, nat_tests) in
+    rw (f, some, more)
+
+pub verdict-stable : (rule : Rule) (c d : Counts) → IsLater c d → verdict_of rule c ≢ Wait → verdict_of rule c ≡ verdict_of rule d
+verdict-stable rule c d later decides = go c.unfinished refl (fires rule c) refl
+  where
+    go : (n : ℕ) → c.unfinished ≡ n → (b : Bool) → fires rule c ≡ b → verdict_of rule c ≡ verdict_of rule d
+    go zero e b f = ap (verdict_of rule) (later.done e)
+    go (suc n) e true f = fired rule c f ∙ sym (fired rule d (fires-later rule c d later f))
+    go (suc n) e false f = absurd (decides (not_fired rule c n e f))
+
+pub add-later : (a b c d : Counts) → IsLater a c → IsLater b d → IsLater (add a b) (add c d)
+add-later a b c d p q = record {
+  success = omega arith;
+  failed = omega arith;
+  upstream_failed = omega arith;
+  done = λ e. let x : a ≡ c = p.done (omega arith) in let y : b ≡ d = q.done (omega arith) in cc;
+}

@@ -1,0 +1,39 @@
+-- Branches: which direct downstreams a branch's value follows.
+use Rattle.std.specs.Prelude.{ℕ, zero, suc, ◌==◌, ◌&&◌, ◌||◌, Bool, List, [], ◌∷◌, length, Option, None, Some, slice_index_or}
+use Rattle.std.specs.List.{list_any, filter_map}
+use Rattle.std.specs.Str.{bytes_eq}
+use Rattle.bf_value.specs.declared.xval.Xval.{Xval}
+use Rattle.bf_value.specs.declared.xval.Xval.TheVariants.{Text, List as ListOf}
+use Rattle.bf_value.specs.Views.{xvals_of}
+use Rattle.bf_graph.specs.Shape.{Shape}
+use Rattle.bf_graph.specs.Edges.{upstreams_of}
+
+abbrev pub name_in : Xval → Option (List ℕ)
+name_in (Text name) = Some name
+name_in _ = None
+
+-- the names that a branch's value gives: one text or a list of texts; any other value names nothing
+abbrev pub names_in : Option Xval → List (List ℕ)
+names_in (Some (Text name)) = name ∷ []
+names_in (Some (ListOf values)) = filter_map name_in (xvals_of values)
+names_in _ = []
+
+abbrev pub id_of : Shape → ℕ → List ℕ
+id_of shape t = slice_index_or shape.ids t []
+
+abbrev pub is_direct_downstream : Shape → ℕ → ℕ → Bool
+is_direct_downstream shape branch t = list_any (λ u. u == branch) (upstreams_of shape.upstreams t)
+
+-- the task is a direct downstream of the branch, and its id is among the names
+abbrev pub is_named : Shape → ℕ → Option Xval → ℕ → Bool
+is_named shape branch value t = is_direct_downstream shape branch t && list_any (λ name. bytes_eq name (id_of shape t)) (names_in value)
+
+-- the task is named, or one of its upstreams is followed; over paths of at most `depth` edges
+abbrev pub followed_to : Shape → ℕ → Option Xval → ℕ → ℕ → Bool
+followed_to shape branch value zero t = is_named shape branch value t
+followed_to shape branch value (suc depth) t =
+    is_named shape branch value t || list_any (followed_to shape branch value depth) (upstreams_of shape.upstreams t)
+
+-- a direct downstream of a branch is followed: it is named, or is a descendant of one that is
+unfoldable pub followed : Shape → ℕ → Option Xval → ℕ → Bool
+followed shape branch value t = followed_to shape branch value (length shape.ids) t

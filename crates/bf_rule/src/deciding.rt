@@ -1,0 +1,86 @@
+//! Verdicts.
+ghost use Rattle.std.specs.Prelude.{◌≡◌, if◌then◌else◌};
+ghost use Rattle.bf_rule.specs.Verdicts.{verdict_of, failures as failures_of, finished as finished_of, total as total_of, fires as fires_by, table as table_of};
+ghost use Rattle.bf_rule.specs.declared.rule.Verdict.{Verdict as VerdictTerm};
+
+use crate::rule::{Counts, Rule, Verdict};
+
+impl Counts {
+    fn failures(&self) -> u64
+        ensures { result ≡ failures_of self.now }
+    {
+        u64::from(self.failed) + u64::from(self.upstream_failed)
+    }
+
+    fn finished(&self) -> u64
+        ensures { result ≡ finished_of self.now }
+    {
+        u64::from(self.success) + self.failures() + u64::from(self.skipped)
+    }
+
+    fn total(&self) -> u64
+        ensures { result ≡ total_of self.now }
+    {
+        self.finished() + u64::from(self.blocked) + u64::from(self.unfinished)
+    }
+}
+
+fn fires(rule: Rule, counts: &Counts) -> bool
+    ensures { result ≡ fires_by rule counts.now }
+{
+    match rule {
+        Rule::OneSuccess => counts.success > 0,
+        Rule::OneFailed => counts.failures() > 0,
+        Rule::OneDone => u64::from(counts.success) + u64::from(counts.failed) > 0,
+        Rule::Always => true,
+        _ => false,
+    }
+}
+
+fn run_or(runs: bool, otherwise: Verdict) -> Verdict
+    ensures { result ≡ (if runs then Verdict.Run else otherwise) }
+{
+    if runs { Verdict::Run } else { otherwise }
+}
+
+fn table(rule: Rule, counts: &Counts) -> Verdict
+    ensures { result ≡ table_of rule counts.now }
+{
+    let failures = counts.failures();
+    let finished = counts.finished();
+    match rule {
+        Rule::AllSuccess if failures > 0 => Verdict::UpstreamFailed,
+        Rule::AllSuccess => run_or(counts.skipped == 0, Verdict::Skip),
+        Rule::AllFailed => run_or(failures == finished, Verdict::Skip),
+        Rule::AllSkipped => run_or(u64::from(counts.skipped) == finished, Verdict::Skip),
+        Rule::OneSuccess if counts.success > 0 => Verdict::Run,
+        Rule::OneSuccess if u64::from(counts.skipped) == finished => Verdict::Skip,
+        Rule::OneSuccess => Verdict::UpstreamFailed,
+        Rule::OneFailed => run_or(failures > 0, Verdict::Skip),
+        Rule::OneDone => run_or(u64::from(counts.success) + u64::from(counts.failed) > 0, Verdict::Skip),
+        Rule::NoneFailed => run_or(failures == 0, Verdict::UpstreamFailed),
+        Rule::NoneFailedMinOneSuccess if failures > 0 => Verdict::UpstreamFailed,
+        Rule::NoneFailedMinOneSuccess => run_or(counts.success > 0, Verdict::Skip),
+        Rule::NoneSkipped => run_or(counts.skipped == 0, Verdict::Skip),
+        Rule::AllDone | Rule::Always => Verdict::Run,
+    }
+}
+
+/// The verdict on a task, from how many instances of its upstreams are in each state (Airflow's "Trigger Rules";
+/// what each rule says at each count is this project's own). A task without upstreams runs, and so does one whose
+/// rule finds what it looks for among the instances that have finished. Else an unfinished upstream makes it wait,
+/// then a blocked one blocks it, and then the table decides.
+#[tactic(auto, unfolding(crate::specs::Verdicts::verdict_of))]
+pub fn verdict(rule: Rule, counts: &Counts) -> Verdict
+    ensures { result ≡ verdict_of rule counts.now }
+{
+    if counts.total() == 0 || fires(rule, counts) {
+        Verdict::Run
+    } else if counts.unfinished > 0 {
+        Verdict::Wait
+    } else if counts.blocked > 0 {
+        Verdict::Blocked
+    } else {
+        table(rule, counts)
+    }
+}

@@ -1,0 +1,11 @@
+//! Trigger rules: what the upstreams of a task say of it, from how many of their instances are in each state.
+//!
+//! The rules are Airflow's eleven. `verdict` answers before all upstreams have finished where the rule lets it,
+//! and an answer other than `Wait` is never revised by what finishes later.
+#![tactic(auto)]
+
+mod deciding;
+mod rule;
+
+pub use deciding::verdict;
+pub use rule::{Counts, Rule, Verdict};

@@ -1,0 +1,45 @@
+-- What a task pushed, what a pull from it gives, and the items that it gives an expansion.
+use Rattle.std.specs.Prelude.{if◌then◌else◌, List, [], ◌∷◌, Option, None, Some, is_some, map}
+use Rattle.std.specs.List.{filter_map}
+use Rattle.bf_value.specs.Views.{list_of}
+use Rattle.bf_value.specs.declared.xval.Xval.{Xval}
+use Rattle.bf_check.specs.declared.plan.Task.{Task}
+use Rattle.bf_mapped.specs.Items.{items_of}
+use Rattle.bf_mapped.specs.declared.items.Items.{Items}
+use Rattle.bf_mapped.specs.declared.items.SourceValues.{SourceValues}
+use Rattle.bf_xcom.specs.declared.values.Outcome.{Outcome}
+use Rattle.bf_xcom.specs.declared.values.Outcome.TheVariants.{Success, Failed, Skipped}
+use Rattle.bf_xcom.specs.declared.values.TaskResult.{TaskResult}
+use Rattle.bf_xcom.specs.declared.values.TaskValue.{TaskValue}
+use Rattle.bf_xcom.specs.declared.values.TaskValue.TheVariants.{Ran}
+
+abbrev pub pushed_by : Outcome → Option Xval
+pushed_by (Success v) = v
+pushed_by Failed = None
+pushed_by Skipped = None
+
+abbrev pub pushed : TaskResult → Option Xval
+pushed r = pushed_by r.outcome
+
+-- the value that an unmapped task pushed
+abbrev pub pushed_alone : List TaskResult → Option Xval
+pushed_alone [] = None
+pushed_alone (r ∷ rs) = pushed r
+
+-- the values that the instances of a task pushed, in index order
+abbrev pub all_pushed : List TaskResult → List Xval
+all_pushed rs = filter_map pushed rs
+
+-- what a pull from a task gives
+abbrev pub pull : Task → TaskValue → Option Xval
+pull source (Ran rs) = if is_some source.expand then Some (list_of (all_pushed rs)) else pushed_alone rs
+pull source _ = None
+
+-- what a source has for the task that is expanded over it
+abbrev pub source_values : Task → TaskValue → SourceValues
+source_values source (Ran rs) = if is_some source.expand then SourceValues.Each (map pushed rs) else SourceValues.Pushed (pushed_alone rs)
+source_values source _ = SourceValues.Absent
+
+-- the items of an expansion, if they are not missing
+abbrev pub items : Task → TaskValue → Items
+items source v = items_of (source_values source v)

@@ -1,0 +1,92 @@
+//! What a try is given, and what comes of tries.
+ghost use Rattle.std.specs.Prelude.{◌≡◌, IfOk};
+
+use bf_value::{OutOfMemory, Sequence, Xval};
+use std::alloc::Global;
+
+/// What the tries of an instance are given: its item, for an instance of an expanded task, and for each pull of
+/// the task the value or nothing.
+#[derive(Debug, Drop)]
+pub struct Given {
+    pub item: Option<Xval>,
+    pub pulled: Sequence<Option<Xval>>,
+}
+
+/// How a try ended. A success pushes a value or nothing.
+#[derive(Debug, Drop)]
+pub enum Outcome {
+    Success(Option<Xval>),
+    Failed,
+    Skipped,
+}
+
+/// What came of an instance: how its last try ended, and the number of that try.
+#[derive(Debug, Drop)]
+pub struct TaskResult {
+    pub outcome: Outcome,
+    pub tries: u32,
+}
+
+/// The value of a task in a run, once it is settled: it depends on a past that failed or on a task that is
+/// blocked; or it is skipped, or upstream_failed, without a try; or it ran, with a result for each instance by
+/// map index (one for an unmapped task).
+#[derive(Debug, Drop)]
+pub enum TaskValue {
+    Blocked,
+    Skipped,
+    UpstreamFailed,
+    Ran(Sequence<TaskResult>),
+}
+
+/// The state of a run that is closed (Airflow's "DAG Run status").
+#[derive(Clone, Copy, Debug, PartialEq, Eq)]
+pub enum RunState {
+    Success,
+    Failed,
+}
+
+fn copy_of(alloc: Global, value: &Option<Xval>) -> Result<Option<Xval>, OutOfMemory>
+    ensures { IfOk result (λ v. v ≡ value.now) }
+{
+    match value {
+        Some(value) => Ok(Some(value.copy(alloc)?)),
+        None => Ok(None),
+    }
+}
+
+impl Given {
+    /// An equal one.
+    pub fn copy(&self, alloc: Global) -> Result<Given, OutOfMemory>
+        ensures { IfOk result (λ given. given ≡ self.now) }
+    {
+        let item = copy_of(alloc, &self.item)?;
+        let pulled = copies_of(alloc, self.pulled.as_slice())?;
+        Ok(Given {
+            item,
+            pulled: Sequence::from_vec(pulled),
+        })
+    }
+}
+
+fn copies_of(alloc: Global, values: &[Option<Xval>]) -> Result<Vec<Option<Xval>>, OutOfMemory>
+    ensures { IfOk result (λ copies. copies.items ≡ values.now) }
+{
+    let mut copies = Vec::with_capacity(alloc, values.len())?;
+    for value in values {
+        copies.push(copy_of(alloc, value)?)?;
+    }
+    Ok(copies)
+}
+
+impl Outcome {
+    /// An equal one.
+    pub fn copy(&self, alloc: Global) -> Result<Outcome, OutOfMemory>
+        ensures { IfOk result (λ outcome. outcome ≡ self.now) }
+    {
+        match self {
+            Outcome::Success(pushed) => Ok(Outcome::Success(copy_of(alloc, pushed)?)),
+            Outcome::Failed => Ok(Outcome::Failed),
+            Outcome::Skipped => Ok(Outcome::Skipped),
+        }
+    }
+}
