@@ -1,6 +1,6 @@
 -- Branches: which direct downstreams a branch's value follows.
-use Rattle.std.specs.Prelude.{ℕ, zero, suc, ◌==◌, ◌&&◌, ◌||◌, Bool, List, [], ◌∷◌, length, Option, None, Some, slice_index_or}
-use Rattle.std.specs.List.{list_any, filter_map}
+use Rattle.std.specs.Prelude.{ℕ, zero, suc, ◌==◌, ◌&&◌, ◌||◌, Bool, true, false, List, [], ◌∷◌, length, Option, None, Some, position, slice_index_or}
+use Rattle.std.specs.List.{list_any, list_all, filter_map}
 use Rattle.std.specs.Str.{bytes_eq}
 use Rattle.bf_value.specs.declared.xval.Xval.{Xval}
 use Rattle.bf_value.specs.declared.xval.Xval.TheVariants.{Text, List as ListOf}
@@ -37,3 +37,21 @@ followed_to shape branch value (suc depth) t =
 -- a direct downstream of a branch is followed: it is named, or is a descendant of one that is
 unfoldable pub followed : Shape → ℕ → Option Xval → ℕ → Bool
 followed shape branch value t = followed_to shape branch value (length shape.ids) t
+
+-- ---- what a branch may push
+
+abbrev pub is_downstream_number : Shape → ℕ → Option ℕ → Bool
+is_downstream_number shape branch None = false
+is_downstream_number shape branch (Some t) = is_direct_downstream shape branch t
+
+-- the id of a direct downstream of the branch
+abbrev pub is_downstream_name : Shape → ℕ → Option (List ℕ) → Bool
+is_downstream_name shape branch None = false
+is_downstream_name shape branch (Some name) = is_downstream_number shape branch (position (bytes_eq name) shape.ids)
+
+-- a branch may push nothing, the id of a direct downstream, or a list of such ids
+abbrev pub names_downstreams : Shape → ℕ → Option Xval → Bool
+names_downstreams shape branch None = true
+names_downstreams shape branch (Some (Text name)) = is_downstream_name shape branch (Some name)
+names_downstreams shape branch (Some (ListOf values)) = list_all (λ v. is_downstream_name shape branch (name_in v)) (xvals_of values)
+names_downstreams shape branch (Some _) = false

@@ -5,10 +5,11 @@ use crate::memory::OutOfMemory;
 use std::alloc::Global;
 use std::marker::Model;
 
-/// Items in order. Contracts see the list of them, and not how much room is kept for more.
+/// Items in order. Contracts see the list of them, and not how much room is kept for more. Any vector is a
+/// sequence, so its field is public.
 #[derive(Debug, Drop)]
 pub struct Sequence<T> {
-    items: Vec<T>,
+    pub items: Vec<T>,
 }
 
 impl<T> Model for Sequence<T> {

@@ -1,0 +1,112 @@
+-- A deeper recursion changes nothing, so the value of a task is made of the values of the others.
+use Rattle.std.proofs.Common.{◌≡◌, ℕ, suc, zero, ◌<◌, ◌≤◌, Bool, not, ◌&&◌, ◌||◌, List, [], ◌∷◌, length, map, Option, None, Some, is_some, option_and_then, refl, ap, ap₂, ◌∙◌, arith, inl, inr}
+use Rattle.std.specs.List.{list_any, list_all, AllByRecursion}
+use Rattle.bf_core.specs.Terms.{is_waiting, Dag, Task, task_of, Xval, Verdict, Ledger, TaskValue, pull, items, IsOneOf, IsSettledAncestor, Direct, Above, IsSound, add, is_branch}
+use Rattle.bf_core.specs.Deciding.{Seen, settled, lets_decide, branch_is, branch_skips, is_blocked, ruling, counts_over, Decision, pull_seen, pulled, instances, mapped, after_verdict, and_then_past, gate, decision}
+use Rattle.bf_core.specs.Recursion.{value_of, out_to, out, before, decided}
+
+-- two sights of the tasks of a list are the same
+abbrev pub SameOn : (ℕ → Seen) → (ℕ → Seen) → List ℕ → Type 0
+SameOn a b us = (u : ℕ) → IsOneOf us u → a u ≡ b u
+
+all-cong : (dag : Dag) (task : Task) (a b : ℕ → Seen) (us : List ℕ) → SameOn a b us → list_all (lets_decide dag task a) us ≡ list_all (lets_decide dag task b) us
+all-cong dag task a b [] same = refl
+all-cong dag task a b (u ∷ us) same =
+    ap₂ (λ x y. (is_some x.value || (not (is_waiting task.rule) && not (is_branch (task_of dag u)))) && y) (same u (inl refl)) (all-cong dag task a b us (λ v h. same v (inr h)))
+
+any-cong : (dag : Dag) (p : ℕ → TaskValue → Bool) (a b : ℕ → Seen) (us : List ℕ) → SameOn a b us →
+    list_any (λ u. branch_is dag (p u) u (a u).value) us ≡ list_any (λ u. branch_is dag (p u) u (b u).value) us
+any-cong dag p a b [] same = refl
+any-cong dag p a b (u ∷ us) same =
+    ap₂ (λ x y. branch_is dag (p u) u x.value || y) (same u (inl refl)) (any-cong dag p a b us (λ v h. same v (inr h)))
+
+counts-cong : (a b : ℕ → Seen) (us : List ℕ) → SameOn a b us → counts_over a us ≡ counts_over b us
+counts-cong a b [] same = refl
+counts-cong a b (u ∷ us) same = ap₂ (λ x y. add x.counts y) (same u (inl refl)) (counts-cong a b us (λ v h. same v (inr h)))
+
+pulls-cong : (dag : Dag) (a b : ℕ → Seen) (us : List ℕ) → SameOn a b us → map (pull_seen dag a) us ≡ map (pull_seen dag b) us
+pulls-cong dag a b [] same = refl
+pulls-cong dag a b (u ∷ us) same = ap₂ (λ x y. option_and_then (pull (task_of dag u)) x.value ∷ y) (same u (inl refl)) (pulls-cong dag a b us (λ v h. same v (inr h)))
+
+ruling-cong : (dag : Dag) (a b : ℕ → Seen) (t : ℕ) → SameOn a b (task_of dag t).upstreams → ruling dag a t ≡ ruling dag b t
+unfolding ruling
+ruling-cong dag a b t same =
+    rw (
+      all-cong dag (task_of dag t) a b (task_of dag t).upstreams same,
+      any-cong dag (λ u. branch_skips dag t u) a b (task_of dag t).upstreams same,
+      any-cong dag (λ u. is_blocked) a b (task_of dag t).upstreams same,
+      counts-cong a b (task_of dag t).upstreams same,
+    )
+
+source-cong : (dag : Dag) (a b : ℕ → Seen) (pulls : List (Option Xval)) (expand : Option ℕ) → ((s : ℕ) → expand ≡ Some s → a s ≡ b s) →
+    instances dag a pulls expand ≡ instances dag b pulls expand
+source-cong dag a b pulls None same = refl
+source-cong dag a b pulls (Some s) same =
+    ap (λ x. go x.value) (same s refl)
+  where
+    go : Option TaskValue → Decision
+    go o = elim o [ None ↦ Decision.Wait | Some v ↦ mapped pulls (items (task_of dag s) v) ]
+
+after-cong : (dag : Dag) (a b : ℕ → Seen) (t : ℕ) (v : Verdict) → SameOn a b (task_of dag t).pulls → ((s : ℕ) → (task_of dag t).expand ≡ Some s → a s ≡ b s) →
+    after_verdict dag a t v ≡ after_verdict dag b t v
+after-cong dag a b t Verdict.Run same source =
+    ap (λ x. instances dag a x (task_of dag t).expand) (pulls-cong dag a b (task_of dag t).pulls same) ∙ source-cong dag a b (pulled dag b t) (task_of dag t).expand source
+after-cong dag a b t Verdict.Wait same source = refl
+after-cong dag a b t _ same source = refl
+
+-- a decision rests on the upstreams, the pulls, and the source, which is an upstream
+pub decision-cong : (dag : Dag) (k : ℕ) (a b : ℕ → Seen) (p : Option TaskValue) (t : ℕ) → IsSound dag →
+    SameOn a b (task_of dag t).upstreams → SameOn a b (task_of dag t).pulls → decision dag k a p t ≡ decision dag k b p t
+unfolding decision gate
+decision-cong dag k a b p t sound ups pulls =
+    ap (λ v. after_verdict dag a t (and_then_past dag k p t v)) (ruling-cong dag a b t ups)
+    ∙ after-cong dag a b t _ pulls (λ s e. ups s (sound.source_is_upstream t s e))
+
+ancestor-below : (dag : Dag) (sound : IsSound dag) (t a : ℕ) → IsSettledAncestor dag t a → sound.rank a < sound.rank t
+ancestor-below dag sound t a (Direct w h) = sound.rises t a h
+ancestor-below dag sound t a (Above {u = u} w h above) =
+    let x : sound.rank a < sound.rank u = ancestor-below dag sound u a above in
+    let y : sound.rank u < sound.rank t = sound.rises t u h in
+    omega arith
+
+pub pick : (P : ℕ → Type 0) (us : List ℕ) (u : ℕ) → AllByRecursion P us → IsOneOf us u → P u
+pick P [] u all h = absurd h
+pick P (x ∷ xs) u all (inl e) = rw e all.0
+pick P (x ∷ xs) u all (inr h) = pick P xs u all.1 h
+
+pub pull-below : (dag : Dag) (sound : IsSound dag) (t p : ℕ) → IsOneOf (task_of dag t).pulls p → sound.rank p < sound.rank t
+pull-below dag sound t p h = ancestor-below dag sound t p (pick (IsSettledAncestor dag t) (task_of dag t).pulls p (sound.pulls_settled t) h)
+
+out_to-deep : (dag : Dag) (sound : IsSound dag) (ledger : Ledger) (past : ℕ → TaskValue) (k d e t : ℕ) → sound.rank t < d → sound.rank t < e →
+    out_to dag ledger past k d t ≡ out_to dag ledger past k e t
+out_to-deep dag sound ledger past k zero e t l m = absurd (omega (arith, l))
+out_to-deep dag sound ledger past k (suc d) zero t l m = absurd (omega (arith, m))
+out_to-deep dag sound ledger past k (suc d) (suc e) t l m =
+    ap (value_of dag ledger k t)
+    (decision-cong dag k _ _ (Some (past t)) t sound
+    (λ u h. ap settled (out_to-deep dag sound ledger past k d e u (below u (sound.rises t u h) d l) (below u (sound.rises t u h) e m)))
+    (λ p h. ap settled (out_to-deep dag sound ledger past k d e p (below p (pull-below dag sound t p h) d l) (below p (pull-below dag sound t p h) e m))))
+  where
+    below : (u : ℕ) → sound.rank u < sound.rank t → (n : ℕ) → sound.rank t < suc n → sound.rank u < n
+    below u x n y = omega arith
+
+run-is : (dag : Dag) (sound : IsSound dag) (ledger : Ledger) (past : ℕ → TaskValue) (k t : ℕ) →
+    out_to dag ledger past k (suc (length dag.tasks)) t
+    ≡ value_of dag ledger k t (decision dag k (λ u. settled (out_to dag ledger past k (suc (length dag.tasks)) u)) (Some (past t)) t)
+run-is dag sound ledger past k t =
+    ap (value_of dag ledger k t)
+    (decision-cong dag k _ _ (Some (past t)) t sound
+    (λ u h. ap settled (out_to-deep dag sound ledger past k _ _ u (below u (sound.rises t u h)) (more u)))
+    (λ p h. ap settled (out_to-deep dag sound ledger past k _ _ p (below p (pull-below dag sound t p h)) (more p))))
+  where
+    below : (u : ℕ) → sound.rank u < sound.rank t → sound.rank u < length dag.tasks
+    below u x = let b : sound.rank t ≤ length dag.tasks = sound.bounded t in omega arith
+
+    more : (u : ℕ) → sound.rank u < suc (length dag.tasks)
+    more u = let b : sound.rank u ≤ length dag.tasks = sound.bounded u in omega arith
+
+-- each task's value is made of the others' values
+pub out-is : (dag : Dag) → IsSound dag → (ledger : Ledger) (k t : ℕ) → out dag ledger k t ≡ value_of dag ledger k t (decided dag ledger k t)
+unfolding out decided before
+out-is dag sound ledger zero t = run-is dag sound ledger (λ u. TaskValue.Blocked) zero t
+out-is dag sound ledger (suc k) t = run-is dag sound ledger (out dag ledger k) (suc k) t

@@ -1,0 +1,15 @@
+pub mod Decisions
+pub mod Cells
+pub mod Attempts
+pub mod Reading
+pub mod Depth
+pub mod Invariant
+pub mod Instances
+pub mod Steps
+pub mod Shape
+pub mod Ended
+pub mod Confluence
+pub mod Pools
+pub mod Stuck
+pub mod Placing
+pub mod Taken

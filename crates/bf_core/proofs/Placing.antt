@@ -1,0 +1,35 @@
+-- Reading and writing the runs of a state.
+use Rattle.std.proofs.Common.{◌≡◌, ◌<◌, ℕ, List, [], ◌∷◌, length, slice_index_or, slice_set, slice_get, IsSome, None, zero, suc, refl, ap, arith}
+use Rattle.bf_core.specs.Events.{change_at, put_in}
+use Rattle.bf_try.specs.declared.ledger.Ledger.{Ledger}
+use Rattle.bf_core.specs.Terms.{State, Run, Cell}
+
+pub any-default : {A : Type 0} (xs : List A) (i : ℕ) (d e : A) → i < length xs → slice_index_or xs i d ≡ slice_index_or xs i e
+any-default [] i d e h = absurd (omega (arith, h))
+any-default (x ∷ xs) zero d e h = refl
+any-default (x ∷ xs) (suc i) d e h = any-default xs i d e (omega arith)
+
+pub with-runs : (a b : List Run) (ledger : Ledger) → a ≡ b → ◌≡◌ {A = State} (record { runs = a; ledger = ledger }) (record { runs = b; ledger = ledger })
+with-runs a b ledger e = ap (λ rs. record { runs = rs; ledger = ledger }) e
+
+pub change-set : {A : Type 0} (f : A → A) (xs : List A) (i : ℕ) (y : A) → i < length xs → y ≡ slice_index_or xs i y → slice_set xs i (f y) ≡ change_at f xs i
+change-set f [] i y l e = absurd (omega (arith, l))
+change-set f (x ∷ xs) zero y l e = ap (λ z. f z ∷ xs) e
+change-set f (x ∷ xs) (suc i) y l e = ap (λ zs. x ∷ zs) (change-set f xs i y (omega arith) e)
+
+pub some-below : {A : Type 0} (xs : List A) (i : ℕ) → IsSome (slice_get xs i) → i < length xs
+some-below [] i h = cc
+some-below (x ∷ xs) zero h = omega arith
+some-below (x ∷ xs) (suc i) h = let l : i < length xs = some-below xs i h in omega arith
+
+set-twice : {A : Type 0} (xs : List A) (i : ℕ) (x y : A) → slice_set (slice_set xs i x) i y ≡ slice_set xs i y
+set-twice [] i x y = refl
+set-twice (z ∷ zs) zero x y = refl
+set-twice (z ∷ zs) (suc i) x y = ap (λ ws. z ∷ ws) (set-twice zs i x y)
+
+-- the second of two puts stays
+pub put-put : (runs : List Run) (k t : ℕ) (c d : Cell) → put_in (put_in runs k t c) k t d ≡ put_in runs k t d
+unfolding put_in
+put-put [] k t c d = refl
+put-put (r ∷ rs) zero t c d = ap (λ cells. record { phase = r.phase; cells = cells } ∷ rs) (set-twice r.cells t c d)
+put-put (r ∷ rs) (suc k) t c d = ap (λ ws. r ∷ ws) (put-put rs k t c d)

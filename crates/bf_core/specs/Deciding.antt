@@ -1,0 +1,135 @@
+-- What is decided of a task in a run, from what is known of the tasks that it looks at.
+-- The recursion over dates reads it over final values, and the machine over its cells.
+use Rattle.std.specs.Prelude.{ℕ, ◌==◌, Bool, true, false, not, ◌&&◌, ◌||◌, if◌then◌else◌, List, [], ◌∷◌, map, Option, None, Some, is_some, option_and_then}
+use Rattle.std.specs.List.{list_any, list_all}
+use Rattle.bf_core.specs.Terms.{TaskValue, pull, items, Items, Xval, Task, Dag, task_of, is_branch, shape_of, followed, Counts, none_counted, add, Verdict, is_waiting, verdict, Given, Outcome, TaskResult, is_failed}
+
+-- what is known of a task: its instances counted by state, and its value once it is settled
+pub record Seen : Type 0 where
+  pub counts : Counts
+  pub value : Option TaskValue
+
+-- ---- counting
+
+abbrev pub one_unfinished : Counts
+one_unfinished = record none_counted { unfinished = 1 }
+
+abbrev pub one_skipped : Counts
+one_skipped = record none_counted { skipped = 1 }
+
+abbrev pub one_upstream_failed : Counts
+one_upstream_failed = record none_counted { upstream_failed = 1 }
+
+abbrev pub one_blocked : Counts
+one_blocked = record none_counted { blocked = 1 }
+
+abbrev pub one_of : Outcome → Counts
+one_of (Outcome.Success v) = record none_counted { success = 1 }
+one_of Outcome.Failed = record none_counted { failed = 1 }
+one_of Outcome.Skipped = one_skipped
+
+abbrev pub counts_of_results : List TaskResult → Counts
+counts_of_results [] = none_counted
+counts_of_results (r ∷ rs) = add (one_of r.outcome) (counts_of_results rs)
+
+abbrev pub counts_of : TaskValue → Counts
+counts_of TaskValue.Blocked = one_blocked
+counts_of TaskValue.Skipped = one_skipped
+counts_of TaskValue.UpstreamFailed = one_upstream_failed
+counts_of (TaskValue.Ran rs) = counts_of_results rs
+
+-- a task that is settled
+abbrev pub settled : TaskValue → Seen
+settled v = record { counts = counts_of v; value = Some v }
+
+-- ---- branches
+
+-- the branch succeeded and does not follow the task
+abbrev pub branch_skips : Dag → ℕ → ℕ → TaskValue → Bool
+branch_skips dag t u (TaskValue.Ran []) = false
+branch_skips dag t u (TaskValue.Ran (r ∷ rs)) = elim r.outcome [ Outcome.Success v ↦ not (followed (shape_of dag) u v t) | Outcome.Failed ↦ false | Outcome.Skipped ↦ false ]
+branch_skips dag t u _ = false
+
+abbrev pub is_blocked : TaskValue → Bool
+is_blocked TaskValue.Blocked = true
+is_blocked _ = false
+
+-- a fact about the value of an upstream that is a branch
+abbrev pub branch_is : Dag → (TaskValue → Bool) → ℕ → Option TaskValue → Bool
+branch_is dag p u None = false
+branch_is dag p u (Some v) = is_branch (task_of dag u) && p v
+
+-- ---- the verdict
+
+abbrev pub counts_over : (ℕ → Seen) → List ℕ → Counts
+counts_over seen [] = none_counted
+counts_over seen (u ∷ us) = add (seen u).counts (counts_over seen us)
+
+-- the upstream lets the task be decided: it is settled, or the task's rule need not wait for it and it is no branch
+abbrev pub lets_decide : Dag → Task → (ℕ → Seen) → ℕ → Bool
+lets_decide dag task seen u = is_some (seen u).value || (not (is_waiting task.rule) && not (is_branch (task_of dag u)))
+
+unfoldable pub ruling : Dag → (ℕ → Seen) → ℕ → Verdict
+ruling dag seen t =
+    if not (list_all (lets_decide dag (task_of dag t) seen) (task_of dag t).upstreams) then Verdict.Wait
+    else (if list_any (λ u. branch_is dag (branch_skips dag t u) u (seen u).value) (task_of dag t).upstreams then Verdict.Skip
+    else (if list_any (λ u. branch_is dag is_blocked u (seen u).value) (task_of dag t).upstreams then Verdict.Blocked
+    else verdict (task_of dag t).rule (counts_over seen (task_of dag t).upstreams)))
+
+-- ---- the past, the expansion
+
+abbrev pub all_passed : List TaskResult → Bool
+all_passed [] = true
+all_passed (r ∷ rs) = not (is_failed r.outcome) && all_passed rs
+
+-- a task that depends on its past goes on after this value of its previous run
+abbrev pub lets_pass : TaskValue → Bool
+lets_pass TaskValue.Skipped = true
+lets_pass (TaskValue.Ran rs) = all_passed rs
+lets_pass _ = false
+
+abbrev pub past_ruling : Option TaskValue → Verdict
+past_ruling None = Verdict.Wait
+past_ruling (Some v) = if lets_pass v then Verdict.Run else Verdict.Blocked
+
+abbrev pub and_then_past : Dag → ℕ → Option TaskValue → ℕ → Verdict → Verdict
+and_then_past dag k before t Verdict.Run = if (task_of dag t).depends_on_past && not (k == 0) then past_ruling before else Verdict.Run
+and_then_past dag k before t v = v
+
+pub data Decision : Type 0 where
+  Wait : Decision
+  Blocked : Decision
+  Skipped : Decision
+  UpstreamFailed : Decision
+  Instances : List Given → Decision
+
+abbrev pub pull_seen : Dag → (ℕ → Seen) → ℕ → Option Xval
+pull_seen dag seen p = option_and_then (pull (task_of dag p)) (seen p).value
+
+abbrev pub pulled : Dag → (ℕ → Seen) → ℕ → List (Option Xval)
+pulled dag seen t = map (pull_seen dag seen) (task_of dag t).pulls
+
+abbrev pub mapped : List (Option Xval) → Items → Decision
+mapped pulled Items.Missing = Decision.UpstreamFailed
+mapped pulled (Items.List []) = Decision.Skipped
+mapped pulled (Items.List (x ∷ xs)) = Decision.Instances (map (λ item. record { item = Some item; pulled = pulled }) (x ∷ xs))
+
+-- the instances of a task that goes on
+abbrev pub instances : Dag → (ℕ → Seen) → List (Option Xval) → Option ℕ → Decision
+instances dag seen pulled None = Decision.Instances (record { item = None; pulled = pulled } ∷ [])
+instances dag seen pulled (Some source) = elim (seen source).value [ None ↦ Decision.Wait | Some v ↦ mapped pulled (items (task_of dag source) v) ]
+
+abbrev pub after_verdict : Dag → (ℕ → Seen) → ℕ → Verdict → Decision
+after_verdict dag seen t Verdict.Wait = Decision.Wait
+after_verdict dag seen t Verdict.Blocked = Decision.Blocked
+after_verdict dag seen t Verdict.Skip = Decision.Skipped
+after_verdict dag seen t Verdict.UpstreamFailed = Decision.UpstreamFailed
+after_verdict dag seen t Verdict.Run = instances dag seen (pulled dag seen t) (task_of dag t).expand
+
+-- the verdict, with the past
+unfoldable pub gate : Dag → ℕ → (ℕ → Seen) → Option TaskValue → ℕ → Verdict
+gate dag k seen before t = and_then_past dag k before t (ruling dag seen t)
+
+-- what is decided of the task t in the run k
+unfoldable pub decision : Dag → ℕ → (ℕ → Seen) → Option TaskValue → ℕ → Decision
+decision dag k seen before t = after_verdict dag seen t (gate dag k seen before t)

@@ -1,0 +1,93 @@
+-- What a raw answer is worth: the outcome of a try, from how its program ended and its last line.
+use Rattle.std.specs.Prelude.{ℕ, zero, suc, ◌==◌, ℤ, pos, negsuc, nat_le, length, Bool, true, false, not, ◌&&◌, ◌||◌, if◌then◌else◌, List, Option, None, Some, is_some}
+use Rattle.std.specs.List.{list_any}
+use Rattle.std.specs.Str.{is_utf8}
+use Rattle.bf_value.specs.Json.{deepest, text_of, value_of_line}
+use Rattle.bf_value.specs.Plain.{plains_depth}
+use Rattle.bf_value.specs.Views.{xvals_of}
+use Rattle.bf_value.specs.declared.xval.Xval.{Xval}
+use Rattle.bf_value.specs.declared.xval.Xval.TheVariants.{Nil, List as ListOf}
+use Rattle.bf_rule.specs.Branches.{names_downstreams}
+use Rattle.bf_check.specs.Plans.{task_of, shape_of, is_branch}
+use Rattle.bf_check.specs.declared.plan.Task.{Task}
+use Rattle.bf_check.specs.declared.plan.Dag.{Dag}
+use Rattle.bf_xcom.specs.declared.values.Outcome.{Outcome}
+use Rattle.bf_try.specs.declared.answers.Exit.{Exit}
+use Rattle.bf_try.specs.declared.answers.Line.{Line}
+use Rattle.bf_try.specs.declared.answers.Raw.{Raw}
+
+-- ---- what a try of a task may push
+
+-- the compact JSON text of a pushed value has at most this many bytes
+abbrev pub longest_text : ℕ
+longest_text = 65_536
+
+abbrev pub most_items : ℕ
+most_items = 1_024
+
+abbrev pub is_short : Option Xval → Bool
+is_short None = true
+is_short (Some x) = nat_le (length (text_of x)) longest_text
+
+abbrev pub is_list_of_items : Option Xval → Bool
+is_list_of_items (Some (ListOf values)) = nat_le (length (xvals_of values)) most_items
+is_list_of_items _ = false
+
+abbrev pub is_source : Option ℕ → ℕ → Bool
+is_source None t = false
+is_source (Some source) t = source == t
+
+-- an unmapped task that some task is expanded over
+abbrev pub gives_items : Dag → ℕ → Bool
+gives_items dag t = not (is_some (task_of dag t).expand) && list_any (λ task. is_source task.expand t) dag.tasks
+
+-- its text is short; of a branch it names direct downstreams; of a task that gives items it is a list of few
+abbrev pub may_push : Dag → ℕ → Option Xval → Bool
+may_push dag t v =
+    is_short v
+    && ((not (is_branch (task_of dag t)) || names_downstreams (shape_of dag) t v)
+    && (not (gives_items dag t) || is_list_of_items v))
+
+-- ---- grades
+
+abbrev pub grade_value : Dag → ℕ → Option Xval → Outcome
+grade_value dag t v = if may_push dag t v then Outcome.Success v else Outcome.Failed
+
+abbrev pub grade_line : Dag → ℕ → List ℕ → Outcome
+grade_line dag t line = if is_utf8 line then grade_value dag t (value_of_line line) else Outcome.Failed
+
+-- the status by which a try says that it is skipped (Airflow's BashOperator has the same)
+abbrev pub skip_status : ℤ
+skip_status = pos 99
+
+abbrev pub is_status : ℕ → ℤ → Bool
+is_status status (pos n) = n == status
+is_status status (negsuc n) = false
+
+abbrev pub grade_status : Dag → ℕ → ℤ → List ℕ → Outcome
+grade_status dag t status line =
+    if is_status 99 status then Outcome.Skipped
+    else (if is_status 0 status then grade_line dag t line
+    else Outcome.Failed)
+
+abbrev pub grade_answer : Dag → ℕ → Exit → Line → Outcome
+grade_answer dag t (Exit.Code status) (Line.Bytes line) = grade_status dag t status line
+grade_answer dag t _ _ = Outcome.Failed
+
+-- the outcome of a raw answer: a program that did not start, was ended by a signal or whose output could not be had has failed; status 99 is
+-- skipped, with its line unread; another status than 0 has failed; and a success pushes the value of its line, where the task may push it
+unfoldable pub grade_of : Dag → ℕ → Raw → Outcome
+grade_of dag t raw = grade_answer dag t raw.exit raw.line
+
+-- ---- outcomes that a grade could give
+
+-- a line may have this value: never null, with lists that are not nested too deep
+abbrev pub is_value_of_lines : Option Xval → Bool
+is_value_of_lines (Some Nil) = false
+is_value_of_lines (Some (ListOf values)) = nat_le (plains_depth values) deepest
+is_value_of_lines _ = true
+
+unfoldable pub fits : Dag → ℕ → Outcome → Bool
+fits dag t (Outcome.Success v) = is_value_of_lines v && may_push dag t v
+fits dag t Outcome.Failed = true
+fits dag t Outcome.Skipped = true

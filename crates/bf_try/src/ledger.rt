@@ -1,0 +1,80 @@
+//! Ledgers of tries.
+ghost use Rattle.std.specs.Prelude.{◌≡◌, ◌↔◌, None, IsSome, IfErr, OnOk, OnErr, option_copied};
+ghost use Rattle.std.specs.FinMap as map;
+
+use bf_value::JobName;
+use bf_xcom::{Given, Outcome};
+use std::alloc::Global;
+use std::collections::BTreeMap;
+use std::marker::Model;
+use thiserror::Error;
+
+/// What a ledger holds of a try: what it was given, and how it ended.
+#[derive(Debug, Drop)]
+pub struct Entry {
+    pub given: Given,
+    pub outcome: Outcome,
+}
+
+/// The tries that have ended, by name. Contracts see it as a finite map.
+#[derive(Drop)]
+pub struct Ledger {
+    entries: BTreeMap<JobName, Entry>,
+}
+
+impl Model for Ledger {
+    ghost use Rattle.std.specs.FinMap as map;
+    ghost use Rattle.bf_value.specs.Names.{name_cmp, name_code};
+    ghost use Rattle.bf_try.specs.declared.ledger.Entry.{Entry};
+    ghost use Rattle.bf_try.specs.contracts.ledger.Entry as e;
+    ghost use Rattle.std.specs.Coded.{codes};
+
+    ghost Value = { map.FinMap name_cmp Entry };
+
+    ghost coded = { map.code name_code (Prim.hlevel (codes, e.the_row.coded)) };
+
+    ghost view = { λ l. map.from_entries l.entries.entries };
+}
+
+/// Why an entry was not noted.
+#[derive(Clone, Copy, Debug, PartialEq, Eq, Error)]
+pub enum NoteFault {
+    #[error("already recorded")]
+    AlreadyRecorded,
+    #[error("out of memory")]
+    OutOfMemory,
+}
+
+impl Ledger {
+    /// A ledger of no tries.
+    pub fn new(alloc: Global) -> Self
+        ensures { result ≡ map.empty }
+    {
+        Ledger {
+            entries: BTreeMap::new(alloc),
+        }
+    }
+
+    /// What the ledger holds of a try.
+    pub fn get(&self, name: JobName) -> Option<&Entry>
+        ensures { option_copied result ≡ map.get self.now name }
+    {
+        self.entries.get(&name)
+    }
+
+    /// Notes a try that has ended. An entry that is not noted is handed back.
+    pub fn note(&mut self, name: JobName, entry: Entry) -> Result<(), (Entry, NoteFault)>
+        ensures ok { OnOk result ((map.get self.old name ≡ None) × (self.new ≡ map.insert self.old name entry)) }
+        ensures recorded { IfErr result (λ e. (e.1 ≡ NoteFault.AlreadyRecorded) ↔ IsSome (map.get self.old name)) }
+        ensures back { IfErr result (λ e. e.0 ≡ entry) }
+        ensures err { OnErr result (self.new ≡ self.old) }
+    {
+        if self.get(name).is_some() {
+            return Err((entry, NoteFault::AlreadyRecorded));
+        }
+        match self.entries.insert(name, entry) {
+            Ok(_) => Ok(()),
+            Err(failed) => Err((failed.value.1, NoteFault::OutOfMemory)),
+        }
+    }
+}

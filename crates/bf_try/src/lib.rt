@@ -1,0 +1,17 @@
+//! Tries: the right to run one, what a program answers, what that answer is worth, and what is kept of it.
+//!
+//! A `Ticket` is the right to run one try, and `Ticket::answer` turns it into a `Done`: neither can be cloned, so a
+//! try is answered at most once. `grade` turns the raw answer into an `Outcome`, and a `Ledger` keeps the outcomes by
+//! name. `TaskRunner` is what answers tickets, here by a `Table`.
+#![tactic(auto)]
+
+mod answers;
+mod ledger;
+mod runner;
+mod tickets;
+
+pub use answers::{Exit, Line, Raw};
+pub use bf_xcom::Outcome;
+pub use ledger::{Entry, Ledger, NoteFault};
+pub use runner::{RunnerFault, TaskRunner};
+pub use tickets::{Done, Ticket};

@@ -1,0 +1,98 @@
+//! The right to run one try, and the answer to it.
+ghost use Rattle.std.specs.Prelude.{◌≡◌};
+
+use crate::answers::Raw;
+use bf_value::JobName;
+use bf_xcom::Given;
+use std::marker::Model;
+
+/// The right to run one try, with what it is given. It can't be cloned.
+#[derive(Debug, Drop)]
+pub struct Ticket {
+    name: JobName,
+    given: Given,
+}
+
+impl Model for Ticket {
+    ghost use Rattle.bf_try.specs.Asked.{Asked};
+    ghost use Rattle.std.specs.Coded.{codes};
+    ghost use Rattle.bf_value.specs.contracts.name.JobName as n;
+    ghost use Rattle.bf_xcom.specs.contracts.values.Given as g;
+
+    ghost Value = { Asked };
+
+    ghost coded = { Prim.hlevel (codes, n.the_row.coded, g.the_row.coded) };
+
+    ghost view = { λ t. record { name = t.name; given = t.given } };
+}
+
+/// The answer to one try. It can't be cloned.
+#[derive(Debug, Drop)]
+pub struct Done {
+    name: JobName,
+    given: Given,
+    raw: Raw,
+}
+
+impl Model for Done {
+    ghost use Rattle.bf_try.specs.Asked.{Answered};
+    ghost use Rattle.std.specs.Coded.{codes};
+    ghost use Rattle.bf_value.specs.contracts.name.JobName as n;
+    ghost use Rattle.bf_xcom.specs.contracts.values.Given as g;
+    ghost use Rattle.bf_try.specs.contracts.answers.Raw as r;
+
+    ghost Value = { Answered };
+
+    ghost coded = { Prim.hlevel (codes, n.the_row.coded, g.the_row.coded, r.the_row.coded) };
+
+    ghost view = { λ d. record { name = d.name; given = d.given; raw = d.raw } };
+}
+
+impl Ticket {
+    /// A ticket for the try of this name. Whoever issues it sees to it that no other ticket has the name.
+    pub fn issue(name: JobName, given: Given) -> Ticket
+        ensures { result ≡ record { name = name; given = given } }
+    {
+        Ticket { name, given }
+    }
+
+    pub fn name(&self) -> JobName
+        ensures { result ≡ self.now.name }
+    {
+        self.name
+    }
+
+    pub fn given(&self) -> &Given
+        ensures { result.now ≡ self.now.given }
+    {
+        &self.given
+    }
+
+    /// Answers the ticket, which is used up.
+    pub fn answer(self, raw: Raw) -> Done
+        ensures { result ≡ record { name = self.name; given = self.given; raw = raw } }
+    {
+        let Ticket { name, given } = self;
+        Done { name, given, raw }
+    }
+}
+
+impl Done {
+    pub fn name(&self) -> JobName
+        ensures { result ≡ self.now.name }
+    {
+        self.name
+    }
+
+    pub fn given(&self) -> &Given
+        ensures { result.now ≡ self.now.given }
+    {
+        &self.given
+    }
+
+    pub fn raw(&self) -> &Raw
+        ensures { result.now ≡ self.now.raw }
+    {
+        &self.raw
+    }
+}
