@@ -1,3 +1,5 @@
 pub mod Plans
 pub mod Sound
 pub mod Checked
+pub mod Checking
+pub mod Served

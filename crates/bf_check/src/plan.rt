@@ -1,7 +1,7 @@
 //! Plans.
-ghost use Rattle.std.specs.Prelude.{◌≡◌};
-ghost use Rattle.bf_check.specs.Plans.{shape_of};
-ghost use Rattle.bf_check.specs.Sound.{IsSound, AreLimits};
+ghost use Rattle.std.specs.Prelude.{◌≡◌, ◌<◌, length};
+ghost use Rattle.bf_check.specs.Plans.{shape_of, task_of};
+ghost use Rattle.bf_check.specs.Sound.{IsSound, AreLimits, demand_of};
 
 use bf_graph::Graph;
 use bf_read::{ContextVariable, TaskKind, WeightRule};
@@ -89,7 +89,28 @@ impl Model for Plan {
     ghost invariant = { λ p. IsChecked p.dag p.limits p.graph };
 }
 
+impl Dag {
+    /// A task by its number.
+    #[tactic(auto, unfolding(crate::specs::Plans::task_of))]
+    pub fn task(&self, task: u32) -> &Task
+        requires { task < length self.now.tasks }
+        ensures { result.now ≡ task_of self.now task }
+    {
+        &self.tasks.items[task as usize]
+    }
+}
+
 impl Plan {
+    ghost use Rattle.bf_check.specs.Sound.{IsChecked};
+
+    /// A plan of what was checked.
+    pub(crate) fn new(dag: Dag, limits: Limits, graph: Graph) -> Plan
+        requires { IsChecked dag limits graph }
+        ensures { result ≡ record { dag = dag; limits = limits } }
+    {
+        Plan { dag, limits, graph }
+    }
+
     /// What the recursion over dates reads.
     pub fn dag(&self) -> &Dag
         ensures dag { result.now ≡ self.now.dag }
@@ -104,6 +125,15 @@ impl Plan {
         ensures fit { AreLimits self.now.dag self.now.limits }
     {
         &self.limits
+    }
+
+    /// What a running try of a task takes.
+    pub fn demand(&self, task: u32) -> Demand
+        requires { task < length self.now.dag.tasks }
+        ensures demand { result ≡ demand_of self.now.limits task }
+        ensures pool { result.pool < length self.now.limits.pools }
+    {
+        self.limits.demands.items[task as usize]
     }
 
     /// The tasks' ids and upstreams as a graph.

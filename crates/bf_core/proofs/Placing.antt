@@ -1,8 +1,18 @@
 -- Reading and writing the runs of a state.
-use Rattle.std.proofs.Common.{◌≡◌, ◌<◌, ℕ, List, [], ◌∷◌, length, slice_index_or, slice_set, slice_get, IsSome, None, zero, suc, refl, ap, arith}
-use Rattle.bf_core.specs.Events.{change_at, put_in}
+use Rattle.std.proofs.Common.{◌≡◌, ◌<◌, ℕ, List, [], ◌∷◌, length, slice_index_or, slice_set, slice_get, IsSome, Some, None, zero, suc, refl, ap, ◌∙◌, arith}
+use Rattle.bf_core.specs.Events.{change_at, change_instance, ended, cell_at, put, put_in}
 use Rattle.bf_try.specs.declared.ledger.Ledger.{Ledger}
-use Rattle.bf_core.specs.Terms.{State, Run, Cell}
+use Rattle.bf_core.specs.Terms.{State, Run, Cell, Outcome}
+
+pub read-row : {A : Type 0} (xs : List A) (i : ℕ) (x d : A) → slice_get xs i ≡ Some x → slice_index_or xs i d ≡ x
+read-row [] i x d e = cc
+read-row (y ∷ ys) zero x d e = cc
+read-row (y ∷ ys) (suc i) x d e = read-row ys i x d e
+
+pub read-none : {A : Type 0} (xs : List A) (i : ℕ) (d : A) → slice_get xs i ≡ None → slice_index_or xs i d ≡ d
+read-none [] i d e = refl
+read-none (y ∷ ys) zero d e = cc
+read-none (y ∷ ys) (suc i) d e = read-none ys i d e
 
 pub any-default : {A : Type 0} (xs : List A) (i : ℕ) (d e : A) → i < length xs → slice_index_or xs i d ≡ slice_index_or xs i e
 any-default [] i d e h = absurd (omega (arith, h))
@@ -16,6 +26,10 @@ pub change-set : {A : Type 0} (f : A → A) (xs : List A) (i : ℕ) (y : A) → 
 change-set f [] i y l e = absurd (omega (arith, l))
 change-set f (x ∷ xs) zero y l e = ap (λ z. f z ∷ xs) e
 change-set f (x ∷ xs) (suc i) y l e = ap (λ zs. x ∷ zs) (change-set f xs i y (omega arith) e)
+
+-- the list with the changed member in its place
+pub changed-set : {A : Type 0} (f : A → A) (xs : List A) (i : ℕ) (y z : A) → i < length xs → y ≡ slice_index_or xs i y → z ≡ f y → slice_set xs i z ≡ change_at f xs i
+changed-set f xs i y z l e g = ap (λ w. slice_set xs i w) g ∙ change-set f xs i y l e
 
 pub some-below : {A : Type 0} (xs : List A) (i : ℕ) → IsSome (slice_get xs i) → i < length xs
 some-below [] i h = cc
@@ -33,3 +47,14 @@ unfolding put_in
 put-put [] k t c d = refl
 put-put (r ∷ rs) zero t c d = ap (λ cells. record { phase = r.phase; cells = cells } ∷ rs) (set-twice r.cells t c d)
 put-put (r ∷ rs) (suc k) t c d = ap (λ ws. r ∷ ws) (put-put rs k t c d)
+
+pub below-some : {A : Type 0} (xs : List A) (i : ℕ) → i < length xs → IsSome (slice_get xs i)
+below-some [] i h = absurd (omega (arith, h))
+below-some (x ∷ xs) zero h = refl
+below-some (x ∷ xs) (suc i) h = below-some xs i (omega arith)
+
+-- the state after a try has ended, by what its end was given
+pub ended-state : (s : State) (k t : ℕ) (ledger next : Ledger) (r q : ℕ) (o p : Outcome) (i j : ℕ) → ledger ≡ next → r ≡ q → o ≡ p → i ≡ j →
+    put (record { runs = s.runs; ledger = ledger }) k t (change_instance (ended r o) (cell_at s k t) i)
+    ≡ record { runs = put_in s.runs k t (change_instance (ended q p) (cell_at s k t) j); ledger = next }
+ended-state s k t ledger next r q o p i j e f g h = λ x. record { runs = put_in s.runs k t (change_instance (ended (f x) (g x)) (cell_at s k t) (h x)); ledger = e x }

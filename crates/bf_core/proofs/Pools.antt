@@ -4,9 +4,9 @@ use Rattle.std.proofs.lemmas.Bool.Decides.{nat_tests}
 use Rattle.std.proofs.lemmas.List.Sums.{sum_by-set, sum_by-cons}
 use Rattle.std.proofs.lemmas.List.{set_past}
 use Rattle.std.specs.FinMap as map
-use Rattle.bf_core.specs.Terms.{Dag, task_of, Limits, Given, Outcome, JobName, State, Run, RunPhase, Cell, Instance, Phase, Event, name_cmp, Entry, is_failed, demand_of}
+use Rattle.bf_core.specs.Terms.{Dag, task_of, Limits, Given, Outcome, JobName, State, Run, RunPhase, Cell, Instance, Phase, Event, name_cmp, Entry, is_failed, demand_of, pool_size}
 use Rattle.bf_core.specs.Deciding.{Decision}
-use Rattle.bf_core.specs.Events.{no_run, cell_at, cell_in, put_in, phase_put_in, with_phase, next_run, instance_of, change_at, change_instance, begun, ended, fresh, cell_of, decision_in, place_in, given_in, one_running, running_in, held_by, held_from, occupied, has_room, WithinPools, IsPresent, IsDecidable, IsEnabled, IsLegal, after, replay, start, empty_runs, undecided_cells}
+use Rattle.bf_core.specs.Events.{no_run, cell_at, cell_in, put, put_in, phase_put_in, with_phase, next_run, instance_of, change_at, change_instance, begun, ended, fresh, cell_of, decision_in, place_in, given_in, one_running, running_in, held_by, held_from, occupied, has_room, WithinPools, IsPresent, IsDecidable, IsEnabled, IsLegal, after, replay, start, empty_runs, undecided_cells}
 use Rattle.bf_core.proofs.Reading.{set-read}
 use Rattle.bf_core.proofs.Steps.{decided-held}
 use Rattle.bf_core.proofs.Shape.{IsShaped, row_in, open-run, event-shapes, start-shapes}
@@ -68,7 +68,7 @@ running-change f (z ∷ zs) zero x e =
 running-change f (z ∷ zs) (suc i) x e = let ih : _ = running-change f zs i x e in omega (arith, ih)
 
 -- the slots that a task takes of a pool
-takes : Limits → ℕ → ℕ → ℕ
+unfoldable pub takes : Limits → ℕ → ℕ → ℕ
 takes limits pool t = if (demand_of limits t).pool == pool then (demand_of limits t).slots else 0
 
 held-begun : (limits : Limits) (pool t : ℕ) (c : Cell) (i : ℕ) (x : Instance) → instance_of c i ≡ Some x → x.phase ≡ Phase.Waiting →
@@ -90,16 +90,17 @@ held-begun limits pool t Cell.Skipped i x e w = cc
 held-begun limits pool t Cell.UpstreamFailed i x e w = cc
 
 held-less : (limits : Limits) (pool t : ℕ) (f : Instance → Instance) (c : Cell) (i : ℕ) (x : Instance) → instance_of c i ≡ Some x → one_running x.phase ≡ 1 → one_running (f x).phase ≡ 0 →
-    held_by limits pool t (change_instance f c i) ≤ held_by limits pool t c
+    held_by limits pool t (change_instance f c i) + takes limits pool t ≡ held_by limits pool t c
+unfolding takes
 held-less limits pool t f (Cell.Ran xs) i x e w n =
     let moved : running_in (change_at f xs i) + one_running x.phase ≡ running_in xs + one_running (f x).phase = running-change f xs i x e in
     let more : running_in xs ≡ running_in (change_at f xs i) + 1 = omega arith in
     go ((demand_of limits t).pool == pool) (demand_of limits t).slots more
   where
     go : (b : Bool) (slots : ℕ) → running_in xs ≡ running_in (change_at f xs i) + 1 →
-        (if b then running_in (change_at f xs i) * slots else 0) ≤ (if b then running_in xs * slots else 0)
+        (if b then running_in (change_at f xs i) * slots else 0) + (if b then slots else 0) ≡ (if b then running_in xs * slots else 0)
     go true slots more = rw more (omega arith)
-    go false slots more = omega arith
+    go false slots more = refl
 held-less limits pool t f Cell.Undecided i x e w n = cc
 held-less limits pool t f Cell.Blocked i x e w n = cc
 held-less limits pool t f Cell.Skipped i x e w n = cc
@@ -112,16 +113,16 @@ not-running retries o x = go (is_failed o && nat_le x.attempt retries)
     go true = refl
     go false = refl
 
-eq-from : (a b : ℕ) → (a == b) ≡ true → a ≡ b
+pub eq-from : (a b : ℕ) → (a == b) ≡ true → a ≡ b
 eq-from a b e = grind (arith, nat_tests)
 
-le-from : (a b : ℕ) → nat_le a b ≡ true → a ≤ b
+pub le-from : (a b : ℕ) → nat_le a b ≡ true → a ≤ b
 le-from a b e = grind (arith, nat_tests)
 
 decide_in : (k n : ℕ) → (k < n) ⊎ (n ≤ k)
 decide_in k n = grind arith
 
-occupied-phase : (limits : Limits) (pool : ℕ) (s : State) (k : ℕ) (p : RunPhase) → occupied limits (with_phase s k p) pool ≡ occupied limits s pool
+pub occupied-phase : (limits : Limits) (pool : ℕ) (s : State) (k : ℕ) (p : RunPhase) → occupied limits (with_phase s k p) pool ≡ occupied limits s pool
 unfolding phase_put_in
 occupied-phase limits pool s k p = go (decide_in k (length s.runs))
   where
@@ -133,53 +134,67 @@ occupied-phase limits pool s k p = go (decide_in k (length s.runs))
     go (inl l) = let e : _ = sum_by-set f s.runs k row no_run l in omega (arith, e)
     go (inr m) = ap (sum_by f) (set_past s.runs k row m)
 
-module _ (dag : Dag) (limits : Limits) (runs : ℕ) (s : State) (shaped : IsShaped dag runs s) (within : WithinPools limits s) where
+module _ (dag : Dag) (limits : Limits) (runs : ℕ) (s : State) (shaped : IsShaped dag runs s) where
 
   -- in range of the rows
   in-row : (k t : ℕ) → (k < runs) × (t < length dag.tasks) → (k < length s.runs) × (t < length (row_in s.runs k))
   in-row k t h = (rw shaped.count h.0, rw (shaped.rows k h.0) h.1)
 
-  decide-within : (k t : ℕ) → IsDecidable dag s k t → WithinPools limits (record { runs = put_in s.runs k t (cell_of (decision_in dag s k t)); ledger = s.ledger })
-  decide-within k t able pool =
+  -- a decision takes no slots
+  pub occupied-decided : (k t : ℕ) → IsDecidable dag s k t → (pool : ℕ) →
+      occupied limits (put s k t (cell_of (decision_in dag s k t))) pool ≡ occupied limits s pool
+  occupied-decided k t able pool =
       let r : _ = in-row k t (rw (← shaped.count) (open-run s k able.run_is_open), able.is_task) in
       let e : _ = occupied-put limits pool s k t (cell_of (decision_in dag s k t)) s.ledger r.0 r.1 in
       let was : held_by limits pool t (cell_at s k t) ≡ 0 = rw able.undecided in
       let now : held_by limits pool t (cell_of (decision_in dag s k t)) ≡ 0 = new-none limits pool t (decision_in dag s k t) in
-      let size : _ = within pool in
-      omega (arith, e, was, now, size)
+      omega (arith, e, was, now)
 
-  begin-within : (n : JobName) → IsPresent dag s n Phase.Waiting → has_room limits s n.task ≡ true →
-      WithinPools limits (record { runs = put_in s.runs n.run n.task (change_instance begun (cell_at s n.run n.task) (place_in dag n)); ledger = s.ledger })
-  unfolding takes
-  begin-within n at room pool =
+  -- a try that begins takes its task's slots
+  pub occupied-begun : (n : JobName) → IsPresent dag s n Phase.Waiting → (pool : ℕ) →
+      occupied limits (put s n.run n.task (change_instance begun (cell_at s n.run n.task) (place_in dag n))) pool ≡ occupied limits s pool + takes limits pool n.task
+  occupied-begun n at pool =
       let r : _ = in-row n.run n.task (shaped.in_range n.run n.task (decided-held s n.run n.task (place_in dag n) at.held at.is_held)) in
       let e : _ = occupied-put limits pool s n.run n.task (change_instance begun (cell_at s n.run n.task) (place_in dag n)) s.ledger r.0 r.1 in
       let more : _ = held-begun limits pool n.task (cell_at s n.run n.task) (place_in dag n) at.held at.is_held at.in_phase in
-      let fits : occupied limits s pool + takes limits pool n.task ≤ slice_index_or limits.pools pool 0 = go ((demand_of limits n.task).pool == pool) refl in
-      omega (arith, e, more, fits)
-    where
-      room' : occupied limits s (demand_of limits n.task).pool + (demand_of limits n.task).slots ≤ slice_index_or limits.pools (demand_of limits n.task).pool 0
-      room' = le-from _ _ room
-      go : (b : Bool) → ((demand_of limits n.task).pool == pool) ≡ b → occupied limits s pool + (if b then (demand_of limits n.task).slots else 0) ≤ slice_index_or limits.pools pool 0
-      go true e = let same : (demand_of limits n.task).pool ≡ pool = eq-from _ _ e in rw (← same) room'
-      go false e = let size : _ = within pool in omega (arith, size)
+      omega (arith, e, more)
 
-  end-within : (n : JobName) (o : Outcome) (ws : map.FinMap name_cmp Entry) → IsPresent dag s n Phase.Running →
-      WithinPools limits (record { runs = put_in s.runs n.run n.task (change_instance (ended (task_of dag n.task).retries o) (cell_at s n.run n.task) (place_in dag n)); ledger = ws })
-  end-within n o ws at pool =
+  -- a try that ends gives them back
+  pub occupied-ended : (n : JobName) (o : Outcome) (ws : map.FinMap name_cmp Entry) → IsPresent dag s n Phase.Running → (pool : ℕ) →
+      occupied limits (record { runs = put_in s.runs n.run n.task (change_instance (ended (task_of dag n.task).retries o) (cell_at s n.run n.task) (place_in dag n)); ledger = ws }) pool
+      + takes limits pool n.task ≡ occupied limits s pool
+  occupied-ended n o ws at pool =
       let r : _ = in-row n.run n.task (shaped.in_range n.run n.task (decided-held s n.run n.task (place_in dag n) at.held at.is_held)) in
       let e : _ = occupied-put limits pool s n.run n.task (change_instance (ended (task_of dag n.task).retries o) (cell_at s n.run n.task) (place_in dag n)) ws r.0 r.1 in
       let less : _ = held-less limits pool n.task (ended (task_of dag n.task).retries o) (cell_at s n.run n.task) (place_in dag n) at.held at.is_held (rw at.in_phase) (not-running _ o at.held) in
-      let size : _ = within pool in
-      omega (arith, e, less, size)
+      omega (arith, e, less)
+
+module _ (dag : Dag) (limits : Limits) (runs : ℕ) (s : State) (shaped : IsShaped dag runs s) (within : WithinPools limits s) where
+
+  begin-within : (n : JobName) → IsPresent dag s n Phase.Waiting → has_room limits s n.task ≡ true →
+      WithinPools limits (put s n.run n.task (change_instance begun (cell_at s n.run n.task) (place_in dag n)))
+  unfolding takes
+  begin-within n at room pool =
+      let more : _ = occupied-begun dag limits runs s shaped n at pool in
+      let fits : occupied limits s pool + takes limits pool n.task ≤ pool_size limits pool = go ((demand_of limits n.task).pool == pool) refl in
+      omega (arith, more, fits)
+    where
+      room' : occupied limits s (demand_of limits n.task).pool + (demand_of limits n.task).slots ≤ pool_size limits (demand_of limits n.task).pool
+      room' = le-from _ _ room
+      go : (b : Bool) → ((demand_of limits n.task).pool == pool) ≡ b → occupied limits s pool + (if b then (demand_of limits n.task).slots else 0) ≤ pool_size limits pool
+      go true e = let same : (demand_of limits n.task).pool ≡ pool = eq-from _ _ e in rw (← same) room'
+      go false e = let size : _ = within pool in omega (arith, size)
 
   pub event-within : (e : Event) → IsEnabled dag limits s e → WithinPools limits (after dag s e)
   unfolding after
   event-within Event.Open able = λ pool. rw (occupied-phase limits pool s (next_run s) RunPhase.Open) (within pool)
-  event-within (Event.Settle k t) able = decide-within k t able.0
-  event-within (Event.Expand k t) able = decide-within k t able.0
+  event-within (Event.Settle k t) able = λ pool. rw (occupied-decided dag limits runs s shaped k t able.0 pool) (within pool)
+  event-within (Event.Expand k t) able = λ pool. rw (occupied-decided dag limits runs s shaped k t able.0 pool) (within pool)
   event-within (Event.Begin n) able = begin-within n able.0 able.1
-  event-within (Event.End n o) able = end-within n o (map.insert s.ledger n (record { given = given_in (cell_at s n.run n.task) (place_in dag n); outcome = o })) able.0
+  event-within (Event.End n o) able = λ pool.
+      let less : _ = occupied-ended dag limits runs s shaped n o (map.insert s.ledger n (record { given = given_in (cell_at s n.run n.task) (place_in dag n); outcome = o })) able.0 pool in
+      let size : _ = within pool in
+      omega (arith, less, size)
   event-within (Event.Close k) able = λ pool. rw (occupied-phase limits pool s k RunPhase.Closed) (within pool)
 
 -- every state that a legal list leads to keeps its pools
@@ -204,3 +219,6 @@ none-occupied limits pool tasks (suc n) =
 
 pub start-within : (dag : Dag) (limits : Limits) (runs : ℕ) → WithinPools limits (start dag runs)
 start-within dag limits runs pool = let h : _ = none-occupied limits pool (length dag.tasks) runs in omega (arith, h)
+
+pub start-occupied : (dag : Dag) (limits : Limits) (runs pool : ℕ) → occupied limits (start dag runs) pool ≡ 0
+start-occupied dag limits runs pool = none-occupied limits pool (length dag.tasks) runs

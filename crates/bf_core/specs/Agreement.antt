@@ -1,8 +1,8 @@
 -- A state of the machine beside the recursion over a ledger.
-use Rattle.std.specs.Prelude.{◌≡◌, ℕ, suc, ◌<◌, length, List, [], ◌∷◌, map, Some}
-use Rattle.bf_core.specs.Terms.{Dag, Given, Entry, JobName, Ledger, TaskResult, result_of, name_of, State, Cell, Instance, Phase}
+use Rattle.std.specs.Prelude.{◌≡◌, ℕ, suc, ◌<◌, length, List, [], ◌∷◌, map, Some, slice_get}
+use Rattle.bf_core.specs.Terms.{Dag, Given, Entry, JobName, Ledger, RunState, TaskResult, result_of, name_of, State, Cell, Instance, Phase}
 use Rattle.bf_core.specs.Deciding.{Decision}
-use Rattle.bf_core.specs.Recursion.{run_fails, out, decided, Asks, IsDefined}
+use Rattle.bf_core.specs.Recursion.{run_fails, run_state_of, out, decided, Asks, IsDefined}
 use Rattle.bf_core.specs.Events.{cell_at, value_in, entry_in, place_in, has_failed}
 
 -- the ledger holds all entries of the other
@@ -58,3 +58,7 @@ pub record IsOutcome (dag : Dag) (runs : ℕ) (s : State) : Type 0 where
   pub run_states : (k : ℕ) → k < runs → has_failed dag s k ≡ run_fails dag (out dag (entry_in s.ledger) k)
   pub asked : (n : JobName) (e : Entry) → entry_in s.ledger n ≡ Some e →
       (n.run < runs) × (n.task < length dag.tasks) × (n ≡ name_of dag n.run n.task (place_in dag n) n.attempt) × Asks dag (entry_in s.ledger) n.run n.task (place_in dag n) n.attempt e.given
+
+-- the states of the runs are the recursion's
+abbrev pub AreRunStates : Dag → Ledger → ℕ → List RunState → Type 0
+AreRunStates dag ledger runs states = (length states ≡ runs) × ((k : ℕ) → k < runs → slice_get states k ≡ Some (run_state_of dag (out dag ledger k)))

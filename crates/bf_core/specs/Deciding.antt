@@ -2,6 +2,7 @@
 -- The recursion over dates reads it over final values, and the machine over its cells.
 use Rattle.std.specs.Prelude.{ℕ, ◌==◌, Bool, true, false, not, ◌&&◌, ◌||◌, if◌then◌else◌, List, [], ◌∷◌, map, Option, None, Some, is_some, option_and_then}
 use Rattle.std.specs.List.{list_any, list_all}
+pub use Rattle.bf_core.specs.declared.deciding.Decision.{Decision}
 use Rattle.bf_core.specs.Terms.{TaskValue, pull, items, Items, Xval, Task, Dag, task_of, is_branch, shape_of, followed, Counts, none_counted, add, Verdict, is_waiting, verdict, Given, Outcome, TaskResult, is_failed}
 
 -- what is known of a task: its instances counted by state, and its value once it is settled
@@ -92,16 +93,13 @@ abbrev pub past_ruling : Option TaskValue → Verdict
 past_ruling None = Verdict.Wait
 past_ruling (Some v) = if lets_pass v then Verdict.Run else Verdict.Blocked
 
-abbrev pub and_then_past : Dag → ℕ → Option TaskValue → ℕ → Verdict → Verdict
-and_then_past dag k before t Verdict.Run = if (task_of dag t).depends_on_past && not (k == 0) then past_ruling before else Verdict.Run
-and_then_past dag k before t v = v
+-- where the verdict is run and the task depends on its past, the past decides; nothing is asked of it in the first run
+abbrev pub past_after : Bool → ℕ → Option TaskValue → Verdict → Verdict
+past_after depends k before Verdict.Run = if depends && not (k == 0) then past_ruling before else Verdict.Run
+past_after depends k before v = v
 
-pub data Decision : Type 0 where
-  Wait : Decision
-  Blocked : Decision
-  Skipped : Decision
-  UpstreamFailed : Decision
-  Instances : List Given → Decision
+abbrev pub and_then_past : Dag → ℕ → Option TaskValue → ℕ → Verdict → Verdict
+and_then_past dag k before t v = past_after (task_of dag t).depends_on_past k before v
 
 abbrev pub pull_seen : Dag → (ℕ → Seen) → ℕ → Option Xval
 pull_seen dag seen p = option_and_then (pull (task_of dag p)) (seen p).value

@@ -152,6 +152,10 @@ abbrev pub is_open : RunPhase → Bool
 is_open RunPhase.Open = true
 is_open _ = false
 
+abbrev pub is_closed : RunPhase → Bool
+is_closed RunPhase.Closed = true
+is_closed _ = false
+
 -- the place of the first run that isn't opened, in order of date; or the number of runs
 abbrev pub first_unopened : List Run → ℕ
 first_unopened [] = 0

@@ -3,3 +3,8 @@ pub mod Deciding
 pub mod Recursion
 pub mod Events
 pub mod Agreement
+pub mod Few
+pub mod Words
+pub mod Cores
+pub mod Checks
+pub mod Endings

@@ -1,6 +1,8 @@
 //! Events.
 use bf_try::Outcome;
-use bf_value::JobName;
+use bf_value::{JobName, OutOfMemory};
+use std::alloc::AllocError;
+use thiserror::Error;
 
 /// What may happen next in a backfill.
 #[derive(Debug, Drop)]
@@ -17,4 +19,42 @@ pub enum Event {
     End(JobName, Outcome),
     /// A run is closed.
     Close { run: u32 },
+}
+
+/// Why an event is refused. The first of these that holds is answered, but for memory.
+#[derive(Clone, Copy, Debug, PartialEq, Eq, Error)]
+pub enum Illegal {
+    /// A run, a task, an instance or a try that isn't there.
+    #[error("stranger")]
+    Stranger,
+    /// Not enabled, for another cause than want of room.
+    #[error("not enabled")]
+    NotEnabled,
+    /// The pool has no room.
+    #[error("no room")]
+    NoRoom,
+    #[error("out of memory")]
+    OutOfMemory,
+}
+
+impl From<OutOfMemory> for Illegal {
+    ghost use Rattle.std.specs.Prelude.{◌≡◌};
+    ghost use Rattle.bf_core.specs.declared.event.Illegal.TheVariants.{OutOfMemory as NoMemory};
+
+    ghost from_gives = { λ _ e. e ≡ NoMemory };
+
+    fn from(_e: OutOfMemory) -> Illegal {
+        Illegal::OutOfMemory
+    }
+}
+
+impl From<AllocError> for Illegal {
+    ghost use Rattle.std.specs.Prelude.{◌≡◌};
+    ghost use Rattle.bf_core.specs.declared.event.Illegal.TheVariants.{OutOfMemory as NoMemory};
+
+    ghost from_gives = { λ _ e. e ≡ NoMemory };
+
+    fn from(_e: AllocError) -> Illegal {
+        Illegal::OutOfMemory
+    }
 }

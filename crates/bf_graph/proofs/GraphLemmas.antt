@@ -1,16 +1,17 @@
 -- A graph's ids and ranks.
-use Rattle.std.proofs.Common.{◌≡◌, ◌≢◌, ℕ, suc, ◌<◌, ◌+◌, List, [], ◌∷◌, ◌++◌, length, get_or, map, position, Bool, false, not, nat_lt, cond, Option, Some, None, unwrap_or, String, Vec, Global, string_bytes, refl, sym, ap, ◌∙◌, subst, arith, length-append, append_assoc}
+use Rattle.std.proofs.Common.{◌≡◌, ◌≢◌, ℕ, suc, ◌<◌, ◌≤◌, ◌+◌, List, [], ◌∷◌, ◌++◌, length, get_or, map, position, Bool, false, not, nat_lt, cond, Option, Some, None, unwrap_or, String, Vec, Global, string_bytes, refl, sym, ap, ◌∙◌, subst, arith, length-append, append_assoc}
 use Rattle.std.specs.List.{prefix_len, list_any}
 use Rattle.std.specs.String.{string_eq}
 use Rattle.std.specs.Cmp.Lexicographic.{bytes_decides}
 use Rattle.std.proofs.lemmas.Bool.{false_from_ne_true}
 use Rattle.std.proofs.lemmas.List.{get_or-map, length-map, get_or_append_left}
 use Rattle.std.proofs.lemmas.List.Folds.{list_any_none}
+use Rattle.std.proofs.Math.ListN.{get_or-map as get_or-map_default}
 use Rattle.std.proofs.Math.Seq.{get_or-append_seam}
 use Rattle.indexmap.specs.IndexSet.{insert_key}
 use Rattle.bf_graph.specs.Shape.{texts, AreDistinct, HasRanks}
 use Rattle.bf_graph.specs.Edges.{lists, AreInRange, IsRank}
-use Rattle.bf_graph.specs.Ranks.{rank_at, AreRanks, AllRanked}
+use Rattle.bf_graph.specs.Ranks.{rank_at, AreRanks, AreBelow, AllRanked}
 
 module _ {X Y : Type 0} (p : Y → Bool) (f : X → Y) where
   prefix_len-map : (q : Y → Bool) (xs : List X) → prefix_len q (map f xs) ≡ prefix_len (λ x. q (f x)) xs
@@ -48,22 +49,29 @@ one_numbered old new done all x before after same parts is apart e =
     )
 
 -- the ranks without their marks
-pub has_ranks : (ups : List (List ℕ)) (ranks : List (Option ℕ)) (n : ℕ) → length ups ≡ length ranks → AreInRange ups → AreRanks ups ranks → AllRanked ranks → HasRanks ups (map (λ r. unwrap_or r 0) ranks)
-has_ranks ups ranks n same inside right all = record {
+pub has_ranks : (ups : List (List ℕ)) (ranks : List (Option ℕ)) → length ups ≡ length ranks → AreInRange ups → AreRanks ups ranks → AreBelow ranks (length ups) → AllRanked ranks → HasRanks ups (map (λ r. unwrap_or r 0) ranks)
+has_ranks ups ranks same inside right low all = record {
   in_range = inside;
   rank = λ t h. let within : t < length ranks = omega (arith, same) in found t within _ refl;
+  bounded = λ t. below t _ refl;
 }
   where
+    below : (t : ℕ) → (o : Option ℕ) → rank_at ranks t ≡ o → get_or (map (λ r. unwrap_or r 0) ranks) t 0 ≤ length ups
+    below t None e = rw (get_or-map_default (λ r. unwrap_or r 0) ranks t None, e) (omega arith)
+    below t (Some r) e = let small = low t r e in rw (get_or-map_default (λ r. unwrap_or r 0) ranks t None, e) (omega (arith, small))
+
     found : (t : ℕ) → t < length ranks → (o : Option ℕ) → rank_at ranks t ≡ o → IsRank ups t (get_or (map (λ r. unwrap_or r 0) ranks) t 0)
     found t h None e = absurd (all t h e)
     found t h (Some r) e = rw (get_or-map (λ r. unwrap_or r 0) ranks t None 0 h, e) (right t r e)
 
 -- what `build` keeps, where its calls read these slices
 pub sound_graph : (es s : List (Vec ℕ Global)) (ranks t r : List (Option ℕ)) (rs : List ℕ)
-    → s ≡ es → length ranks ≡ length s → AreRanks (lists s) ranks → AreInRange (lists es) → t ≡ ranks → AllRanked t → r ≡ ranks → rs ≡ map (λ r. unwrap_or r 0) r → HasRanks (lists es) rs × (length rs ≡ length es)
-sound_graph es s ranks t r rs read len right inside again all once is =
+    → s ≡ es → length ranks ≡ length s → AreRanks (lists s) ranks → AreBelow ranks (length s) → AreInRange (lists es) → t ≡ ranks → AllRanked t → r ≡ ranks → rs ≡ map (λ r. unwrap_or r 0) r → HasRanks (lists es) rs × (length rs ≡ length es)
+sound_graph es s ranks t r rs read len right low inside again all once is =
     let P : List (Vec ℕ Global) → Type 0 = λ vs. AreRanks (lists vs) ranks in
     let marks : rs ≡ map (λ r. unwrap_or r 0) ranks = is ∙ ap (map (λ r. unwrap_or r 0)) once in
     let same : length ranks ≡ length es = len ∙ ap length read in
-    let kept = has_ranks (lists es) ranks 0 (length-map es (λ (v : Vec ℕ Global). v.items) ∙ sym same) inside (subst P read right) (subst AllRanked again all) in
+    let all_edges = length-map es (λ (v : Vec ℕ Global). v.items) in
+    let below : AreBelow ranks (length (lists es)) = subst (AreBelow ranks) (ap length read ∙ sym all_edges) low in
+    let kept = has_ranks (lists es) ranks (all_edges ∙ sym same) inside (subst P read right) below (subst AllRanked again all) in
     (subst (HasRanks (lists es)) (sym marks) kept, ap length marks ∙ length-map ranks (λ r. unwrap_or r 0) ∙ same)

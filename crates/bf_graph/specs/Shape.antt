@@ -1,8 +1,10 @@
 -- The shape of a graph, which is what contracts see of it.
-use Rattle.std.specs.Prelude.{◌≢◌, ℕ, ◌<◌, List, length, AllPairs, map, String, string_bytes}
+use Rattle.std.specs.Prelude.{◌≡◌, ◌≢◌, ℕ, ◌<◌, ◌≤◌, Bool, List, length, AllPairs, map, String, string_bytes, Vec}
 use Rattle.std.specs.List.{slice_index_or}
 use Rattle.std.specs.declared.alloc.Global.{Global}
-use Rattle.bf_graph.specs.Edges.{AreInRange, IsRank}
+use Rattle.bf_graph.specs.declared.graph.TheConstants.{MOST_TASKS}
+use Rattle.bf_graph.specs.Edges.{lists, AreInRange, IsRank}
+use Rattle.bf_graph.specs.Reach.{rows_of, HasRows}
 
 -- the tasks' ids by number, and the upstreams of each
 pub record Shape : Type 0 where
@@ -17,7 +19,17 @@ texts ss = map string_bytes ss
 abbrev pub AreDistinct : List (List ℕ) → Type 0
 AreDistinct ids = AllPairs (λ a b. a ≢ b) ids
 
--- what is kept beside the edges
+-- the rank of each task
 pub record HasRanks (ups : List (List ℕ)) (ranks : List ℕ) : Type 0 where
   pub in_range : AreInRange ups
   pub rank : (t : ℕ) → t < length ups → IsRank ups t (slice_index_or ranks t 0)
+  pub bounded : (t : ℕ) → slice_index_or ranks t 0 ≤ length ups
+
+-- what a graph keeps: distinct ids, and for each task its rank and which tasks reach it
+pub record IsKept (ids : List (String Global)) (edges : List (Vec ℕ Global)) (ranks : List ℕ) (rows : List (Vec Bool Global)) : Type 0 where
+  pub distinct : AreDistinct (texts ids)
+  pub one_id_each : length ids ≡ length edges
+  pub one_rank_each : length ranks ≡ length edges
+  pub ranked : HasRanks (lists edges) ranks
+  pub reached : HasRows (lists edges) (length edges) (rows_of rows)
+  pub few : length edges ≤ MOST_TASKS

@@ -1,9 +1,9 @@
-//! Graphs of tasks.
+//! Graphs of tasks, and what is looked up in them.
 ghost use Rattle.std.specs.Prelude.{◌≡◌, ◌↔◌, ℕ, ◌<◌, ◌≤◌, length, IsTrue, None, position, map, unwrap_or, MatchOption, IfOk, IfErr, OnOk};
 ghost use Rattle.std.specs.Str.{bytes_eq};
 ghost use Rattle.bf_graph.specs.Edges.{lists, upstreams_of, AreInRange, IsUpstream, IsRank, IsAcyclic};
 ghost use Rattle.bf_graph.specs.Shape.{texts, AreDistinct};
-ghost use Rattle.bf_graph.specs.Ranks.{rank_at, AllRanked};
+ghost use Rattle.bf_graph.specs.Ranks.{rank_at, AllRanked, Ranking};
 ghost use Rattle.bf_graph.specs.Reach.{Reaches};
 
 use crate::cycles::cycle_from;
@@ -14,71 +14,52 @@ use std::alloc::Global;
 use std::marker::Model;
 use thiserror::Error;
 
-/// Tasks with their upstreams, and no cycle.
+/// How many tasks a graph may have.
+pub const MOST_TASKS: usize = 2_000;
+
+/// Tasks with their upstreams, and no cycle. A task is known by its number in file order.
 #[derive(Drop)]
 pub struct Graph {
     ids: IndexSet<String>,
     edges: Vec<Vec<u32>>,
     ranks: Vec<u32>,
+    /// For each task, which tasks reach it.
     rows: Vec<Vec<bool>>,
 }
 
 impl Model for Graph {
-    ghost use Rattle.std.specs.Prelude.{◌≡◌, length};
-    ghost use Rattle.bf_graph.specs.Shape.{Shape, HasRanks, texts};
-    ghost use Rattle.bf_graph.specs.Reach.{HasRows, rows_of};
+    ghost use Rattle.bf_graph.specs.Shape.{Shape, IsKept, texts};
     ghost use Rattle.bf_graph.specs.Edges.{lists};
 
     ghost Value = { Shape };
 
     ghost view = { λ g. record { ids = texts g.ids.keys; upstreams = lists g.edges.items } };
 
-    ghost invariant = { λ g. HasRanks (lists g.edges.items) g.ranks.items × (length g.ranks.items ≡ length g.edges.items) × (length g.ids.keys ≡ length g.edges.items) × HasRows (lists g.edges.items) (length g.edges.items) (rows_of g.rows.items) };
+    ghost invariant = { λ g. IsKept g.ids.keys g.edges.items g.ranks.items g.rows.items };
 }
 
 impl Graph {
-    /// The number of a task.
-    pub fn number_of(&self, id: &str) -> Option<usize>
+    /// The number of the task with an id.
+    pub fn number_of(&self, id: &str) -> Option<u32>
         ensures { result ≡ position (bytes_eq id.now) self.now.ids }
     {
-        self.ids.get_index_of(id)
+        self.ids.get_index_of(id).map(|number| number as u32)
     }
 
     /// How many tasks there are.
     pub fn len(&self) -> usize
-        ensures { result ≡ length self.now.upstreams }
+        ensures tasks { result ≡ length self.now.upstreams }
+        ensures few { result ≤ MOST_TASKS }
     {
         self.edges.len()
     }
 
-    /// The direct upstreams of a task.
+    /// The direct upstreams of a task, as `build` was given them.
     pub fn upstreams(&self, task: u32) -> &[u32]
         requires { task < length self.now.upstreams }
         ensures { result.now ≡ upstreams_of self.now.upstreams task }
     {
         self.edges[task as usize].as_slice()
-    }
-
-    /// Ranks rise along edges.
-    pub fn ranks_rise(&self)
-        ensures { (t u q r : ℕ) → IsRank self.now.upstreams u q → IsRank self.now.upstreams t r
-            → IsUpstream self.now.upstreams u t → q < r }
-    {}
-
-    /// A graph has no cycle.
-    pub fn acyclic(&self)
-        ensures { IsAcyclic self.now.upstreams }
-    {
-        let _edges = &self.edges;
-    }
-
-    /// Whether a path leads from a task to another.
-    pub fn reaches(&self, from: u32, to: u32) -> bool
-        requires from { from < length self.now.upstreams }
-        requires to { to < length self.now.upstreams }
-        ensures { IsTrue result ↔ Reaches self.now.upstreams from to }
-    {
-        self.rows[to as usize][from as usize]
     }
 
     /// The number of edges of the longest path that ends in a task.
@@ -88,11 +69,48 @@ impl Graph {
     {
         self.ranks[task as usize]
     }
+
+    /// Whether a path of one edge or more leads from a task to another.
+    pub fn reaches(&self, from: u32, to: u32) -> bool
+        requires from { from < length self.now.upstreams }
+        requires to { to < length self.now.upstreams }
+        ensures { IsTrue result ↔ Reaches self.now.upstreams from to }
+    {
+        self.rows[to as usize][from as usize]
+    }
+
+    /// A law: ranks rise along edges.
+    pub fn ranks_rise(&self)
+        ensures { (t u q r : ℕ) → IsRank self.now.upstreams u q → IsRank self.now.upstreams t r
+            → IsUpstream self.now.upstreams u t → q < r }
+    {}
+
+    /// A law: every task has a rank, no higher than there are tasks, and ranks rise along edges.
+    pub fn ranks(&self)
+        ensures { Ranking self.now.upstreams }
+    {
+        let _ranks = &self.ranks;
+    }
+
+    /// A law: there is no cycle.
+    pub fn acyclic(&self)
+        ensures { IsAcyclic self.now.upstreams }
+    {
+        let _edges = &self.edges;
+    }
+
+    /// A law: no two tasks have one id.
+    pub fn distinct(&self)
+        ensures { AreDistinct self.now.ids }
+    {
+        let _ids = &self.ids;
+    }
 }
 
 /// Why there is no graph.
 #[derive(Debug, Drop, Error)]
 pub enum GraphFault {
+    /// The edges have a cycle: each of these tasks is a direct upstream of the next, and the last of the first.
     #[error("there is a cycle")]
     Cycle(Sequence<u32>),
     #[error("out of memory")]
@@ -109,6 +127,7 @@ impl From<OutOfMemory> for GraphFault {
     }
 }
 
+/// Ids, numbered in order.
 fn numbered(alloc: Global, ids: Vec<String>) -> Result<IndexSet<String>, OutOfMemory>
     requires { AreDistinct (texts ids.items) }
     ensures { IfOk result (λ set. set.keys ≡ ids.items) }
@@ -127,6 +146,7 @@ fn first_unranked(ranks: &[Option<u32>]) -> Option<usize>
     ranks.iter().position(|r| r.is_none())
 }
 
+/// The ranks of tasks that all have one.
 fn unwrapped(alloc: Global, ranks: &[Option<u32>]) -> Result<Vec<u32>, OutOfMemory>
     ensures { IfOk result (λ v. v.items ≡ map (λ r. unwrap_or r 0) ranks.now) }
 {
@@ -136,7 +156,8 @@ fn unwrapped(alloc: Global, ranks: &[Option<u32>]) -> Result<Vec<u32>, OutOfMemo
 impl Graph {
     ghost use Rattle.bf_graph.specs.Faults.{IsRightFault};
 
-    /// The graph with these tasks, and for each the numbers of its upstreams.
+    /// The graph of the tasks with these ids, in file order, and for each the numbers of its upstreams. It is
+    /// refused where the edges have a cycle, by one of them.
     pub fn build(
         alloc: Global,
         ids: Vec<String>,
@@ -144,7 +165,7 @@ impl Graph {
     ) -> Result<Graph, GraphFault>
         requires distinct { AreDistinct (texts ids.items) }
         requires same { length ids.items ≡ length upstreams.items }
-        requires few { length ids.items ≤ 2000 }
+        requires few { length ids.items ≤ MOST_TASKS }
         requires in_range { AreInRange (lists upstreams.items) }
         ensures ok { IfOk result (λ g. g ≡ record { ids = texts ids.items; upstreams = lists upstreams.items }) }
         ensures acyclic { OnOk result (IsAcyclic (lists upstreams.items)) }

@@ -9,4 +9,4 @@ mod graph;
 mod ranking;
 mod reach;
 
-pub use graph::{Graph, GraphFault};
+pub use graph::{Graph, GraphFault, MOST_TASKS};

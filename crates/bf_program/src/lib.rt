@@ -1,2 +1,22 @@
-//! (being written)
+//! The command line, the files that it names, and what the program prints of them.
 #![tactic(auto)]
+
+mod command;
+mod disk;
+pub mod forms;
+mod input;
+mod program;
+mod reading;
+mod refusal;
+mod single;
+mod source;
+mod status;
+mod stored;
+
+pub use disk::Disk;
+pub use program::answer;
+pub use reading::asked;
+pub use refusal::CommandFault;
+pub use source::{Source, SourceFault};
+pub use status::Status;
+pub use stored::StoredFiles;

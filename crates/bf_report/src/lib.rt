@@ -1,2 +1,36 @@
-//! (being written)
+//! Reports of a backfill, and the devices that they are written to.
+//!
+//! A report is the list of runs by date, and in each run what came of each task in file order. Its text has a
+//! head line, a line for each run with the lines of its tasks behind it, and an end line:
+//!
+//! ```text
+//! @backfill 1 d
+//! @run 2024-01-01T00:00:00Z 2024-01-02T00:00:00Z success
+//! a -1 success 1 -
+//! @end 1
+//! ```
+//!
+//! `write_report` makes the whole text in memory and then sends it to a device, a `Write`. Moments are printed and
+//! read here too, since reports, tables and the command line spell them alike.
 #![tactic(auto)]
+
+mod device;
+mod halting;
+mod lines;
+mod memory;
+mod moment;
+mod output;
+mod reading;
+mod report;
+mod sending;
+mod writing;
+
+pub use device::{Halt, Write};
+pub use halting::Halting;
+pub use memory::Memory;
+pub use moment::{Moment, moment_bytes};
+pub use output::Output;
+pub use reading::moment_in;
+pub use report::{Report, RunReport, TaskReport};
+pub use sending::{Cause, WriteFault, send};
+pub use writing::write_report;

@@ -1,11 +1,36 @@
 //! Verdicts.
-ghost use Rattle.std.specs.Prelude.{◌≡◌, if◌then◌else◌};
-ghost use Rattle.bf_rule.specs.Verdicts.{verdict_of, failures as failures_of, finished as finished_of, total as total_of, fires as fires_by, table as table_of};
+ghost use Rattle.std.specs.Prelude.{◌≡◌, ◌+◌, ◌<◌, ◌^◌, if◌then◌else◌};
+ghost use Rattle.bf_rule.specs.Verdicts.{verdict_of, add, failures as failures_of, finished as finished_of, total as total_of, fires as fires_by, table as table_of};
 ghost use Rattle.bf_rule.specs.declared.rule.Verdict.{Verdict as VerdictTerm};
 
 use crate::rule::{Counts, Rule, Verdict};
 
 impl Counts {
+    /// No instances.
+    pub const NONE: Counts = Counts {
+        success: 0,
+        failed: 0,
+        upstream_failed: 0,
+        skipped: 0,
+        blocked: 0,
+        unfinished: 0,
+    };
+
+    /// The counts of two groups of instances together.
+    pub fn plus(self, other: Counts) -> Counts
+        requires { total_of self + total_of other < 2 ^ 32 }
+        ensures { result ≡ add self other }
+    {
+        Counts {
+            success: self.success + other.success,
+            failed: self.failed + other.failed,
+            upstream_failed: self.upstream_failed + other.upstream_failed,
+            skipped: self.skipped + other.skipped,
+            blocked: self.blocked + other.blocked,
+            unfinished: self.unfinished + other.unfinished,
+        }
+    }
+
     fn failures(&self) -> u64
         ensures { result ≡ failures_of self.now }
     {

@@ -10,6 +10,7 @@ mod memory;
 mod name;
 mod reading;
 mod sequence;
+mod size;
 mod text;
 mod xval;
 

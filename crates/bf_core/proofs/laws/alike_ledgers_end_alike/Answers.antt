@@ -1,6 +1,6 @@
 use Rattle.bf_core.proofs.Steps.{legal-keeps, start-keeps}
 use Rattle.bf_core.proofs.Shape.{legal-shapes, start-shapes}
-use Rattle.bf_core.proofs.Ended.{ended-is}
+use Rattle.bf_core.proofs.Outcomes.{ended-is}
 use Rattle.bf_core.proofs.Confluence.{states-equal}
 use Rattle.bf_core.proofs.laws.alike_ledgers_end_alike.Goals as goal
 

@@ -1,0 +1,88 @@
+-- When an event is enabled, and when it is refused, where no task is expanded.
+use Rattle.std.proofs.Common.{◌≡◌, ◌≢◌, ◌<◌, ◌≤◌, ◌+◌, ◌&&◌, ℕ, Bool, true, false, length, pred, Option, None, Some, IsSome, is_some, nat_le, refl, sym, ap, ◌∙◌, subst, arith, le-ltb}
+use Rattle.std.proofs.lemmas.Bool.Decides.{nat_tests}
+use Rattle.bf_check.specs.Served.{IsServed}
+use Rattle.bf_core.specs.Terms.{Dag, Limits, State, Event, JobName, Phase, Cell, Instance, task_of, demand_of, pool_size}
+use Rattle.bf_core.specs.Deciding.{Decision, gate}
+use Rattle.bf_core.specs.Events.{cell_at, decision_in, goes_on, is_run, seen_in, before_in, instance_of, entry_in, place_in, occupied, has_room, row_of, IsDecidable, IsPresent, IsEnabled}
+use Rattle.bf_core.specs.Cores.{Backfill, IsReplay, IsThere, IsKnown, IsDue, Refuses}
+use Rattle.bf_core.proofs.Invariant.{ended_of}
+use Rattle.bf_core.proofs.Kept.{replay-rows, replay-invariant}
+use Rattle.bf_core.specs.Checks.{HasRows, IsUndecidedNow}
+use Rattle.bf_core.specs.declared.event.Illegal.{Illegal}
+use Rattle.bf_core.proofs.Shape.{open-run}
+use Rattle.bf_core.proofs.Known.{decided-there, has-instance}
+
+-- no task goes on to its expansion
+pub goes_on-not : (dag : Dag) → IsServed dag → (s : State) (k t : ℕ) → goes_on dag s k t ≡ false
+unfolding goes_on
+goes_on-not dag served s k t = ap (λ o. is_some o && is_run (gate dag k (λ u. seen_in (cell_at s k u)) (before_in s k t) t)) (served.unmapped t)
+
+pub settle-able : (dag : Dag) → IsServed dag → (limits : Limits) (s : State) (k t : ℕ) (d : Decision) → IsThere dag s k t × IsUndecidedNow s k t → d ≡ decision_in dag s k t → (d ≡ Decision.Wait → ⊥) →
+    IsEnabled dag limits s (Event.Settle k t)
+settle-able dag served limits s k t d now is decides = (
+  record { run_is_open = now.1.0; is_task = now.0.1; undecided = now.1.1; decides = λ e. decides (is ∙ e) },
+  goes_on-not dag served s k t,
+)
+
+-- what is to be settled is there, and undecided
+pub settle-refused : (dag : Dag) (limits : Limits) (s : State) (k t : ℕ) (fault : Illegal) → (fault ≢ Illegal.NoRoom) → (fault ≡ Illegal.Stranger → ¬ (IsThere dag s k t)) →
+    (fault ≡ Illegal.NotEnabled → IsThere dag s k t × ¬ (IsEnabled dag limits s (Event.Settle k t))) → Refuses dag limits s (Event.Settle k t) fault
+settle-refused dag limits s k t Illegal.Stranger room stranger able = stranger refl
+settle-refused dag limits s k t Illegal.NotEnabled room stranger able = able refl
+settle-refused dag limits s k t Illegal.NoRoom room stranger able = absurd (room refl)
+settle-refused dag limits s k t Illegal.OutOfMemory room stranger able = tt
+
+pub decidable-run : (dag : Dag) (s : State) (k t : ℕ) → IsDecidable dag s k t → k < length s.runs
+decidable-run dag s k t able = open-run s k able.run_is_open
+
+pub decidable-task : (dag : Dag) (s : State) → HasRows dag s → (k t : ℕ) → IsDecidable dag s k t → t < length (row_of s.runs k).cells
+decidable-task dag s rows k t able = rw (rows k (open-run s k able.run_is_open)) able.is_task
+
+-- ---- room
+
+room-from : (a b : ℕ) → a ≤ b → nat_le a b ≡ true
+room-from a b h = grind (arith, nat_tests)
+
+room-not : (a b : ℕ) → (a ≤ b → ⊥) → nat_le a b ≡ true → ⊥
+room-not a b h e = h (grind (arith, nat_tests))
+
+pub has-room : (limits : Limits) (s : State) (t : ℕ) → occupied limits s (demand_of limits t).pool + (demand_of limits t).slots ≤ pool_size limits (demand_of limits t).pool → has_room limits s t ≡ true
+has-room limits s t h = room-from _ _ h
+
+pub has-no-room : (limits : Limits) (s : State) (t : ℕ) → (occupied limits s (demand_of limits t).pool + (demand_of limits t).slots ≤ pool_size limits (demand_of limits t).pool → ⊥) → has_room limits s t ≡ true → ⊥
+has-no-room limits s t h e = room-not _ _ h e
+
+-- ---- tries
+
+pub present-there : (dag : Dag) (s : State) → HasRows dag s → (n : JobName) (p : Phase) → IsPresent dag s n p → IsThere dag s n.run n.task
+present-there dag s rows n p at = decided-there dag s rows n.run n.task (has-instance _ (place_in dag n) at.held at.is_held)
+
+pub present-cell : (dag : Dag) (s : State) → HasRows dag s → (n : JobName) (p : Phase) → IsPresent dag s n p → n.task < length (row_of s.runs n.run).cells
+present-cell dag s rows n p at = let there = present-there dag s rows n p at in rw (rows n.run there.0) there.1
+
+-- a try that is present is known: its instance is there, and has come to it
+pub present-known : (b : Backfill) → IsReplay b → (n : JobName) (p : Phase) → IsPresent b.dag b.state n p → IsKnown b.dag b.state n
+present-known b is n p at = record {
+  there = present-there b.dag b.state (replay-rows b is) n p at;
+  held = at.held;
+  is_held = at.is_held;
+  is_named = at.is_named;
+  from = let tried = (replay-invariant b is).tried n.run n.task (place_in b.dag n) at.held at.is_held in omega (arith, tried.from, at.is_present);
+  to = omega (arith, at.is_present);
+}
+
+some-is : {A : Type 0} (o : Option A) → IsSome o → (x : A) × (o ≡ Some x)
+some-is None h = cc
+some-is (Some x) h = (x, refl)
+
+-- a try that runs has no entry yet
+pub running-unrecorded : (b : Backfill) → IsReplay b → (n : JobName) → IsPresent b.dag b.state n Phase.Running → IsSome (entry_in b.state.ledger n) → ⊥
+running-unrecorded b is n at some =
+    let entry = some-is (entry_in b.state.ledger n) some in
+    let recorded = (replay-invariant b is).recorded n entry.0 entry.1 in
+    let same : Some recorded.held ≡ Some at.held = sym recorded.is_held ∙ at.is_held in
+    let held : recorded.held ≡ at.held = cc in
+    let to : n.attempt ≤ ended_of at.held.attempt at.held.phase = subst (λ (x : Instance). n.attempt ≤ ended_of x.attempt x.phase) held recorded.to in
+    let before : n.attempt ≤ pred at.held.attempt = subst (λ (p : Phase). n.attempt ≤ ended_of at.held.attempt p) at.in_phase to in
+    omega (arith, before, recorded.from, at.is_present)

@@ -1,0 +1,133 @@
+-- The instance that a name speaks of, where no task is expanded.
+use Rattle.std.proofs.Common.{◌≡◌, ◌≢◌, ◌<◌, ◌≤◌, ℕ, zero, suc, pos, negsuc, nat_abs, Bool, true, false, ◌&&◌, if◌then◌else◌, List, [], ◌∷◌, length, Option, None, Some, is_some, IsSome, Bor, slice_get, slice_index_or, refl, sym, ap, ◌∙◌, subst, arith}
+use Rattle.std.specs.List.{list_all}
+use Rattle.bf_check.specs.Served.{IsServed}
+use Rattle.bf_core.specs.Terms.{Dag, State, Run, RunPhase, Cell, Instance, Phase, JobName, Outcome, task_of, map_index, place_of}
+use Rattle.bf_core.specs.Events.{cell_in, cell_at, row_of, phase_in, phase_of, no_run, instance_of, place_in, value_in, is_open, IsPresent, AllSettled}
+use Rattle.bf_core.specs.Cores.{IsThere, IsKnown}
+use Rattle.bf_core.specs.Checks.{HasRows, IsKnownAs, RefusedFor}
+use Rattle.bf_core.proofs.Decisions.{and_left, and_right}
+use Rattle.bf_core.proofs.Placing.{read-row, read-none, below-some, some-below, any-default}
+
+-- ---- in range
+
+in-list : {A : Type 0} (xs : List A) (i : ℕ) (d : A) → slice_index_or xs i d ≢ d → i < length xs
+in-list [] i d n = absurd (n refl)
+in-list (x ∷ xs) zero d n = omega arith
+in-list (x ∷ xs) (suc i) d n = let l : i < length xs = in-list xs i d n in omega arith
+
+-- what is decided is there
+pub decided-there : (dag : Dag) (s : State) → HasRows dag s → (k t : ℕ) → cell_at s k t ≢ Cell.Undecided → IsThere dag s k t
+unfolding cell_in
+decided-there dag s rows k t n =
+    let run : k < length s.runs = in-list s.runs k no_run (λ e. n (ap (λ (r : Run). slice_index_or r.cells t Cell.Undecided) e)) in
+    let task : t < length (row_of s.runs k).cells = in-list (row_of s.runs k).cells t Cell.Undecided n in
+    (run, rw (← rows k run) task)
+
+pub has-instance : (c : Cell) (i : ℕ) (x : Instance) → instance_of c i ≡ Some x → c ≢ Cell.Undecided
+has-instance c i x e f = let g : None ≡ Some x = sym (ap (λ d. instance_of d i) f) ∙ e in cc
+
+-- ---- names
+
+pub place-zero : (dag : Dag) → IsServed dag → (n : JobName) → place_in dag n ≡ 0
+place-zero dag served n = ap (λ o. if is_some o then nat_abs n.index else 0) (served.unmapped n.task)
+
+index-alone : (dag : Dag) → IsServed dag → (t i : ℕ) → map_index (task_of dag t) i ≡ negsuc 0
+index-alone dag served t i = ap (λ o. if is_some o then pos i else negsuc 0) (served.unmapped t)
+
+pub present-from : (dag : Dag) → IsServed dag → (s : State) (n : JobName) (x : Instance) (p : Phase) → IsKnownAs s n x → x.attempt ≡ n.attempt → x.phase ≡ p → IsPresent dag s n p
+present-from dag served s n x p known same phase = record {
+  held = x;
+  is_held = rw (place-zero dag served n) known.is_held;
+  is_named = index-alone dag served n.task (place_in dag n) ∙ sym known.alone;
+  is_present = same;
+  in_phase = phase;
+}
+
+pub known-from : (dag : Dag) → IsServed dag → (s : State) → HasRows dag s → (n : JobName) (x : Instance) → IsKnownAs s n x → IsKnown dag s n
+known-from dag served s rows n x known = record {
+  there = decided-there dag s rows n.run n.task (has-instance _ 0 x known.is_held);
+  held = x;
+  is_held = rw (place-zero dag served n) known.is_held;
+  is_named = index-alone dag served n.task (place_in dag n) ∙ sym known.alone;
+  from = known.from;
+  to = known.to;
+}
+
+pub known-back : (dag : Dag) → IsServed dag → (s : State) (n : JobName) → (k : IsKnown dag s n) → IsKnownAs s n k.held
+known-back dag served s n k = record {
+  is_held = rw (place-zero dag served n) at k.is_held;
+  alone = sym k.is_named ∙ index-alone dag served n.task (place_in dag n);
+  from = k.from;
+  to = k.to;
+}
+
+-- what is present is what is held
+pub present-back : (dag : Dag) → IsServed dag → (s : State) (n : JobName) (x : Instance) (p : Phase) → IsKnownAs s n x → IsPresent dag s n p → (x.attempt ≡ n.attempt) × (x.phase ≡ p)
+present-back dag served s n x p known present =
+    let held : Some x ≡ Some present.held = sym known.is_held ∙ (rw (place-zero dag served n) at present.is_held) in
+    let same : x ≡ present.held = cc in
+    (ap (λ (y : Instance). y.attempt) same ∙ present.is_present, ap (λ (y : Instance). y.phase) same ∙ present.in_phase)
+
+-- ---- runs that may be closed
+
+all-at : (p : Cell → Bool) (cells : List Cell) (t : ℕ) → list_all p cells ≡ true → t < length cells → p (slice_index_or cells t Cell.Undecided) ≡ true
+all-at p [] t e l = absurd (omega (arith, l))
+all-at p (c ∷ cs) zero e l = and_left (p c) _ e
+all-at p (c ∷ cs) (suc t) e l = all-at p cs t (and_right (p c) _ e) (omega arith)
+
+at-all : (p : Cell → Bool) (cells : List Cell) → ((t : ℕ) → t < length cells → p (slice_index_or cells t Cell.Undecided) ≡ true) → list_all p cells ≡ true
+at-all p [] h = refl
+at-all p (c ∷ cs) h = rw (h 0 (omega arith), at-all p cs (λ t l. h (suc t) (omega arith)))
+
+pub settled-from : (dag : Dag) (s : State) → HasRows dag s → (k : ℕ) (row : Run) → slice_get s.runs k ≡ Some row → list_all (λ c. is_some (value_in c)) row.cells ≡ true → AllSettled dag s k
+unfolding cell_in
+settled-from dag s rows k row at all t l =
+    let same : row_of s.runs k ≡ row = read-row s.runs k row no_run at in
+    let there : k < length s.runs = some-below s.runs k (rw at) in
+    let long : length row.cells ≡ length dag.tasks = ap (λ (r : Run). length r.cells) (sym same) ∙ rows k there in
+    ap (λ (r : Run). is_some (value_in (slice_index_or r.cells t Cell.Undecided))) same ∙ all-at (λ c. is_some (value_in c)) row.cells t all (rw long l)
+
+pub settled-back : (dag : Dag) (s : State) → HasRows dag s → (k : ℕ) (row : Run) → slice_get s.runs k ≡ Some row → AllSettled dag s k → list_all (λ c. is_some (value_in c)) row.cells ≡ true
+unfolding cell_in
+settled-back dag s rows k row at all =
+    let same : row_of s.runs k ≡ row = read-row s.runs k row no_run at in
+    let there : k < length s.runs = some-below s.runs k (rw at) in
+    let long : length row.cells ≡ length dag.tasks = ap (λ (r : Run). length r.cells) (sym same) ∙ rows k there in
+    at-all (λ c. is_some (value_in c)) row.cells (λ t l. ap (λ (r : Run). is_some (value_in (slice_index_or r.cells t Cell.Undecided))) (sym same) ∙ all t (rw (← long) l))
+
+pub phase-read : (runs : List Run) (k : ℕ) (row : Run) → slice_get runs k ≡ Some row → phase_in runs k ≡ row.phase
+unfolding phase_in
+phase-read runs k row at = ap (λ (r : Run). r.phase) (read-row runs k row no_run at)
+
+is_open-is : (p : RunPhase) → is_open p ≡ true → p ≡ RunPhase.Open
+is_open-is RunPhase.Open e = refl
+is_open-is RunPhase.Unopened e = cc
+is_open-is RunPhase.Closed e = cc
+
+-- a row that may be closed, and one that may not
+pub closable-from : (dag : Dag) (s : State) → HasRows dag s → (k : ℕ) (row : Run) → slice_get s.runs k ≡ Some row → (is_open row.phase && list_all (λ c. is_some (value_in c)) row.cells) ≡ true →
+    (k < length s.runs) × (phase_of s k ≡ RunPhase.Open) × AllSettled dag s k
+closable-from dag s rows k row at e = (
+  some-below s.runs k (rw at),
+  phase-read s.runs k row at ∙ is_open-is row.phase (and_left _ _ e),
+  settled-from dag s rows k row at (and_right (is_open row.phase) _ e),
+)
+
+pub not-closable : (dag : Dag) (s : State) → HasRows dag s → (k : ℕ) (row : Run) → slice_get s.runs k ≡ Some row → (is_open row.phase && list_all (λ c. is_some (value_in c)) row.cells) ≡ false →
+    (k < length s.runs) × ¬ ((phase_of s k ≡ RunPhase.Open) × AllSettled dag s k)
+not-closable dag s rows k row at e = (
+  some-below s.runs k (rw at),
+  λ p.
+    let open_row : is_open row.phase ≡ true = ap is_open (sym (phase-read s.runs k row at) ∙ p.0) in
+    let all : list_all (λ c. is_some (value_in c)) row.cells ≡ true = settled-back dag s rows k row at p.1 in
+    let f : true ≡ false = sym (rw (open_row, all)) ∙ e in
+    cc,
+)
+
+-- a cell is there by its row exactly where run and task are
+pub row-there : (dag : Dag) (s : State) → HasRows dag s → (k t : ℕ) → (k < length s.runs) × (t < length (row_of s.runs k).cells) → IsThere dag s k t
+row-there dag s rows k t at = (at.0, rw (← rows k at.0) at.1)
+
+pub there-row : (dag : Dag) (s : State) → HasRows dag s → (k t : ℕ) → IsThere dag s k t → (k < length s.runs) × (t < length (row_of s.runs k).cells)
+there-row dag s rows k t at = (at.0, rw (rows k at.0) at.1)

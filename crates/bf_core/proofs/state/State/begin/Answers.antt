@@ -1,0 +1,18 @@
+use Rattle.std.proofs.Common.{◌≡◌, ◌<◌, ℕ, List, length, ap, sym, ◌∙◌}
+use Rattle.bf_core.specs.Terms.{State, Cell}
+use Rattle.bf_core.specs.Events.{put, put_in, change_instance, begun, cell_at}
+use Rattle.bf_core.proofs.Placing.{put-put, with-runs}
+use Rattle.bf_core.proofs.Shape.{length-put, row-put, row_in}
+use Rattle.bf_core.proofs.state.State.begin.Goals as goal
+
+pub put-requires-clause-run : goal.put-requires-clause-run
+put-requires-clause-run c = rw (c.put-cell.ensures.now, length-put c.args.self.now.runs c.args.run c.args.task Cell.Undecided) c.requires.run
+
+pub put-requires-clause-task : goal.put-requires-clause-task
+unfolding row_in
+put-requires-clause-task c = rw (c.put-cell.ensures.now, row-put c.args.self.now c.args.run c.args.task Cell.Undecided c.args.run) c.requires.task
+
+pub returns : goal.returns
+returns c =
+    rw (c.put.ensures.now, c.put-cell.ensures.now, c.begin.ensures, c.put-cell.ensures.was)
+      (with-runs _ _ c.args.self.now.ledger (put-put c.args.self.now.runs c.args.run c.args.task Cell.Undecided _))

@@ -1,0 +1,79 @@
+-- What callers see of a core, what an event does to it, and which events are refused.
+use Rattle.std.specs.Prelude.{◌≡◌, ◌<◌, ◌≤◌, ◌++◌, ◌∷◌, [], ℕ, List, length, Some}
+use Rattle.bf_check.specs.Sound.{AreLimits}
+use Rattle.bf_check.specs.Served.{IsServed}
+use Rattle.bf_pool.specs.Slots.{Slots, occupied_of}
+use Rattle.bf_core.specs.Terms.{Dag, Limits, JobName, State, Event, Instance, Phase, IsSound, task_of, map_index}
+use Rattle.bf_core.specs.declared.event.Illegal.{Illegal}
+use Rattle.bf_core.specs.Events.{IsLegal, replay, start, after, occupied, IsEnabled, IsPresent, row_of, cell_at, phase_of, instance_of, place_in}
+use Rattle.bf_core.specs.Few.{AreFew}
+
+-- the plan, how many runs there are, the state, and the events that led to it
+pub record Backfill : Type 0 where
+  pub dag : Dag
+  pub limits : Limits
+  pub runs : ℕ
+  pub state : State
+  pub journal : List Event
+
+-- the backfill of no event
+abbrev pub opening : Dag → Limits → ℕ → Backfill
+opening dag limits runs = record { dag = dag; limits = limits; runs = runs; state = start dag runs; journal = [] }
+
+-- the backfill after one more event
+abbrev pub moved : Backfill → Event → Backfill
+moved b e = record b { state = after b.dag b.state e; journal = b.journal ++ e ∷ [] }
+
+-- the journal is legal, and leads to the state
+pub record IsReplay (b : Backfill) : Type 0 where
+  pub sound : IsSound b.dag
+  pub legal : IsLegal b.dag b.limits (start b.dag b.runs) b.journal
+  pub led_to : replay b.dag (start b.dag b.runs) b.journal ≡ b.state
+
+-- ---- refusals
+
+-- the run and the task are there
+abbrev pub IsThere : Dag → State → ℕ → ℕ → Type 0
+IsThere dag s k t = (k < length s.runs) × (t < length dag.tasks)
+
+-- the task has an instance of that index now, which has come to that try
+pub record IsKnown (dag : Dag) (s : State) (n : JobName) : Type 0 where
+  pub there : IsThere dag s n.run n.task
+  pub held : Instance
+  pub is_held : instance_of (cell_at s n.run n.task) (place_in dag n) ≡ Some held
+  pub is_named : map_index (task_of dag n.task) (place_in dag n) ≡ n.index
+  pub from : 1 ≤ n.attempt
+  pub to : n.attempt ≤ held.attempt
+
+-- what the event speaks of is there
+abbrev pub SpeaksOfThese : Dag → State → Event → Type 0
+SpeaksOfThese dag s Event.Open = Unit {0}
+SpeaksOfThese dag s (Event.Settle k t) = IsThere dag s k t
+SpeaksOfThese dag s (Event.Expand k t) = IsThere dag s k t
+SpeaksOfThese dag s (Event.Begin n) = IsKnown dag s n
+SpeaksOfThese dag s (Event.End n o) = IsKnown dag s n
+SpeaksOfThese dag s (Event.Close k) = k < length s.runs
+
+-- the event is enabled, but for room in a pool
+abbrev pub IsDue : Dag → Limits → State → Event → Type 0
+IsDue dag limits s (Event.Begin n) = IsPresent dag s n Phase.Waiting
+IsDue dag limits s e = IsEnabled dag limits s e
+
+-- the first of these whose condition holds: a stranger, not enabled, no room; or memory was wanting
+abbrev pub Refuses : Dag → Limits → State → Event → Illegal → Type 0
+Refuses dag limits s e Illegal.Stranger = ¬ (SpeaksOfThese dag s e)
+Refuses dag limits s e Illegal.NotEnabled = SpeaksOfThese dag s e × ¬ (IsDue dag limits s e)
+Refuses dag limits s e Illegal.NoRoom = IsDue dag limits s e × ¬ (IsEnabled dag limits s e)
+Refuses dag limits s e Illegal.OutOfMemory = Unit {0}
+
+-- ---- what a core keeps
+
+pub record IsCore (b : Backfill) (pools : Slots) (rooms : ℕ) : Type 0 where
+  pub replayed : IsReplay b
+  pub limits_fit : AreLimits b.dag b.limits
+  pub served : IsServed b.dag
+  pub few_runs : b.runs ≤ 4_096
+  pub few : AreFew b.state
+  pub rooms_fit : rooms ≡ b.runs
+  pub sizes : pools.sizes ≡ b.limits.pools
+  pub held : (pool : ℕ) → occupied_of pools pool ≡ occupied b.limits b.state pool

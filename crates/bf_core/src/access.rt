@@ -1,0 +1,116 @@
+//! What can be seen of a core, and what it comes to.
+ghost use Rattle.std.specs.Prelude.{◌≡◌, ℕ, ◌≤◌, ◌<◌, ◌↔◌, length, vec_len, IsTrue, IsSome, IfSome, IfOk, IfErr, OnOk};
+ghost use Rattle.std.specs.List.{list_all};
+ghost use Rattle.bf_core.specs.Terms.{Ledger as Look, Dag as DagTerm, pool_size};
+ghost use Rattle.bf_core.specs.Events.{cell_at, row_of, entry_in, occupied, HasEnded, is_closed};
+ghost use Rattle.bf_core.specs.Agreement.{Holds, Agrees, IsOutcome, AreRunStates};
+ghost use Rattle.bf_core.specs.Cores.{IsThere, IsReplay, Refuses};
+ghost use Rattle.bf_core.specs.Checks.{AreStatesOf};
+
+use crate::ended::{Ended, run_state};
+use crate::event::{Event, Illegal};
+use crate::machine::Core;
+use crate::state::{Cell, Run};
+use bf_check::Dag;
+use bf_try::Ledger;
+use bf_value::Sequence;
+use bf_xcom::RunState;
+
+fn are_closed(runs: &[Run]) -> bool
+    ensures { result ≡ list_all (λ r. is_closed r.phase) runs.now }
+{
+    runs.iter().all(|run| run.phase.is_closed())
+}
+
+/// Writes the state of each run into its place.
+fn write_states(dag: &Dag, runs: &[Run], states: &mut Vec<RunState>)
+    requires few { length dag.now.tasks ≤ 2_000 }
+    requires rows { (k : ℕ) → k < length runs.now → length (row_of runs.now k).cells ≡ length dag.now.tasks }
+    requires room { vec_len states.old ≡ length runs.now }
+    ensures { AreStatesOf dag.now runs.now states.new.items }
+{
+    for run in 0..runs.len() {
+        states[run] = run_state(dag, runs[run].cells.as_slice());
+    }
+}
+
+impl<'a> Core<'a> {
+    /// Expands a task: no task of the plans that are served is expanded, so this is always refused.
+    pub(crate) fn expand(&self, run: u32, task: u32) -> Illegal
+        ensures { Refuses self.now.dag self.now.limits self.now.state (Event.Expand run task) result }
+    {
+        match self.state.cell(run, task) {
+            Some(_) => Illegal::NotEnabled,
+            None => Illegal::Stranger,
+        }
+    }
+
+    /// The task in the run, where both are there. Whatever is decided of it, and whatever came of its instances so
+    /// far, is the recursion's over every ledger that holds the entries so far.
+    pub fn cell(&self, run: u32, task: u32) -> Option<&Cell>
+        ensures there { IsSome result ↔ IsThere self.now.dag self.now.state run task }
+        ensures cell { IfSome result (λ c. c.now ≡ cell_at self.now.state run task) }
+        ensures agrees { (ledger : Look) → Holds ledger (entry_in self.now.state.ledger) → Agrees self.now.dag self.now.state ledger }
+    {
+        self.state.cell(run, task)
+    }
+
+    /// The tries that have ended.
+    pub fn ledger(&self) -> &Ledger
+        ensures { result.now ≡ self.now.state.ledger }
+    {
+        &self.state.ledger
+    }
+
+    /// The events that came so far.
+    pub fn journal(&self) -> &[Event]
+        ensures journal { result.now ≡ self.now.journal }
+        ensures replayed { IsReplay self.now }
+    {
+        self.journal.as_slice()
+    }
+
+    /// How many slots of a pool are occupied: the slots of its running instances, and no more than it has.
+    pub fn occupied(&self, pool: u32) -> u32
+        requires { pool < length self.now.limits.pools }
+        ensures slots { result ≡ occupied self.now.limits self.now.state pool }
+        ensures within { result ≤ pool_size self.now.limits pool }
+    {
+        self.pools.occupied(pool)
+    }
+
+    /// Whether every run is closed.
+    pub fn is_ended(&self) -> bool
+        ensures { IsTrue result ↔ HasEnded self.now.state }
+    {
+        are_closed(self.state.runs.as_slice())
+    }
+
+    /// What the backfill came to, where it has ended; else the core is handed back. The cells are the recursion's over
+    /// the ledger, which holds just the tries that the recursion asks for.
+    pub fn into_ended(self) -> Result<Ended, Core<'a>>
+        ensures ok { IfOk result (λ ended. HasEnded self.entry.state × (ended.state ≡ self.entry.state) × (ended.journal ≡ self.entry.journal)) }
+        ensures outcome { OnOk result (IsOutcome self.entry.dag self.entry.runs self.entry.state) }
+        ensures run_states { IfOk result (λ ended. AreRunStates self.entry.dag (entry_in self.entry.state.ledger) self.entry.runs ended.run_states) }
+        ensures back { IfErr result (λ core. (core ≡ self.entry) × ¬ (HasEnded self.entry.state)) }
+    {
+        if !self.is_ended() {
+            return Err(self);
+        }
+        let Core {
+            alloc: _,
+            plan,
+            runs: _,
+            pools: _,
+            state,
+            mut run_states,
+            journal,
+        } = self;
+        write_states(plan.dag(), state.runs.as_slice(), &mut run_states);
+        Ok(Ended {
+            state,
+            run_states: Sequence::from_vec(run_states),
+            journal: Sequence::from_vec(journal),
+        })
+    }
+}

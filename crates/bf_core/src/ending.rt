@@ -1,0 +1,87 @@
+//! The end of a try, and any event at all.
+ghost use Rattle.std.specs.Prelude.{◌≡◌, ◌<◌, ◌^◌, ◌+◌, length, OnOk, OnErr, IfOk, IfErr};
+ghost use Rattle.bf_core.specs.Terms.{task_of, demand_of, Phase, JobName as JobNameTerm, Entry as EntryTerm};
+ghost use Rattle.bf_core.specs.Events.{IsEnabled, IsPresent, cell_at, instance_of, given_in};
+ghost use Rattle.bf_core.specs.Cores.{moved, Refuses};
+ghost use Rattle.bf_core.specs.Endings.{IsEnding};
+
+use crate::checks::running;
+use crate::event::{Event, Illegal};
+use crate::machine::Core;
+use bf_check::Demand;
+use bf_try::{Entry, NoteFault, Outcome, fits};
+use bf_value::JobName;
+
+/// What is at hand when a try ends.
+struct Ending {
+    entry: Entry,
+    kept: Outcome,
+    demand: Demand,
+    retries: u32,
+}
+
+impl<'a> Core<'a> {
+    /// What the end of a try notes, keeps and gives back; refused where the try does not run or could not end so.
+    fn ending(&self, name: JobName, outcome: &Outcome) -> Result<Ending, Illegal>
+        ensures ok { IfOk result (λ e. IsEnding self.now name outcome.now e.entry e.kept e.demand e.retries) }
+        ensures err { IfErr result (Refuses self.now.dag self.now.limits self.now.state (Event.End name outcome.now)) }
+    {
+        let instance = running(self.plan.dag(), &self.state, name)?;
+        if !fits(self.plan, name.task, outcome) {
+            return Err(Illegal::NotEnabled);
+        }
+        Ok(Ending {
+            entry: Entry {
+                given: instance.given.copy(self.alloc)?,
+                outcome: outcome.copy(self.alloc)?,
+            },
+            kept: outcome.copy(self.alloc)?,
+            demand: self.plan.demand(name.task),
+            retries: self.plan.dag().task(name.task).retries,
+        })
+    }
+
+    /// Ends a try: its slots are given back, and the ledger gets its entry.
+    pub(crate) fn end(&mut self, name: JobName, outcome: Outcome) -> Result<(), Illegal>
+        ensures ok { OnOk result (IsEnabled self.old.dag self.old.limits self.old.state (Event.End name outcome) × (self.new ≡ moved self.old (Event.End name outcome))) }
+        ensures err { IfErr result (Refuses self.old.dag self.old.limits self.old.state (Event.End name outcome)) }
+        ensures same { OnErr result (self.new ≡ self.old) }
+    {
+        let Ending {
+            entry,
+            kept,
+            demand,
+            retries,
+        } = self.ending(name, &outcome)?;
+        self.pools.known();
+        self.journal.reserve(1)?;
+        match self.state.ledger.note(name, entry) {
+            Err((_, NoteFault::OutOfMemory)) => Err(Illegal::OutOfMemory),
+            Err((_, NoteFault::AlreadyRecorded)) => unreachable!(),
+            Ok(()) => {
+                self.state.end(name.run, name.task, 0, retries, kept);
+                self.pools.give_back(demand.pool, demand.slots);
+                self.journal.push_reserved(Event::End(name, outcome));
+                Ok(())
+            }
+        }
+    }
+
+    /// Lets an event come, or refuses it and changes nothing: by `Stranger` where what it speaks of isn't there, else
+    /// by `NotEnabled` where it may not come for another cause than want of room, else by `NoRoom`. Want of memory may
+    /// stand in the place of any answer.
+    pub fn apply(&mut self, event: Event) -> Result<(), Illegal>
+        ensures ok { OnOk result (IsEnabled self.old.dag self.old.limits self.old.state event × (self.new ≡ moved self.old event)) }
+        ensures err { IfErr result (Refuses self.old.dag self.old.limits self.old.state event) }
+        ensures same { OnErr result (self.new ≡ self.old) }
+    {
+        match event {
+            Event::Open => self.open(),
+            Event::Settle { run, task } => self.settle(run, task),
+            Event::Expand { run, task } => Err(self.expand(run, task)),
+            Event::Begin(name) => self.begin(name),
+            Event::End(name, outcome) => self.end(name, outcome),
+            Event::Close { run } => self.close(run),
+        }
+    }
+}

@@ -1,0 +1,184 @@
+//! The core: the state of a backfill, the events that led to it, and what one more event does.
+ghost use Rattle.std.specs.Prelude.{◌≡◌, ◌≤◌, ◌<◌, [], length, OnOk, OnErr, IfOk, IfErr};
+ghost use Rattle.bf_check.specs.Served.{IsServed};
+ghost use Rattle.bf_core.specs.Terms.{demand_of, Phase};
+ghost use Rattle.bf_core.specs.Events.{IsEnabled, start, next_run, decision_in, IsPresent};
+ghost use Rattle.bf_core.specs.Cores.{moved, opening, Refuses};
+
+use crate::checks::{closable, first_unopened_run, open_runs, undecided, waiting};
+use crate::deciding::{Decision, decide};
+use crate::event::{Event, Illegal};
+use crate::state::{RunPhase, State};
+use crate::opening::unopened_runs;
+use bf_check::{Demand, Plan};
+use bf_interval::Interval;
+use bf_pool::{NoRoom, Pools};
+use bf_try::Ledger;
+use bf_value::{JobName, OutOfMemory};
+use bf_xcom::RunState;
+use std::alloc::Global;
+use std::marker::Model;
+
+/// A backfill of a plan as far as it has come. It decides nothing by itself: `apply` takes the events that somebody
+/// else chooses, and refuses those that may not come now.
+#[derive(Drop)]
+pub struct Core<'a> {
+    pub(crate) alloc: Global,
+    pub(crate) plan: &'a Plan,
+    pub(crate) runs: u32,
+    pub(crate) pools: Pools,
+    pub(crate) state: State,
+    /// Room for the states of the runs, which are known once the backfill has ended.
+    pub(crate) run_states: Vec<RunState>,
+    pub(crate) journal: Vec<Event>,
+}
+
+impl<'a> Model for Core<'a> {
+    ghost use Rattle.std.specs.Prelude.{vec_len};
+    ghost use Rattle.bf_core.specs.Cores.{Backfill, IsCore};
+    ghost use Rattle.bf_check.specs.contracts.plan.Dag as d;
+    ghost use Rattle.bf_check.specs.contracts.plan.Limits as l;
+    ghost use Rattle.bf_core.specs.contracts.state.State as s;
+    ghost use Rattle.bf_core.specs.contracts.event.Event as e;
+    ghost use Rattle.std.specs.Coded.{codes};
+
+    ghost Value = { Backfill };
+
+    ghost coded = { Prim.hlevel (codes, d.the_row.coded, l.the_row.coded, s.the_row.coded, e.the_row.coded) };
+
+    ghost view = { λ c. record { dag = c.plan.now.dag; limits = c.plan.now.limits; runs = c.runs; state = c.state; journal = c.journal.items } };
+
+    ghost invariant = { λ c. IsCore (record { dag = c.plan.now.dag; limits = c.plan.now.limits; runs = c.runs; state = c.state; journal = c.journal.items }) c.pools (vec_len c.run_states) };
+}
+
+impl<'a> Core<'a> {
+    /// The core of a plan over these data intervals, of which nothing has happened yet.
+    pub fn new(
+        alloc: Global,
+        plan: &'a Plan,
+        intervals: &[Interval],
+    ) -> Result<Core<'a>, OutOfMemory>
+        requires served { IsServed plan.now.dag }
+        requires few { length intervals.now ≤ 4_096 }
+        ensures { IfOk result (λ core. core ≡ opening plan.entry.now.dag plan.entry.now.limits (length intervals.now)) }
+    {
+        let runs = unopened_runs(alloc, plan.dag().tasks.len(), intervals.len())?;
+        let run_states = vec![in alloc; RunState::Success; intervals.len()]?;
+        let pools = Pools::new(alloc, plan)?;
+        let _fit = plan.limits();
+        Ok(Core {
+            alloc,
+            plan,
+            runs: intervals.len() as u32,
+            pools,
+            state: State {
+                runs,
+                ledger: Ledger::new(alloc),
+            },
+            run_states,
+            journal: Vec::new(alloc),
+        })
+    }
+
+    /// Refuses `Open` where every run is opened, or as many are open as may be.
+    fn next_to_open(&self) -> Result<u32, Illegal>
+        ensures ok { IfOk result (λ k. (k ≡ next_run self.now.state) × IsEnabled self.now.dag self.now.limits self.now.state Event.Open) }
+        ensures err { IfErr result (Refuses self.now.dag self.now.limits self.now.state Event.Open) }
+    {
+        let runs = self.state.runs.as_slice();
+        match first_unopened_run(runs) {
+            None => Err(Illegal::NotEnabled),
+            Some(run) => {
+                if open_runs(runs) < self.plan.limits().max_active_runs as usize {
+                    Ok(run as u32)
+                } else {
+                    Err(Illegal::NotEnabled)
+                }
+            }
+        }
+    }
+
+    /// Opens the next run.
+    pub(crate) fn open(&mut self) -> Result<(), Illegal>
+        ensures ok { OnOk result (IsEnabled self.old.dag self.old.limits self.old.state Event.Open × (self.new ≡ moved self.old Event.Open)) }
+        ensures err { IfErr result (Refuses self.old.dag self.old.limits self.old.state Event.Open) }
+        ensures same { OnErr result (self.new ≡ self.old) }
+    {
+        let run = self.next_to_open()?;
+        self.journal.reserve(1)?;
+        self.state.set_phase(run, RunPhase::Open);
+        self.journal.push_reserved(Event::Open);
+        Ok(())
+    }
+}
+
+impl<'a> Core<'a> {
+    /// What is decided of a task now, refused where it may not be settled.
+    fn decided(&self, run: u32, task: u32) -> Result<Decision, Illegal>
+        ensures ok { IfOk result (λ d. IsEnabled self.now.dag self.now.limits self.now.state (Event.Settle run task) × (d ≡ decision_in self.now.dag self.now.state run task)) }
+        ensures err { IfErr result (Refuses self.now.dag self.now.limits self.now.state (Event.Settle run task)) }
+    {
+        let dag = self.plan.dag();
+        undecided(dag, &self.state, run, task)?;
+        let decision = decide(self.alloc, dag, &self.state, run, task)?;
+        if decision.waits() {
+            return Err(Illegal::NotEnabled);
+        }
+        Ok(decision)
+    }
+
+    /// Decides a task.
+    pub(crate) fn settle(&mut self, run: u32, task: u32) -> Result<(), Illegal>
+        ensures ok { OnOk result (IsEnabled self.old.dag self.old.limits self.old.state (Event.Settle run task) × (self.new ≡ moved self.old (Event.Settle run task))) }
+        ensures err { IfErr result (Refuses self.old.dag self.old.limits self.old.state (Event.Settle run task)) }
+        ensures same { OnErr result (self.new ≡ self.old) }
+    {
+        let decision = self.decided(run, task)?;
+        let cell = decision.into_cell(self.alloc)?;
+        self.journal.reserve(1)?;
+        let _ = self.state.put(run, task, cell);
+        self.journal.push_reserved(Event::Settle { run, task });
+        Ok(())
+    }
+
+    /// Begins a try, which takes its task's slots.
+    pub(crate) fn begin(&mut self, name: JobName) -> Result<(), Illegal>
+        ensures ok { OnOk result (IsEnabled self.old.dag self.old.limits self.old.state (Event.Begin name) × (self.new ≡ moved self.old (Event.Begin name))) }
+        ensures err { IfErr result (Refuses self.old.dag self.old.limits self.old.state (Event.Begin name)) }
+        ensures same { OnErr result (self.new ≡ self.old) }
+    {
+        let demand = self.waiting_demand(name)?;
+        self.pools.known();
+        self.journal.reserve(1)?;
+        match self.pools.take(demand.pool, demand.slots) {
+            Err(NoRoom) => Err(Illegal::NoRoom),
+            Ok(()) => {
+                self.state.begin(name.run, name.task, 0);
+                self.journal.push_reserved(Event::Begin(name));
+                Ok(())
+            }
+        }
+    }
+
+    /// What a try would take, refused where it does not wait.
+    fn waiting_demand(&self, name: JobName) -> Result<Demand, Illegal>
+        ensures ok { IfOk result (λ d. IsPresent self.now.dag self.now.state name Phase.Waiting × (d ≡ demand_of self.now.limits name.task) × (d.pool < length self.now.limits.pools)) }
+        ensures err { IfErr result (Refuses self.now.dag self.now.limits self.now.state (Event.Begin name)) }
+    {
+        waiting(self.plan.dag(), &self.state, name)?;
+        Ok(self.plan.demand(name.task))
+    }
+
+    /// Closes a run.
+    pub(crate) fn close(&mut self, run: u32) -> Result<(), Illegal>
+        ensures ok { OnOk result (IsEnabled self.old.dag self.old.limits self.old.state (Event.Close run) × (self.new ≡ moved self.old (Event.Close run))) }
+        ensures err { IfErr result (Refuses self.old.dag self.old.limits self.old.state (Event.Close run)) }
+        ensures same { OnErr result (self.new ≡ self.old) }
+    {
+        closable(self.plan.dag(), &self.state, run)?;
+        self.journal.reserve(1)?;
+        self.state.set_phase(run, RunPhase::Closed);
+        self.journal.push_reserved(Event::Close { run });
+        Ok(())
+    }
+}

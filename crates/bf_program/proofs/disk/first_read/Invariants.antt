@@ -1,0 +1,14 @@
+use Rattle.std.proofs.Common.{◌≤◌, vec_len, ◌+◌, ◌-◌}
+use Rattle.std.specs.Io.KnownBytes.{Consumes}
+use Rattle.bf_program.proofs.disk.first_read.Given as goal
+
+-- the bytes so far were taken off what the reader had
+abbrev pub invariant-loop-chunk : goal.invariant-loop-chunk
+invariant-loop-chunk g l = record {
+  short : vec_len l.bytes ≤ l.count;
+  few : l.interruptions ≤ 1000;
+  taken : Consumes (g.R.Read.remaining l.initial.reader) (g.R.Read.remaining l.reader) l.bytes.items;
+}
+
+abbrev pub decreases-loop-chunk : goal.decreases-loop-chunk
+decreases-loop-chunk g l = (l.count - vec_len l.bytes) + (1000 - l.interruptions)

@@ -1,0 +1,6 @@
+pub mod CommandLine
+pub mod Asked
+pub mod Source
+pub mod Stored
+pub mod Refusal
+pub mod Status

@@ -1,0 +1,22 @@
+-- What a source gives of a file.
+use Rattle.std.specs.Prelude.{◌≡◌, ◌≤◌, ◌<◌, ℕ, List, length, take, Option, Some, None, Result, Ok, Err, Vec, find, option_map, ⊤}
+use Rattle.std.specs.Global.{Global}
+use Rattle.std.specs.Str.{bytes_eq}
+use Rattle.bf_program.specs.declared.source.SourceFault.{SourceFault}
+use Rattle.bf_program.specs.declared.source.SourceFault.TheVariants.{OutOfMemory}
+
+-- the first bytes of a file that holds these, and a fault for one that can't be read
+abbrev pub GivesFirst : ℕ → Option (List ℕ) → Result (Vec ℕ Global) SourceFault → Type 0
+GivesFirst count (Some held) (Ok bytes) = bytes.items ≡ take count held
+GivesFirst count (Some held) (Err fault) = fault ≡ OutOfMemory
+GivesFirst count None (Ok bytes) = ⊥
+GivesFirst count None (Err fault) = ⊤
+
+-- what the first file of this path holds
+abbrev pub file_in : List (List ℕ × List ℕ) → List ℕ → Option (List ℕ)
+file_in files path = option_map (λ f. f.1) (find (λ f. bytes_eq f.0 path) files)
+
+-- a file's bytes, or of a file that is longer than may be, so many that it shows
+abbrev pub IsWholeUpTo : ℕ → Option (List ℕ) → List ℕ → Type 0
+IsWholeUpTo longest None bytes = ⊥
+IsWholeUpTo longest (Some held) bytes = (length held ≤ longest → bytes ≡ held) × (longest < length held → longest < length bytes)

@@ -1,0 +1,61 @@
+//! The command line as `clap` reads it.
+ghost use Rattle.std.specs.Prelude.{◌≡◌, IfOk, false};
+ghost use Rattle.clap.specs.Words.{app_of, rule_of};
+ghost use Rattle.clap.specs.declared.builder.command.Command.TheViews.{out-Command};
+ghost use Rattle.bf_program.specs.CommandLine.{backfill_app, single_app, graph_rule, table_rule, at_rule};
+
+use clap::{Arg, Command};
+use std::alloc::{AllocError, Global};
+
+fn graph<'a>(alloc: Global) -> Arg<'a>
+    ensures rule { rule_of result ≡ graph_rule }
+    ensures local { result.global ≡ false }
+{
+    Arg::new(alloc, "graph")
+        .value_name("GRAPH")
+        .help("The task graph, a JSON file")
+        .required(true)
+}
+
+fn table<'a>(alloc: Global) -> Arg<'a>
+    ensures rule { rule_of result ≡ table_rule }
+    ensures local { result.global ≡ false }
+{
+    Arg::new(alloc, "table")
+        .value_name("TABLE")
+        .help("The answers of the tasks' tries, a JSON file")
+        .required(true)
+}
+
+fn at<'a>(alloc: Global) -> Arg<'a>
+    ensures rule { rule_of result ≡ at_rule }
+    ensures local { result.global ≡ false }
+{
+    Arg::new(alloc, "at")
+        .long("at")
+        .value_name("T")
+        .help("The run's moment in UTC, as 2024-01-31 or 2024-01-31T06:00:00Z")
+        .required(true)
+}
+
+fn single<'a>(alloc: Global) -> Result<Command<'a>, AllocError>
+    ensures app { IfOk result (λ c. app_of c ≡ single_app) }
+    ensures local { IfOk result (λ c. (out-Command c).has_globals ≡ false) }
+{
+    Command::new(alloc, "single")
+        .about("Runs the graph once, answering each task from a table")
+        .arg(graph(alloc))?
+        .arg(table(alloc))?
+        .arg(at(alloc))
+}
+
+/// The whole command line.
+pub fn backfill<'a>(alloc: Global) -> Result<Command<'a>, AllocError>
+    ensures { IfOk result (λ c. app_of c ≡ backfill_app) }
+{
+    Command::new(alloc, "backfill")
+        .about("Runs a graph of tasks once for each data interval of a range of dates")
+        .subcommand_required(true)
+        .arg_required_else_help(true)
+        .subcommand(single(alloc)?)
+}

@@ -1,0 +1,101 @@
+//! The whole program below `main`.
+ghost use Rattle.std.specs.Prelude.{◌≡◌, ◌≢◌, ◌≤◌, ◌⊎◌, [], None, IfOk, IfErr, IsErr, IsSome, map, string_bytes};
+ghost use Rattle.clap.specs.Words.{fault_of, kind_of};
+ghost use Rattle.bf_program.specs.CommandLine.{backfill_app};
+ghost use Rattle.bf_program.specs.Refusal.{number_of};
+ghost use Rattle.bf_program.specs.Status.{code_of, shown_as, EndsAs};
+
+use crate::forms::Asked;
+use crate::reading::asked;
+use crate::refusal::CommandFault;
+use crate::single::single_answered;
+use crate::source::Source;
+use crate::status::Status;
+use bf_report::{Write, send};
+use clap::Error;
+use clap::error::ErrorKind;
+use std::alloc::Global;
+
+/// Answers a command line, of which the first word is the program's own name. Files are read from `files`, the
+/// report or help goes to `out`, and why there is none to `err`. Gives the exit status: 0 where every run is a
+/// success or help was asked for, 1 where some run failed, 2 where something was refused, and 3 at a fault.
+#[tactic(auto, using(crate::proofs::Ends::fault_ends))]
+pub fn answer<S: Source, W: Write, E: Write>(
+    alloc: Global,
+    words: &[String],
+    files: &mut S,
+    out: &mut W,
+    err: &mut E,
+) -> u8
+    ensures range { result ≤ 3 }
+    ensures answered { result ≤ 1 → E.written err.new ≡ E.written err.old }
+    ensures refused { result ≡ 2 → W.written out.new ≡ W.written out.old }
+    ensures line { fault_of backfill_app (map string_bytes words.now) ≢ []
+        → EndsAs (fault_of backfill_app (map string_bytes words.now)) result }
+{
+    match line_answered(alloc, words, files, out, err) {
+        Ok(status) => status.code(),
+        Err(fault) => told(alloc, &fault, err).code(),
+    }
+}
+
+fn line_answered<S: Source, W: Write, E: Write>(
+    alloc: Global,
+    words: &[String],
+    files: &mut S,
+    out: &mut W,
+    err: &mut E,
+) -> Result<Status, CommandFault>
+    ensures range { IfOk result (λ s. s ≢ Status.Fault) }
+    ensures answered { IfOk result (λ s. s ≢ Status.Refused → E.written err.new ≡ E.written err.old) }
+    ensures wrong { IfOk result (λ s. s ≡ Status.Refused → W.written out.new ≡ W.written out.old) }
+    ensures refused { IfErr result (λ f. IsSome (number_of f) → W.written out.new ≡ W.written out.old) }
+    ensures line { fault_of backfill_app (map string_bytes words.now) ≢ []
+        → IfOk result (λ s. EndsAs (fault_of backfill_app (map string_bytes words.now)) (code_of s)) }
+    ensures fault { fault_of backfill_app (map string_bytes words.now) ≢ []
+        → IfErr result (λ f. number_of f ≡ None) }
+{
+    match asked(alloc, words) {
+        Ok(Asked::Single(single)) => single_answered(alloc, single, files, out),
+        Err(error) => shown(alloc, &error, out, err),
+    }
+}
+
+/// Shows `clap`'s words: help on standard output, and what is wrong with the line on standard error.
+fn shown<W: Write, E: Write>(
+    alloc: Global,
+    error: &Error,
+    out: &mut W,
+    err: &mut E,
+) -> Result<Status, CommandFault>
+    ensures ok { IfOk result (λ s. s ≡ shown_as (kind_of error.now)) }
+    ensures memory { kind_of error.now ≡ ErrorKind.OutOfMemory → IsErr result }
+    ensures fault { IfErr result (λ f. number_of f ≡ None) }
+    ensures help { IfOk result (λ s. s ≢ Status.Refused → E.written err.new ≡ E.written err.old) }
+    ensures wrong { IfOk result (λ s. s ≡ Status.Refused → W.written out.new ≡ W.written out.old) }
+{
+    if error.kind() == ErrorKind::OutOfMemory {
+        return Err(CommandFault::OutOfMemory);
+    }
+    let text = error.to_string(alloc)?;
+    if error.use_stderr() {
+        // Where standard error fails, nothing is left to say so on.
+        let _ = send(err, text.as_bytes());
+        return Ok(Status::Refused);
+    }
+    send(out, text.as_bytes())?;
+    Ok(Status::Success)
+}
+
+/// Tells on standard error why there is no report.
+fn told<E: Write>(alloc: Global, fault: &CommandFault, err: &mut E) -> Status
+    ensures refused { result ≡ Status.Refused → IsSome (number_of fault.now) }
+    ensures fault { (result ≡ Status.Refused) ⊎ (result ≡ Status.Fault) }
+{
+    let Ok(line) = fault.line(alloc) else {
+        let _ = send(err, b"fault: out of memory\n");
+        return Status::Fault;
+    };
+    let _ = send(err, line.as_bytes());
+    fault.status()
+}

@@ -1,0 +1,61 @@
+//! Reads a command line.
+ghost use Rattle.std.specs.Prelude.{◌≡◌, IfOk, map, string_bytes, Some, codes};
+ghost use Rattle.clap.specs.Words.{fault_of, FailsBy, subcommand_of, first_of, found_of, rows_of, subcommand_rows_of};
+ghost use Rattle.bf_program.specs.CommandLine.{backfill_app};
+ghost use Rattle.bf_program.specs.Asked.{IsAskedBy};
+
+use crate::command::backfill;
+use crate::forms::{Asked, SingleAsked};
+use clap::{ArgMatches, Error};
+use std::alloc::{AllocError, Global};
+
+/// What the words ask for, of which the first is the program's own name.
+///
+/// # Errors
+/// `clap`'s, with its words on a wrong line and its help where that was asked for.
+pub fn asked(alloc: Global, words: &[String]) -> Result<Asked, Error>
+    ensures ok { IfOk result (IsAskedBy (subcommand_of backfill_app (map string_bytes words.now))) }
+    ensures err { FailsBy (fault_of backfill_app (map string_bytes words.now)) result }
+{
+    let matches = matches_of(alloc, words)?;
+    let asked = subcommand_asked(alloc, &matches)?;
+    Ok(asked)
+}
+
+fn matches_of<'a>(alloc: Global, words: &'a [String]) -> Result<ArgMatches<'a>, Error>
+    ensures ok { IfOk result (λ m. subcommand_rows_of m ≡ subcommand_of backfill_app (map string_bytes words.entry.now)) }
+    ensures err { FailsBy (fault_of backfill_app (map string_bytes words.entry.now)) result }
+{
+    backfill(alloc)?.try_get_matches_from(words)
+}
+
+// `clap` has seen to it that a subcommand and what it requires are there. No contract hands this on
+// for a subcommand's own arguments, so that the arms without them answer as want of memory does.
+fn subcommand_asked(alloc: Global, matches: &ArgMatches<'_>) -> Result<Asked, AllocError>
+    ensures { IfOk result (IsAskedBy (subcommand_rows_of matches.now)) }
+{
+    match matches.subcommand() {
+        Some(("single", inner)) => Ok(Asked::Single(single_asked(alloc, inner)?)),
+        _ => Err(AllocError),
+    }
+}
+
+fn single_asked(alloc: Global, matches: &ArgMatches<'_>) -> Result<SingleAsked, AllocError>
+    ensures { IfOk result (λ s. IsAskedBy (Some (codes "single", rows_of (found_of matches.now))) (Asked.Single s)) }
+{
+    Ok(SingleAsked {
+        graph: required(alloc, matches, "graph")?,
+        table: required(alloc, matches, "table")?,
+        at: required(alloc, matches, "at")?,
+    })
+}
+
+#[tactic(auto, using(crate::proofs::Rows::first_rows))]
+fn required(alloc: Global, matches: &ArgMatches<'_>, id: &str) -> Result<String, AllocError>
+    ensures { IfOk result (λ t. first_of id.now (rows_of (found_of matches.now)) ≡ Some (string_bytes t)) }
+{
+    match matches.get_str(id) {
+        Some(value) => String::from_str(alloc, value),
+        None => Err(AllocError),
+    }
+}

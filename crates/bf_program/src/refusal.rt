@@ -1,0 +1,95 @@
+//! What a command prints where it gives no report.
+ghost use Rattle.std.specs.Prelude.{◌≡◌, IsNone, IsSome};
+ghost use Rattle.bf_program.specs.Refusal.{number_of};
+
+use crate::status::Status;
+use bf_report::{Cause, WriteFault};
+use bf_value::{OutOfMemory, Text};
+use std::alloc::{AllocError, Global};
+use thiserror::Error;
+
+/// Why a command gave no report: a refusal of what it was given, which has a number, or a fault, which has none.
+#[derive(Debug, Drop, Error)]
+pub enum CommandFault {
+    /// A moment that lies outside the years 1970 to 2199.
+    #[error("outside years")]
+    OutsideYears,
+    /// A text that is no moment, or one of a date that doesn't exist.
+    #[error("bad moment")]
+    BadMoment,
+    #[error("out of memory")]
+    OutOfMemory,
+    /// A path, as it stood on the line, whose file can't be read.
+    #[error("cannot read {0}")]
+    CannotRead(Text),
+    #[error("cannot write")]
+    CannotWrite,
+}
+
+impl CommandFault {
+    /// The number of a refusal.
+    pub fn number(&self) -> Option<u32>
+        ensures { result ≡ number_of self.now }
+    {
+        match self {
+            CommandFault::OutsideYears => Some(25),
+            CommandFault::BadMoment => Some(28),
+            CommandFault::OutOfMemory | CommandFault::CannotRead(_) | CommandFault::CannotWrite =>
+                None,
+        }
+    }
+
+    /// How the program ends.
+    pub fn status(&self) -> Status
+        ensures refused { IsSome (number_of self.now) → result ≡ Status.Refused }
+        ensures fault { IsNone (number_of self.now) → result ≡ Status.Fault }
+    {
+        match self.number() {
+            Some(_) => Status::Refused,
+            None => Status::Fault,
+        }
+    }
+
+    /// The line for standard error: `refused`, the number and the words, or `fault:` and the words.
+    pub fn line(&self, alloc: Global) -> Result<String, OutOfMemory> {
+        let line = match self.number() {
+            Some(number) => format!(in alloc; "refused {number} {self}\n"),
+            None => format!(in alloc; "fault: {self}\n"),
+        };
+        Ok(line?)
+    }
+}
+
+impl From<OutOfMemory> for CommandFault {
+    ghost use Rattle.bf_program.specs.declared.refusal.CommandFault.TheVariants.{OutOfMemory as NoMemory};
+
+    ghost from_gives = { λ _ e. e ≡ NoMemory };
+
+    fn from(_e: OutOfMemory) -> CommandFault {
+        CommandFault::OutOfMemory
+    }
+}
+
+impl From<AllocError> for CommandFault {
+    ghost use Rattle.bf_program.specs.declared.refusal.CommandFault.TheVariants.{OutOfMemory as NoMemory};
+
+    ghost from_gives = { λ _ e. e ≡ NoMemory };
+
+    fn from(_e: AllocError) -> CommandFault {
+        CommandFault::OutOfMemory
+    }
+}
+
+impl From<WriteFault> for CommandFault {
+    ghost use Rattle.std.specs.Prelude.{◌≡◌};
+    ghost use Rattle.bf_program.specs.Refusal.{fault_by};
+
+    ghost from_gives = { λ fault e. e ≡ fault_by fault.cause };
+
+    fn from(fault: WriteFault) -> CommandFault {
+        match fault.cause {
+            Cause::Io => CommandFault::CannotWrite,
+            Cause::OutOfMemory => CommandFault::OutOfMemory,
+        }
+    }
+}

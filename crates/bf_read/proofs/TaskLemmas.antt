@@ -1,0 +1,70 @@
+-- Tasks, read one after another.
+use Rattle.std.proofs.Common.{◌≡◌, ◌≢◌, ℕ, suc, ◌<◌, ◌≤◌, ◌+◌, List, [], ◌∷◌, ◌++◌, ◌||◌, length, AllPairs, get_or, map, drop, Ok, Err, refl, sym, ap, ◌∙◌, subst, arith, true≢false, length-append}
+use Rattle.std.specs.List.{list_any}
+use Rattle.std.specs.Str.{bytes_eq}
+use Rattle.std.specs.Cmp.Lexicographic.{bytes_decides}
+use Rattle.std.proofs.lemmas.Bool.{le-leb, lt-leb}
+use Rattle.std.proofs.lemmas.List.{map-append}
+use Rattle.std.proofs.lemmas.List.Folds.{list_any_at}
+use Rattle.std.proofs.lemmas.List.Quantifiers.{all_pairs_push}
+use Rattle.std.proofs.lemmas.List.Sums.{sum_by-append}
+use Rattle.serde_json.specs.Events.{items_len}
+use Rattle.serde_json.specs.View.{view, items_view}
+use Rattle.serde_json.specs.declared.value.Value.{Value}
+use Rattle.bf_read.specs.declared.draft.TaskDraft.{TaskDraft}
+use Rattle.bf_read.specs.declared.draft.TheConstants.{MOST_TASKS, MOST_EDGES}
+use Rattle.bf_read.specs.declared.fault.ReadFault.TheVariants.{LimitPassed}
+use Rattle.bf_read.specs.declared.path.Path.TheVariants.{Tasks}
+use Rattle.bf_read.specs.Gives.{◌>>=◌}
+use Rattle.bf_read.specs.Tasks.{edge_count, HaveDistinctIds, MayFollow}
+use Rattle.bf_read.specs.Reading.{task_at, tasks_from, few_tasks}
+use Rattle.bf_read.proofs.FieldLemmas.{rest_from}
+
+-- ---- how many
+
+items_len-items_view : (vs : List Value) → items_len (items_view vs) ≡ length vs
+items_len-items_view [] = refl
+items_len-items_view (v ∷ vs) = ap suc (items_len-items_view vs)
+
+pub few : (vs : List Value) → length vs ≤ MOST_TASKS → few_tasks (items_view vs) ≡ Ok tt
+unfolding few_tasks
+few vs h = rw (items_len-items_view vs, le-leb _ _ h)
+
+pub too_many : (vs : List Value) → MOST_TASKS < length vs → few_tasks (items_view vs) ≡ Err (LimitPassed Tasks)
+unfolding few_tasks
+too_many vs h = rw (items_len-items_view vs, lt-leb _ _ h)
+
+-- ---- the walk
+
+-- the tasks before, as the call reads them, and what is read from n on
+pub step : (before read : List TaskDraft) (vs : List Value) (n : ℕ) (v : Value) → read ≡ before → n < length vs → v ≡ get_or vs n v
+    → tasks_from before n (items_view (drop n vs)) ≡ (task_at read n (view v) >>= λ t. tasks_from (before ++ t ∷ []) (n + 1) (items_view (drop (n + 1) vs)))
+unfolding tasks_from
+step before read vs n v same h is =
+    ap (λ us. tasks_from before n (items_view us)) (rest_from vs n v h is) ∙ ap (λ ts. task_at ts n (view v) >>= λ t. tasks_from (before ++ t ∷ []) (n + 1) (items_view (drop (n + 1) vs))) (sym same)
+
+pub all_read : (before : List TaskDraft) (n : ℕ) → tasks_from before n (items_view []) ≡ Ok before
+unfolding tasks_from
+all_read before n = refl
+
+-- ---- what the tasks keep
+
+any_id : (id : List ℕ) (ts : List TaskDraft) → list_any (bytes_eq id) (map (λ t. t.id) ts) ≡ list_any (λ t. bytes_eq id t.id) ts
+any_id id [] = refl
+any_id id (t ∷ ts) = ap (λ b. bytes_eq id t.id || b) (any_id id ts)
+
+-- the tasks so far
+pub record KeepsTasks (n : ℕ) (tasks : List TaskDraft) : Type 0 where
+  pub len : length tasks ≡ n
+  pub few_edges : edge_count tasks ≤ MOST_EDGES
+  pub distinct : HaveDistinctIds tasks
+
+pub one_more : (n : ℕ) (ts : List TaskDraft) (t : TaskDraft) → KeepsTasks n ts → MayFollow ts t → KeepsTasks (n + 1) (ts ++ t ∷ [])
+one_more n ts t kept new = record {
+  len = (let len = kept.len in omega (arith, len, length-append ts (t ∷ [])));
+  few_edges = (let few = new.few in omega (arith, few, sum_by-append (λ (u : TaskDraft). length u.upstreams) ts (t ∷ [])));
+  distinct = subst (λ (ids : List (List ℕ)). AllPairs (λ a b. a ≢ b) ids) (sym (map-append (λ (u : TaskDraft). u.id) ts (t ∷ []))) (all_pairs_push (λ a b. a ≢ b) (map (λ (u : TaskDraft). u.id) ts) t.id kept.distinct other);
+}
+  where
+    other : (k : ℕ) (d : List ℕ) → k < length (map (λ (u : TaskDraft). u.id) ts) → get_or (map (λ (u : TaskDraft). u.id) ts) k d ≢ t.id
+    other k d h e = true≢false (sym (list_any_at (bytes_eq t.id) (map (λ (u : TaskDraft). u.id) ts) k d h ((bytes_decides _ _).1 (sym e))) ∙ any_id t.id ts ∙ new.fresh)

@@ -1,0 +1,4 @@
+pub mod Tasks
+pub mod Gives
+pub mod Fields
+pub mod Reading

@@ -1,0 +1,6 @@
+mod Pieces
+mod CalendarFacts
+mod MomentFacts
+mod ReportFacts
+mod Spelling
+mod ClockFacts

@@ -1,0 +1,9 @@
+use Rattle.std.proofs.Common.{inl, inr}
+use Rattle.bf_report.proofs.ReportFacts.{no_ids, no_tasks, all_came}
+use Rattle.bf_report.proofs.lines.push_tasks.Goals as goal
+
+pub returns : goal.returns
+returns c =
+    let ids = c.loop-id.id-iterator.a.rest.now in
+    let tasks = c.loop-id.id-iterator.b.rest.now in
+    all_came _ _ _ c.loop-id.invariant (elim c.in-None.ensures.steps [ inl w ↦ no_ids ids tasks w.1.0 | inr w ↦ no_tasks ids tasks w.1.0 ])

@@ -1,0 +1,36 @@
+-- What a device was given.
+use Rattle.std.specs.Prelude.{◌≡◌, ℕ, zero, suc, ◌+◌, ◌%◌, ◌^◌, ◌⊎◌, List, [], ◌∷◌, ◌++◌, Option, option_map, Result, Ok, Err}
+use Rattle.bf_report.specs.declared.device.Halt.{Halt}
+use Rattle.bf_report.specs.declared.device.Halt.TheVariants.{Again, Failed}
+
+-- the bytes that went out, with more behind them, where they are told
+abbrev pub sent : Option (List ℕ) → List ℕ → Option (List ℕ)
+sent told bytes = option_map (λ before. before ++ bytes) told
+
+-- a counter of 64 bits has gone on by n
+abbrev pub WentOn : ℕ → ℕ → ℕ → Type 0
+WentOn n old new = new % 2 ^ 64 ≡ (old + n) % 2 ^ 64
+
+-- how many bytes a write took
+abbrev pub taken : Result ℕ Halt → ℕ
+taken (Ok n) = n
+taken (Err halt) = 0
+
+-- 1 for an interruption
+abbrev pub interrupted : Result ℕ Halt → ℕ
+interrupted (Ok n) = 0
+interrupted (Err Again) = 1
+interrupted (Err Failed) = 0
+
+-- 1 for a write of these bytes that failed, or took none of some
+abbrev pub write_failed : List ℕ → Result ℕ Halt → ℕ
+write_failed [] (Ok n) = 0
+write_failed (b ∷ bs) (Ok zero) = 1
+write_failed (b ∷ bs) (Ok (suc n)) = 0
+write_failed bs (Err Again) = 0
+write_failed bs (Err Failed) = 1
+
+-- one write failed, or there were more interruptions than a call goes on after
+abbrev pub HasHalted : ℕ → ℕ → ℕ → ℕ → Type 0
+HasHalted failures_old failures_new interruptions_old interruptions_new =
+    WentOn 1 failures_old failures_new ⊎ WentOn 1_001 interruptions_old interruptions_new

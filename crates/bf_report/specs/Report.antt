@@ -1,0 +1,71 @@
+-- Reports as text.
+use Rattle.std.specs.Prelude.{ℕ, List, [], ◌∷◌, ◌++◌, Some, None, codes, decimal, length}
+use Rattle.std.specs.List.{flat_map, join_with_byte, enumerate_from, zip}
+use Rattle.bf_value.specs.Json.{text_of}
+use Rattle.bf_xcom.specs.declared.values.Outcome.{Outcome}
+use Rattle.bf_xcom.specs.declared.values.Outcome.TheVariants.{Success, Failed, Skipped}
+use Rattle.bf_xcom.specs.declared.values.TaskResult.{TaskResult}
+use Rattle.bf_xcom.specs.declared.values.RunState.{RunState}
+use Rattle.bf_report.specs.declared.report.TaskReport.{TaskReport}
+use Rattle.bf_report.specs.declared.report.RunReport.{RunReport}
+use Rattle.bf_report.specs.declared.report.Report.{Report}
+use Rattle.bf_report.specs.Moment.{moment_text}
+
+-- a line is its fields, separated by one space, and a line feed
+abbrev pub line : List (List ℕ) → List ℕ
+line fields = join_with_byte 32 fields ++ 10 ∷ []
+
+-- how an instance ended
+abbrev pub state_word : Outcome → List ℕ
+state_word (Success value) = codes "success"
+state_word Failed = codes "failed"
+state_word Skipped = codes "skipped"
+
+-- what it pushed
+abbrev pub value_word : Outcome → List ℕ
+value_word (Success (Some value)) = text_of value
+value_word (Success None) = codes "-"
+value_word Failed = codes "-"
+value_word Skipped = codes "-"
+
+-- an instance of a task
+abbrev pub instance_line : List ℕ → List ℕ → TaskResult → List ℕ
+instance_line id index r = line (id ∷ index ∷ state_word r.outcome ∷ decimal r.tries ∷ value_word r.outcome ∷ [])
+
+-- a task that was decided without a try
+abbrev pub untried_line : List ℕ → List ℕ → List ℕ
+untried_line id state = line (id ∷ codes "-1" ∷ state ∷ codes "0" ∷ codes "-" ∷ [])
+
+-- the instances of an expanded task, by map index from 0
+abbrev pub mapped_lines : List ℕ → List TaskResult → List ℕ
+mapped_lines id results = flat_map (λ p. instance_line id (decimal p.0) p.1) (enumerate_from 0 results)
+
+-- a task in a run
+abbrev pub task_text : List ℕ → TaskReport → List ℕ
+task_text id TaskReport.NoStatus = untried_line id (codes "no_status")
+task_text id TaskReport.Skipped = untried_line id (codes "skipped")
+task_text id TaskReport.UpstreamFailed = untried_line id (codes "upstream_failed")
+task_text id (TaskReport.Ran r) = instance_line id (codes "-1") r
+task_text id (TaskReport.Mapped rs) = mapped_lines id rs
+
+-- the tasks of a run, each under its id
+abbrev pub tasks_text : List (List ℕ) → List TaskReport → List ℕ
+tasks_text ids tasks = flat_map (λ p. task_text p.0 p.1) (zip ids tasks)
+
+abbrev pub run_state_word : RunState → List ℕ
+run_state_word RunState.Success = codes "success"
+run_state_word RunState.Failed = codes "failed"
+
+abbrev pub run_line : RunReport → List ℕ
+run_line run = line (codes "@run" ∷ moment_text run.interval.start.nanosecond ∷ moment_text run.interval.end.nanosecond ∷ run_state_word run.state ∷ [])
+
+-- a run, with the tasks of these ids
+abbrev pub run_text : List (List ℕ) → RunReport → List ℕ
+run_text ids run = run_line run ++ tasks_text ids run.tasks
+
+-- the head, the runs and the end
+abbrev pub report_text : Report → List ℕ
+report_text report =
+    line (codes "@backfill" ∷ codes "1" ∷ report.dag_id ∷ [])
+    ++ flat_map (run_text report.tasks) report.runs
+    ++ line (codes "@end" ∷ decimal (length report.runs) ∷ [])

@@ -1,0 +1,60 @@
+//! The device that keeps what is written.
+ghost use Rattle.std.specs.Prelude.{◌≡◌, []};
+ghost use Rattle.bf_report.specs.Memory.{bytes_in, refused_writes};
+
+use crate::device::{Halt, Write};
+use std::alloc::Global;
+
+/// Bytes in memory. A write that finds no memory has failed.
+#[derive(Drop)]
+pub struct Memory {
+    bytes: Vec<u8>,
+    failed: u64,
+}
+
+impl Memory {
+    /// No bytes.
+    pub fn new(alloc: Global) -> Memory
+        ensures { bytes_in result ≡ [] }
+    {
+        Memory {
+            bytes: Vec::new(alloc),
+            failed: 0,
+        }
+    }
+
+    /// The bytes that were written.
+    pub fn as_slice(&self) -> &[u8]
+        ensures { result.now ≡ bytes_in self.now }
+    {
+        self.bytes.as_slice()
+    }
+
+    /// Gives up the bytes that were written.
+    pub fn into_vec(self) -> Vec<u8>
+        ensures { result.items ≡ bytes_in self }
+    {
+        let Memory { bytes, failed: _ } = self;
+        bytes
+    }
+}
+
+impl Write for Memory {
+    ghost use Rattle.std.specs.Prelude.{Some};
+
+    ghost written = { λ m. Some (bytes_in m) };
+
+    ghost interruptions = { λ _. 0 };
+
+    ghost failures = { λ m. refused_writes m };
+
+    fn write(&mut self, bytes: &[u8]) -> Result<usize, Halt> {
+        match self.bytes.extend_from_slice(bytes) {
+            Ok(()) => Ok(bytes.len()),
+            Err(_) => {
+                self.failed = self.failed.wrapping_add(1);
+                Err(Halt::Failed)
+            }
+        }
+    }
+}

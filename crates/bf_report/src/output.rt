@@ -1,0 +1,68 @@
+//! The device over a writer of std.
+ghost use Rattle.std.specs.Prelude.{◌≡◌};
+ghost use Rattle.bf_report.specs.Output.{interrupted_writes, failed_writes};
+
+use crate::device::{Halt, Write};
+use std::io;
+
+/// A writer of std, as a file or standard output. It doesn't tell what was written.
+#[derive(Drop)]
+pub struct Output<W: io::Write + Drop> {
+    pub inner: W,
+    interrupted: u64,
+    failed: u64,
+}
+
+impl<W: io::Write + Drop> Output<W> {
+    /// A device that passes on to a writer.
+    pub fn new(inner: W) -> Self
+        ensures { result.inner ≡ inner }
+    {
+        Output {
+            inner,
+            interrupted: 0,
+            failed: 0,
+        }
+    }
+
+    /// Gives the writer back.
+    pub fn into_inner(self) -> W
+        ensures { result ≡ self.inner }
+    {
+        let Output {
+            inner,
+            interrupted: _,
+            failed: _,
+        } = self;
+        inner
+    }
+}
+
+impl<W: io::Write + Drop> Write for Output<W> {
+    ghost use Rattle.std.specs.Prelude.{None};
+
+    ghost written = { λ _. None };
+
+    ghost interruptions = { λ o. interrupted_writes o };
+
+    ghost failures = { λ o. failed_writes o };
+
+    fn write(&mut self, bytes: &[u8]) -> Result<usize, Halt> {
+        match self.inner.write(bytes) {
+            Ok(count) => {
+                if count == 0 && !bytes.is_empty() {
+                    self.failed = self.failed.wrapping_add(1);
+                }
+                Ok(count)
+            }
+            Err(error) if error.kind() == io::ErrorKind::Interrupted => {
+                self.interrupted = self.interrupted.wrapping_add(1);
+                Err(Halt::Again)
+            }
+            Err(_) => {
+                self.failed = self.failed.wrapping_add(1);
+                Err(Halt::Failed)
+            }
+        }
+    }
+}

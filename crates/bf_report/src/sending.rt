@@ -1,0 +1,64 @@
+//! A text sent to a device.
+ghost use Rattle.std.specs.Prelude.{◌≡◌, ◌≤◌, ◌⊎◌, length, take, OnOk, IfErr};
+ghost use Rattle.bf_report.specs.Device.{sent, WentOn, HasHalted};
+
+use crate::device::{Halt, Write};
+use thiserror::Error;
+
+/// How often one call goes on after an interruption.
+const MOST_INTERRUPTIONS: u32 = 1_000;
+
+/// Why a text was not written.
+#[derive(Clone, Copy, Debug, PartialEq, Eq, Error)]
+pub enum Cause {
+    #[error("cannot write")]
+    Io,
+    #[error("out of memory")]
+    OutOfMemory,
+}
+
+/// How many bytes of the text went out, and why no more did.
+#[derive(Clone, Copy, Debug, PartialEq, Eq, Error)]
+#[error("{cause}")]
+pub struct WriteFault {
+    pub sent: u64,
+    pub cause: Cause,
+}
+
+fn halted_after(sent: usize) -> WriteFault
+    ensures sent { result.sent ≡ sent }
+    ensures cause { result.cause ≡ Cause.Io }
+{
+    WriteFault {
+        sent: sent as u64,
+        cause: Cause::Io,
+    }
+}
+
+/// Writes the text, in whatever pieces the device takes. It gives up where a write fails or takes nothing, and at
+/// the 1,001st interruption.
+pub fn send<W: Write>(out: &mut W, text: &[u8]) -> Result<(), WriteFault>
+    ensures ok { OnOk result (W.written out.new ≡ sent (W.written out.old) text.now) }
+    ensures part { IfErr result (λ fault. (fault.sent ≤ length text.now)
+        × (W.written out.new ≡ sent (W.written out.old) (take fault.sent text.now))) }
+    ensures only_io { IfErr result (λ fault. fault.cause ≡ Cause.Io) }
+    ensures halted { IfErr result (λ _. HasHalted (W.failures out.old) (W.failures out.new)
+        (W.interruptions out.old) (W.interruptions out.new)) }
+{
+    let mut sent = 0;
+    let mut interruptions = 0;
+    while sent < text.len() {
+        match out.write(&text[sent..]) {
+            Ok(0) => return Err(halted_after(sent)),
+            Ok(count) => sent += count,
+            Err(Halt::Again) => {
+                if interruptions == MOST_INTERRUPTIONS {
+                    return Err(halted_after(sent));
+                }
+                interruptions += 1;
+            }
+            Err(Halt::Failed) => return Err(halted_after(sent)),
+        }
+    }
+    Ok(())
+}
