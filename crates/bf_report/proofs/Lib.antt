@@ -4,3 +4,4 @@ mod MomentFacts
 mod ReportFacts
 mod Spelling
 mod ClockFacts
+pub mod DatedFacts

@@ -5,3 +5,4 @@ pub mod Calendar
 pub mod Moment
 pub mod Clock
 pub mod Report
+pub mod Dated

@@ -14,6 +14,7 @@
 //! read here too, since reports, tables and the command line spell them alike.
 #![tactic(auto)]
 
+mod dated;
 mod device;
 mod halting;
 mod lines;
@@ -25,6 +26,7 @@ mod report;
 mod sending;
 mod writing;
 
+pub use dated::report_of;
 pub use device::{Halt, Write};
 pub use halting::Halting;
 pub use memory::Memory;

@@ -1,0 +1,5 @@
+use Rattle.std.proofs.Common.{◌≡◌, map, take}
+use Rattle.bf_report.proofs.dated.ids_of.Given as goal
+
+abbrev pub invariant-loop-task : goal.invariant-loop-task
+invariant-loop-task l = l.ids.items ≡ map (λ task. task.id) (take l.task-index l.tasks)
