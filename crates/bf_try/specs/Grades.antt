@@ -1,5 +1,5 @@
 -- What a raw answer is worth: the outcome of a try, from how its program ended and its last line.
-use Rattle.std.specs.Prelude.{ℕ, zero, suc, ◌==◌, ℤ, pos, negsuc, nat_le, length, Bool, true, false, not, ◌&&◌, ◌||◌, if◌then◌else◌, List, Option, None, Some, is_some}
+use Rattle.std.specs.Prelude.{ℕ, ◌==◌, ℤ, pos, negsuc, nat_le, length, Bool, true, false, not, ◌&&◌, ◌||◌, if◌then◌else◌, List, Option, None, Some, is_some}
 use Rattle.std.specs.List.{list_any}
 use Rattle.std.specs.Str.{is_utf8}
 use Rattle.bf_value.specs.Json.{deepest, text_of, value_of_line}
@@ -9,7 +9,6 @@ use Rattle.bf_value.specs.declared.xval.Xval.{Xval}
 use Rattle.bf_value.specs.declared.xval.Xval.TheVariants.{Nil, List as ListOf}
 use Rattle.bf_rule.specs.Branches.{names_downstreams}
 use Rattle.bf_check.specs.Plans.{task_of, shape_of, is_branch}
-use Rattle.bf_check.specs.declared.plan.Task.{Task}
 use Rattle.bf_check.specs.declared.plan.Dag.{Dag}
 use Rattle.bf_xcom.specs.declared.values.Outcome.{Outcome}
 use Rattle.bf_try.specs.declared.answers.Exit.{Exit}

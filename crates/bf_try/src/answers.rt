@@ -32,7 +32,9 @@ impl Line {
         ensures { IfOk result (λ line. line ≡ self.now) }
     {
         match self {
-            Line::Bytes(bytes) => Ok(Line::Bytes(Sequence::from_vec(bytes.as_slice().to_vec(alloc)?))),
+            Line::Bytes(bytes) => Ok(Line::Bytes(Sequence::from_vec(
+                bytes.as_slice().to_vec(alloc)?,
+            ))),
             Line::TooMuch => Ok(Line::TooMuch),
             Line::ReadFault => Ok(Line::ReadFault),
         }

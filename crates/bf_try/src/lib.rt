@@ -6,12 +6,19 @@
 #![tactic(auto)]
 
 mod answers;
+mod grading;
 mod ledger;
 mod runner;
+mod table;
+mod table_reader;
+mod table_runner;
 mod tickets;
 
 pub use answers::{Exit, Line, Raw};
 pub use bf_xcom::Outcome;
+pub use grading::{fits, grade};
 pub use ledger::{Entry, Ledger, NoteFault};
 pub use runner::{RunnerFault, TaskRunner};
+pub use table::{Table, TableEntry, TableFault};
+pub use table_runner::TableRunner;
 pub use tickets::{Done, Ticket};

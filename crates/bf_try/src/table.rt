@@ -1,0 +1,93 @@
+//! Tables of answers.
+ghost use Rattle.std.specs.Prelude.{◌≡◌, ◌≢◌, IfOk, IfErr, Ok, Err};
+ghost use Rattle.bf_try.specs.Tables.{table_of};
+
+use crate::table_reader::entries_of_file;
+use bf_value::{OutOfMemory, Sequence, Text};
+use std::alloc::{AllocFailed, Global};
+use std::error::Error;
+use std::fmt;
+use std::marker::Model;
+
+/// An answer: the status with which the tries of a task end. Without a task it answers for every task.
+#[derive(Debug, Drop)]
+pub struct TableEntry {
+    pub task: Option<Text>,
+    pub status: u8,
+}
+
+/// A table of answers, of which the first entry that matches answers. Contracts see the list of its entries.
+#[derive(Debug, Drop)]
+pub struct Table {
+    entries: Sequence<TableEntry>,
+}
+
+impl Model for Table {
+    ghost use Rattle.std.specs.Prelude.{List};
+    ghost use Rattle.bf_try.specs.declared.table.TableEntry.{TableEntry};
+
+    ghost Value = { List TableEntry };
+
+    ghost view = { λ t. t.entries };
+}
+
+/// Why a table was not read.
+#[derive(Clone, Copy, Debug, PartialEq, Eq)]
+pub enum TableFault {
+    /// The number of the first bad entry, from 0, or none where the whole is no JSON list or is too long.
+    BadTable(Option<u32>),
+    OutOfMemory,
+}
+
+impl fmt::Display for TableFault {
+    fn fmt<W: fmt::Write>(&self, f: &mut fmt::Formatter<W>) -> fmt::Result {
+        match self {
+            TableFault::BadTable(Some(number)) => write!(f, "bad table: {number}"),
+            TableFault::BadTable(None) => write!(f, "bad table: file"),
+            TableFault::OutOfMemory => write!(f, "out of memory"),
+        }
+    }
+}
+
+impl Error for TableFault {}
+
+impl From<OutOfMemory> for TableFault {
+    ghost use Rattle.bf_try.specs.declared.table.TableFault.TheVariants.{OutOfMemory as NoMemory};
+
+    ghost from_gives = { λ _ e. e ≡ NoMemory };
+
+    fn from(_e: OutOfMemory) -> TableFault {
+        TableFault::OutOfMemory
+    }
+}
+
+impl<T: Drop> From<AllocFailed<T>> for TableFault {
+    ghost use Rattle.bf_try.specs.declared.table.TableFault.TheVariants.{OutOfMemory as NoMemory};
+
+    ghost from_gives = { λ _ e. e ≡ NoMemory };
+
+    fn from(_e: AllocFailed<T>) -> TableFault {
+        TableFault::OutOfMemory
+    }
+}
+
+impl Table {
+    /// Reads a table: a JSON list of objects, in which the keys `task` (a text) and `status` (a whole number from
+    /// 0 to 255, by default 0) may stand. It has at most 8,388,608 bytes.
+    pub fn read(alloc: Global, bytes: &[u8]) -> Result<Table, TableFault>
+        ensures ok { IfOk result (λ table. table_of bytes.now ≡ Ok table) }
+        ensures bad { IfErr result (λ fault. fault ≢ TableFault.OutOfMemory → table_of bytes.now ≡ Err fault) }
+    {
+        let entries = entries_of_file(alloc, bytes)?;
+        Ok(Table {
+            entries: Sequence::from_vec(entries),
+        })
+    }
+
+    /// The entries.
+    pub(crate) fn as_slice(&self) -> &[TableEntry]
+        ensures { result.now ≡ self.now }
+    {
+        self.entries.as_slice()
+    }
+}
