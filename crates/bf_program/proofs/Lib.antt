@@ -1,3 +1,5 @@
 pub mod Rows
 pub mod FoundFiles
 pub mod Ends
+pub mod Driven
+pub mod Files

@@ -4,3 +4,5 @@ pub mod Source
 pub mod Stored
 pub mod Refusal
 pub mod Status
+pub mod OneRun
+pub mod Driving

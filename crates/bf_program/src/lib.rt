@@ -3,8 +3,10 @@
 
 mod command;
 mod disk;
+mod driving;
 pub mod forms;
 mod input;
+mod one_run;
 mod program;
 mod reading;
 mod refusal;
@@ -14,6 +16,7 @@ mod status;
 mod stored;
 
 pub use disk::Disk;
+pub use one_run::{SingleFault, run_single};
 pub use program::answer;
 pub use reading::asked;
 pub use refusal::CommandFault;

@@ -2,6 +2,7 @@
 ghost use Rattle.std.specs.Prelude.{◌≡◌, IsNone, IsSome};
 ghost use Rattle.bf_program.specs.Refusal.{number_of};
 
+use crate::one_run::SingleFault;
 use crate::status::Status;
 use bf_report::{Cause, WriteFault};
 use bf_value::{OutOfMemory, Text};
@@ -11,9 +12,8 @@ use thiserror::Error;
 /// Why a command gave no report: a refusal of what it was given, which has a number, or a fault, which has none.
 #[derive(Debug, Drop, Error)]
 pub enum CommandFault {
-    /// A moment that lies outside the years 1970 to 2199.
-    #[error("outside years")]
-    OutsideYears,
+    #[error("{0}")]
+    Single(SingleFault),
     /// A text that is no moment, or one of a date that doesn't exist.
     #[error("bad moment")]
     BadMoment,
@@ -32,7 +32,7 @@ impl CommandFault {
         ensures { result ≡ number_of self.now }
     {
         match self {
-            CommandFault::OutsideYears => Some(25),
+            CommandFault::Single(fault) => fault.number(),
             CommandFault::BadMoment => Some(28),
             CommandFault::OutOfMemory | CommandFault::CannotRead(_) | CommandFault::CannotWrite =>
                 None,
@@ -91,5 +91,16 @@ impl From<WriteFault> for CommandFault {
             Cause::Io => CommandFault::CannotWrite,
             Cause::OutOfMemory => CommandFault::OutOfMemory,
         }
+    }
+}
+
+impl From<SingleFault> for CommandFault {
+    ghost use Rattle.std.specs.Prelude.{◌≡◌};
+    ghost use Rattle.bf_program.specs.declared.refusal.CommandFault.TheVariants.{Single};
+
+    ghost from_gives = { λ fault e. e ≡ Single fault };
+
+    fn from(fault: SingleFault) -> CommandFault {
+        CommandFault::Single(fault)
     }
 }

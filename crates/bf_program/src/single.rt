@@ -4,11 +4,11 @@ ghost use Rattle.bf_program.specs.Refusal.{number_of};
 
 use crate::forms::SingleAsked;
 use crate::input::{LONGEST_FILE, file_bytes};
+use crate::one_run::run_single;
 use crate::refusal::CommandFault;
 use crate::source::Source;
 use crate::status::Status;
 use bf_report::{Write, moment_in};
-use jiff::Timestamp;
 use std::alloc::Global;
 
 /// The moment is looked at first. Then both files are read, and only then what they hold is looked at.
@@ -33,17 +33,4 @@ pub fn single_answered<S: Source, W: Write>(
     } else {
         Status::Failed
     })
-}
-
-// STAND-IN: the real `run_single` takes this one's place.
-fn run_single<W: Write>(
-    _alloc: Global,
-    _graph: &[u8],
-    _table: &[u8],
-    _at: Timestamp,
-    _out: &mut W,
-) -> Result<bool, CommandFault>
-    ensures refused { IfErr result (λ f. IsSome (number_of f) → W.written _out.new ≡ W.written _out.old) }
-{
-    Err(CommandFault::OutOfMemory)
 }

@@ -1,0 +1,108 @@
+-- What an event does to one run over a table.
+use Rattle.std.proofs.Common.{◌≡◌, ℕ, zero, suc, ◌<◌, Bool, true, false, List, Option, Some, slice_get, length, None, refl, sym, ap, ◌∙◌, inl, inr, arith}
+use Rattle.std.specs.FinMap as map
+use Rattle.std.specs.List.{All}
+use Rattle.jiff_core.proofs.SignedLemmas.{signed_arith}
+use Rattle.jiff.specs.declared.timestamp.Timestamp.{Timestamp}
+use Rattle.bf_value.specs.declared.name.JobName.{JobName}
+use Rattle.bf_value.specs.Names.{name_cmp}
+use Rattle.bf_xcom.specs.declared.values.Given.{Given}
+use Rattle.bf_xcom.specs.declared.values.Outcome.{Outcome}
+use Rattle.bf_try.specs.declared.ledger.Entry.{Entry}
+use Rattle.bf_try.specs.Grades.{grade_of}
+use Rattle.bf_try.specs.Tables.{answer_of, Answering}
+use Rattle.bf_core.specs.declared.event.Event.{Event}
+use Rattle.bf_core.specs.declared.event.Event.TheVariants.{Open, Settle, Expand, Begin, End, Close}
+use Rattle.bf_core.specs.Events.{after, entry_in, put, with_phase, write}
+use Rattle.bf_core.specs.Cores.{Backfill, moved, opening}
+use Rattle.bf_check.specs.declared.plan.Limits.{Limits}
+use Rattle.bf_core.proofs.Reading.{entry-cases}
+use Rattle.bf_core.specs.Agreement.{IsOutcome, AreRunStates}
+use Rattle.bf_core.specs.Recursion.{out, run_state_of}
+use Rattle.bf_core.specs.declared.ended.Ended.{Ended}
+use Rattle.bf_check.specs.declared.plan.Dag.{Dag}
+use Rattle.bf_try.specs.declared.table.TableEntry.{TableEntry}
+use Rattle.bf_interval.specs.Years.{IsInYears}
+use Rattle.bf_report.specs.declared.report.Report.{Report}
+use Rattle.bf_report.specs.Dated.{IsDated, IsShownInterval}
+use Rattle.bf_report.specs.Device.{sent}
+use Rattle.bf_report.specs.Moment.{IsShown}
+use Rattle.bf_report.specs.Report.{report_text}
+use Rattle.bf_program.specs.OneRun.{AreAnswered, IsReportedOver, intervals_at, is_success}
+use Rattle.bf_program.specs.Driving.{is_quiet, IsDriven, IsOver}
+
+-- an event that ends no try leaves the ledger as it is
+pub quiet-driven : (runner : Answering) (b : Backfill) (e : Event) → is_quiet e ≡ true → IsDriven runner b → IsDriven runner (moved b e)
+unfolding after
+quiet-driven runner b Open q d = record { dag = d.dag; runs = d.runs; answered = d.answered }
+quiet-driven runner b (Settle k t) q d = record { dag = d.dag; runs = d.runs; answered = d.answered }
+quiet-driven runner b (Expand k t) q d = record { dag = d.dag; runs = d.runs; answered = d.answered }
+quiet-driven runner b (Begin n) q d = record { dag = d.dag; runs = d.runs; answered = d.answered }
+quiet-driven runner b (End n o) q d = let bad : false ≡ true = q in cc
+quiet-driven runner b (Close k) q d = record { dag = d.dag; runs = d.runs; answered = d.answered }
+
+-- an entry with the table's answer keeps all as the table answers
+noted-answered : (runner : Answering) (ledger : map.FinMap name_cmp Entry) (n : JobName) (given : Given) (o : Outcome)
+    → o ≡ grade_of runner.dag n.task (answer_of runner.dag runner.entries n)
+    → AreAnswered runner.dag runner.entries (entry_in ledger)
+    → AreAnswered runner.dag runner.entries (entry_in (map.insert ledger n (record { given = given; outcome = o })))
+noted-answered runner ledger n given o graded before m e is = elim (entry-cases ledger n noted m) [
+  | inl p ↦ (let held : e ≡ noted = some-injective (sym is ∙ p.1) in
+      ap (λ x. x.outcome) held ∙ (graded ∙ ap (λ x. grade_of runner.dag x.task (answer_of runner.dag runner.entries x)) (sym p.0)))
+  | inr p ↦ before m e (sym p.1 ∙ is)
+]
+  where
+    noted : Entry
+    noted = record { given = given; outcome = o }
+
+    some-injective : {x y : Entry} → Some x ≡ Some y → x ≡ y
+    some-injective h = cc
+
+-- the end of a try notes its outcome
+pub end-driven : (runner : Answering) (b : Backfill) (n : JobName) (o : Outcome)
+    → o ≡ grade_of runner.dag n.task (answer_of runner.dag runner.entries n) → IsDriven runner b → IsDriven runner (moved b (End n o))
+unfolding after
+end-driven runner b n o graded d = record { dag = d.dag; runs = d.runs; answered = noted-answered runner b.state.ledger n _ o graded d.answered }
+
+-- nothing was answered yet where nothing has happened
+pub opened : (runner : Answering) (dag : Dag) (limits : Limits) (runs : ℕ) (b : Backfill)
+    → runner.dag ≡ dag → b ≡ opening dag limits runs → runs ≡ 1 → IsDriven runner b
+opened runner dag limits runs b same is one = rw is (record {
+  dag = sym same;
+  runs = one;
+  answered = λ n e held.
+      let none : entry_in map.empty n ≡ None = map.get-empty name_cmp n in
+      let bad : Some e ≡ None = sym held ∙ none in cc;
+})
+
+-- what a run that has ended comes to
+pub over : (runner : Answering) (b : Backfill) (ended : Ended) → IsDriven runner b → ended.state ≡ b.state
+    → IsOutcome b.dag b.runs b.state → AreRunStates b.dag (entry_in b.state.ledger) b.runs ended.run_states → IsOver runner ended
+over runner b ended d same outcome states =
+    let one : IsOutcome runner.dag 1 b.state = rw (d.dag, d.runs) at outcome in
+    let two : AreRunStates runner.dag (entry_in b.state.ledger) 1 ended.run_states = rw (d.dag, d.runs) at states in
+    record { outcome = rw same one; run_states = rw same two; answered = rw same d.answered }
+
+-- the report of a run that has ended
+pub reported_over : (runner : Answering) (at : Timestamp) (before after : Option (List ℕ)) (success : Bool) (ended : Ended) (report : Report)
+    → IsOver runner ended → IsDated runner.dag (intervals_at at) (entry_in ended.state.ledger) report
+    → after ≡ sent before (report_text report)
+    → success ≡ is_success (run_state_of runner.dag (out runner.dag (entry_in ended.state.ledger) 0))
+    → IsReportedOver runner.dag runner.entries at before after success
+reported_over runner at before after success ended report is dated text state = record {
+  ledger = ended.state.ledger;
+  report = report;
+  over_table = record { defined = is.outcome.defined; asked = is.outcome.asked; answered = is.answered };
+  dated = dated;
+  text = text;
+  state = state;
+}
+
+-- the moments of the years that runs lie in have four digits
+pub shown_in_years : (at : Timestamp) → IsInYears at.nanosecond → All IsShownInterval (intervals_at at)
+shown_in_years at years zero d below =
+    let first : _ = years.0 in
+    let last : _ = years.1 in
+    let shown : IsShown at.nanosecond = (omega (arith, signed_arith), omega (arith, signed_arith)) in
+    (shown, shown)
+shown_in_years at years (suc k) d below = let none : ⊥ = omega arith in absurd none

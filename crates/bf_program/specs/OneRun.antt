@@ -1,0 +1,84 @@
+-- What the command `single` reports: the recursion over dates, of one run, over what a table answers.
+use Rattle.std.specs.Prelude.{◌≡◌, ◌≤◌, ◌<◌, ℕ, Bool, true, false, List, [], ◌∷◌, length, Option, Some, Ok}
+use Rattle.std.specs.FinMap as map
+use Rattle.std.specs.Str.{IsUtf8}
+use Rattle.jiff.specs.declared.timestamp.Timestamp.{Timestamp}
+use Rattle.serde_json.specs.Read.{read}
+use Rattle.bf_value.specs.declared.name.JobName.{JobName}
+use Rattle.bf_value.specs.Names.{name_cmp}
+use Rattle.bf_read.specs.declared.draft.Draft.{Draft}
+use Rattle.bf_read.specs.declared.reader.TheConstants.{MOST_BYTES}
+use Rattle.bf_read.specs.Reading.{graph_of, graph_file_of}
+use Rattle.bf_check.specs.Checked.{Checked}
+use Rattle.bf_check.specs.declared.plan.Dag.{Dag}
+use Rattle.bf_check.specs.Checking.{dag_of, IsAccepted}
+use Rattle.bf_interval.specs.declared.interval.Interval.{Interval}
+use Rattle.bf_interval.specs.Years.{IsInYears}
+use Rattle.bf_xcom.specs.declared.values.RunState.{RunState}
+use Rattle.bf_try.specs.declared.ledger.Entry.{Entry}
+use Rattle.bf_try.specs.declared.table.TableEntry.{TableEntry}
+use Rattle.bf_try.specs.Grades.{grade_of}
+use Rattle.bf_try.specs.Tables.{table_of, answer_of, Answering}
+use Rattle.bf_try.specs.Tries.{Look, name_of}
+use Rattle.bf_core.specs.Recursion.{IsDefined, Asks, out, run_state_of}
+use Rattle.bf_core.specs.Events.{place_in}
+use Rattle.bf_report.specs.declared.report.Report.{Report}
+use Rattle.bf_report.specs.Dated.{IsDated}
+use Rattle.bf_report.specs.Device.{sent}
+use Rattle.bf_report.specs.Report.{report_text}
+
+-- each outcome is the grade of what the table answers
+abbrev pub AreAnswered : Dag → List TableEntry → Look → Type 0
+AreAnswered dag table ledger = (n : JobName) (e : Entry) → ledger n ≡ Some e → e.outcome ≡ grade_of dag n.task (answer_of dag table n)
+
+-- each try is one that the recursion asks for, in these runs
+abbrev pub AreAsked : Dag → ℕ → Look → Type 0
+AreAsked dag runs ledger = (n : JobName) (e : Entry) → ledger n ≡ Some e →
+    (n.run < runs) × (n.task < length dag.tasks) × (n ≡ name_of dag n.run n.task (place_in dag n) n.attempt) × Asks dag ledger n.run n.task (place_in dag n) n.attempt e.given
+
+-- the ledger of one run over a table: it holds the tries that the recursion asks for and no other, each with its answer
+pub record IsLedgerOver (dag : Dag) (table : List TableEntry) (ledger : Look) : Type 0 where
+  pub defined : IsDefined dag 1 ledger
+  pub asked : AreAsked dag 1 ledger
+  pub answered : AreAnswered dag table ledger
+
+-- the graph's bytes say this
+pub record IsFileOf (bytes : List ℕ) (draft : Draft) : Type 0 where
+  pub short : length bytes ≤ MOST_BYTES
+  pub text : IsUtf8 bytes
+  pub says : graph_of (read bytes) ≡ Ok (graph_file_of draft)
+
+abbrev pub is_success : RunState → Bool
+is_success RunState.Success = true
+is_success RunState.Failed = false
+
+-- the one interval of a run at a moment
+abbrev pub intervals_at : Timestamp → List Interval
+intervals_at at = record { start = at; end = at } ∷ []
+
+-- what went out, behind what had gone out before, is the text of the recursion's report over the ledger of one run over the table; and whether
+-- that run is a success
+pub record IsReportedOver (dag : Dag) (table : List TableEntry) (at : Timestamp) (before after : Option (List ℕ)) (success : Bool) : Type 0 where
+  pub ledger : map.FinMap name_cmp Entry
+  pub report : Report
+  pub over_table : IsLedgerOver dag table (map.get ledger)
+  pub dated : IsDated dag (intervals_at at) (map.get ledger) report
+  pub text : after ≡ sent before (report_text report)
+  pub state : success ≡ is_success (run_state_of dag (out dag (map.get ledger) 0))
+
+-- the bytes say a graph, which has no fault, and a table, and what went out is the report of one run of this over that
+pub record IsReported (graph table : List ℕ) (at : Timestamp) (before after : Option (List ℕ)) (success : Bool) : Type 0 where
+  pub draft : Draft
+  pub entries : List TableEntry
+  pub graph_says : IsFileOf graph draft
+  pub accepted : IsAccepted draft
+  pub table_says : table_of table ≡ Ok entries
+  pub in_years : IsInYears at.nanosecond
+  pub reported : IsReportedOver (dag_of draft) entries at before after success
+
+-- a plan of what the graph's bytes say. For private clauses.
+pub record IsPlanOf (graph : List ℕ) (plan : Checked) : Type 0 where
+  pub draft : Draft
+  pub graph_says : IsFileOf graph draft
+  pub accepted : IsAccepted draft
+  pub dag : plan.dag ≡ dag_of draft

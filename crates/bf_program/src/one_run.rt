@@ -1,0 +1,170 @@
+//! One run of a graph over a table, from bytes to bytes.
+ghost use Rattle.std.specs.Prelude.{◌≡◌, IfOk, IfErr, IsSome, Some, slice_get};
+ghost use Rattle.bf_check.specs.Served.{IsServed};
+ghost use Rattle.bf_program.specs.OneRun.{IsFileOf, IsPlanOf, IsReported, IsReportedOver, is_success as succeeds};
+ghost use Rattle.bf_xcom.specs.declared.values.RunState.{RunState as RunStateTerm};
+ghost use Rattle.bf_interval.specs.Years.{IsInYears};
+ghost use Rattle.bf_program.specs.Refusal.{read_number, check_number, table_number, single_number};
+
+use crate::driving::ended_run;
+use bf_check::{CheckFault, Plan, check};
+use bf_interval::{Interval, is_in_years};
+use bf_read::{Draft, ReadFault, read_graph};
+use bf_report::{Write, WriteFault, report_of, write_report};
+use bf_try::{Table, TableFault, TableRunner};
+use bf_value::OutOfMemory;
+use bf_xcom::RunState;
+use jiff::Timestamp;
+use std::alloc::Global;
+use thiserror::Error;
+
+/// Why there is no report of one run.
+#[derive(Debug, Drop, Error)]
+pub enum SingleFault {
+    #[error("{0}")]
+    Graph(ReadFault),
+    #[error("{0}")]
+    Plan(CheckFault),
+    #[error("{0}")]
+    Table(TableFault),
+    /// A moment that lies outside the years 1970 to 2199.
+    #[error("outside years")]
+    OutsideYears,
+    #[error("out of memory")]
+    OutOfMemory,
+    #[error("{0}")]
+    Write(WriteFault),
+}
+
+fn read_fault_number(fault: &ReadFault) -> Option<u32>
+    ensures { result ≡ read_number fault.now }
+{
+    match fault {
+        ReadFault::NotJson => Some(1),
+        ReadFault::Shape(_) => Some(2),
+        ReadFault::BadName(_) => Some(3),
+        ReadFault::DuplicateTask(_) => Some(4),
+        ReadFault::LimitPassed(_) => Some(5),
+        ReadFault::OutOfMemory => None,
+    }
+}
+
+fn check_fault_number(fault: &CheckFault) -> Option<u32>
+    ensures { result ≡ check_number fault.now }
+{
+    match fault {
+        CheckFault::UnknownUpstream(_) => Some(6),
+        CheckFault::Cycle(_) => Some(7),
+        CheckFault::OutOfMemory => None,
+    }
+}
+
+fn table_fault_number(fault: &TableFault) -> Option<u32>
+    ensures { result ≡ table_number fault.now }
+{
+    match fault {
+        TableFault::BadTable(_) => Some(19),
+        TableFault::OutOfMemory => None,
+    }
+}
+
+impl SingleFault {
+    /// The number of a refusal.
+    pub fn number(&self) -> Option<u32>
+        ensures { result ≡ single_number self.now }
+    {
+        match self {
+            SingleFault::Graph(fault) => read_fault_number(fault),
+            SingleFault::Plan(fault) => check_fault_number(fault),
+            SingleFault::Table(fault) => table_fault_number(fault),
+            SingleFault::OutsideYears => Some(25),
+            SingleFault::OutOfMemory | SingleFault::Write(_) => None,
+        }
+    }
+}
+
+impl From<OutOfMemory> for SingleFault {
+    ghost use Rattle.std.specs.Prelude.{◌≡◌};
+    ghost use Rattle.bf_program.specs.declared.one_run.SingleFault.TheVariants.{OutOfMemory as NoMemory};
+
+    ghost from_gives = { λ _ e. e ≡ NoMemory };
+
+    fn from(_e: OutOfMemory) -> SingleFault {
+        SingleFault::OutOfMemory
+    }
+}
+
+fn draft_in(alloc: Global, graph: &[u8]) -> Result<Draft, SingleFault>
+    ensures { IfOk result (IsFileOf graph.now) }
+{
+    match read_graph(alloc, graph) {
+        Ok(draft) => Ok(draft),
+        Err(fault) => Err(SingleFault::Graph(fault)),
+    }
+}
+
+fn plan_in(alloc: Global, graph: &[u8]) -> Result<Plan, SingleFault>
+    ensures { IfOk result (IsPlanOf graph.now) }
+{
+    match check(alloc, draft_in(alloc, graph)?) {
+        Ok(plan) => Ok(plan),
+        Err(fault) => Err(SingleFault::Plan(fault)),
+    }
+}
+
+fn has_succeeded(states: &[RunState]) -> bool
+    ensures { (state : RunStateTerm) → slice_get states.now 0 ≡ Some state → result ≡ succeeds state }
+{
+    match states.first() {
+        Some(state) => matches!(state, RunState::Success),
+        None => false,
+    }
+}
+
+/// Writes the report of one run over the table, and says whether the run is a success.
+#[tactic(auto, using(crate::proofs::Driven::reported_over, crate::proofs::Driven::shown_in_years))]
+fn run_over<W: Write>(
+    alloc: Global,
+    plan: &Plan,
+    table: Table,
+    at: Timestamp,
+    out: &mut W,
+) -> Result<bool, SingleFault>
+    requires served { IsServed plan.now.dag }
+    requires in_years { IsInYears at.nanosecond }
+    ensures ok { IfOk result (IsReportedOver plan.now.dag table at (W.written out.old) (W.written out.new)) }
+    ensures refused { IfErr result (λ f. IsSome (single_number f) → W.written out.new ≡ W.written out.old) }
+{
+    let intervals = [Interval { start: at, end: at }];
+    let runner = TableRunner::new(alloc, table, plan);
+    let ended = ended_run(alloc, plan, &runner, &intervals)?;
+    let report = report_of(alloc, plan, &intervals, &ended)?;
+    match write_report(alloc, &report, out) {
+        Ok(()) => Ok(has_succeeded(ended.run_states.as_slice())),
+        Err(fault) => Err(SingleFault::Write(fault)),
+    }
+}
+
+/// Runs a graph once, at this moment, with its tries answered by a table, and writes the report. Says whether the run
+/// is a success. The graph's faults go before the table's, and these before the moment's.
+#[tactic(auto, using(crate::proofs::Files::reported, crate::proofs::Files::plan_served))]
+pub fn run_single<W: Write>(
+    alloc: Global,
+    graph: &[u8],
+    table: &[u8],
+    at: Timestamp,
+    out: &mut W,
+) -> Result<bool, SingleFault>
+    ensures ok { IfOk result (IsReported graph.now table.now at (W.written out.old) (W.written out.new)) }
+    ensures refused { IfErr result (λ f. IsSome (single_number f) → W.written out.new ≡ W.written out.old) }
+{
+    let plan = plan_in(alloc, graph)?;
+    let table = match Table::read(alloc, table) {
+        Ok(table) => table,
+        Err(fault) => return Err(SingleFault::Table(fault)),
+    };
+    if !is_in_years(at) {
+        return Err(SingleFault::OutsideYears);
+    }
+    run_over(alloc, &plan, table, at, out)
+}
