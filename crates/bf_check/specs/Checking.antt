@@ -2,7 +2,7 @@
 use Rattle.std.specs.Prelude.{◌≡◌, ℕ, true, false, Bool, List, [], ◌∷◌, length, map, replicate, find, position, Option, Some, None, option_map, unwrap_or, is_none}
 use Rattle.std.specs.List.{list_any, slice_index_or}
 use Rattle.std.specs.Str.{bytes_eq}
-use Rattle.bf_graph.specs.Edges.{IsCycle, IsAcyclic}
+use Rattle.bf_graph.specs.Edges.{IsCycle, IsLeastFirst, IsAcyclic}
 use Rattle.bf_graph.specs.Shape.{Shape}
 use Rattle.bf_read.specs.declared.draft.Draft.{Draft}
 use Rattle.bf_read.specs.declared.draft.TaskDraft.{TaskDraft}
@@ -69,9 +69,9 @@ first_unknown tasks = find (has_unknown tasks) tasks
 abbrev pub shape_in : List TaskDraft → Shape
 shape_in tasks = record { ids = map (λ task. task.id) tasks; upstreams = map (upstreams_in tasks) tasks }
 
--- these are the ids of the tasks of a cycle
+-- these are the ids of the tasks of a cycle, that of the least number first
 abbrev pub NameCycle : Shape → List (List ℕ) → Type 0
-NameCycle shape names = (ts : List ℕ) × IsCycle shape.upstreams ts × (names ≡ map (λ t. slice_index_or shape.ids t []) ts)
+NameCycle shape names = (ts : List ℕ) × IsCycle shape.upstreams ts × IsLeastFirst ts × (names ≡ map (λ t. slice_index_or shape.ids t []) ts)
 
 -- the draft has no fault
 pub record IsAccepted (draft : Draft) : Type 0 where

@@ -11,6 +11,7 @@ pub enum CheckFault {
     #[error("unknown upstream: {0}")]
     UnknownUpstream(Text),
     /// The edges have a cycle: each of these tasks is a direct upstream of the next, and the last of the first.
+    /// The task that comes first in the file is named first.
     #[error("cycle: {}", Spaced(.0))]
     Cycle(Sequence<Text>),
     #[error("out of memory")]

@@ -111,6 +111,7 @@ impl Graph {
 #[derive(Debug, Drop, Error)]
 pub enum GraphFault {
     /// The edges have a cycle: each of these tasks is a direct upstream of the next, and the last of the first.
+    /// The task that comes first in the file is named first.
     #[error("there is a cycle")]
     Cycle(Sequence<u32>),
     #[error("out of memory")]
