@@ -95,7 +95,7 @@ pub written-more : (states : List RunState) (i : ℕ) (v : RunState) (f : ℕ �
     (k : ℕ) → k < i + 1 → slice_get (slice_set states i v) k ≡ Some (f k)
 written-more states i v f there before is k l =
     elim (last-or k i (omega arith)) [
-      inl same ↦ ap (λ n. slice_get (slice_set states i v) n) same ∙ set-here states i v there ∙ ap Some is ∙ ap (λ n. Some (f n)) (sym same)
+      | inl same ↦ ap (λ n. slice_get (slice_set states i v) n) same ∙ set-here states i v there ∙ ap Some is ∙ ap (λ n. Some (f n)) (sym same)
       | inr less ↦ set-there states i v k less ∙ before k less
     ]
 

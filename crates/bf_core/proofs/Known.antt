@@ -119,10 +119,10 @@ pub not-closable : (dag : Dag) (s : State) → HasRows dag s → (k : ℕ) (row 
 not-closable dag s rows k row at e = (
   some-below s.runs k (rw at),
   λ p.
-    let open_row : is_open row.phase ≡ true = ap is_open (sym (phase-read s.runs k row at) ∙ p.0) in
-    let all : list_all (λ c. is_some (value_in c)) row.cells ≡ true = settled-back dag s rows k row at p.1 in
-    let f : true ≡ false = sym (rw (open_row, all)) ∙ e in
-    cc,
+      let open_row : is_open row.phase ≡ true = ap is_open (sym (phase-read s.runs k row at) ∙ p.0) in
+      let all : list_all (λ c. is_some (value_in c)) row.cells ≡ true = settled-back dag s rows k row at p.1 in
+      let f : true ≡ false = sym (rw (open_row, all)) ∙ e in
+      cc,
 )
 
 -- a cell is there by its row exactly where run and task are

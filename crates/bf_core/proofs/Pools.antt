@@ -12,7 +12,6 @@ use Rattle.bf_core.proofs.Steps.{decided-held}
 use Rattle.bf_core.proofs.Shape.{IsShaped, row_in, open-run, event-shapes, start-shapes}
 
 module _ (limits : Limits) (pool : ℕ) where
-
   held-set : (off : ℕ) (cells : List Cell) (t : ℕ) (c : Cell) → t < length cells →
       held_from limits pool off (slice_set cells t c) + held_by limits pool (off + t) (slice_index_or cells t Cell.Undecided)
       ≡ held_from limits pool off cells + held_by limits pool (off + t) c
@@ -128,14 +127,15 @@ occupied-phase limits pool s k p = go (decide_in k (length s.runs))
   where
     f : Run → ℕ
     f r = held_from limits pool 0 r.cells
+
     row : Run
     row = record { phase = p; cells = (slice_index_or s.runs k no_run).cells }
+
     go : (k < length s.runs) ⊎ (length s.runs ≤ k) → sum_by f (slice_set s.runs k row) ≡ sum_by f s.runs
     go (inl l) = let e : _ = sum_by-set f s.runs k row no_run l in omega (arith, e)
     go (inr m) = ap (sum_by f) (set_past s.runs k row m)
 
 module _ (dag : Dag) (limits : Limits) (runs : ℕ) (s : State) (shaped : IsShaped dag runs s) where
-
   -- in range of the rows
   in-row : (k t : ℕ) → (k < runs) × (t < length dag.tasks) → (k < length s.runs) × (t < length (row_in s.runs k))
   in-row k t h = (rw shaped.count h.0, rw (shaped.rows k h.0) h.1)
@@ -170,7 +170,6 @@ module _ (dag : Dag) (limits : Limits) (runs : ℕ) (s : State) (shaped : IsShap
       omega (arith, e, less)
 
 module _ (dag : Dag) (limits : Limits) (runs : ℕ) (s : State) (shaped : IsShaped dag runs s) (within : WithinPools limits s) where
-
   begin-within : (n : JobName) → IsPresent dag s n Phase.Waiting → has_room limits s n.task ≡ true →
       WithinPools limits (put s n.run n.task (change_instance begun (cell_at s n.run n.task) (place_in dag n)))
   unfolding takes
@@ -181,6 +180,7 @@ module _ (dag : Dag) (limits : Limits) (runs : ℕ) (s : State) (shaped : IsShap
     where
       room' : occupied limits s (demand_of limits n.task).pool + (demand_of limits n.task).slots ≤ pool_size limits (demand_of limits n.task).pool
       room' = le-from _ _ room
+
       go : (b : Bool) → ((demand_of limits n.task).pool == pool) ≡ b → occupied limits s pool + (if b then (demand_of limits n.task).slots else 0) ≤ pool_size limits pool
       go true e = let same : (demand_of limits n.task).pool ≡ pool = eq-from _ _ e in rw (← same) room'
       go false e = let size : _ = within pool in omega (arith, size)

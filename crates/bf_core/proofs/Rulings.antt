@@ -61,7 +61,7 @@ all-or-one dag none task seen unsettled u rest counts more true w' s w e =
     (later.0, omega (arith, later.1))
 all-or-one dag none task seen unsettled u rest counts more false false s w e =
     let lets : lets_decide dag task seen u ≡ true =
-        ap (λ x. x || (not (is_waiting task.rule) && not (is_branch (task_of dag u)))) s ∙ ap₂ (λ x y. not x && not y) w (no-branch dag none u) in
+    ap (λ x. x || (not (is_waiting task.rule) && not (is_branch (task_of dag u)))) s ∙ ap₂ (λ x y. not x && not y) w (no-branch dag none u) in
     let later = more (ap (λ b. b && rest) (sym lets) ∙ e) in
     (later.0, omega (arith, later.1))
 

@@ -132,8 +132,9 @@ module _ (dag : Dag) (runs : ℕ) (s : State) (shaped : IsShaped dag runs s) whe
 
       order : (i j : ℕ) → i < j → phase_of (with_phase s k p) j ≢ RunPhase.Unopened → phase_of (with_phase s k p) i ≢ RunPhase.Unopened
       order i j l d = elim (phase-cases s k p j) [
-          inl q ↦ still i (earlier i (rw q.0 at l))
-        | inr q ↦ still i (shaped.in_order i j l (λ e. d (q ∙ e))) ]
+        | inl q ↦ still i (earlier i (rw q.0 at l))
+        | inr q ↦ still i (shaped.in_order i j l (λ e. d (q ∙ e)))
+      ]
 
       was : (j : ℕ) → phase_of (with_phase s k p) j ≡ RunPhase.Closed → ((j ≡ k) × (phase_of (with_phase s k p) j ≡ p)) ⊎ (phase_of (with_phase s k p) j ≡ phase_of s j) → AllSettled dag s j
       was j e (inl q) = rw q.0 (settled (sym q.1 ∙ e))

@@ -149,9 +149,10 @@ module _ (dag : Dag) (sound : IsSound dag) (limits : Limits) (runs : ℕ) (s : S
 
   -- an instance that waits can begin
   begins : (k t i : ℕ) (xs : List Instance) (x : Instance) → cell_at s k t ≡ Cell.Ran xs → slice_get xs i ≡ Some x → x.phase ≡ Phase.Waiting → Moves dag limits s
-  begins k t i xs x c e w =
-      (Event.Begin (record { run = k; task = t; index = map_index (task_of dag t) i; attempt = x.attempt }),
-       (record { held = x; is_held = rw (c, place) e; is_named = rw place; is_present = refl; in_phase = w }, room t))
+  begins k t i xs x c e w = (
+    Event.Begin (record { run = k; task = t; index = map_index (task_of dag t) i; attempt = x.attempt }),
+    (record { held = x; is_held = rw (c, place) e; is_named = rw place; is_present = refl; in_phase = w }, room t),
+  )
     where
       agreed : CellAgrees (decided dag (entry_in s.ledger) k t) (result_of dag (entry_in s.ledger) k t) (Cell.Ran xs)
       agreed = rw c at (inv.agrees (entry_in s.ledger) (λ n e h. h) k t)
@@ -198,8 +199,8 @@ module _ (dag : Dag) (sound : IsSound dag) (limits : Limits) (runs : ℕ) (s : S
       here false e low (inr r) = inr (all-n low (λ q. absurd (omega (arith, q, r))))
       here false e low (inl r) =
           inl (task-moves k n open_run (omega arith) e
-            (all-in (λ u. is_some (value_in (cell_at s k u)) ≡ true) (task_of dag n).upstreams (λ u h. lower u (sound.in_range n u h) (let x : sound.rank u < sound.rank n = sound.rises n u h in omega arith)))
-            (past n (omega arith)))
+          (all-in (λ u. is_some (value_in (cell_at s k u)) ≡ true) (task_of dag n).upstreams (λ u h. lower u (sound.in_range n u h) (let x : sound.rank u < sound.rank n = sound.rises n u h in omega arith)))
+          (past n (omega arith)))
 
   ranks : (k : ℕ) → phase_of s k ≡ RunPhase.Open → ((t : ℕ) → t < length dag.tasks → k ≢ 0 → is_some (before_in s k t) ≡ true) →
       (depth : ℕ) → Moves dag limits s ⊎ ((t : ℕ) → t < length dag.tasks → sound.rank t < depth → is_some (value_in (cell_at s k t)) ≡ true)
@@ -211,8 +212,9 @@ module _ (dag : Dag) (sound : IsSound dag) (limits : Limits) (runs : ℕ) (s : S
   run-moves : (k : ℕ) → phase_of s k ≡ RunPhase.Open → ((t : ℕ) → t < length dag.tasks → k ≢ 0 → is_some (before_in s k t) ≡ true) → Moves dag limits s
   run-moves k open_run past =
       elim (ranks k open_run past (suc (length dag.tasks))) [
-        inl m ↦ m
-      | inr all ↦ (Event.Close k, (open_run, λ t l. all t l (let b : sound.rank t ≤ length dag.tasks = sound.bounded t in omega arith))) ]
+        | inl m ↦ m
+        | inr all ↦ (Event.Close k, (open_run, λ t l. all t l (let b : sound.rank t ≤ length dag.tasks = sound.bounded t in omega arith)))
+      ]
 
   -- the earlier runs are closed, or one moves
   earlier : (n : ℕ) → Moves dag limits s ⊎ ((k : ℕ) → k < n → phase_of s k ≡ RunPhase.Open → ⊥)

@@ -133,7 +133,10 @@ pub(crate) fn decide(
     decision_after(alloc, verdict)
 }
 
-fn fresh_instances(alloc: Global, givens: Sequence<Given>) -> Result<Sequence<Instance>, OutOfMemory>
+fn fresh_instances(
+    alloc: Global,
+    givens: Sequence<Given>,
+) -> Result<Sequence<Instance>, OutOfMemory>
     ensures { IfOk result (λ xs. xs ≡ map fresh givens) }
 {
     let mut instances = Sequence::new(alloc);

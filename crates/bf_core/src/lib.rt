@@ -7,7 +7,6 @@ mod deciding;
 mod ended;
 mod ending;
 mod event;
-
 mod laws;
 mod machine;
 mod opening;
@@ -17,6 +16,8 @@ mod trying;
 
 pub use ended::Ended;
 pub use event::{Event, Illegal};
+pub use laws::{
+    alike_ledgers_end_alike, ended_lists_are_outcomes, legal_lists_agree, legal_lists_keep_pools,
+};
 pub use machine::Core;
-pub use laws::{alike_ledgers_end_alike, ended_lists_are_outcomes, legal_lists_agree, legal_lists_keep_pools};
 pub use state::{Cell, Instance, Phase, Run, RunPhase, State};

@@ -74,7 +74,9 @@ fn counts_of(instances: &[Instance]) -> Counts
 pub(crate) fn are_finished(instances: &[Instance]) -> bool
     ensures { result ≡ list_all (λ x. is_finished x.phase) instances.now }
 {
-    instances.iter().all(|instance| instance.phase.is_finished())
+    instances
+        .iter()
+        .all(|instance| instance.phase.is_finished())
 }
 
 fn have_passed(instances: &[Instance]) -> bool

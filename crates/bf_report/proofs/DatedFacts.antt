@@ -21,8 +21,8 @@ pub one-reported : (value : ℕ → TaskValue) (tasks : List Task) (t : ℕ) (ta
 one-reported value tasks t task found r l e is =
     append_assoc found (r ∷ []) (reports_from value (t + 1) (drop (t + 1) tasks))
     ∙ ap (λ rs. found ++ rs) (ap (λ x. x ∷ reports_from value (t + 1) (drop (t + 1) tasks)) is
-      ∙ ap (λ n. reported task (value t) ∷ reports_from value n (drop (t + 1) tasks)) add-suc
-      ∙ ap (reports_from value t) (sym (drop-item tasks t task l e)))
+    ∙ ap (λ n. reported task (value t) ∷ reports_from value n (drop (t + 1) tasks)) add-suc
+    ∙ ap (reports_from value t) (sym (drop-item tasks t task l e)))
   where
     add-suc : t + 1 ≡ suc t
     add-suc = omega arith

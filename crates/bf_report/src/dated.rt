@@ -14,10 +14,7 @@ use bf_xcom::{RunState, TaskResult};
 use std::alloc::Global;
 
 /// The results of instances, where all have finished.
-fn results_of(
-    alloc: Global,
-    instances: &[Instance],
-) -> Result<Option<Vec<TaskResult>>, OutOfMemory>
+fn results_of(alloc: Global, instances: &[Instance]) -> Result<Option<Vec<TaskResult>>, OutOfMemory>
     ensures { IfOk result (λ o. option_map (λ rs. rs.items) o ≡ results instances.now) }
 {
     let mut found = Vec::with_capacity(alloc, instances.len())?;

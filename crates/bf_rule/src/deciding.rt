@@ -82,7 +82,10 @@ fn table(rule: Rule, counts: &Counts) -> Verdict
         Rule::OneSuccess if u64::from(counts.skipped) == finished => Verdict::Skip,
         Rule::OneSuccess => Verdict::UpstreamFailed,
         Rule::OneFailed => run_or(failures > 0, Verdict::Skip),
-        Rule::OneDone => run_or(u64::from(counts.success) + u64::from(counts.failed) > 0, Verdict::Skip),
+        Rule::OneDone => run_or(
+            u64::from(counts.success) + u64::from(counts.failed) > 0,
+            Verdict::Skip,
+        ),
         Rule::NoneFailed => run_or(failures == 0, Verdict::UpstreamFailed),
         Rule::NoneFailedMinOneSuccess if failures > 0 => Verdict::UpstreamFailed,
         Rule::NoneFailedMinOneSuccess => run_or(counts.success > 0, Verdict::Skip),

@@ -15,6 +15,6 @@ pub returns-else-runs-clause-err : goal.returns-else-runs-clause-err
 returns-else-runs-clause-err c = (
   known-from c.args.dag.now c.requires.served c.args.state.now c.requires.rows c.args.name c.in-Some.instance.now c.in-Some.ensures.some,
   λ present.
-    let is : true ≡ false = sym (c.runs.ensures.1 (present-back c.args.dag.now c.requires.served c.args.state.now c.args.name c.in-Some.instance.now Phase.Running c.in-Some.ensures.some present)) ∙ c.if-runs.false in
-    cc,
+      let is : true ≡ false = sym (c.runs.ensures.1 (present-back c.args.dag.now c.requires.served c.args.state.now c.args.name c.in-Some.instance.now Phase.Running c.in-Some.ensures.some present)) ∙ c.if-runs.false in
+      cc,
 )

@@ -15,4 +15,4 @@ unfolding decision_in
 returns c =
     let seen : ℕ → Seen = λ u. seen_in (cell_at c.args.state.now c.args.run u) in
     if-ok _ _ c.decision_after.result (λ d e. decision-from c.args.dag.now c.args.run c.args.task (c.requires.served.unmapped c.args.task) (c.requires.served.no_pulls c.args.task) seen
-      (before_in c.args.state.now c.args.run c.args.task) c.gate-verdict.result d c.gate-verdict.ensures e) c.decision_after.ensures
+    (before_in c.args.state.now c.args.run c.args.task) c.gate-verdict.result d c.gate-verdict.ensures e) c.decision_after.ensures

@@ -30,7 +30,7 @@ invariant_of-self-in-Ok c =
     let able : _ = (is.0, has-room limits c.self.inside.state t (fits-room limits pools c.self.inside.state t c.self.invariant.sizes c.self.invariant.held fits)) in
     let to : _ = c.begin.ensures ∙ ap (λ i. put c.self.inside.state c.args.name.run t (change_instance begun (cell_at c.self.inside.state c.args.name.run t) i)) (sym (place-zero c.self.inside.plan.now.dag c.self.invariant.served c.args.name)) in
     let now : c.take.new.self ≡ with_occupied pools (demand_of limits t).pool (occupied_of pools (demand_of limits t).pool + (demand_of limits t).slots) =
-      c.in-Ok.ensures.ok ∙ ap (λ (d : Demand). with_occupied pools d.pool (occupied_of pools d.pool + d.slots)) is.1 in
+    c.in-Ok.ensures.ok ∙ ap (λ (d : Demand). with_occupied pools d.pool (occupied_of pools d.pool + d.slots)) is.1 in
     let pool : (demand_of limits t).pool < length limits.pools = rw is.1 at is.2 in
     let sizes : length pools.sizes ≡ length limits.pools = ap (λ (xs : List ℕ). length xs) c.self.invariant.sizes in
     let there : (demand_of limits t).pool < length pools.occupied = omega (arith, pool, sizes, c.known.ensures.one_each) in
@@ -39,7 +39,7 @@ invariant_of-self-in-Ok c =
     (c.push_reserved.ensures.items ∙ rw c.in_ok-reserve.ensures.items)
     (ap (λ (p : Slots). p.sizes) now)
     (λ q. ap (λ (p : Slots). occupied_of p q) now
-      ∙ taken limits pools c.self.inside.state next t there c.self.invariant.held (occupied-begun c.self.inside.plan.now.dag limits c.self.inside.runs c.self.inside.state (replay-shaped _ c.self.invariant.replayed) c.args.name is.0) q)
+    ∙ taken limits pools c.self.inside.state next t there c.self.invariant.held (occupied-begun c.self.inside.plan.now.dag limits c.self.inside.runs c.self.inside.state (replay-shaped _ c.self.invariant.replayed) c.args.name is.0) q)
 
 pub returns-in-Ok-clause-ok : goal.returns-in-Ok-clause-ok
 unfolding after

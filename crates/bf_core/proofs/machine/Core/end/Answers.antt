@@ -38,7 +38,7 @@ give_back-requires-clause-held c =
     let entry : Entry = record { given = given_in (cell_at s n.run n.task) (place_in dag n); outcome = o } in
     let next : State = record { runs = put_in s.runs n.run n.task (change_instance (ended (task_of dag n.task).retries o) (cell_at s n.run n.task) (place_in dag n)); ledger = map.insert s.ledger n entry } in
     let less : (q : ℕ) → occupied limits next q + takes limits q n.task ≡ occupied limits s q =
-      λ q. occupied-ended dag limits c.self.inside.runs s (replay-shaped _ c.self.invariant.replayed) n o (map.insert s.ledger n entry) is.able.0 q in
+    λ q. occupied-ended dag limits c.self.inside.runs s (replay-shaped _ c.self.invariant.replayed) n o (map.insert s.ledger n entry) is.able.0 q in
     rw is.demand_is (slots-held limits pools s next n.task c.self.invariant.held less)
 
 pub invariant_of-self-in-Ok : goal.invariant_of-self-in-Ok
@@ -54,12 +54,12 @@ invariant_of-self-in-Ok c =
     let entry : Entry = record { given = given_in (cell_at s n.run n.task) (place_in dag n); outcome = o } in
     let next : State = record { runs = put_in s.runs n.run n.task (change_instance (ended (task_of dag n.task).retries o) (cell_at s n.run n.task) (place_in dag n)); ledger = map.insert s.ledger n entry } in
     let less : (q : ℕ) → occupied limits next q + takes limits q n.task ≡ occupied limits s q =
-      λ q. occupied-ended dag limits c.self.inside.runs s (replay-shaped _ c.self.invariant.replayed) n o (map.insert s.ledger n entry) is.able.0 q in
+    λ q. occupied-ended dag limits c.self.inside.runs s (replay-shaped _ c.self.invariant.replayed) n o (map.insert s.ledger n entry) is.able.0 q in
     let noted : c.note.new.self ≡ map.insert s.ledger n entry = c.in-Ok.ensures.ok.1 ∙ ap (λ (x : Entry). map.insert s.ledger n x) is.entry_is in
     let to : c.end.new.self ≡ next =
-      c.end.ensures ∙ ended-state s n.run n.task c.note.new.self (map.insert s.ledger n entry) _ (task_of dag n.task).retries _ o 0 (place_in dag n) noted is.retries_are is.kept_is (sym (place-zero dag c.self.invariant.served n)) in
+    c.end.ensures ∙ ended-state s n.run n.task c.note.new.self (map.insert s.ledger n entry) _ (task_of dag n.task).retries _ o 0 (place_in dag n) noted is.retries_are is.kept_is (sym (place-zero dag c.self.invariant.served n)) in
     let now : c.give_back.new.self ≡ with_occupied pools (demand_of limits n.task).pool (occupied_of pools (demand_of limits n.task).pool - (demand_of limits n.task).slots) =
-      c.give_back.ensures ∙ ap (λ (d : Demand). with_occupied pools d.pool (occupied_of pools d.pool - d.slots)) is.demand_is in
+    c.give_back.ensures ∙ ap (λ (d : Demand). with_occupied pools d.pool (occupied_of pools d.pool - d.slots)) is.demand_is in
     let pool : (demand_of limits n.task).pool < length limits.pools = rw is.demand_is at is.pool_there in
     let sizes : length pools.sizes ≡ length limits.pools = ap (λ (xs : List ℕ). length xs) c.self.invariant.sizes in
     let there : (demand_of limits n.task).pool < length pools.occupied = omega (arith, pool, sizes, c.known.ensures.one_each) in
@@ -82,5 +82,5 @@ returns-in-Ok-clause-ok c =
     let next : State = record { runs = put_in s.runs n.run n.task (change_instance (ended (task_of dag n.task).retries o) (cell_at s n.run n.task) (place_in dag n)); ledger = map.insert s.ledger n entry } in
     let noted : c.note.new.self ≡ map.insert s.ledger n entry = c.in-Ok.ensures.ok.1 ∙ ap (λ (x : Entry). map.insert s.ledger n x) is.entry_is in
     let to : c.end.new.self ≡ next =
-      c.end.ensures ∙ ended-state s n.run n.task c.note.new.self (map.insert s.ledger n entry) _ (task_of dag n.task).retries _ o 0 (place_in dag n) noted is.retries_are is.kept_is (sym (place-zero dag c.self.invariant.served n)) in
+    c.end.ensures ∙ ended-state s n.run n.task c.note.new.self (map.insert s.ledger n entry) _ (task_of dag n.task).retries _ o 0 (place_in dag n) noted is.retries_are is.kept_is (sym (place-zero dag c.self.invariant.served n)) in
     rw (← c.self.view_is) (is.able, moved-is _ (Event.End n o) _ _ to (c.push_reserved.ensures.items ∙ rw c.in_ok-reserve.ensures.items))

@@ -41,9 +41,9 @@ returns-clause-ok c =
     let dag : Dag = c.self.inside.plan.now.dag in
     let s : State = c.self.inside.state in
     let given : given_in (cell_at s c.args.name.run c.args.name.task) (place_in dag c.args.name) ≡ c.in_ok-instance.instance.now.given =
-      ap given_of (ap (λ i. instance_of (cell_at s c.args.name.run c.args.name.task) i) (place-zero dag c.self.invariant.served c.args.name) ∙ c.in_ok-instance.ensures.held) in
+    ap given_of (ap (λ i. instance_of (cell_at s c.args.name.run c.args.name.task) i) (place-zero dag c.self.invariant.served c.args.name) ∙ c.in_ok-instance.ensures.held) in
     let entry : ◌≡◌ {A = Entry} (record { given = c.in_ok-copy.field-0; outcome = c.in_ok-copy-2.field-0 }) (record { given = given_in (cell_at s c.args.name.run c.args.name.task) (place_in dag c.args.name); outcome = c.args.outcome.now }) =
-      entry-of _ _ _ _ (c.in_ok-copy.ensures ∙ sym given) c.in_ok-copy-2.ensures in
+    entry-of _ _ _ _ (c.in_ok-copy.ensures ∙ sym given) c.in_ok-copy-2.ensures in
     rw (← c.self.view_is) (record {
       able = (present, sym c.fits.ensures ∙ c.if-not-fits.false);
       entry_is = entry;

@@ -7,11 +7,14 @@ use Rattle.bf_core.proofs.machine.Core.next_to_open.Goals as goal
 
 pub returns-in-None-clause-err : goal.returns-in-None-clause-err
 returns-in-None-clause-err c =
-    rw (← c.self.view_is) (tt, λ p.
-      let none : _ = not-found _ (c.in-None.ensures {u = tt}) in
-      let same : length c.as_slice-runs.result.now ≡ length c.self.inside.state.runs = ap (λ (rs : List Run). length rs) c.as_slice-runs.ensures in
-      let first : _ = rw c.as_slice-runs.ensures at none in
-      omega (arith, first, p.0))
+    rw (← c.self.view_is) (
+      tt,
+      λ p.
+          let none : _ = not-found _ (c.in-None.ensures {u = tt}) in
+          let same : length c.as_slice-runs.result.now ≡ length c.self.inside.state.runs = ap (λ (rs : List Run). length rs) c.as_slice-runs.ensures in
+          let first : _ = rw c.as_slice-runs.ensures at none in
+          omega (arith, first, p.0),
+    )
 
 pub overflow_cast-result : goal.overflow_cast-result
 overflow_cast-result c =

@@ -21,6 +21,9 @@ pub returns-clause-ok : goal.returns-clause-ok
 unfolding after
 returns-clause-ok c =
     let able : _ = rw (← c.self.view_is) at c.in_ok-run.ensures.ok in
-    rw (← c.self.view_is) (able.1, moved-is _ Event.Open _ _
-      (c.set_phase.ensures ∙ ap (λ k. with_phase c.self.inside.state k RunPhase.Open) able.0)
-      (c.push_reserved.ensures.items ∙ rw c.in_ok-reserve.ensures.items))
+    rw (← c.self.view_is) (
+      able.1,
+      moved-is _ Event.Open _ _
+          (c.set_phase.ensures ∙ ap (λ k. with_phase c.self.inside.state k RunPhase.Open) able.0)
+          (c.push_reserved.ensures.items ∙ rw c.in_ok-reserve.ensures.items),
+    )

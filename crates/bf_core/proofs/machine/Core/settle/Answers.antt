@@ -31,6 +31,9 @@ pub returns-clause-ok : goal.returns-clause-ok
 unfolding after
 returns-clause-ok c =
     let able : _ = rw (← c.self.view_is) at c.in_ok-decision.ensures.ok in
-    rw (← c.self.view_is) (able.0, moved-is _ (Event.Settle c.args.run c.args.task) _ _
-      (c.put.ensures.now ∙ ap (λ d. put c.self.inside.state c.args.run c.args.task d) (c.in_ok-cell.ensures ∙ ap cell_of able.1))
-      (c.push_reserved.ensures.items ∙ rw c.in_ok-reserve.ensures.items))
+    rw (← c.self.view_is) (
+      able.0,
+      moved-is _ (Event.Settle c.args.run c.args.task) _ _
+          (c.put.ensures.now ∙ ap (λ d. put c.self.inside.state c.args.run c.args.task d) (c.in_ok-cell.ensures ∙ ap cell_of able.1))
+          (c.push_reserved.ensures.items ∙ rw c.in_ok-reserve.ensures.items),
+    )

@@ -8,4 +8,4 @@ pub returns-in-Ran : goal.returns-in-Ran
 returns-in-Ran c =
     let there : IsSome (instance_of (Cell.Ran c.in-Ran.instances) c.args.place) = rw c.in-Ran.is at c.requires in
     rw c.in-Ran.is (rw (← c.instances.view_is) (ap Cell.Ran
-      (changed-set begun _ c.args.place c.index_mut-instance.result.now _ (some-below _ c.args.place (rw (← c.instances.view_is) at there)) c.index_mut-instance.ensures.value c.begin.ensures)))
+    (changed-set begun _ c.args.place c.index_mut-instance.result.now _ (some-below _ c.args.place (rw (← c.instances.view_is) at there)) c.index_mut-instance.ensures.value c.begin.ensures)))

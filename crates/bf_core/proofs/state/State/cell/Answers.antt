@@ -36,9 +36,10 @@ returns-in-Some-clause-none c = cell-not _ c.args.run c.args.task c.in-Some.row.
 cell-there : (runs : List Run) (k t : ℕ) (row : Run) (o : Option (Bor Cell)) → slice_get runs k ≡ Some row → option_copied o ≡ slice_get row.cells t →
     IsSome o ↔ ((k < length runs) × (t < length (row_of runs k).cells))
 cell-there runs k t row o at got =
-    let same : row_of runs k ≡ row = read-row runs k row no_run at in
-    (λ some. (some-below runs k (rw at), rw same (some-below row.cells t (rw (← got) (copied o some)))),
-    λ p. back o (rw got (below-some row.cells t (rw same at p.1))))
+    let same : row_of runs k ≡ row = read-row runs k row no_run at in (
+      λ some. (some-below runs k (rw at), rw same (some-below row.cells t (rw (← got) (copied o some)))),
+      λ p. back o (rw got (below-some row.cells t (rw same at p.1))),
+    )
   where
     copied : (o : Option (Bor Cell)) → IsSome o → IsSome (option_copied o)
     copied None h = h

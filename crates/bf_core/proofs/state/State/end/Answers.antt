@@ -15,4 +15,4 @@ put-requires-clause-task c = rw (c.put-cell.ensures.now, row-put c.args.self.now
 pub returns : goal.returns
 returns c =
     rw (c.put.ensures.now, c.put-cell.ensures.now, c.end.ensures, c.put-cell.ensures.was)
-      (with-runs _ _ c.args.self.now.ledger (put-put c.args.self.now.runs c.args.run c.args.task Cell.Undecided _))
+    (with-runs _ _ c.args.self.now.ledger (put-put c.args.self.now.runs c.args.run c.args.task Cell.Undecided _))
