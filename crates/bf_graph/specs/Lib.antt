@@ -3,3 +3,4 @@ pub mod Ranks
 pub mod Shape
 pub mod Faults
 pub mod Reach
+pub mod Order

@@ -1,10 +1,12 @@
 //! Graphs of tasks, and what is looked up in them.
 ghost use Rattle.std.specs.Prelude.{◌≡◌, ◌↔◌, ℕ, ◌<◌, ◌≤◌, length, IsTrue, None, position, map, unwrap_or, MatchOption, IfOk, IfErr, OnOk};
 ghost use Rattle.std.specs.Str.{bytes_eq};
+ghost use Rattle.std.specs.List.Sorted.{IsPermutation, IsSorted};
 ghost use Rattle.bf_graph.specs.Edges.{lists, upstreams_of, AreInRange, IsUpstream, IsRank, IsAcyclic};
 ghost use Rattle.bf_graph.specs.Shape.{texts, AreDistinct};
 ghost use Rattle.bf_graph.specs.Ranks.{rank_at, AllRanked, Ranking};
 ghost use Rattle.bf_graph.specs.Reach.{Reaches};
+ghost use Rattle.bf_graph.specs.Order.{IsByRank, StandBehind, pair_cmp, ranked_tasks};
 
 use crate::cycles::cycle_from;
 use crate::ranking::{Found, found_in};
@@ -77,6 +79,16 @@ impl Graph {
         ensures { IsTrue result ↔ Reaches self.now.upstreams from to }
     {
         self.rows[to as usize][from as usize]
+    }
+
+    /// The tasks by rank, and those of one rank in file order.
+    pub fn by_rank(&self, alloc: Global) -> Result<Vec<u32>, OutOfMemory>
+        ensures order { IfOk result (λ tasks. IsByRank self.now.upstreams tasks.items) }
+        ensures behind { IfOk result (λ tasks. StandBehind self.now.upstreams tasks.items) }
+    {
+        let ranked = ranked(alloc, self.ranks.as_slice())?;
+        let sorted = sorted(ranked);
+        tasks_of(alloc, sorted.as_slice())
     }
 
     /// A law: ranks rise along edges.
@@ -186,4 +198,34 @@ impl Graph {
             rows,
         })
     }
+}
+
+/// Each task with its rank before it, in file order.
+fn ranked(alloc: Global, ranks: &[u32]) -> Result<Vec<(u32, u32)>, OutOfMemory>
+    requires { length ranks.now ≤ MOST_TASKS }
+    ensures { IfOk result (λ pairs. pairs.items ≡ ranked_tasks ranks.now) }
+{
+    Ok(
+        ranks
+            .iter()
+            .enumerate()
+            .map(|(task, rank)| (*rank, task as u32))
+            .collect(alloc)?,
+    )
+}
+
+/// The same pairs by rank, and those of one rank by task.
+fn sorted(mut pairs: Vec<(u32, u32)>) -> Vec<(u32, u32)>
+    ensures same { IsPermutation pairs.items result.items }
+    ensures sorted { IsSorted pair_cmp result.items }
+{
+    pairs.sort_unstable();
+    pairs
+}
+
+/// The tasks of these pairs.
+fn tasks_of(alloc: Global, pairs: &[(u32, u32)]) -> Result<Vec<u32>, OutOfMemory>
+    ensures { IfOk result (λ tasks. tasks.items ≡ map (λ p. p.1) pairs.now) }
+{
+    Ok(pairs.iter().map(|pair| pair.1).collect(alloc)?)
 }
