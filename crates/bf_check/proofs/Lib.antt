@@ -1,2 +1,3 @@
 pub mod DraftLemmas
 pub mod PlanLemmas
+pub mod ServedPlans

@@ -86,6 +86,14 @@ few_at ds f same (x ∷ xs) zero =
 few_at ds f same (x ∷ xs) (suc t) =
     let low : length (get_or (map f xs) t no_task).upstreams ≤ edge_count (x ∷ xs) = omega (arith, few_at ds f same xs t, sum_by-cons (λ (d : TaskDraft). length d.upstreams) x xs) in low
 
+upstreams_at : (dag : Dag) (t : ℕ) → (task_of dag t).upstreams ≡ upstreams_of (shape_of dag).upstreams t
+unfolding task_of
+upstreams_at dag t = sym (get_or-map_default (λ (task : Task). task.upstreams) dag.tasks t no_task)
+
+-- an upstream of a task is one in the graph
+pub is_upstream : (dag : Dag) (t u : ℕ) → IsOneOf (task_of dag t).upstreams u → IsUpstream (shape_of dag).upstreams u t
+is_upstream dag t u one = contains_one _ u (subst (λ (us : List ℕ). IsOneOf us u) (upstreams_at dag t) one)
+
 -- ---- soundness
 
 module _ (dag : Dag) (ds : List TaskDraft) (is : dag.tasks ≡ map (task_in ds) ds) where
@@ -93,13 +101,6 @@ module _ (dag : Dag) (ds : List TaskDraft) (is : dag.tasks ≡ map (task_in ds) 
   each_task : (P : Task → Type 0) → P no_task → ((d : TaskDraft) → P (task_in ds d)) → (t : ℕ) → P (task_of dag t)
   unfolding task_of
   each_task P base each t = subst (λ (tasks : List Task). P (get_or tasks t no_task)) (sym is) (for_each P (task_in ds) no_task base each ds t)
-
-  upstreams_at : (t : ℕ) → (task_of dag t).upstreams ≡ upstreams_of (shape_of dag).upstreams t
-  unfolding task_of
-  upstreams_at t = sym (get_or-map_default (λ (task : Task). task.upstreams) dag.tasks t no_task)
-
-  is_upstream : (t u : ℕ) → IsOneOf (task_of dag t).upstreams u → IsUpstream (shape_of dag).upstreams u t
-  is_upstream t u one = contains_one _ u (subst (λ (us : List ℕ). IsOneOf us u) (upstreams_at t) one)
 
   few_upstreams_at : (t : ℕ) → length (task_of dag t).upstreams ≤ edge_count ds
   unfolding task_of
@@ -111,8 +112,8 @@ module _ (dag : Dag) (ds : List TaskDraft) (is : dag.tasks ≡ map (task_in ds) 
       record {
         rank = ranking.rank;
         bounded = λ t. let low = ranking.bounded t in omega (arith, low, all);
-        rises = λ t u one. ranking.rises t u (is_upstream t u one);
-        in_range = λ t u one. let low = inside t u (is_upstream t u one) in omega (arith, low, all);
+        rises = λ t u one. ranking.rises t u (is_upstream dag t u one);
+        in_range = λ t u one. let low = inside t u (is_upstream dag t u one) in omega (arith, low, all);
         pulls_settled = λ t. each_task (λ task. AllByRecursion (IsSettledAncestor dag t) task.pulls) tt (λ d. tt) t;
         source_is_upstream = each_task (λ task. (source : ℕ) → task.expand ≡ Some source → IsOneOf task.upstreams source) (λ source e. absurd (cc)) (λ d source e. absurd (cc));
         few_tasks = omega (arith, few, ap length is, length-map ds (task_in ds));

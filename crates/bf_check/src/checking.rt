@@ -1,5 +1,6 @@
 //! Drafts, checked as plans.
 ghost use Rattle.std.specs.Prelude.{◌≡◌, IfOk, IfErr, OnOk};
+ghost use Rattle.bf_check.specs.Served.{IsServed};
 ghost use Rattle.bf_check.specs.Checking.{dag_of, limits_for, limits_of as limits_in, IsAccepted, IsFaultOf};
 
 use crate::fault::CheckFault;
@@ -38,9 +39,11 @@ fn limits_of(alloc: Global, tasks: usize) -> Result<Limits, OutOfMemory>
 }
 
 /// The plan of a draft, or its fault of the least number: an upstream that no task has, then a cycle.
+#[tactic(auto, using(crate::proofs::ServedPlans::served))]
 pub fn check(alloc: Global, draft: Draft) -> Result<Plan, CheckFault>
     ensures dag { IfOk result (λ plan. plan.dag ≡ dag_of draft) }
     ensures limits { IfOk result (λ plan. plan.limits ≡ limits_in draft) }
+    ensures served { IfOk result (λ plan. IsServed plan.dag) }
     ensures accepted { OnOk result (IsAccepted draft) }
     ensures fault { IfErr result (IsFaultOf draft) }
 {

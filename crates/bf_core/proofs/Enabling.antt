@@ -1,11 +1,11 @@
 -- When an event is enabled, and when it is refused, where no task is expanded.
-use Rattle.std.proofs.Common.{◌≡◌, ◌≢◌, ◌<◌, ◌≤◌, ◌+◌, ◌&&◌, ℕ, Bool, true, false, length, pred, Option, None, Some, IsSome, is_some, nat_le, refl, sym, ap, ◌∙◌, subst, arith, le-ltb}
+use Rattle.std.proofs.Common.{◌≡◌, ◌≢◌, ◌<◌, ◌≤◌, ◌+◌, ◌&&◌, ℕ, Bool, true, false, length, pred, Option, None, Some, Result, Ok, Err, IfErr, IsSome, is_some, nat_le, refl, sym, ap, ◌∙◌, subst, arith, le-ltb}
 use Rattle.std.proofs.lemmas.Bool.Decides.{nat_tests}
 use Rattle.bf_check.specs.Served.{IsServed}
 use Rattle.bf_core.specs.Terms.{Dag, Limits, State, Event, JobName, Phase, Cell, Instance, task_of, demand_of, pool_size}
 use Rattle.bf_core.specs.Deciding.{Decision, gate}
 use Rattle.bf_core.specs.Events.{cell_at, decision_in, goes_on, is_run, seen_in, before_in, instance_of, entry_in, place_in, occupied, has_room, row_of, IsDecidable, IsPresent, IsEnabled}
-use Rattle.bf_core.specs.Cores.{Backfill, IsReplay, IsThere, IsKnown, IsDue, Refuses}
+use Rattle.bf_core.specs.Cores.{Backfill, IsReplay, IsThere, IsKnown, IsDue, Refuses, SpeaksOfThese}
 use Rattle.bf_core.proofs.Invariant.{ended_of}
 use Rattle.bf_core.proofs.Kept.{replay-rows, replay-invariant}
 use Rattle.bf_core.specs.Checks.{HasRows, IsUndecidedNow}
@@ -86,3 +86,32 @@ running-unrecorded b is n at some =
     let to : n.attempt ≤ ended_of at.held.attempt at.held.phase = subst (λ (x : Instance). n.attempt ≤ ended_of x.attempt x.phase) held recorded.to in
     let before : n.attempt ≤ pred at.held.attempt = subst (λ (p : Phase). n.attempt ≤ ended_of at.held.attempt p) at.in_phase to in
     omega (arith, before, recorded.from, at.is_present)
+
+-- ---- refusals of what may come
+
+speaks : (b : Backfill) → IsReplay b → (e : Event) → IsEnabled b.dag b.limits b.state e → SpeaksOfThese b.dag b.state e
+speaks b is Event.Open able = tt
+speaks b is (Event.Settle k t) able = (decidable-run b.dag b.state k t able.0, able.0.is_task)
+speaks b is (Event.Expand k t) able = (decidable-run b.dag b.state k t able.0, able.0.is_task)
+speaks b is (Event.Begin n) able = present-known b is n Phase.Waiting able.0
+speaks b is (Event.End n o) able = present-known b is n Phase.Running able.0
+speaks b is (Event.Close k) able = open-run b.state k able.0
+
+due : (dag : Dag) (limits : Limits) (s : State) (e : Event) → IsEnabled dag limits s e → IsDue dag limits s e
+due dag limits s Event.Open able = able
+due dag limits s (Event.Settle k t) able = able
+due dag limits s (Event.Expand k t) able = able
+due dag limits s (Event.Begin n) able = able.0
+due dag limits s (Event.End n o) able = able
+due dag limits s (Event.Close k) able = able
+
+-- what may come is refused for want of memory alone
+pub memory_alone : (b : Backfill) → IsReplay b → (e : Event) → IsEnabled b.dag b.limits b.state e → (fault : Illegal) → Refuses b.dag b.limits b.state e fault → fault ≡ Illegal.OutOfMemory
+memory_alone b is e able Illegal.Stranger refuses = absurd (refuses (speaks b is e able))
+memory_alone b is e able Illegal.NotEnabled refuses = absurd (refuses.1 (due b.dag b.limits b.state e able))
+memory_alone b is e able Illegal.NoRoom refuses = absurd (refuses.1 able)
+memory_alone b is e able Illegal.OutOfMemory refuses = refl
+
+pub refused_for_memory : (b : Backfill) → IsReplay b → (e : Event) (r : Result (Unit {0}) Illegal) → IfErr r (Refuses b.dag b.limits b.state e) → IsEnabled b.dag b.limits b.state e → IfErr r (λ fault. fault ≡ Illegal.OutOfMemory)
+refused_for_memory b is e (Ok x) refuses able = tt
+refused_for_memory b is e (Err fault) refuses able = memory_alone b is e able fault refuses

@@ -1,5 +1,5 @@
 -- Reading a state that was changed.
-use Rattle.std.proofs.Common.{◌≡◌, ◌≢◌, ℕ, suc, zero, ◌⊎◌, Ordering, Equal, Bool, true, false, List, [], ◌∷◌, Some, refl, sym, ap, ◌∙◌, inl, inr, slice_index_or, slice_set}
+use Rattle.std.proofs.Common.{◌≡◌, ◌≢◌, ◌<◌, ℕ, suc, zero, ◌⊎◌, Ordering, Equal, Bool, true, false, List, [], ◌∷◌, length, Some, refl, sym, ap, ◌∙◌, inl, inr, slice_index_or, slice_set, arith}
 use Rattle.std.specs.FinMap as map
 use Rattle.std.specs.Ordering.{eq_by_cmp, is_eq}
 use Rattle.std.specs.Cmp.{eq_by_cmp_equiv, Equal-is}
@@ -44,6 +44,12 @@ set-here [] i y d = inr refl
 set-here (x ∷ xs) zero y d = inl refl
 set-here (x ∷ xs) (suc i) y d = set-here xs i y d
 
+-- what is written in range is read there
+pub set-there : {X : Type 0} (xs : List X) (i : ℕ) (y : X) (d : X) → i < length xs → slice_index_or (slice_set xs i y) i d ≡ y
+set-there [] i y d l = absurd (omega (arith, l))
+set-there (x ∷ xs) zero y d l = refl
+set-there (x ∷ xs) (suc i) y d l = set-there xs i y d (omega arith)
+
 -- a cell after a put is what was put or what was there
 pub put-cases : (s : State) (k t : ℕ) (c : Cell) (j u : ℕ) →
     ((j ≡ k) × (u ≡ t) × (cell_at (put s k t c) j u ≡ c)) ⊎ (cell_at (put s k t c) j u ≡ cell_at s j u)
@@ -79,6 +85,12 @@ put-here s k t c decided = rows (set-here s.runs k changed no_run)
     rows (inl p) =
         let e : cell_at (put s k t c) k t ≡ slice_index_or (slice_set row.cells t c) t Cell.Undecided = ap (λ r. slice_index_or r.cells t Cell.Undecided) p in
         elim (set-here row.cells t c Cell.Undecided) [ inl q ↦ e ∙ q | inr q ↦ absurd (decided q) ]
+
+-- a cell in range can be put
+pub put-there : (s : State) (k t : ℕ) (c : Cell) → k < length s.runs → t < length (slice_index_or s.runs k no_run).cells → cell_at (put s k t c) k t ≡ c
+unfolding cell_in put_in
+put-there s k t c run task =
+    ap (λ (r : Run). slice_index_or r.cells t Cell.Undecided) (set-there s.runs k _ no_run run) ∙ set-there (slice_index_or s.runs k no_run).cells t c Cell.Undecided task
 
 pub with_phase-cell : (s : State) (k : ℕ) (p : RunPhase) (j u : ℕ) → cell_at (with_phase s k p) j u ≡ cell_at s j u
 unfolding cell_in phase_put_in

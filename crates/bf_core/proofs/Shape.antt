@@ -3,7 +3,7 @@ use Rattle.std.proofs.Common.{if◌then◌else◌, ◌≡◌, ◌≢◌, ℕ, su
 use Rattle.std.specs.FinMap as map
 use Rattle.bf_core.specs.Terms.{name_cmp, Entry, Dag, task_of, JobName, State, Run, RunPhase, Cell, Instance, Phase, Event, Limits}
 use Rattle.bf_core.specs.Events.{is_unopened, first_unopened, place_in, no_run, cell_at, phase_of, phase_in, put, put_in, phase_put_in, with_phase, value_in, change_instance, decision_in, cell_of, AllSettled, IsDecidable, IsPresent, after, next_run, IsEnabled, IsLegal, replay, start, empty_runs, undecided_cells, begun, ended}
-use Rattle.bf_core.proofs.Reading.{put-cases, with_phase-cell, set-read}
+use Rattle.bf_core.proofs.Reading.{put-cases, with_phase-cell, set-read, set-there}
 use Rattle.bf_core.proofs.Instances.{IsUnfinished, open-cell}
 use Rattle.bf_core.proofs.Steps.{settled-kept, start-cell, decided-held}
 
@@ -42,11 +42,16 @@ phase-cases s k p j = rows (set-read s.runs k changed j no_run)
     rows (inr e) = inr (ap (λ r. r.phase) e)
     rows (inl q) = inl (q.0, ap (λ r. r.phase) q.1)
 
+-- a run that is there can be put in a phase
+pub phase-there : (s : State) (k : ℕ) (p : RunPhase) → k < length s.runs → phase_of (with_phase s k p) k ≡ p
+unfolding phase_in phase_put_in
+phase-there s k p l = ap (λ (r : Run). r.phase) (set-there s.runs k _ no_run l)
+
 pub length-put : (runs : List Run) (k t : ℕ) (c : Cell) → length (put_in runs k t c) ≡ length runs
 unfolding put_in
 length-put runs k t c = length-set _ _ _
 
-length-phase : (runs : List Run) (k : ℕ) (p : RunPhase) → length (phase_put_in runs k p) ≡ length runs
+pub length-phase : (runs : List Run) (k : ℕ) (p : RunPhase) → length (phase_put_in runs k p) ≡ length runs
 unfolding phase_put_in
 length-phase runs k p = length-set _ _ _
 

@@ -5,11 +5,7 @@ use Rattle.bf_pool.specs.Slots.{Slots, occupied_of, size_of, with_occupied}
 use Rattle.bf_core.specs.Terms.{Limits, State, demand_of, pool_size}
 use Rattle.bf_core.specs.Events.{occupied}
 use Rattle.bf_core.proofs.Pools.{takes, eq-from}
-
-set-same : (xs : List ℕ) (p v : ℕ) → p < length xs → slice_index_or (slice_set xs p v) p 0 ≡ v
-set-same [] p v l = absurd (omega (arith, l))
-set-same (x ∷ xs) zero v l = refl
-set-same (x ∷ xs) (suc p) v l = set-same xs p v (omega arith)
+use Rattle.bf_core.proofs.Reading.{set-there}
 
 set-other : (xs : List ℕ) (p v q : ℕ) → p ≢ q → slice_index_or (slice_set xs p v) q 0 ≡ slice_index_or xs q 0
 set-other [] p v q n = refl
@@ -30,7 +26,7 @@ changed limits pools t v there held more are is others q = go ((demand_of limits
     go : (b : Bool) → ((demand_of limits t).pool == q) ≡ b → occupied_of (with_occupied pools (demand_of limits t).pool v) q ≡ more q
     go true e =
         let same : (demand_of limits t).pool ≡ q = eq-from _ _ e in
-        ap (λ n. slice_index_or (slice_set pools.occupied (demand_of limits t).pool v) n 0) (sym same) ∙ set-same pools.occupied (demand_of limits t).pool v there ∙ is ∙ ap more same
+        ap (λ n. slice_index_or (slice_set pools.occupied (demand_of limits t).pool v) n 0) (sym same) ∙ set-there pools.occupied (demand_of limits t).pool v 0 there ∙ is ∙ ap more same
     go false e = let n : (demand_of limits t).pool ≢ q = eq-not _ _ e in set-other pools.occupied (demand_of limits t).pool v q n ∙ are q ∙ sym (others q n)
 
 takes-here : (limits : Limits) (t : ℕ) → takes limits (demand_of limits t).pool t ≡ (demand_of limits t).slots

@@ -70,7 +70,8 @@ some-map : (o : Option (List TaskResult)) → is_some (option_map TaskValue.Ran 
 some-map None e = e
 some-map (Some rs) e = refl
 
-proper-cell : (c : Cell) → is_some (value_in c) ≡ true → (counts_of_cell c).unfinished ≡ 0
+-- a settled cell has nothing unfinished
+pub proper-cell : (c : Cell) → is_some (value_in c) ≡ true → (counts_of_cell c).unfinished ≡ 0
 proper-cell Cell.Undecided e = cc
 proper-cell Cell.Blocked e = refl
 proper-cell Cell.Skipped e = refl
@@ -85,7 +86,8 @@ place-index dag t i alone = go (task_of dag t).expand alone
     go None h = sym (h refl)
     go (Some s) h = refl
 
-all-in : (P : ℕ → Type 0) (us : List ℕ) → ((u : ℕ) → IsOneOf us u → P u) → AllByRecursion P us
+-- what holds of each member holds of all
+pub all-in : (P : ℕ → Type 0) (us : List ℕ) → ((u : ℕ) → IsOneOf us u → P u) → AllByRecursion P us
 all-in P [] h = tt
 all-in P (u ∷ us) h = (h u (inl refl), all-in P us (λ v g. h v (inr g)))
 

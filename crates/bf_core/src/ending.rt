@@ -69,12 +69,14 @@ impl<'a> Core<'a> {
 
     /// Lets an event come, or refuses it and changes nothing: by `Stranger` where what it speaks of isn't there, else
     /// by `NotEnabled` where it may not come for another cause than want of room, else by `NoRoom`. Want of memory may
-    /// stand in the place of any answer.
+    /// stand in the place of any answer, and nothing else refuses an event that may come.
     pub fn apply(&mut self, event: Event) -> Result<(), Illegal>
         ensures ok { OnOk result (IsEnabled self.old.dag self.old.limits self.old.state event × (self.new ≡ moved self.old event)) }
         ensures err { IfErr result (Refuses self.old.dag self.old.limits self.old.state event) }
+        ensures memory { IsEnabled self.old.dag self.old.limits self.old.state event → IfErr result (λ fault. fault ≡ Illegal.OutOfMemory) }
         ensures same { OnErr result (self.new ≡ self.old) }
     {
+        let _replayed = self.journal();
         match event {
             Event::Open => self.open(),
             Event::Settle { run, task } => self.settle(run, task),

@@ -1,5 +1,7 @@
 //! Grades.
-ghost use Rattle.std.specs.Prelude.{◌≡◌, ◌<◌, length, IfOk};
+ghost use Rattle.std.specs.Prelude.{◌≡◌, ◌<◌, ℕ, true, length, IfOk};
+ghost use Rattle.bf_check.specs.declared.plan.Dag.{Dag};
+ghost use Rattle.bf_try.specs.declared.answers.Raw.{Raw as RawTerm};
 ghost use Rattle.bf_check.specs.Served.{IsServed};
 ghost use Rattle.bf_try.specs.Grades.{grade_of, grade_line as line_grade, fits as fits_in, may_push as pushable, is_value_of_lines as of_lines};
 
@@ -89,3 +91,8 @@ pub fn grade(alloc: Global, plan: &Plan, task: u32, raw: &Raw) -> Result<Outcome
         _ => Ok(Outcome::Failed),
     }
 }
+
+/// A law: a grade fits.
+pub fn grades_fit()
+    ensures { (dag : Dag) (task : ℕ) (raw : RawTerm) → fits_in dag task (grade_of dag task raw) ≡ true }
+{}

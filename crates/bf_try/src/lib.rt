@@ -16,7 +16,7 @@ mod tickets;
 
 pub use answers::{Exit, Line, Raw};
 pub use bf_xcom::Outcome;
-pub use grading::{fits, grade};
+pub use grading::{fits, grade, grades_fit};
 pub use ledger::{Entry, Ledger, NoteFault};
 pub use runner::{RunnerFault, TaskRunner};
 pub use table::{Table, TableEntry, TableFault};

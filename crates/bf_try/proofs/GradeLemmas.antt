@@ -1,0 +1,127 @@
+-- What a grade gives is an outcome that a grade could give.
+use Rattle.std.proofs.Common.{◌≡◌, ◌≢◌, ◌≤◌, ℕ, zero, suc, max, ℤ, pos, negsuc, ◌==◌, ◌&&◌, if◌then◌else◌, Bool, true, false, List, [], ◌∷◌, Option, None, Some, option_map, option_and_then, unwrap_or, nat_le, refl, sym, ap, ◌∙◌, subst, arith}
+use Rattle.std.specs.Str.{is_utf8}
+use Rattle.std.proofs.lemmas.Bool.{le-leb}
+use Rattle.serde_json.specs.Data.{Data, null, boolean, number, string, array, object, Items, no_items, item}
+use Rattle.serde_json.specs.Find.{as_i64}
+use Rattle.serde_json.specs.Read.{read}
+use Rattle.bf_value.specs.Json.{deepest, plain_in, plains_in, pushed_by, value_of_line, value_or_text}
+use Rattle.bf_value.specs.Plain.{Plain, flag, int, text, list, nil, Plains, none, more, plain_depth, plains_depth}
+use Rattle.bf_value.specs.declared.xval.Xval.{Xval}
+use Rattle.bf_check.specs.declared.plan.Dag.{Dag}
+use Rattle.bf_xcom.specs.declared.values.Outcome.{Outcome}
+use Rattle.bf_try.specs.declared.answers.Exit.{Exit}
+use Rattle.bf_try.specs.declared.answers.Line.{Line}
+use Rattle.bf_try.specs.declared.answers.Raw.{Raw}
+use Rattle.bf_try.specs.Grades.{fits, grade_of, grade_answer, grade_line, grade_status, grade_value, is_status, is_value_of_lines, may_push}
+
+int-some : (o : Option ℤ) (p : Plain) → option_map int o ≡ Some p → plain_depth p ≤ 0
+int-some None p e = cc
+int-some (Some z) p e = let is : int z ≡ p = cc in subst (λ (q : Plain). plain_depth q ≤ 0) is (omega arith)
+
+listed : (n : ℕ) (o : Option Plains) (p : Plain) → ((ps : Plains) → o ≡ Some ps → plains_depth ps ≤ suc n) → option_map list o ≡ Some p → plain_depth p ≤ suc n
+listed n None p deep e = cc
+listed n (Some ps) p deep e = let is : list ps ≡ p = cc in subst (λ (q : Plain). plain_depth q ≤ suc n) is (deep ps refl)
+
+joined : (n : ℕ) (o : Option Plain) (os : Option Plains) (ps : Plains) → ((p : Plain) → o ≡ Some p → plain_depth p ≤ n) → ((qs : Plains) → os ≡ Some qs → plains_depth qs ≤ suc n)
+    → option_and_then (λ p. option_map (more p) os) o ≡ Some ps → plains_depth ps ≤ suc n
+joined n None os ps deep deeper e = cc
+joined n (Some p) None ps deep deeper e = cc
+joined n (Some p) (Some qs) ps deep deeper e =
+    let is : more p qs ≡ ps = cc in
+    let first : plain_depth p ≤ n = deep p refl in
+    let rest : plains_depth qs ≤ suc n = deeper qs refl in
+    subst (λ (rs : Plains). plains_depth rs ≤ suc n) is (omega (arith, first, rest))
+
+-- lists of data that is read n deep nest no deeper
+mutual
+  depth-read : (n : ℕ) (d : Data) (p : Plain) → plain_in n d ≡ Some p → plain_depth p ≤ n
+  depth-read n null p e = let is : nil ≡ p = cc in subst (λ (q : Plain). plain_depth q ≤ n) is (omega arith)
+  depth-read n (boolean b) p e = let is : flag b ≡ p = cc in subst (λ (q : Plain). plain_depth q ≤ n) is (omega arith)
+  depth-read n (number x) p e = let low : plain_depth p ≤ 0 = int-some (as_i64 x) p e in omega (arith, low)
+  depth-read n (string s) p e = let is : text s ≡ p = cc in subst (λ (q : Plain). plain_depth q ≤ n) is (omega arith)
+  depth-read zero (array ds) p e = cc
+  depth-read (suc n) (array ds) p e = listed n (plains_in n ds) p (λ ps h. depths-read n ds ps h) e
+  depth-read n (object ms) p e = cc
+
+  depths-read : (n : ℕ) (ds : Items) (ps : Plains) → plains_in n ds ≡ Some ps → plains_depth ps ≤ suc n
+  depths-read n no_items ps e = let is : none ≡ ps = cc in subst (λ (q : Plains). plains_depth q ≤ suc n) is (omega arith)
+  depths-read n (item d ds) ps e = joined n (plain_in n d) (plains_in n ds) ps (λ p h. depth-read n d p h) (λ qs h. depths-read n ds qs h) e
+
+-- what is read is null only where the data is
+not-nil : (n : ℕ) (d : Data) → d ≢ null → plain_in n d ≡ Some nil → ⊥
+not-nil n null other e = other refl
+not-nil n (boolean b) other e = cc
+not-nil n (number x) other e = none_in (as_i64 x) e
+  where
+    none_in : (o : Option ℤ) → option_map int o ≡ Some nil → ⊥
+    none_in None h = cc
+    none_in (Some z) h = cc
+not-nil n (string s) other e = cc
+not-nil zero (array ds) other e = cc
+not-nil (suc n) (array ds) other e = none_in (plains_in n ds) e
+  where
+    none_in : (o : Option Plains) → option_map list o ≡ Some nil → ⊥
+    none_in None h = cc
+    none_in (Some ps) h = cc
+not-nil n (object ms) other e = cc
+
+read-values : (line : List ℕ) (d : Data) → d ≢ null → is_value_of_lines (Some (value_or_text line (plain_in deepest d))) ≡ true
+read-values line d other = by (plain_in deepest d) refl
+  where
+    by : (o : Option Plain) → plain_in deepest d ≡ o → is_value_of_lines (Some (value_or_text line o)) ≡ true
+    by None e = refl
+    by (Some (flag b)) e = refl
+    by (Some (int z)) e = refl
+    by (Some (text s)) e = refl
+    by (Some (list ps)) e = let low : plain_depth (list ps) ≤ deepest = depth-read deepest d (list ps) e in le-leb _ _ low
+    by (Some nil) e = absurd (not-nil deepest d other e)
+
+pushed-values : (line : List ℕ) (o : Option Data) → is_value_of_lines (pushed_by line o) ≡ true
+pushed-values line None = refl
+pushed-values line (Some null) = refl
+pushed-values line (Some (boolean b)) = read-values line (boolean b) (λ e. cc)
+pushed-values line (Some (number x)) = read-values line (number x) (λ e. cc)
+pushed-values line (Some (string s)) = read-values line (string s) (λ e. cc)
+pushed-values line (Some (array ds)) = read-values line (array ds) (λ e. cc)
+pushed-values line (Some (object ms)) = read-values line (object ms) (λ e. cc)
+
+-- a line pushes nothing or a value of lines
+lines-values : (line : List ℕ) → is_value_of_lines (value_of_line line) ≡ true
+lines-values [] = refl
+lines-values (b ∷ bs) = pushed-values (b ∷ bs) (read (b ∷ bs))
+
+value-fits : (dag : Dag) (t : ℕ) (v : Option Xval) → is_value_of_lines v ≡ true → fits dag t (grade_value dag t v) ≡ true
+unfolding fits
+value-fits dag t v ok = by (may_push dag t v) refl
+  where
+    by : (b : Bool) → may_push dag t v ≡ b → fits dag t (if b then Outcome.Success v else Outcome.Failed) ≡ true
+    by true e = rw (ok, e) refl
+    by false e = refl
+
+line-fits : (dag : Dag) (t : ℕ) (line : List ℕ) → fits dag t (grade_line dag t line) ≡ true
+unfolding fits
+line-fits dag t line = by (is_utf8 line)
+  where
+    by : (b : Bool) → fits dag t (if b then grade_value dag t (value_of_line line) else Outcome.Failed) ≡ true
+    by true = value-fits dag t (value_of_line line) (lines-values line)
+    by false = refl
+
+status-fits : (dag : Dag) (t : ℕ) (status : ℤ) (line : List ℕ) → fits dag t (grade_status dag t status line) ≡ true
+unfolding fits
+status-fits dag t status line = by (is_status 99 status) (is_status 0 status)
+  where
+    by : (skips succeeds : Bool) → fits dag t (if skips then Outcome.Skipped else (if succeeds then grade_line dag t line else Outcome.Failed)) ≡ true
+    by true b = refl
+    by false true = line-fits dag t line
+    by false false = refl
+
+answer-fits : (dag : Dag) (t : ℕ) (exit : Exit) (line : Line) → fits dag t (grade_answer dag t exit line) ≡ true
+unfolding fits
+answer-fits dag t (Exit.Code status) (Line.Bytes line) = status-fits dag t status line
+answer-fits dag t _ _ = refl
+
+-- a grade fits
+pub grade_fits : (dag : Dag) (t : ℕ) (raw : Raw) → fits dag t (grade_of dag t raw) ≡ true
+unfolding grade_of
+grade_fits dag t raw = answer-fits dag t raw.exit raw.line
