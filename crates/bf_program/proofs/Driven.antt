@@ -13,9 +13,12 @@ use Rattle.bf_try.specs.Grades.{grade_of}
 use Rattle.bf_try.specs.Tables.{answer_of, Answering}
 use Rattle.bf_core.specs.declared.event.Event.{Event}
 use Rattle.bf_core.specs.declared.event.Event.TheVariants.{Open, Settle, Expand, Begin, End, Close}
-use Rattle.bf_core.specs.Events.{after, entry_in, put, with_phase, write}
+use Rattle.bf_core.specs.Events.{IsEnabled, after, entry_in, put, with_phase, write}
 use Rattle.bf_core.specs.Cores.{Backfill, moved, opening}
+use Rattle.bf_check.specs.Served.{IsServed}
+use Rattle.bf_check.specs.Sound.{AreLimits, IsSound}
 use Rattle.bf_check.specs.declared.plan.Limits.{Limits}
+use Rattle.bf_core.proofs.Kept.{replay-event}
 use Rattle.bf_core.proofs.Reading.{entry-cases}
 use Rattle.bf_core.specs.Agreement.{IsOutcome, AreRunStates}
 use Rattle.bf_core.specs.Recursion.{out, run_state_of}
@@ -29,17 +32,7 @@ use Rattle.bf_report.specs.Device.{sent}
 use Rattle.bf_report.specs.Moment.{IsShown}
 use Rattle.bf_report.specs.Report.{report_text}
 use Rattle.bf_program.specs.OneRun.{AreAnswered, IsReportedOver, intervals_at, is_success}
-use Rattle.bf_program.specs.Driving.{is_quiet, IsDriven, IsOver}
-
--- an event that ends no try leaves the ledger as it is
-pub quiet-driven : (runner : Answering) (b : Backfill) (e : Event) → is_quiet e ≡ true → IsDriven runner b → IsDriven runner (moved b e)
-unfolding after
-quiet-driven runner b Open q d = record { dag = d.dag; runs = d.runs; answered = d.answered }
-quiet-driven runner b (Settle k t) q d = record { dag = d.dag; runs = d.runs; answered = d.answered }
-quiet-driven runner b (Expand k t) q d = record { dag = d.dag; runs = d.runs; answered = d.answered }
-quiet-driven runner b (Begin n) q d = record { dag = d.dag; runs = d.runs; answered = d.answered }
-quiet-driven runner b (End n o) q d = let bad : false ≡ true = q in cc
-quiet-driven runner b (Close k) q d = record { dag = d.dag; runs = d.runs; answered = d.answered }
+use Rattle.bf_program.specs.Driving.{EndsByTable, IsDriven, IsOver}
 
 -- an entry with the table's answer keeps all as the table answers
 noted-answered : (runner : Answering) (ledger : map.FinMap name_cmp Entry) (n : JobName) (given : Given) (o : Outcome)
@@ -58,21 +51,39 @@ noted-answered runner ledger n given o graded before m e is = elim (entry-cases 
     some-injective : {x y : Entry} → Some x ≡ Some y → x ≡ y
     some-injective h = cc
 
--- the end of a try notes its outcome
-pub end-driven : (runner : Answering) (b : Backfill) (n : JobName) (o : Outcome)
-    → o ≡ grade_of runner.dag n.task (answer_of runner.dag runner.entries n) → IsDriven runner b → IsDriven runner (moved b (End n o))
+-- what may come keeps the tries as the table answers, where it ends none otherwise
+answered_after : (runner : Answering) (b : Backfill) (e : Event) → EndsByTable runner e → AreAnswered runner.dag runner.entries (entry_in b.state.ledger)
+    → AreAnswered runner.dag runner.entries (entry_in (after b.dag b.state e).ledger)
 unfolding after
-end-driven runner b n o graded d = record { dag = d.dag; runs = d.runs; answered = noted-answered runner b.state.ledger n _ o graded d.answered }
+answered_after runner b Open by_table answered = answered
+answered_after runner b (Settle k t) by_table answered = answered
+answered_after runner b (Expand k t) by_table answered = answered
+answered_after runner b (Begin n) by_table answered = answered
+answered_after runner b (End n o) by_table answered = noted-answered runner b.state.ledger n _ o by_table answered
+answered_after runner b (Close k) by_table answered = answered
+
+pub event_driven : (runner : Answering) (b : Backfill) (e : Event) → EndsByTable runner e → IsEnabled b.dag b.limits b.state e → IsDriven runner b → IsDriven runner (moved b e)
+event_driven runner b e by_table able d = record {
+  dag = d.dag;
+  runs = d.runs;
+  answered = answered_after runner b e by_table d.answered;
+  replayed = replay-event b e d.replayed able;
+  served = d.served;
+  limits_fit = d.limits_fit;
+}
 
 -- nothing was answered yet where nothing has happened
-pub opened : (runner : Answering) (dag : Dag) (limits : Limits) (runs : ℕ) (b : Backfill)
-    → runner.dag ≡ dag → b ≡ opening dag limits runs → runs ≡ 1 → IsDriven runner b
-opened runner dag limits runs b same is one = rw is (record {
+pub opened : (runner : Answering) (dag : Dag) (limits : Limits) (b : Backfill)
+    → runner.dag ≡ dag → IsSound dag → IsServed dag → AreLimits dag limits → b ≡ opening dag limits 1 → IsDriven runner b
+opened runner dag limits b same sound served fit is = rw is (record {
   dag = sym same;
-  runs = one;
+  runs = refl;
   answered = λ n e held.
       let none : entry_in map.empty n ≡ None = map.get-empty name_cmp n in
       let bad : Some e ≡ None = sym held ∙ none in cc;
+  replayed = record { sound = sound; legal = tt; led_to = refl };
+  served = served;
+  limits_fit = fit;
 })
 
 -- what a run that has ended comes to

@@ -5,16 +5,12 @@ use Rattle.std.proofs.lemmas.Str.{IsUtf8-from_is_utf8, is_utf8-from_IsUtf8}
 use Rattle.jiff.specs.declared.timestamp.Timestamp.{Timestamp}
 use Rattle.serde_json.specs.Read.{read}
 use Rattle.bf_read.specs.declared.draft.Draft.{Draft}
-use Rattle.bf_read.specs.declared.draft.TaskDraft.{TaskDraft}
 use Rattle.bf_read.specs.declared.fault.ReadFault.{ReadFault}
-use Rattle.bf_read.specs.declared.kinds.TaskKind.{TaskKind}
 use Rattle.bf_read.specs.declared.path.Path.{Path}
 use Rattle.bf_read.specs.declared.reader.TheConstants.{MOST_BYTES}
 use Rattle.bf_read.specs.Reading.{GraphFile, graph_of, graph_file_of}
 use Rattle.bf_check.specs.Checked.{Checked}
-use Rattle.bf_check.specs.Checking.{dag_of, task_in}
-use Rattle.bf_check.specs.Plans.{no_task, task_of}
-use Rattle.bf_check.specs.Served.{IsServed}
+use Rattle.bf_check.specs.Checking.{dag_of}
 use Rattle.bf_interval.specs.Years.{IsInYears}
 use Rattle.bf_try.specs.declared.table.TableEntry.{TableEntry}
 use Rattle.bf_try.specs.Tables.{table_of}
@@ -38,30 +34,6 @@ file_read bytes draft too_long text no_text = record { short = short; text = is_
     is_text false h =
         let none : ¬ (IsUtf8 bytes) = (λ t. let y : is_utf8 bytes ≡ true = is_utf8-from_IsUtf8 bytes t in cc) in
         let bad : Err ReadFault.NotJson ≡ Ok (graph_file_of draft) = no_text short none in cc
-
--- ---- a plan of what was read is served
-
-program_in : (all tasks : List TaskDraft) (t : ℕ) → (slice_index_or (map (task_in all) tasks) t no_task).kind ≡ TaskKind.Program
-program_in all [] t = refl
-program_in all (task ∷ tasks) zero = refl
-program_in all (task ∷ tasks) (suc t) = program_in all tasks t
-
-unmapped_in : (all tasks : List TaskDraft) (t : ℕ) → (slice_index_or (map (task_in all) tasks) t no_task).expand ≡ None
-unmapped_in all [] t = refl
-unmapped_in all (task ∷ tasks) zero = refl
-unmapped_in all (task ∷ tasks) (suc t) = unmapped_in all tasks t
-
-no_pulls_in : (all tasks : List TaskDraft) (t : ℕ) → (slice_index_or (map (task_in all) tasks) t no_task).pulls ≡ []
-no_pulls_in all [] t = refl
-no_pulls_in all (task ∷ tasks) zero = refl
-no_pulls_in all (task ∷ tasks) (suc t) = no_pulls_in all tasks t
-
-served : (draft : Draft) → IsServed (dag_of draft)
-unfolding task_of
-served draft = record { no_branch = program_in draft.tasks draft.tasks; unmapped = unmapped_in draft.tasks draft.tasks; no_pulls = no_pulls_in draft.tasks draft.tasks }
-
-pub plan_served : (graph : List ℕ) (plan : Checked) → IsPlanOf graph plan → IsServed plan.dag
-plan_served graph plan is = rw is.dag (served is.draft)
 
 -- ---- the whole
 

@@ -3,3 +3,4 @@ pub mod FoundFiles
 pub mod Ends
 pub mod Driven
 pub mod Files
+pub mod Progress

@@ -104,7 +104,8 @@ fn draft_in(alloc: Global, graph: &[u8]) -> Result<Draft, SingleFault>
 }
 
 fn plan_in(alloc: Global, graph: &[u8]) -> Result<Plan, SingleFault>
-    ensures { IfOk result (IsPlanOf graph.now) }
+    ensures plan { IfOk result (IsPlanOf graph.now) }
+    ensures served { IfOk result (λ plan. IsServed plan.dag) }
 {
     match check(alloc, draft_in(alloc, graph)?) {
         Ok(plan) => Ok(plan),
@@ -147,7 +148,7 @@ fn run_over<W: Write>(
 
 /// Runs a graph once, at this moment, with its tries answered by a table, and writes the report. Says whether the run
 /// is a success. The graph's faults go before the table's, and these before the moment's.
-#[tactic(auto, using(crate::proofs::Files::reported, crate::proofs::Files::plan_served))]
+#[tactic(auto, using(crate::proofs::Files::reported))]
 pub fn run_single<W: Write>(
     alloc: Global,
     graph: &[u8],
