@@ -1,39 +1,14 @@
 -- What a graph file that was read says, and the plan of it.
-use Rattle.std.proofs.Common.{◌≡◌, ◌<◌, ◌≤◌, ℕ, zero, suc, List, [], ◌∷◌, length, map, slice_index_or, None, Option, Result, Ok, Err, refl, sym, Bool, true, false, IsUtf8, arith}
-use Rattle.std.specs.Str.{is_utf8}
-use Rattle.std.proofs.lemmas.Str.{IsUtf8-from_is_utf8, is_utf8-from_IsUtf8}
+use Rattle.std.proofs.Common.{◌≡◌, ◌≢◌, ℕ, List, Bool, true, Option, Result, Ok, Err, IfErr}
 use Rattle.jiff.specs.declared.timestamp.Timestamp.{Timestamp}
-use Rattle.serde_json.specs.Read.{read}
-use Rattle.bf_read.specs.declared.draft.Draft.{Draft}
-use Rattle.bf_read.specs.declared.fault.ReadFault.{ReadFault}
-use Rattle.bf_read.specs.declared.path.Path.{Path}
-use Rattle.bf_read.specs.declared.reader.TheConstants.{MOST_BYTES}
-use Rattle.bf_read.specs.Reading.{GraphFile, graph_of, graph_file_of}
 use Rattle.bf_check.specs.Checked.{Checked}
-use Rattle.bf_check.specs.Checking.{dag_of}
 use Rattle.bf_interval.specs.Years.{IsInYears}
 use Rattle.bf_try.specs.declared.table.TableEntry.{TableEntry}
+use Rattle.bf_try.specs.declared.table.TableFault.{TableFault}
 use Rattle.bf_try.specs.Tables.{table_of}
-use Rattle.bf_program.specs.OneRun.{IsFileOf, IsPlanOf, IsReportedOver, IsReported}
-
-pub file_read : (bytes : List ℕ) (draft : Draft)
-    → (MOST_BYTES < length bytes → Ok draft ≡ Err (ReadFault.LimitPassed Path.Bytes))
-    → (length bytes ≤ MOST_BYTES → IsUtf8 bytes → graph_of (read bytes) ≡ Ok (graph_file_of draft))
-    → (length bytes ≤ MOST_BYTES → ¬ (IsUtf8 bytes) → Err ReadFault.NotJson ≡ Ok (graph_file_of draft))
-    → IsFileOf bytes draft
-file_read bytes draft too_long text no_text = record { short = short; text = is_text (is_utf8 bytes) refl; says = text short (is_text (is_utf8 bytes) refl) }
-  where
-    not_long : ¬ (MOST_BYTES < length bytes)
-    not_long h = let bad : Ok draft ≡ Err (ReadFault.LimitPassed Path.Bytes) = too_long h in cc
-
-    short : length bytes ≤ MOST_BYTES
-    short = let bound : ¬ (MOST_BYTES < length bytes) = not_long in omega arith
-
-    is_text : (b : Bool) → is_utf8 bytes ≡ b → IsUtf8 bytes
-    is_text true h = IsUtf8-from_is_utf8 bytes h
-    is_text false h =
-        let none : ¬ (IsUtf8 bytes) = (λ t. let y : is_utf8 bytes ≡ true = is_utf8-from_IsUtf8 bytes t in cc) in
-        let bad : Err ReadFault.NotJson ≡ Ok (graph_file_of draft) = no_text short none in cc
+use Rattle.bf_program.specs.declared.one_run.SingleFault.{SingleFault}
+use Rattle.bf_program.specs.declared.one_run.SingleFault.TheVariants.{Graph, Plan, Table, OutsideYears, OutOfMemory, Write}
+use Rattle.bf_program.specs.OneRun.{IsFaultIn, IsFaultOfRun, IsGraph, IsPlanOf, IsReportedOver, IsReported, IsTable, comes_late}
 
 -- ---- the whole
 
@@ -49,3 +24,39 @@ reported graph table plan entries at before after success is says years over = r
   in_years = years;
   reported = rw is.dag at over;
 }
+
+-- ---- faults
+
+graph_is : (graph : List ℕ) (plan : Checked) → IsPlanOf graph plan → IsGraph graph
+graph_is graph plan is = record { draft = is.draft; says = is.graph_says; accepted = is.accepted }
+
+table_is : (table : List ℕ) (entries : List TableEntry) → table_of table ≡ Ok entries → IsTable table
+table_is table entries says = record { entries = entries; says = says }
+
+pub graph_fault : (graph table : List ℕ) (at : Timestamp) (fault : SingleFault) → IsFaultIn graph fault → IsFaultOfRun graph table at fault
+graph_fault graph table at (Graph fault) is = is
+graph_fault graph table at (Plan fault) is = is
+graph_fault graph table at (Table fault) is = absurd is
+graph_fault graph table at OutsideYears is = absurd is
+graph_fault graph table at OutOfMemory is = absurd is
+graph_fault graph table at (Write fault) is = absurd is
+
+pub table_fault : (graph table : List ℕ) (plan : Checked) (at : Timestamp) (fault : TableFault) → IsPlanOf graph plan → (fault ≢ TableFault.OutOfMemory → table_of table ≡ Err fault) → IsFaultOfRun graph table at (Table fault)
+table_fault graph table plan at fault is bad = (graph_is graph plan is, bad)
+
+pub moment_fault : (graph table : List ℕ) (plan : Checked) (entries : List TableEntry) (at : Timestamp) → IsPlanOf graph plan → table_of table ≡ Ok entries → ¬ (IsInYears at.nanosecond) → IsFaultOfRun graph table at OutsideYears
+moment_fault graph table plan entries at is says outside = (graph_is graph plan is, table_is table entries says, outside)
+
+pub late_fault : (graph table : List ℕ) (plan : Checked) (entries : List TableEntry) (at : Timestamp) (fault : SingleFault) → IsPlanOf graph plan → table_of table ≡ Ok entries → IsInYears at.nanosecond
+    → comes_late fault ≡ true → IsFaultOfRun graph table at fault
+late_fault graph table plan entries at OutOfMemory is says inside late = (graph_is graph plan is, table_is table entries says, inside)
+late_fault graph table plan entries at (Write fault) is says inside late = (graph_is graph plan is, table_is table entries says, inside)
+late_fault graph table plan entries at (Graph fault) is says inside late = cc
+late_fault graph table plan entries at (Plan fault) is says inside late = cc
+late_fault graph table plan entries at (Table fault) is says inside late = cc
+late_fault graph table plan entries at OutsideYears is says inside late = cc
+
+pub late_faults : (graph table : List ℕ) (plan : Checked) (entries : List TableEntry) (at : Timestamp) (r : Result Bool SingleFault) → IsPlanOf graph plan → table_of table ≡ Ok entries → IsInYears at.nanosecond
+    → IfErr r (λ fault. comes_late fault ≡ true) → IfErr r (IsFaultOfRun graph table at)
+late_faults graph table plan entries at (Ok success) is says inside late = tt
+late_faults graph table plan entries at (Err fault) is says inside late = late_fault graph table plan entries at fault is says inside late

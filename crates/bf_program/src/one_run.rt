@@ -1,7 +1,7 @@
 //! One run of a graph over a table, from bytes to bytes.
-ghost use Rattle.std.specs.Prelude.{◌≡◌, IfOk, IfErr, IsSome, Some, slice_get};
+ghost use Rattle.std.specs.Prelude.{◌≡◌, true, IfOk, IfErr, IsSome, Some, slice_get};
 ghost use Rattle.bf_check.specs.Served.{IsServed};
-ghost use Rattle.bf_program.specs.OneRun.{IsFileOf, IsPlanOf, IsReported, IsReportedOver, is_success as succeeds};
+ghost use Rattle.bf_program.specs.OneRun.{IsFileOf, IsFaultIn, IsFaultOfRun, IsPlanOf, IsReported, IsReportedOver, comes_late, is_success as succeeds};
 ghost use Rattle.bf_xcom.specs.declared.values.RunState.{RunState as RunStateTerm};
 ghost use Rattle.bf_interval.specs.Years.{IsInYears};
 ghost use Rattle.bf_program.specs.Refusal.{read_number, check_number, table_number, single_number};
@@ -95,7 +95,8 @@ impl From<OutOfMemory> for SingleFault {
 }
 
 fn draft_in(alloc: Global, graph: &[u8]) -> Result<Draft, SingleFault>
-    ensures { IfOk result (IsFileOf graph.now) }
+    ensures ok { IfOk result (IsFileOf graph.now) }
+    ensures fault { IfErr result (IsFaultIn graph.now) }
 {
     match read_graph(alloc, graph) {
         Ok(draft) => Ok(draft),
@@ -105,6 +106,7 @@ fn draft_in(alloc: Global, graph: &[u8]) -> Result<Draft, SingleFault>
 
 fn plan_in(alloc: Global, graph: &[u8]) -> Result<Plan, SingleFault>
     ensures plan { IfOk result (IsPlanOf graph.now) }
+    ensures fault { IfErr result (IsFaultIn graph.now) }
     ensures served { IfOk result (λ plan. IsServed plan.dag) }
 {
     match check(alloc, draft_in(alloc, graph)?) {
@@ -134,6 +136,7 @@ fn run_over<W: Write>(
     requires served { IsServed plan.now.dag }
     requires in_years { IsInYears at.nanosecond }
     ensures ok { IfOk result (IsReportedOver plan.now.dag table at (W.written out.old) (W.written out.new)) }
+    ensures late { IfErr result (λ f. comes_late f ≡ true) }
     ensures refused { IfErr result (λ f. IsSome (single_number f) → W.written out.new ≡ W.written out.old) }
 {
     let intervals = [Interval { start: at, end: at }];
@@ -157,6 +160,7 @@ pub fn run_single<W: Write>(
     out: &mut W,
 ) -> Result<bool, SingleFault>
     ensures ok { IfOk result (IsReported graph.now table.now at (W.written out.old) (W.written out.new)) }
+    ensures fault { IfErr result (IsFaultOfRun graph.now table.now at) }
     ensures refused { IfErr result (λ f. IsSome (single_number f) → W.written out.new ≡ W.written out.old) }
 {
     let plan = plan_in(alloc, graph)?;

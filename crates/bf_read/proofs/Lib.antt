@@ -1,3 +1,4 @@
 pub mod FieldLemmas
 pub mod DistinctLemmas
 pub mod TaskLemmas
+pub mod FileLemmas

@@ -1,15 +1,17 @@
 -- What is read of a graph file: what it says, or the first fault of the walk through it.
 use Rattle.std.specs.Prelude.{ℕ, ◌+◌, List, [], ◌∷◌, ◌++◌, length, codes, nat_le, if◌then◌else◌, Option, Some, None, Result, Ok, Err}
 use Rattle.std.specs.List.{list_any}
-use Rattle.std.specs.Str.{bytes_eq}
+use Rattle.std.specs.Str.{bytes_eq, is_utf8}
 use Rattle.serde_json.specs.Data.{Data, Items, no_items, item}
 use Rattle.serde_json.specs.Events.{items_len}
 use Rattle.serde_json.specs.Find.{get}
+use Rattle.serde_json.specs.Read.{read}
 use Rattle.bf_read.specs.declared.draft.Draft.{Draft}
 use Rattle.bf_read.specs.declared.draft.TaskDraft.{TaskDraft}
 use Rattle.bf_read.specs.declared.draft.TheConstants.{MOST_TASKS, MOST_EDGES}
+use Rattle.bf_read.specs.declared.reader.TheConstants.{MOST_BYTES}
 use Rattle.bf_read.specs.declared.path.Path.{Path}
-use Rattle.bf_read.specs.declared.path.Path.TheVariants.{Top, DagId, Schedule, Tasks, Task, TaskId, TaskUpstream}
+use Rattle.bf_read.specs.declared.path.Path.TheVariants.{Bytes, Top, DagId, Schedule, Tasks, Task, TaskId, TaskUpstream}
 use Rattle.bf_read.specs.declared.fault.ReadFault.{ReadFault}
 use Rattle.bf_read.specs.declared.fault.ReadFault.TheVariants.{NotJson, DuplicateTask, LimitPassed}
 use Rattle.bf_read.specs.declared.fields.ObjectKind.{ObjectKind}
@@ -74,3 +76,11 @@ draft_of d = do
 abbrev pub graph_of : Option Data → Result GraphFile ReadFault
 graph_of None = Err NotJson
 graph_of (Some d) = draft_of d
+
+-- the JSON data of a text in UTF-8
+abbrev pub data_in : List ℕ → Option Data
+data_in bytes = if is_utf8 bytes then read bytes else None
+
+-- what a graph file says, or its first fault: it is too long, or no JSON text, or its value lacks something
+unfoldable pub graph_in : List ℕ → Result GraphFile ReadFault
+graph_in bytes = if nat_le (length bytes) MOST_BYTES then graph_of (data_in bytes) else Err (LimitPassed Bytes)

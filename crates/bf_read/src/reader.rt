@@ -1,12 +1,11 @@
 //! Graph files, read as drafts.
-ghost use Rattle.std.specs.Prelude.{◌≡◌, ◌+◌, ◌<◌, ◌≤◌, ℕ, [], false, length, Err, IsUtf8, IfOk, OnOk};
+ghost use Rattle.std.specs.Prelude.{◌≡◌, ◌+◌, ◌<◌, ◌≤◌, ℕ, [], false, length, IfOk, OnOk};
 ghost use Rattle.std.specs.List.{list_any};
 ghost use Rattle.std.specs.Str.{bytes_eq};
-ghost use Rattle.serde_json.specs.Read.{read};
 ghost use Rattle.serde_json.specs.View.{view, items_view};
 ghost use Rattle.bf_read.specs.Gives.{Gives};
 ghost use Rattle.bf_read.specs.Tasks.{edge_count, AreTasks, MayFollow};
-ghost use Rattle.bf_read.specs.Reading.{fresh as new, few_edges as no_more_edges, few_tasks as no_more_tasks, task_at, tasks_from, draft_of as draft, graph_of, graph_file_of};
+ghost use Rattle.bf_read.specs.Reading.{fresh as new, few_edges as no_more_edges, few_tasks as no_more_tasks, task_at, tasks_from, draft_of as draft, graph_in, graph_file_of};
 
 use crate::draft::{Draft, MOST_EDGES, MOST_TASKS, TaskDraft};
 use crate::fault::ReadFault;
@@ -128,11 +127,7 @@ fn draft_of(alloc: Global, value: &Value) -> Result<Draft, ReadFault>
 /// The draft of a graph file, or the first fault: first a file that is too long, then one that is no JSON
 /// text in UTF-8, as `serde_json` reads it, and then what its value lacks.
 pub fn read_graph(alloc: Global, bytes: &[u8]) -> Result<Draft, ReadFault>
-    ensures too_long { MOST_BYTES < length bytes.now → result ≡ Err (ReadFault.LimitPassed Path.Bytes) }
-    ensures text { length bytes.now ≤ MOST_BYTES → IsUtf8 bytes.now
-        → Gives graph_file_of result (graph_of (read bytes.now)) }
-    ensures no_text { length bytes.now ≤ MOST_BYTES → ¬ (IsUtf8 bytes.now)
-        → Gives graph_file_of result (Err ReadFault.NotJson) }
+    ensures { Gives graph_file_of result (graph_in bytes.now) }
 {
     if bytes.len() > MOST_BYTES {
         return Err(ReadFault::LimitPassed(Path::Bytes));
