@@ -1,5 +1,5 @@
 -- Reports of tasks and of runs, one after another.
-use Rattle.std.proofs.Common.{◌≡◌, ◌<◌, ◌≤◌, ◌+◌, ℕ, suc, zero, List, [], ◌∷◌, ◌++◌, length, take, drop, Option, None, Some, refl, sym, ap, ap₂, ◌∙◌, arith, append_assoc, append-nil, add-one, get_or, length-take}
+use Rattle.std.proofs.Common.{◌≡◌, ◌<◌, ◌+◌, ℕ, suc, List, [], ◌∷◌, ◌++◌, length, take, drop, refl, sym, ap, ap₂, ◌∙◌, arith, append_assoc, get_or, length-take}
 use Rattle.std.proofs.lemmas.List.{take_more}
 use Rattle.bf_value.proofs.ReadLemmas.{drop-item}
 use Rattle.bf_interval.specs.declared.interval.Interval.{Interval}

@@ -1,4 +1,4 @@
-use Rattle.std.proofs.Common.{◌≡◌, ℕ, List, refl, ap, ◌∙◌}
+use Rattle.std.proofs.Common.{ℕ, refl, ◌∙◌}
 use Rattle.bf_core.specs.Events.{entry_in}
 use Rattle.bf_core.proofs.Placing.{read-row}
 use Rattle.bf_report.proofs.DatedFacts.{dated-next, outcome-reports}
