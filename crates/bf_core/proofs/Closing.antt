@@ -1,5 +1,5 @@
 -- The states of closed runs.
-use Rattle.std.proofs.Common.{◌≡◌, ◌<◌, ◌≤◌, ◌⊎◌, ℕ, suc, zero, Bool, true, false, not, ◌&&◌, ◌||◌, if◌then◌else◌, length, ◌+◌, slice_index_or, slice_get, slice_set, List, [], ◌∷◌, Option, None, Some, is_some, option_map, refl, sym, ap, ap₂, ◌∙◌, inl, inr, arith}
+use Rattle.std.proofs.Common.{◌≡◌, ◌<◌, ◌⊎◌, ℕ, suc, zero, Bool, true, false, not, ◌&&◌, ◌||◌, if◌then◌else◌, length, ◌+◌, slice_index_or, slice_get, slice_set, List, [], ◌∷◌, Option, None, Some, is_some, option_map, refl, sym, ap, ap₂, ◌∙◌, inl, inr, arith}
 use Rattle.std.specs.List.{list_all, list_any}
 use Rattle.bf_core.specs.Terms.{Dag, State, Run, RunPhase, RunState, Cell, Instance, Phase, TaskResult, TaskValue, is_failed}
 use Rattle.bf_core.specs.Recursion.{fails_run, any_below, run_state_of}
@@ -8,7 +8,7 @@ use Rattle.bf_core.specs.Agreement.{IsOutcome, AreRunStates}
 use Rattle.bf_core.specs.Checks.{AreStatesOf, row_value}
 use Rattle.bf_core.proofs.Placing.{any-default}
 use Rattle.bf_core.proofs.Decisions.{and_left, and_right}
-use Rattle.bf_core.specs.Words.{is_finished, is_failed_phase, is_failed_instance, instances_fail}
+use Rattle.bf_core.specs.Words.{is_failed_phase, is_failed_instance, instances_fail}
 use Rattle.bf_core.proofs.Sums.{some-results}
 
 failed-cons : (a : ℕ) (p : Phase) (o : Option (List TaskResult)) (b : Bool) → ((rs : List TaskResult) → o ≡ Some rs → list_any (λ r. is_failed r.outcome) rs ≡ b) →

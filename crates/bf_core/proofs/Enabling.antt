@@ -1,10 +1,10 @@
 -- When an event is enabled, and when it is refused, where no task is expanded.
-use Rattle.std.proofs.Common.{◌≡◌, ◌≢◌, ◌<◌, ◌≤◌, ◌+◌, ◌&&◌, ℕ, Bool, true, false, length, pred, Option, None, Some, Result, Ok, Err, IfErr, IsSome, is_some, nat_le, refl, sym, ap, ◌∙◌, subst, arith, le-ltb}
+use Rattle.std.proofs.Common.{◌≡◌, ◌≢◌, ◌<◌, ◌≤◌, ◌+◌, ◌&&◌, ℕ, true, false, length, pred, Option, None, Some, Result, Ok, Err, IfErr, IsSome, is_some, nat_le, refl, sym, ap, ◌∙◌, subst, arith}
 use Rattle.std.proofs.lemmas.Bool.Decides.{nat_tests}
 use Rattle.bf_check.specs.Served.{IsServed}
-use Rattle.bf_core.specs.Terms.{Dag, Limits, State, Event, JobName, Phase, Cell, Instance, task_of, demand_of, pool_size}
+use Rattle.bf_core.specs.Terms.{Dag, Limits, State, Event, JobName, Phase, Instance, demand_of, pool_size}
 use Rattle.bf_core.specs.Deciding.{Decision, gate}
-use Rattle.bf_core.specs.Events.{cell_at, decision_in, goes_on, is_run, seen_in, before_in, instance_of, entry_in, place_in, occupied, has_room, row_of, IsDecidable, IsPresent, IsEnabled}
+use Rattle.bf_core.specs.Events.{cell_at, decision_in, goes_on, is_run, seen_in, before_in, entry_in, place_in, occupied, has_room, row_of, IsDecidable, IsPresent, IsEnabled}
 use Rattle.bf_core.specs.Cores.{Backfill, IsReplay, IsThere, IsKnown, IsDue, Refuses, SpeaksOfThese}
 use Rattle.bf_core.proofs.Invariant.{ended_of}
 use Rattle.bf_core.proofs.Kept.{replay-rows, replay-invariant}

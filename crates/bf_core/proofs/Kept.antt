@@ -1,10 +1,10 @@
 -- What a core keeps when an event comes.
-use Rattle.std.proofs.Common.{◌≡◌, ◌≢◌, ◌≤◌, ◌+◌, ◌⊎◌, ℕ, suc, zero, ◌++◌, List, [], ◌∷◌, length, Option, None, Some, refl, sym, ap, ◌∙◌, subst, inl, inr, arith, slice_index_or}
+use Rattle.std.proofs.Common.{◌≡◌, ℕ, suc, zero, ◌++◌, List, [], ◌∷◌, length, refl, sym, ap, ◌∙◌, subst, inl, inr, arith}
 use Rattle.bf_check.specs.Served.{IsServed}
 use Rattle.bf_pool.specs.Slots.{Slots, occupied_of}
-use Rattle.bf_core.specs.Terms.{Dag, Limits, State, Run, Cell, Instance, Event, JobName, Verdict, Given, Entry, Phase, RunPhase, task_of, name_cmp, Ledger}
-use Rattle.bf_core.specs.Deciding.{Seen, Decision, decision, after_verdict, gate}
-use Rattle.bf_core.specs.Events.{cell_at, cell_of, fresh, change_at, change_instance, begun, ended, put, write, with_phase, next_run, decision_in, place_in, entry_in, after, occupied, IsEnabled, IsLegal, IsPresent, HasEnded, replay, start, row_of, seen_in, before_in}
+use Rattle.bf_core.specs.Terms.{Dag, Limits, State, Cell, Instance, Event, Verdict, RunPhase, task_of}
+use Rattle.bf_core.specs.Deciding.{Seen, Decision, decision, gate}
+use Rattle.bf_core.specs.Events.{cell_at, cell_of, change_at, change_instance, begun, ended, put, with_phase, next_run, decision_in, place_in, after, occupied, IsEnabled, IsLegal, HasEnded, replay, seen_in, before_in}
 use Rattle.bf_core.specs.Agreement.{IsOutcome}
 use Rattle.bf_core.specs.Few.{IsFew, AreFew}
 use Rattle.bf_core.specs.Words.{plain_after}

@@ -1,13 +1,13 @@
 -- The instance that a name speaks of, where no task is expanded.
-use Rattle.std.proofs.Common.{◌≡◌, ◌≢◌, ◌<◌, ◌≤◌, ℕ, zero, suc, pos, negsuc, nat_abs, Bool, true, false, ◌&&◌, if◌then◌else◌, List, [], ◌∷◌, length, Option, None, Some, is_some, IsSome, Bor, slice_get, slice_index_or, refl, sym, ap, ◌∙◌, subst, arith}
+use Rattle.std.proofs.Common.{◌≡◌, ◌≢◌, ◌<◌, ℕ, zero, suc, pos, negsuc, nat_abs, Bool, true, false, ◌&&◌, if◌then◌else◌, List, [], ◌∷◌, length, None, Some, is_some, slice_get, slice_index_or, refl, sym, ap, ◌∙◌, arith}
 use Rattle.std.specs.List.{list_all}
 use Rattle.bf_check.specs.Served.{IsServed}
-use Rattle.bf_core.specs.Terms.{Dag, State, Run, RunPhase, Cell, Instance, Phase, JobName, Outcome, task_of, map_index, place_of}
+use Rattle.bf_core.specs.Terms.{Dag, State, Run, RunPhase, Cell, Instance, Phase, JobName, task_of, map_index}
 use Rattle.bf_core.specs.Events.{cell_in, cell_at, row_of, phase_in, phase_of, no_run, instance_of, place_in, value_in, is_open, IsPresent, AllSettled}
 use Rattle.bf_core.specs.Cores.{IsThere, IsKnown}
-use Rattle.bf_core.specs.Checks.{HasRows, IsKnownAs, RefusedFor}
+use Rattle.bf_core.specs.Checks.{HasRows, IsKnownAs}
 use Rattle.bf_core.proofs.Decisions.{and_left, and_right}
-use Rattle.bf_core.proofs.Placing.{read-row, read-none, below-some, some-below, any-default}
+use Rattle.bf_core.proofs.Placing.{read-row, some-below}
 
 -- ---- in range
 

@@ -1,5 +1,5 @@
 -- The next run to open.
-use Rattle.std.proofs.Common.{◌≡◌, ◌<◌, ℕ, suc, zero, Bool, true, false, cond, List, [], ◌∷◌, length, ◌+◌, ◌≤◌, not, if◌then◌else◌, nat_lt, ltb-true, ltb-false, lt-ltb, Option, None, Some, refl, sym, ap, ◌∙◌, arith}
+use Rattle.std.proofs.Common.{◌≡◌, ◌<◌, ℕ, suc, Bool, true, false, cond, List, [], ◌∷◌, length, ◌+◌, ◌≤◌, not, if◌then◌else◌, nat_lt, ltb-true, ltb-false, None, Some, refl, sym, ◌∙◌, arith}
 use Rattle.std.specs.List.{position, position_or_len}
 use Rattle.bf_core.specs.Terms.{Run}
 use Rattle.bf_core.specs.Events.{first_unopened, is_unopened}

@@ -1,5 +1,5 @@
 -- No pool has more slots occupied than it has.
-use Rattle.std.proofs.Common.{◌≡◌, ◌≢◌, ℕ, suc, zero, ◌+◌, ◌*◌, ◌<◌, ◌≤◌, ◌==◌, ◌⊎◌, ◌&&◌, nat_le, Bool, true, false, if◌then◌else◌, List, [], ◌∷◌, length, map, slice_get, slice_index_or, slice_set, Option, None, Some, refl, sym, ap, ◌∙◌, arith, inl, inr, le_trans, le_of_eq, sum_by}
+use Rattle.std.proofs.Common.{◌≡◌, ℕ, suc, zero, ◌+◌, ◌*◌, ◌<◌, ◌≤◌, ◌==◌, ◌⊎◌, ◌&&◌, nat_le, Bool, true, false, if◌then◌else◌, List, [], ◌∷◌, length, map, slice_get, slice_index_or, slice_set, Some, refl, ap, arith, inl, inr, sum_by}
 use Rattle.std.proofs.lemmas.Bool.Decides.{nat_tests}
 use Rattle.std.proofs.lemmas.List.Sums.{sum_by-set, sum_by-cons}
 use Rattle.std.proofs.lemmas.List.{set_past}
@@ -7,9 +7,8 @@ use Rattle.std.specs.FinMap as map
 use Rattle.bf_core.specs.Terms.{Dag, task_of, Limits, Given, Outcome, JobName, State, Run, RunPhase, Cell, Instance, Phase, Event, name_cmp, Entry, is_failed, demand_of, pool_size}
 use Rattle.bf_core.specs.Deciding.{Decision}
 use Rattle.bf_core.specs.Events.{no_run, cell_at, cell_in, put, put_in, phase_put_in, with_phase, next_run, instance_of, change_at, change_instance, begun, ended, fresh, cell_of, decision_in, place_in, given_in, one_running, running_in, held_by, held_from, occupied, has_room, WithinPools, IsPresent, IsDecidable, IsEnabled, IsLegal, after, replay, start, empty_runs, undecided_cells}
-use Rattle.bf_core.proofs.Reading.{set-read}
 use Rattle.bf_core.proofs.Steps.{decided-held}
-use Rattle.bf_core.proofs.Shape.{IsShaped, row_in, open-run, event-shapes, start-shapes}
+use Rattle.bf_core.proofs.Shape.{IsShaped, row_in, open-run, event-shapes}
 
 module _ (limits : Limits) (pool : ℕ) where
   held-set : (off : ℕ) (cells : List Cell) (t : ℕ) (c : Cell) → t < length cells →

@@ -1,14 +1,14 @@
 -- What the upstreams say of a task where none of them is a branch: the verdict over their counts.
-use Rattle.std.proofs.Common.{◌≡◌, ◌≢◌, ℕ, zero, suc, ◌+◌, ◌<◌, ◌≤◌, ◌==◌, nat_lt, Bool, true, false, not, ◌&&◌, ◌||◌, if◌then◌else◌, List, [], ◌∷◌, map, Option, None, Some, is_some, option_map, refl, sym, ap, ap₂, ◌∙◌, arith}
+use Rattle.std.proofs.Common.{◌≡◌, ℕ, ◌<◌, ◌==◌, nat_lt, Bool, true, false, not, ◌&&◌, ◌||◌, List, [], ◌∷◌, map, Option, None, Some, is_some, option_map, refl, sym, ap, ap₂, ◌∙◌, arith}
 use Rattle.std.proofs.lemmas.Bool.Decides.{nat_tests}
 use Rattle.std.specs.List.{list_any, list_all}
 use Rattle.bf_rule.specs.Verdicts.{total}
 use Rattle.bf_read.specs.declared.kinds.TaskKind.{TaskKind}
 use Rattle.bf_check.specs.Plans.{is_branch_kind}
-use Rattle.bf_core.specs.Terms.{Dag, Task, task_of, is_branch, Rule, Counts, Verdict, verdict, is_waiting, fires, add, TaskValue, TaskResult, Cell, Instance, Phase, Outcome}
+use Rattle.bf_core.specs.Terms.{Dag, Task, task_of, is_branch, Rule, Counts, Verdict, verdict, is_waiting, fires, add, TaskValue, TaskResult, Cell, Instance, Phase}
 use Rattle.bf_core.specs.Deciding.{Seen, lets_decide, branch_is, branch_skips, is_blocked, ruling, counts_over, past_after, gate, Decision, after_verdict, decision, instances, pulled, pull_seen}
 use Rattle.bf_core.specs.Words.{plain_after}
-use Rattle.bf_core.specs.Events.{counts_of_cell, counts_of_instance, counts_of_instances, value_in, seen_in, results, cons_result}
+use Rattle.bf_core.specs.Events.{counts_of_cell, counts_of_instance, counts_of_instances, value_in, results, cons_result}
 
 -- ---- a rule that waits, waits
 

@@ -1,12 +1,12 @@
 -- The state that a backfill starts from, a run and a cell at a time.
-use Rattle.std.proofs.Common.{◌≡◌, ℕ, zero, suc, ◌+◌, List, [], ◌∷◌, ◌++◌, refl, sym, ap, ◌∙◌, arith, add-one, length, subst, ◌≤◌}
+use Rattle.std.proofs.Common.{◌≡◌, ℕ, zero, suc, ◌+◌, List, [], ◌∷◌, ◌++◌, refl, sym, ap, ◌∙◌, add-one, length, subst, ◌≤◌}
 use Rattle.std.specs.FinMap as map
 use Rattle.bf_check.specs.Sound.{AreLimits}
 use Rattle.bf_check.specs.Served.{IsServed}
 use Rattle.bf_pool.specs.Slots.{Slots, occupied_of}
-use Rattle.bf_core.specs.Cores.{Backfill, IsReplay, IsCore}
-use Rattle.bf_core.specs.Terms.{Dag, Limits, Cell, Run, RunPhase, State, Event, Entry, IsSound, name_cmp}
-use Rattle.bf_core.specs.Events.{undecided_cells, empty_runs, start, cell_at, occupied}
+use Rattle.bf_core.specs.Cores.{IsCore}
+use Rattle.bf_core.specs.Terms.{Dag, Limits, Cell, Run, RunPhase, Event, Entry, IsSound, name_cmp}
+use Rattle.bf_core.specs.Events.{undecided_cells, empty_runs, start}
 use Rattle.bf_core.specs.Few.{AreFew, IsFew}
 use Rattle.bf_core.proofs.Steps.{start-cell}
 use Rattle.bf_core.proofs.Pools.{start-occupied}

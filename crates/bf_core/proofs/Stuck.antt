@@ -1,14 +1,13 @@
 -- While no try runs, a backfill that hasn't ended has an event that may come.
-use Rattle.std.proofs.Common.{◌≡◌, ◌≢◌, ℕ, suc, zero, ◌+◌, ◌<◌, ◌≤◌, ◌⊎◌, if◌then◌else◌, Bool, true, false, List, [], ◌∷◌, length, slice_get, slice_index_or, Option, None, Some, is_some, option_map, nat_abs, pos, negsuc, refl, sym, ap, ◌∙◌, arith, inl, inr, le_refl}
+use Rattle.std.proofs.Common.{◌≡◌, ◌≢◌, ℕ, suc, zero, ◌<◌, ◌≤◌, ◌⊎◌, if◌then◌else◌, Bool, true, false, List, [], ◌∷◌, length, slice_get, slice_index_or, Option, None, Some, is_some, option_map, nat_abs, pos, negsuc, refl, sym, ap, ◌∙◌, arith, inl, inr, le_refl}
 use Rattle.std.specs.List.{AllByRecursion, count_by}
 use Rattle.std.proofs.lemmas.List.Sums.{sum_by-cons}
-use Rattle.bf_core.specs.Terms.{Ledger, result_of, Dag, task_of, Limits, Given, Outcome, JobName, TaskResult, TaskValue, Verdict, IsOneOf, IsSound, map_index, place_of, State, Run, RunPhase, Cell, Instance, Phase, Event, add}
-use Rattle.bf_core.specs.Deciding.{settled, Seen, Decision, decision, after_verdict, gate, instances, pulled}
+use Rattle.bf_core.specs.Terms.{Ledger, result_of, Dag, task_of, Limits, Given, Outcome, TaskResult, TaskValue, Verdict, IsOneOf, IsSound, map_index, place_of, State, Run, RunPhase, Cell, Instance, Phase, Event, add}
+use Rattle.bf_core.specs.Deciding.{settled, Seen, Decision, decision, after_verdict, instances, pulled}
 use Rattle.bf_core.specs.Recursion.{out, decided}
-use Rattle.bf_core.specs.Events.{no_run, is_open, is_unopened, first_unopened, next_run, open_now, cell_at, phase_of, phase_in, value_in, results, cons_result, seen_in, before_in, decision_in, goes_on, instance_of, place_in, entry_in, has_room, counts_of_cell, counts_of_instance, counts_of_instances, IsDecidable, IsPresent, AllSettled, IsEnabled, HasEnded}
+use Rattle.bf_core.specs.Events.{no_run, is_open, next_run, open_now, cell_at, phase_of, phase_in, value_in, results, cons_result, seen_in, before_in, decision_in, goes_on, instance_of, entry_in, has_room, counts_of_cell, counts_of_instance, counts_of_instances, IsDecidable, IsEnabled, HasEnded}
 use Rattle.bf_core.specs.Agreement.{givens_of, CellAgrees}
 use Rattle.bf_core.proofs.Invariant.{Invariant}
-use Rattle.bf_core.proofs.Decisions.{AllKnown}
 use Rattle.bf_core.proofs.Shape.{IsShaped, before-next}
 use Rattle.bf_core.proofs.Taken.{decision-taken}
 

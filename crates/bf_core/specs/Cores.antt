@@ -5,7 +5,7 @@ use Rattle.bf_check.specs.Served.{IsServed}
 use Rattle.bf_pool.specs.Slots.{Slots, occupied_of}
 use Rattle.bf_core.specs.Terms.{Dag, Limits, JobName, State, Event, Instance, Phase, IsSound, task_of, map_index}
 use Rattle.bf_core.specs.declared.event.Illegal.{Illegal}
-use Rattle.bf_core.specs.Events.{IsLegal, replay, start, after, occupied, IsEnabled, IsPresent, row_of, cell_at, phase_of, instance_of, place_in}
+use Rattle.bf_core.specs.Events.{IsLegal, replay, start, after, occupied, IsEnabled, IsPresent, cell_at, instance_of, place_in}
 use Rattle.bf_core.specs.Few.{AreFew}
 
 -- the plan, how many runs there are, the state, and the events that led to it

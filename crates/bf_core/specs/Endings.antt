@@ -1,6 +1,6 @@
 -- What is at hand when a try ends.
 use Rattle.std.specs.Prelude.{◌≡◌, ◌<◌, ℕ, length}
-use Rattle.bf_core.specs.Terms.{Entry, Outcome, Demand, JobName, Phase, Event, task_of, demand_of}
+use Rattle.bf_core.specs.Terms.{Entry, Outcome, Demand, JobName, Event, task_of, demand_of}
 use Rattle.bf_core.specs.Events.{IsEnabled, cell_at, given_in, place_in}
 use Rattle.bf_core.specs.Cores.{Backfill}
 

@@ -1,5 +1,5 @@
 -- The backfill as a machine of six events.
-use Rattle.std.specs.Prelude.{◌≡◌, ◌≢◌, ℕ, suc, zero, ◌+◌, ◌*◌, ◌<◌, ◌≤◌, ◌==◌, nat_le, Bool, true, false, not, ◌&&◌, if◌then◌else◌, List, [], ◌∷◌, length, map, Option, None, Some, is_some, option_map, slice_get, slice_index_or, slice_set}
+use Rattle.std.specs.Prelude.{◌≡◌, ◌≢◌, ℕ, suc, zero, ◌+◌, ◌*◌, ◌<◌, ◌≤◌, ◌==◌, nat_le, Bool, true, false, ◌&&◌, if◌then◌else◌, List, [], ◌∷◌, length, map, Option, None, Some, is_some, option_map, slice_get, slice_index_or, slice_set}
 use Rattle.std.specs.List.{sum_by, count_by}
 use Rattle.std.specs.FinMap as map
 use Rattle.bf_core.specs.Terms.{Phase, Instance, Cell, RunPhase, Run, State, Event, Limits, demand_of, pool_size, fits, none_counted, add, name_cmp, place_of, map_index, Dag, task_of, Counts, Given, Outcome, TaskResult, Entry, JobName, Ledger, is_failed, TaskValue, Verdict}

@@ -1,5 +1,5 @@
-use Rattle.std.proofs.Common.{◌≡◌, ◌<◌, ℕ, length, sym, ap, ◌∙◌, arith, length-set}
-use Rattle.bf_core.specs.Terms.{Run, RunState}
+use Rattle.std.proofs.Common.{◌<◌, ℕ, length, sym, ap, ◌∙◌, arith, length-set}
+use Rattle.bf_core.specs.Terms.{Run}
 use Rattle.bf_core.specs.Recursion.{run_state_of}
 use Rattle.bf_core.specs.Checks.{row_value}
 use Rattle.bf_core.proofs.Closing.{written-more, row-state}

@@ -1,6 +1,5 @@
-use Rattle.std.proofs.Common.{ap, sym, ◌∙◌, subst, ◌≤◌, arith}
+use Rattle.std.proofs.Common.{ap, sym, subst, arith}
 use Rattle.bf_rule.specs.Verdicts.{total}
-use Rattle.bf_core.specs.Terms.{Counts, Cell}
 use Rattle.bf_core.specs.Events.{counts_of_cell}
 use Rattle.bf_core.specs.Few.{IsFew}
 use Rattle.bf_core.proofs.Sums.{few-total}

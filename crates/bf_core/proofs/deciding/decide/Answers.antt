@@ -1,8 +1,6 @@
-use Rattle.std.proofs.Common.{◌≡◌, ℕ, Result, Ok, Err, IfOk}
-use Rattle.bf_value.specs.declared.memory.OutOfMemory.{OutOfMemory}
-use Rattle.bf_core.specs.Deciding.{Decision, Seen}
+use Rattle.std.proofs.Common.{ℕ, Result, Ok, Err, IfOk}
+use Rattle.bf_core.specs.Deciding.{Seen}
 use Rattle.bf_core.specs.Events.{cell_at, seen_in, before_in, decision_in}
-use Rattle.bf_core.specs.Words.{plain_after}
 use Rattle.bf_core.proofs.Rulings.{decision-from}
 use Rattle.bf_core.proofs.deciding.decide.Goals as goal
 

@@ -1,4 +1,4 @@
-use Rattle.std.proofs.Common.{◌≡◌, ℕ, ap, ap₂, ◌∙◌}
+use Rattle.std.proofs.Common.{ℕ, ap, ap₂, ◌∙◌}
 use Rattle.bf_core.specs.Terms.{Task, verdict}
 use Rattle.bf_core.specs.Deciding.{Seen, counts_over, past_after}
 use Rattle.bf_core.specs.Events.{cell_at, seen_in, before_in}

@@ -1,4 +1,4 @@
-use Rattle.std.proofs.Common.{◌≡◌, ◌<◌, ℕ, Bool, true, length, slice_index_or, sym, ap, ap₂, ◌∙◌, arith}
+use Rattle.std.proofs.Common.{◌≡◌, ◌<◌, ℕ, Bool, true, length, slice_index_or, sym, ap₂, ◌∙◌, arith}
 use Rattle.bf_core.specs.Terms.{Cell}
 use Rattle.bf_core.specs.Recursion.{fails_run, is_leaf}
 use Rattle.bf_core.specs.Events.{value_or_blocked, value_in}

@@ -1,6 +1,6 @@
-use Rattle.std.proofs.Common.{◌≡◌, ℕ, sym, ap, ◌∙◌}
-use Rattle.bf_core.specs.Terms.{State, Event, RunPhase}
-use Rattle.bf_core.specs.Events.{after, with_phase}
+use Rattle.std.proofs.Common.{sym, ◌∙◌}
+use Rattle.bf_core.specs.Terms.{Event, RunPhase}
+use Rattle.bf_core.specs.Events.{after}
 use Rattle.bf_core.proofs.Kept.{core-moved, moved-is, replay-rows}
 use Rattle.bf_core.proofs.Pools.{occupied-phase}
 use Rattle.bf_core.proofs.machine.Core.close.Goals as goal

@@ -1,6 +1,4 @@
-use Rattle.std.proofs.Common.{◌≡◌, ℕ, true, false, sym, ap, ◌∙◌}
-use Rattle.bf_core.specs.Terms.{Dag}
-use Rattle.bf_core.specs.Events.{decision_in}
+use Rattle.std.proofs.Common.{◌≡◌, true, false, sym, ◌∙◌}
 use Rattle.bf_core.proofs.Kept.{replay-rows}
 use Rattle.bf_core.proofs.Enabling.{settle-able}
 use Rattle.bf_core.proofs.machine.Core.decided.Goals as goal

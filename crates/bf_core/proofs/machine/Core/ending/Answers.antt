@@ -1,5 +1,5 @@
-use Rattle.std.proofs.Common.{◌≡◌, ℕ, true, false, Some, refl, sym, ap, ap₂, ◌∙◌}
-use Rattle.bf_core.specs.Terms.{Dag, Limits, Task, State, Phase, Instance, Given, Outcome, Entry, task_of, fits}
+use Rattle.std.proofs.Common.{◌≡◌, true, false, sym, ap, ◌∙◌}
+use Rattle.bf_core.specs.Terms.{Dag, Task, State, Phase, Given, Outcome, Entry, task_of}
 use Rattle.bf_core.specs.Events.{cell_at, instance_of, given_in, given_of, place_in}
 use Rattle.bf_core.proofs.Kept.{replay-rows}
 use Rattle.bf_core.proofs.Known.{place-zero}

@@ -1,5 +1,4 @@
 use Rattle.std.proofs.Common.{◌≡◌, true, false, refl, sym, ◌∙◌}
-use Rattle.bf_core.specs.Events.{goes_on}
 use Rattle.bf_core.proofs.Kept.{replay-rows}
 use Rattle.bf_core.proofs.Known.{row-there, there-row}
 use Rattle.bf_core.proofs.Enabling.{goes_on-not}

@@ -1,7 +1,5 @@
-use Rattle.std.proofs.Common.{◌≡◌, ℕ, List, length, sym, ap, ◌∙◌}
-use Rattle.bf_core.specs.Terms.{Run, RunState, State}
-use Rattle.bf_core.specs.Events.{HasEnded, entry_in}
-use Rattle.bf_core.specs.Checks.{AreStatesOf}
+use Rattle.std.proofs.Common.{List, length, sym, ap, ◌∙◌}
+use Rattle.bf_core.specs.Terms.{Run}
 use Rattle.bf_core.proofs.Kept.{replay-rows, replay-shaped, replay-outcome}
 use Rattle.bf_core.proofs.Closing.{states-are}
 use Rattle.bf_core.proofs.machine.Core.into_ended.Goals as goal

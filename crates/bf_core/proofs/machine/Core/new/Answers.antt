@@ -1,4 +1,4 @@
-use Rattle.std.proofs.Common.{◌≡◌, ℕ, List, length, sym, ap, ◌∙◌, arith}
+use Rattle.std.proofs.Common.{◌≡◌, length, ap, ◌∙◌}
 use Rattle.bf_core.specs.Terms.{Dag}
 use Rattle.bf_core.specs.Events.{empty_runs}
 use Rattle.bf_core.proofs.Starting.{core-opening}

@@ -1,6 +1,5 @@
-use Rattle.std.proofs.Common.{◌≡◌, ◌<◌, ◌≤◌, ℕ, List, length, Some, None, sym, ap, ◌∙◌, arith}
+use Rattle.std.proofs.Common.{◌≡◌, List, length, ap, arith}
 use Rattle.bf_core.specs.Terms.{Run}
-use Rattle.bf_core.specs.Events.{is_unopened}
 use Rattle.bf_core.proofs.NextRun.{found, not-found}
 use Rattle.bf_core.proofs.Kept.{replay-shaped}
 use Rattle.bf_core.proofs.machine.Core.next_to_open.Goals as goal

@@ -1,6 +1,6 @@
-use Rattle.std.proofs.Common.{◌≡◌, ℕ, sym, ap, ◌∙◌}
+use Rattle.std.proofs.Common.{sym, ap, ◌∙◌}
 use Rattle.bf_core.specs.Terms.{State, Event, RunPhase}
-use Rattle.bf_core.specs.Events.{after, with_phase, occupied}
+use Rattle.bf_core.specs.Events.{after, with_phase}
 use Rattle.bf_core.proofs.Kept.{core-moved, moved-is}
 use Rattle.bf_core.proofs.Pools.{occupied-phase}
 use Rattle.bf_core.proofs.machine.Core.open.Goals as goal

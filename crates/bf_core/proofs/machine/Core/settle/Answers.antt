@@ -1,6 +1,6 @@
-use Rattle.std.proofs.Common.{◌≡◌, ℕ, sym, ap, ◌∙◌}
-use Rattle.bf_core.specs.Terms.{State, Event}
-use Rattle.bf_core.specs.Events.{after, put, cell_of, decision_in}
+use Rattle.std.proofs.Common.{sym, ap, ◌∙◌}
+use Rattle.bf_core.specs.Terms.{Event}
+use Rattle.bf_core.specs.Events.{after, put, cell_of}
 use Rattle.bf_core.proofs.Kept.{core-moved, moved-is, replay-rows, replay-shaped}
 use Rattle.bf_core.proofs.Pools.{occupied-decided}
 use Rattle.bf_core.proofs.Enabling.{decidable-run, decidable-task}

@@ -1,4 +1,3 @@
-use Rattle.std.proofs.Common.{◌≡◌, ℕ, sym, ap, ◌∙◌}
 use Rattle.bf_core.specs.Terms.{Phase}
 use Rattle.bf_core.proofs.Kept.{replay-rows}
 use Rattle.bf_core.proofs.Enabling.{present-there}

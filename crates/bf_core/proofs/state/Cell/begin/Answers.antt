@@ -1,6 +1,6 @@
 use Rattle.std.proofs.Common.{ap, IsSome}
 use Rattle.bf_core.specs.Terms.{Cell}
-use Rattle.bf_core.specs.Events.{change_instance, begun, instance_of}
+use Rattle.bf_core.specs.Events.{begun, instance_of}
 use Rattle.bf_core.proofs.Placing.{changed-set, some-below}
 use Rattle.bf_core.proofs.state.Cell.begin.Goals as goal
 

@@ -1,6 +1,6 @@
 use Rattle.std.proofs.Common.{ap, IsSome}
 use Rattle.bf_core.specs.Terms.{Cell}
-use Rattle.bf_core.specs.Events.{change_instance, ended, instance_of}
+use Rattle.bf_core.specs.Events.{ended, instance_of}
 use Rattle.bf_core.proofs.Placing.{changed-set, some-below}
 use Rattle.bf_core.proofs.state.Cell.end.Goals as goal
 

@@ -1,6 +1,4 @@
-use Rattle.std.proofs.Common.{◌≡◌, ◌<◌, ℕ, List, length, ap, sym, ◌∙◌}
-use Rattle.bf_core.specs.Terms.{State, Cell}
-use Rattle.bf_core.specs.Events.{put, put_in, change_instance, ended, cell_at}
+use Rattle.bf_core.specs.Terms.{Cell}
 use Rattle.bf_core.proofs.Placing.{put-put, with-runs}
 use Rattle.bf_core.proofs.Shape.{length-put, row-put, row_in}
 use Rattle.bf_core.proofs.state.State.end.Goals as goal

@@ -1,4 +1,4 @@
-use Rattle.std.proofs.Common.{◌≡◌, ℕ, List, None, Some, Bool, false, slice_get, slice_index_or, sym, ap, ◌∙◌}
+use Rattle.std.proofs.Common.{◌≡◌, ℕ, List, None, Some, false, slice_get, sym, ap, ◌∙◌}
 use Rattle.bf_core.specs.Terms.{Run}
 use Rattle.bf_core.specs.Events.{phase_in, is_open, no_run}
 use Rattle.bf_core.proofs.Placing.{read-row, read-none}

@@ -1,6 +1,5 @@
-use Rattle.std.proofs.Common.{◌≡◌, ◌<◌, ℕ, List, [], ◌∷◌, length, slice_index_or, slice_get, slice_set, Some, arith, ap, sym, ◌∙◌, refl, zero, suc}
-use Rattle.bf_try.specs.declared.ledger.Ledger.{Ledger}
-use Rattle.bf_core.specs.Terms.{State, Run, Cell}
+use Rattle.std.proofs.Common.{◌≡◌, ◌<◌, ℕ, List, length, slice_index_or, slice_get, slice_set, Some, ap, sym, ◌∙◌}
+use Rattle.bf_core.specs.Terms.{Run, Cell}
 use Rattle.bf_core.specs.Events.{cell_in, put_in, no_run}
 use Rattle.bf_core.proofs.Placing.{read-row, any-default, with-runs}
 use Rattle.bf_core.proofs.state.State.put.Goals as goal
