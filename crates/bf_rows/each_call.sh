@@ -1,0 +1,140 @@
+#!/usr/bin/env bash
+# Refuses each call for memory, each open, each read and each write of runs of the built program in turn. A run has to
+# end as if nothing was refused, or by the fault that the refused call is, with nothing (or, of a refused write, a
+# beginning of the report) on standard output. Needs a C compiler.
+set -euo pipefail
+
+root=$(dirname "$(dirname "$(dirname "$(readlink -f "${BASH_SOURCE[0]}")")")")
+work=$(mktemp -d)
+trap 'rm -rf "$work"' EXIT
+
+"$root/backfill" --help > /dev/null
+program=$root/crates/backfill/out/backfill
+
+cat > "$work/refuse.c" <<'C'
+#define _GNU_SOURCE
+#include <dlfcn.h>
+#include <errno.h>
+#include <stdarg.h>
+#include <stdio.h>
+#include <stdlib.h>
+#include <string.h>
+#include <sys/types.h>
+
+static long made;
+
+/* Says at the end how many calls there were. */
+__attribute__((destructor)) static void count(void) {
+    long calls = made;
+    FILE *file = fopen(getenv("CALL_COUNT"), "w");
+    if (file) { fprintf(file, "%ld\n", calls); fclose(file); }
+}
+
+/* Whether this call is the one to be refused. */
+static int is_refused(const char *call) {
+    const char *which = getenv("REFUSED_CALL");
+    const char *number = getenv("REFUSED_NUMBER");
+    return which && number && strcmp(which, call) == 0 && ++made == atol(number);
+}
+
+void *malloc(size_t size) {
+    static void *(*real)(size_t);
+    if (!real) real = dlsym(RTLD_NEXT, "malloc");
+    if (is_refused("memory")) { errno = ENOMEM; return NULL; }
+    return real(size);
+}
+
+void *realloc(void *old, size_t size) {
+    static void *(*real)(void *, size_t);
+    if (!real) real = dlsym(RTLD_NEXT, "realloc");
+    if (is_refused("memory")) { errno = ENOMEM; return NULL; }
+    return real(old, size);
+}
+
+int open(const char *path, int flags, ...) {
+    static int (*real)(const char *, int, ...);
+    va_list rest;
+    va_start(rest, flags);
+    int mode = va_arg(rest, int);
+    va_end(rest);
+    if (!real) real = dlsym(RTLD_NEXT, "open");
+    if (is_refused("open")) { errno = EACCES; return -1; }
+    return real(path, flags, mode);
+}
+
+ssize_t read(int file, void *to, size_t size) {
+    static ssize_t (*real)(int, void *, size_t);
+    if (!real) real = dlsym(RTLD_NEXT, "read");
+    if (is_refused("read")) { errno = EIO; return -1; }
+    return real(file, to, size);
+}
+
+ssize_t write(int file, const void *from, size_t size) {
+    static ssize_t (*real)(int, const void *, size_t);
+    if (!real) real = dlsym(RTLD_NEXT, "write");
+    if (is_refused("write")) { errno = EIO; return -1; }
+    return real(file, from, size);
+}
+C
+cc -shared -fPIC -O1 -o "$work/refuse.so" "$work/refuse.c"
+
+# Runs the program with the call of this kind and number refused. At number 0 none is, and the calls are counted.
+run() {
+    local call=$1 number=$2
+    shift 2
+    status=0
+    REFUSED_CALL=$call REFUSED_NUMBER=$number CALL_COUNT=$work/count LD_PRELOAD=$work/refuse.so \
+        "$program" "$@" > "$work/out" 2> "$work/err" || status=$?
+}
+
+# Whether the run ended as without a refusal.
+is_whole() {
+    [[ $status -eq $whole ]] && cmp -s "$work/out" "$work/whole_out" && cmp -s "$work/err" "$work/whole_err"
+}
+
+# Whether the run ended by the fault of a call of this kind.
+is_fault() {
+    [[ $status -eq 3 ]] && case $1 in
+        memory) [[ ! -s $work/out ]] && grep -qx 'fault: out of memory' "$work/err" ;;
+        open | read) [[ ! -s $work/out ]] && grep -q '^fault: cannot read ' "$work/err" ;;
+        write) grep -qx 'fault: cannot write' "$work/err" && cmp -s "$work/out" <(head -c "$(stat -c %s "$work/out")" "$work/whole_out") ;;
+    esac
+}
+
+# Whether only what standard error was to have is lost.
+is_untold() {
+    [[ $1 == write && $status -eq $whole && ! -s $work/err ]] && cmp -s "$work/out" "$work/whole_out"
+}
+
+each() {
+    local call=$1 calls faults=0 number
+    shift
+    run "$call" 0 "$@"
+    whole=$status
+    calls=$(< "$work/count")
+    cp "$work/out" "$work/whole_out"
+    cp "$work/err" "$work/whole_err"
+    for ((number = 1; number <= calls; number++)); do
+        run "$call" "$number" "$@"
+        if is_fault "$call"; then
+            faults=$((faults + 1))
+        elif ! is_whole && ! is_untold "$call"; then
+            echo "$call $number of: $* ended with $status" >&2
+            cat "$work/out" "$work/err" >&2
+            exit 1
+        fi
+    done
+    echo "$calls calls, $faults ended the run: $call, status $whole: $*"
+}
+
+cd "$root/examples"
+printf '{"dag_id":"d","schedule":"","tasks":[{"id":"a","upstream":["b"]},{"id":"b","upstream":["a"]}]}' > "$work/cycle"
+for call in memory open read write; do
+    for example in one_task diamond skip; do
+        each "$call" single "$example/graph.json" "$example/table.json" --at 2024-01-01
+    done
+    each "$call" single "$work/cycle" one_task/table.json --at 2024-01-01
+    each "$call" single one_task/graph.json one_task/table.json --at 2024-02-30
+    each "$call" single --help
+    each "$call" single
+done

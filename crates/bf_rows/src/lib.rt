@@ -1,0 +1,34 @@
+//! Tests of the whole, for what no contract says: printed words, exit statuses, that each public call succeeds with
+//! ample memory, and devices that fail.
+#![tactic(auto)]
+
+#[cfg(test)]
+mod calls;
+#[cfg(test)]
+mod devices;
+#[cfg(test)]
+mod grades;
+#[cfg(test)]
+mod join;
+#[cfg(test)]
+mod limits;
+#[cfg(test)]
+mod lines;
+#[cfg(test)]
+mod moments;
+#[cfg(test)]
+mod plans;
+#[cfg(test)]
+mod precedence;
+#[cfg(test)]
+mod program;
+#[cfg(test)]
+mod refusals;
+#[cfg(test)]
+mod rows;
+#[cfg(test)]
+mod values;
+#[cfg(test)]
+mod verdicts;
+#[cfg(test)]
+mod words;
