@@ -1,3 +1,5 @@
-pub mod DraftLemmas
+pub mod ListLemmas
+pub mod FaultLemmas
+pub mod PullLemmas
 pub mod PlanLemmas
 pub mod ServedPlans

@@ -51,7 +51,9 @@ pub record AreLimits (dag : Dag) (limits : Limits) : Type 0 where
   pub within_pool : (t : ℕ) → (demand_of limits t).slots ≤ pool_size limits (demand_of limits t).pool
   pub some_slots : (t : ℕ) → t < length dag.tasks → 1 ≤ (demand_of limits t).slots
   pub pools_bounded : (pool : ℕ) → pool_size limits pool ≤ 1_000_000
+  pub light : (t : ℕ) → (demand_of limits t).weight ≤ 1_000_000
   pub some_runs : 1 ≤ limits.max_active_runs
+  pub few_runs : limits.max_active_runs ≤ 4_096
 
 pub record IsChecked (dag : Dag) (limits : Limits) (graph : Shape) : Type 0 where
   pub sound : IsSound dag

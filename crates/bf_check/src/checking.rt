@@ -1,58 +1,97 @@
 //! Drafts, checked as plans.
 ghost use Rattle.std.specs.Prelude.{◌≡◌, IfOk, IfErr, OnOk};
-ghost use Rattle.bf_check.specs.Served.{IsServed};
-ghost use Rattle.bf_check.specs.Checking.{dag_of, limits_for, limits_of as limits_in, IsAccepted, IsFaultOf};
+ghost use Rattle.bf_graph.specs.Ranks.{Ranking};
+ghost use Rattle.bf_check.specs.Checking.{dag_of, ids_of, limits_of as limits_in, shape_in};
+ghost use Rattle.bf_check.specs.Refusals.{AllMayPull, HasNoneBelow, IsAccepted, IsFaultOf};
 
+use crate::edges::{graph_of, numbered, refuse_unknown_upstreams};
 use crate::fault::CheckFault;
-use crate::plan::{Dag, Demand, Limits, Plan};
-use crate::shape::graph_of;
+use crate::plan::{Dag, Limits, Plan};
+use crate::pools::limits_of;
+use crate::pulls::refuse_unsettled_pulls;
+use crate::refusing::{refuse_bad_rules, refuse_early_expansions, refuse_expanded_branches, refuse_sources};
 use crate::tasks::tasks_of;
-use bf_read::{Draft, WeightRule};
-use bf_value::{OutOfMemory, Sequence};
+use bf_graph::{Graph, Ids};
+use bf_read::Draft;
+use bf_value::Sequence;
 use std::alloc::Global;
 
-/// How many runs may be open at once.
-const MAX_ACTIVE_RUNS: u32 = 16;
-
-/// How many slots the default pool has.
-const DEFAULT_POOL_SLOTS: u32 = 128;
-
-/// What a running try of a task takes.
-const DEFAULT_DEMAND: Demand = Demand {
-    pool: 0,
-    slots: 1,
-    weight: 1,
-    weight_rule: WeightRule::Downstream,
-};
-
-/// The limits of a plan of so many tasks.
-fn limits_of(alloc: Global, tasks: usize) -> Result<Limits, OutOfMemory>
-    ensures { IfOk result (λ limits. limits ≡ limits_for tasks) }
+/// Refuses a draft in which a task's rule is none, or what it pulls, its source or its kind doesn't fit it.
+fn refuse_others(alloc: Global, ids: &Ids, draft: &Draft) -> Result<(), CheckFault>
+    requires ids { ids.now ≡ ids_of draft.now.tasks }
+    requires below { HasNoneBelow draft.now 10 }
+    ensures accepted { OnOk result (IsAccepted draft.now) }
+    ensures settled { OnOk result (AllMayPull draft.now) }
+    ensures fault { IfErr result (IsFaultOf draft.now) }
 {
-    let pools = vec![in alloc; DEFAULT_POOL_SLOTS]?;
-    let demands = vec![in alloc; DEFAULT_DEMAND; tasks]?;
-    Ok(Limits {
-        max_active_runs: MAX_ACTIVE_RUNS,
-        pools: Sequence::from_vec(pools),
-        demands: Sequence::from_vec(demands),
-    })
+    refuse_bad_rules(alloc, draft)?;
+    refuse_unsettled_pulls(alloc, ids, draft)?;
+    refuse_sources(alloc, draft)?;
+    refuse_early_expansions(alloc, draft)?;
+    refuse_expanded_branches(alloc, draft)
 }
 
-/// The plan of a draft, or its fault of the least number: an upstream that no task has, then a cycle.
-#[tactic(auto, using(crate::proofs::ServedPlans::served))]
+/// The limits of a draft whose edges are right, where it has no other fault.
+fn limits_in_order(alloc: Global, ids: &Ids, draft: &Draft) -> Result<Limits, CheckFault>
+    requires ids { ids.now ≡ ids_of draft.now.tasks }
+    requires below { HasNoneBelow draft.now 8 }
+    ensures limits { IfOk result (λ limits. limits ≡ limits_in draft.now) }
+    ensures accepted { OnOk result (IsAccepted draft.now) }
+    ensures settled { OnOk result (AllMayPull draft.now) }
+    ensures fault { IfErr result (IsFaultOf draft.now) }
+{
+    let limits = limits_of(alloc, draft)?;
+    refuse_others(alloc, ids, draft)?;
+    Ok(limits)
+}
+
+/// The graph of a draft whose edges are right.
+fn graph_in_order(alloc: Global, ids: &Ids, draft: &Draft) -> Result<Graph, CheckFault>
+    requires { ids.now ≡ ids_of draft.now.tasks }
+    ensures graph { IfOk result (λ graph. graph ≡ shape_in draft.now.tasks) }
+    ensures ranking { OnOk result (Ranking (shape_in draft.now.tasks).upstreams) }
+    ensures ok { OnOk result (HasNoneBelow draft.now 8) }
+    ensures fault { IfErr result (IsFaultOf draft.now) }
+{
+    refuse_unknown_upstreams(alloc, ids, draft)?;
+    graph_of(alloc, ids, draft)
+}
+
+/// What a plan has beside its tasks.
+#[derive(Drop)]
+struct Parts {
+    graph: Graph,
+    limits: Limits,
+}
+
+fn parts_in_order(alloc: Global, ids: &Ids, draft: &Draft) -> Result<Parts, CheckFault>
+    requires { ids.now ≡ ids_of draft.now.tasks }
+    ensures graph { IfOk result (λ parts. parts.graph ≡ shape_in draft.now.tasks) }
+    ensures limits { IfOk result (λ parts. parts.limits ≡ limits_in draft.now) }
+    ensures ranking { OnOk result (Ranking (shape_in draft.now.tasks).upstreams) }
+    ensures accepted { OnOk result (IsAccepted draft.now) }
+    ensures settled { OnOk result (AllMayPull draft.now) }
+    ensures fault { IfErr result (IsFaultOf draft.now) }
+{
+    let graph = graph_in_order(alloc, ids, draft)?;
+    let limits = limits_in_order(alloc, ids, draft)?;
+    Ok(Parts { graph, limits })
+}
+
+/// The plan of a draft, or of its faults the one of the least number; of the tasks that have it the first in the file is
+/// named.
 pub fn check(alloc: Global, draft: Draft) -> Result<Plan, CheckFault>
     ensures dag { IfOk result (λ plan. plan.dag ≡ dag_of draft) }
     ensures limits { IfOk result (λ plan. plan.limits ≡ limits_in draft) }
-    ensures served { IfOk result (λ plan. IsServed plan.dag) }
     ensures accepted { OnOk result (IsAccepted draft) }
     ensures fault { IfErr result (IsFaultOf draft) }
 {
-    let tasks = tasks_of(alloc, draft.tasks.as_slice())?;
-    let limits = limits_of(alloc, tasks.len())?;
+    let ids = numbered(alloc, &draft)?;
+    let Parts { graph, limits } = parts_in_order(alloc, &ids, &draft)?;
+    let tasks = tasks_of(alloc, &ids, draft.tasks)?;
     let dag = Dag {
         id: draft.dag_id,
         tasks: Sequence::from_vec(tasks),
     };
-    let graph = graph_of(alloc, &dag)?;
     Ok(Plan::new(dag, limits, graph))
 }

@@ -1,21 +1,83 @@
 //! Why a draft is refused.
+ghost use Rattle.std.specs.Prelude.{◌≡◌};
+ghost use Rattle.bf_check.specs.Refusals.{number as number_of, check_number};
+
 use bf_value::{OutOfMemory, Sequence, Text};
 use std::alloc::AllocFailed;
 use std::fmt;
 use thiserror::Error;
 
+/// What is wrong with a task.
+#[derive(Clone, Copy, Debug, PartialEq, Eq, Error)]
+pub enum TaskFault {
+    /// An upstream is the id of no task.
+    #[error("unknown upstream")]
+    UnknownUpstream,
+    #[error("unknown pool")]
+    UnknownPool,
+    /// It takes more slots than its pool has.
+    #[error("slots beyond pool")]
+    SlotsBeyondPool,
+    /// Its rule is no trigger rule.
+    #[error("bad rule")]
+    BadRule,
+    /// It pulls from a task that needn't be settled when it is decided, or from none.
+    #[error("pull not settled")]
+    PullNotSettled,
+    /// It is expanded over what isn't a direct upstream.
+    #[error("expand source")]
+    ExpandSource,
+    /// It is expanded under a rule that may decide it before its upstreams are settled.
+    #[error("expand rule")]
+    ExpandRule,
+    /// It is a branch and expanded.
+    #[error("branch misuse")]
+    BranchMisuse,
+}
+
+impl TaskFault {
+    /// The number of the refusal.
+    pub fn number(self) -> u32
+        ensures { result ≡ number_of self }
+    {
+        match self {
+            TaskFault::UnknownUpstream => 6,
+            TaskFault::UnknownPool => 8,
+            TaskFault::SlotsBeyondPool => 9,
+            TaskFault::BadRule => 10,
+            TaskFault::PullNotSettled => 14,
+            TaskFault::ExpandSource => 15,
+            TaskFault::ExpandRule => 16,
+            TaskFault::BranchMisuse => 17,
+        }
+    }
+}
+
 /// Why a draft is refused.
 #[derive(Debug, Drop, Error)]
 pub enum CheckFault {
-    /// This task, the first of its kind, has an upstream that is the id of no task.
-    #[error("unknown upstream: {0}")]
-    UnknownUpstream(Text),
-    /// The edges have a cycle: each of these tasks is a direct upstream of the next, and the last of the first.
-    /// The task that comes first in the file is named first.
+    /// The task of this id, the first in the file with this fault.
+    #[error("{0}: {1}")]
+    Task(TaskFault, Text),
+    /// The edges have a cycle: each of these tasks is a direct upstream of the next, and the last of the first. It is the shortest
+    /// through the task that comes first in the file of all that lie on one, and begins with that.
     #[error("cycle: {}", Spaced(.0))]
     Cycle(Sequence<Text>),
     #[error("out of memory")]
     OutOfMemory,
+}
+
+impl CheckFault {
+    /// The number of the refusal, which want of memory doesn't have.
+    pub fn number(&self) -> Option<u32>
+        ensures { result ≡ check_number self.now }
+    {
+        match self {
+            CheckFault::Task(fault, _) => Some(fault.number()),
+            CheckFault::Cycle(_) => Some(7),
+            CheckFault::OutOfMemory => None,
+        }
+    }
 }
 
 /// Texts with one space between each two.

@@ -2,12 +2,17 @@
 #![tactic(auto)]
 
 mod checking;
+mod edges;
 mod fault;
 mod plan;
-mod shape;
+mod pools;
+mod pulls;
+mod refusing;
+mod served;
 mod tasks;
 
 pub use bf_read::{ContextVariable, TaskKind, WeightRule};
 pub use checking::check;
-pub use fault::CheckFault;
+pub use fault::{CheckFault, TaskFault};
 pub use plan::{Dag, Demand, Limits, Plan, Task, Word};
+pub use served::first_unserved;

@@ -1,82 +1,91 @@
 //! The tasks of a plan.
-ghost use Rattle.std.specs.Prelude.{◌≡◌, ◌<◌, ◌≤◌, None, false, length, map, IfOk, IfErr, IfSome, OnOk};
-ghost use Rattle.bf_read.specs.declared.draft.TheConstants.{MOST_TASKS};
-ghost use Rattle.bf_check.specs.Checking.{number_of as number_in, upstreams_in, task_in, has_unknown, first_unknown, IsUnknownOf, IsFirstUnknown};
+ghost use Rattle.std.specs.Prelude.{◌≡◌, ◌<◌, ◌≤◌, length, map, All, position, unwrap_or, IfOk, IfSome};
+ghost use Rattle.std.specs.Str.{bytes_eq};
+ghost use Rattle.bf_read.specs.declared.draft.TheConstants.{MOST_PULLS};
+ghost use Rattle.bf_read.specs.Drafts.{IsTask};
+ghost use Rattle.bf_check.specs.Checking.{task_in, word_in};
 
-use crate::fault::CheckFault;
-use crate::plan::Task;
-use bf_read::{TaskDraft, TaskKind};
-use bf_rule::Rule;
-use bf_value::Sequence;
+use crate::edges::numbers_of;
+use crate::plan::{Task, Word};
+use crate::refusing::rule_of;
+use bf_graph::Ids;
+use bf_read::{TaskDraft, WordDraft, pulls_of};
+use bf_value::{OutOfMemory, Sequence, Text};
 use std::alloc::Global;
 
-fn place_of(drafts: &[TaskDraft], id: &str) -> Option<usize>
-    ensures number { result ≡ number_in drafts.now id.now }
-    ensures within { IfSome result (λ n. n < length drafts.now) }
+fn place_of(pulled: &[Text], id: &str) -> Option<usize>
+    ensures place { result ≡ position (bytes_eq id.now) pulled.now }
+    ensures within { IfSome result (λ n. n < length pulled.now) }
 {
-    drafts.iter().position(|draft| id == draft.id.as_str())
+    pulled.iter().position(|other| id == other.as_str())
 }
 
-/// The number of the task with an id.
-fn number_of(drafts: &[TaskDraft], id: &str) -> Option<u32>
-    requires { length drafts.now ≤ MOST_TASKS }
-    ensures { result ≡ number_in drafts.now id.now }
+/// The place of an id among those that are pulled.
+fn pull_of(pulled: &[Text], id: &str) -> u32
+    requires { length pulled.now ≤ MOST_PULLS }
+    ensures { result ≡ unwrap_or (position (bytes_eq id.now) pulled.now) 0 }
 {
-    place_of(drafts, id).map(|place| place as u32)
-}
-
-/// The numbers of a task's upstreams.
-fn upstreams_of(
-    alloc: Global,
-    drafts: &[TaskDraft],
-    draft: &TaskDraft,
-) -> Result<Vec<u32>, CheckFault>
-    requires { length drafts.now ≤ MOST_TASKS }
-    ensures numbers { IfOk result (λ v. v.items ≡ upstreams_in drafts.now draft.now) }
-    ensures known { OnOk result (has_unknown drafts.now draft.now ≡ false) }
-    ensures unknown { IfErr result (IsUnknownOf drafts.now draft.now) }
-{
-    let mut numbers = Vec::new(alloc);
-    for id in draft.upstreams.as_slice() {
-        let Some(number) = number_of(drafts, id.as_str()) else {
-            return Err(CheckFault::UnknownUpstream(draft.id.copy(alloc)?));
-        };
-        numbers.push(number)?;
+    match place_of(pulled, id) {
+        Some(place) => place as u32,
+        None => 0,
     }
-    Ok(numbers)
 }
 
-/// A task with its defaults filled in.
-fn task_of(alloc: Global, drafts: &[TaskDraft], draft: &TaskDraft) -> Result<Task, CheckFault>
-    requires { length drafts.now ≤ MOST_TASKS }
-    ensures task { IfOk result (λ task. task ≡ task_in drafts.now draft.now) }
-    ensures known { OnOk result (has_unknown drafts.now draft.now ≡ false) }
-    ensures unknown { IfErr result (IsUnknownOf drafts.now draft.now) }
+fn word_of(pulled: &[Text], word: WordDraft) -> Word
+    requires { length pulled.now ≤ MOST_PULLS }
+    ensures { result ≡ word_in pulled.now word }
 {
-    let upstreams = upstreams_of(alloc, drafts, draft)?;
+    match word {
+        WordDraft::Text(text) => Word::Text(text),
+        WordDraft::Context(variable) => Word::Context(variable),
+        WordDraft::Pull(id) => Word::Pull(pull_of(pulled, id.as_str())),
+        WordDraft::Item => Word::Item,
+    }
+}
+
+fn words_of(alloc: Global, pulled: &[Text], drafts: Sequence<WordDraft>) -> Result<Vec<Word>, OutOfMemory>
+    requires { length pulled.now ≤ MOST_PULLS }
+    ensures { IfOk result (λ v. v.items ≡ map (word_in pulled.now) drafts) }
+{
+    let mut words = Vec::new(alloc);
+    for word in drafts.into_vec() {
+        words.push(word_of(pulled, word))?;
+    }
+    Ok(words)
+}
+
+/// A task of a plan.
+fn task_of(alloc: Global, ids: &Ids, draft: TaskDraft) -> Result<Task, OutOfMemory>
+    requires { IsTask draft }
+    ensures { IfOk result (λ task. task ≡ task_in ids.now draft) }
+{
+    let rule = rule_of(&draft);
+    let upstreams = numbers_of(alloc, ids, draft.upstreams.as_slice())?;
+    let pulled = pulls_of(alloc, draft.command.as_slice())?;
+    let pulls = numbers_of(alloc, ids, pulled.as_slice())?;
+    let expand = draft.expand.map(|id| ids.number_of(id.as_str()).unwrap_or(0));
+    let command = words_of(alloc, pulled.as_slice(), draft.command)?;
     Ok(Task {
-        id: draft.id.copy(alloc)?,
+        id: draft.id,
         upstreams: Sequence::from_vec(upstreams),
-        rule: Rule::AllSuccess,
-        kind: TaskKind::Program,
-        command: Sequence::new(alloc),
-        pulls: Sequence::new(alloc),
-        expand: None,
-        depends_on_past: false,
-        retries: 0,
+        rule,
+        kind: draft.kind,
+        command: Sequence::from_vec(command),
+        pulls: Sequence::from_vec(pulls),
+        expand,
+        depends_on_past: draft.depends_on_past,
+        retries: draft.retries,
     })
 }
 
-/// The tasks of a draft, or the first of them with an unknown upstream.
-pub(crate) fn tasks_of(alloc: Global, drafts: &[TaskDraft]) -> Result<Vec<Task>, CheckFault>
-    requires { length drafts.now ≤ MOST_TASKS }
-    ensures tasks { IfOk result (λ v. v.items ≡ map (task_in drafts.now) drafts.now) }
-    ensures known { OnOk result (first_unknown drafts.now ≡ None) }
-    ensures unknown { IfErr result (IsFirstUnknown drafts.now) }
+/// The tasks of a plan.
+pub(crate) fn tasks_of(alloc: Global, ids: &Ids, drafts: Sequence<TaskDraft>) -> Result<Vec<Task>, OutOfMemory>
+    requires { All IsTask drafts }
+    ensures { IfOk result (λ v. v.items ≡ map (task_in ids.now) drafts) }
 {
     let mut tasks = Vec::new(alloc);
-    for draft in drafts {
-        tasks.push(task_of(alloc, drafts, draft)?)?;
+    for draft in drafts.into_vec() {
+        tasks.push(task_of(alloc, ids, draft)?)?;
     }
     Ok(tasks)
 }

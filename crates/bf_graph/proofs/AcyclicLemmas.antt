@@ -1,20 +1,9 @@
 -- Where each task has a rank, ranks rise along edges, and there is no cycle.
-use Rattle.std.proofs.Common.{◌≡◌, inl, inr, ℕ, zero, suc, ◌<◌, List, [], ◌∷◌, ◌++◌, length, get_or, Contains, subst, arith}
-use Rattle.std.proofs.lemmas.Bool.{cases_lt}
-use Rattle.std.proofs.lemmas.List.{get_or_past}
+use Rattle.std.proofs.Common.{◌≡◌, ℕ, zero, suc, ◌<◌, List, [], ◌∷◌, ◌++◌, length, get_or, Contains, subst, arith}
 use Rattle.bf_graph.specs.Edges.{IsUpstream, AreInRange, IsRank, IsChain, IsCycle}
 use Rattle.bf_graph.specs.Ranks.{Ranking}
 use Rattle.bf_graph.specs.Shape.{HasRanks}
-
-none_in : (u : ℕ) → Contains [] u → ⊥
-none_in u (k, h, e) = omega arith
-
--- only tasks have upstreams
-task_within : (ups : List (List ℕ)) (u t : ℕ) → IsUpstream ups u t → t < length ups
-task_within ups u t up = elim (cases_lt t (length ups)) [
-  | inl h ↦ h
-  | inr h ↦ absurd (none_in u (let P : List ℕ → Type 0 = λ us. Contains us u in subst P (get_or_past ups t [] h) up))
-]
+use Rattle.bf_graph.proofs.PathLemmas.{task_within}
 
 pub rank_rises : (ups : List (List ℕ)) (t u q r : ℕ) → IsRank ups u q → IsRank ups t r → IsUpstream ups u t → q < r
 rank_rises ups t u q r low high up = high.longest (suc q) (u, up, low.path)

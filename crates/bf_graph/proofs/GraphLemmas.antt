@@ -11,7 +11,7 @@ use Rattle.std.proofs.Math.Seq.{get_or-append_seam}
 use Rattle.indexmap.specs.IndexSet.{insert_key}
 use Rattle.bf_graph.specs.Shape.{texts, AreDistinct, HasRanks}
 use Rattle.bf_graph.specs.Edges.{lists, AreInRange, IsRank}
-use Rattle.bf_graph.specs.Ranks.{rank_at, AreRanks, AreBelow, AllRanked}
+use Rattle.bf_graph.specs.Ranks.{rank_at, AreRanks, AreBelow, AreFound, AllRanked}
 
 module _ {X Y : Type 0} (p : Y → Bool) (f : X → Y) where
   prefix_len-map : (q : Y → Bool) (xs : List X) → prefix_len q (map f xs) ≡ prefix_len (λ x. q (f x)) xs
@@ -64,14 +64,11 @@ has_ranks ups ranks same inside right low all = record {
     found t h None e = absurd (all t h e)
     found t h (Some r) e = rw (get_or-map (λ r. unwrap_or r 0) ranks t None 0 h, e) (right t r e)
 
--- what `build` keeps, where its calls read these slices
-pub sound_graph : (es s : List (Vec ℕ Global)) (ranks t r : List (Option ℕ)) (rs : List ℕ)
-    → s ≡ es → length ranks ≡ length s → AreRanks (lists s) ranks → AreBelow ranks (length s) → AreInRange (lists es) → t ≡ ranks → AllRanked t → r ≡ ranks → rs ≡ map (λ r. unwrap_or r 0) r → HasRanks (lists es) rs × (length rs ≡ length es)
-sound_graph es s ranks t r rs read len right low inside again all once is =
-    let P : List (Vec ℕ Global) → Type 0 = λ vs. AreRanks (lists vs) ranks in
-    let marks : rs ≡ map (λ r. unwrap_or r 0) ranks = is ∙ ap (map (λ r. unwrap_or r 0)) once in
-    let same : length ranks ≡ length es = len ∙ ap length read in
+-- the ranks that a graph keeps, where its calls read them
+pub sound_ranks : (es : List (Vec ℕ Global)) (ranks read : List (Option ℕ)) (rs : List ℕ) → AreFound (lists es) (length es) ranks → AreInRange (lists es) → AllRanked ranks → read ≡ ranks → rs ≡ map (λ r. unwrap_or r 0) read → HasRanks (lists es) rs × (length rs ≡ length es)
+sound_ranks es ranks read rs found inside all again is =
+    let marks : rs ≡ map (λ r. unwrap_or r 0) ranks = is ∙ ap (map (λ r. unwrap_or r 0)) again in
     let all_edges = length-map es (λ (v : Vec ℕ Global). v.items) in
-    let below : AreBelow ranks (length (lists es)) = subst (AreBelow ranks) (ap length read ∙ sym all_edges) low in
-    let kept = has_ranks (lists es) ranks (all_edges ∙ sym same) inside (subst P read right) below (subst AllRanked again all) in
-    (subst (HasRanks (lists es)) (sym marks) kept, ap length marks ∙ length-map ranks (λ r. unwrap_or r 0) ∙ same)
+    let below : AreBelow ranks (length (lists es)) = λ t r e. (let low = found.below t r e in omega (arith, low, all_edges)) in
+    let kept = has_ranks (lists es) ranks (all_edges ∙ sym found.len) inside found.right below all in
+    (subst (HasRanks (lists es)) (sym marks) kept, ap length marks ∙ length-map ranks (λ r. unwrap_or r 0) ∙ found.len)

@@ -5,6 +5,7 @@ use Rattle.std.specs.declared.alloc.Global.{Global}
 use Rattle.bf_graph.specs.declared.graph.TheConstants.{MOST_TASKS}
 use Rattle.bf_graph.specs.Edges.{lists, AreInRange, IsRank}
 use Rattle.bf_graph.specs.Reach.{rows_of, HasRows}
+use Rattle.bf_graph.specs.Lookups.{IsRisingListOf, IsLeaf, AreDownstreams}
 
 -- the tasks' ids by number, and the upstreams of each
 pub record Shape : Type 0 where
@@ -19,16 +20,23 @@ texts ss = map string_bytes ss
 abbrev pub AreDistinct : List (List ℕ) → Type 0
 AreDistinct ids = AllPairs (λ a b. a ≢ b) ids
 
+-- the ids of the tasks of a graph
+pub record AreIds (ids : List (List ℕ)) : Type 0 where
+  pub distinct : AreDistinct ids
+  pub few : length ids ≤ MOST_TASKS
+
 -- the rank of each task
 pub record HasRanks (ups : List (List ℕ)) (ranks : List ℕ) : Type 0 where
   pub in_range : AreInRange ups
   pub rank : (t : ℕ) → t < length ups → IsRank ups t (slice_index_or ranks t 0)
   pub bounded : (t : ℕ) → slice_index_or ranks t 0 ≤ length ups
 
--- what a graph keeps: distinct ids, and for each task its rank and which tasks reach it
-pub record IsKept (ids : List (String Global)) (edges : List (Vec ℕ Global)) (ranks : List ℕ) (rows : List (Vec Bool Global)) : Type 0 where
+-- what a graph keeps: distinct ids, and for each task its downstreams, its rank and which tasks reach it
+pub record IsKept (ids : List (String Global)) (edges downs : List (Vec ℕ Global)) (leaves ranks : List ℕ) (rows : List (Vec Bool Global)) : Type 0 where
   pub distinct : AreDistinct (texts ids)
   pub one_id_each : length ids ≡ length edges
+  pub below : AreDownstreams (lists edges) (lists downs)
+  pub right_leaves : IsRisingListOf (IsLeaf (lists edges)) leaves
   pub one_rank_each : length ranks ≡ length edges
   pub ranked : HasRanks (lists edges) ranks
   pub reached : HasRows (lists edges) (length edges) (rows_of rows)

@@ -1,15 +1,20 @@
 //! Graphs of tasks, and what is looked up in them.
-ghost use Rattle.std.specs.Prelude.{◌≡◌, ◌↔◌, ℕ, ◌<◌, ◌≤◌, length, IsTrue, None, position, map, unwrap_or, MatchOption, IfOk, IfErr, OnOk};
+ghost use Rattle.std.specs.Prelude.{◌≡◌, ◌↔◌, ℕ, ◌<◌, ◌≤◌, length, IsTrue, None, position, slice_get, Some, map, unwrap_or, MatchOption, IfOk, IfErr, OnOk};
 ghost use Rattle.std.specs.Str.{bytes_eq};
 ghost use Rattle.std.specs.List.Sorted.{IsPermutation, IsSorted};
 ghost use Rattle.bf_graph.specs.Edges.{lists, upstreams_of, AreInRange, IsUpstream, IsRank, IsAcyclic};
 ghost use Rattle.bf_graph.specs.Shape.{texts, AreDistinct};
-ghost use Rattle.bf_graph.specs.Ranks.{rank_at, AllRanked, Ranking};
+ghost use Rattle.bf_graph.specs.Ranks.{Ranking};
+ghost use Rattle.bf_graph.specs.Climbs.{AreAllFound};
 ghost use Rattle.bf_graph.specs.Reach.{Reaches};
+ghost use Rattle.bf_graph.specs.Lookups.{IsRisingListOf, IsLeaf};
 ghost use Rattle.bf_graph.specs.Order.{IsByRank, StandBehind, pair_cmp, ranked_tasks};
 
-use crate::cycles::cycle_from;
-use crate::ranking::{Found, found_in};
+use crate::climb::found_in;
+use crate::cycles::named_cycle;
+use crate::ids::set_of;
+use crate::lookups::{column, downstreams_of, leaves_of, marked_places};
+use crate::ranking::Found;
 use bf_value::{OutOfMemory, Sequence};
 use indexmap::IndexSet;
 use std::alloc::Global;
@@ -24,6 +29,8 @@ pub const MOST_TASKS: usize = 2_000;
 pub struct Graph {
     ids: IndexSet<String>,
     edges: Vec<Vec<u32>>,
+    downstreams: Vec<Vec<u32>>,
+    leaves: Vec<u32>,
     ranks: Vec<u32>,
     /// For each task, which tasks reach it.
     rows: Vec<Vec<bool>>,
@@ -37,7 +44,7 @@ impl Model for Graph {
 
     ghost view = { λ g. record { ids = texts g.ids.keys; upstreams = lists g.edges.items } };
 
-    ghost invariant = { λ g. IsKept g.ids.keys g.edges.items g.ranks.items g.rows.items };
+    ghost invariant = { λ g. IsKept g.ids.keys g.edges.items g.downstreams.items g.leaves.items g.ranks.items g.rows.items };
 }
 
 impl Graph {
@@ -48,9 +55,18 @@ impl Graph {
         self.ids.get_index_of(id).map(|number| number as u32)
     }
 
+    /// The id of a task.
+    pub fn task(&self, task: u32) -> &str
+        requires { task < length self.now.upstreams }
+        ensures { slice_get self.now.ids task ≡ Some result.now }
+    {
+        self.ids.as_slice()[task as usize].as_str()
+    }
+
     /// How many tasks there are.
     pub fn len(&self) -> usize
         ensures tasks { result ≡ length self.now.upstreams }
+        ensures ids { result ≡ length self.now.ids }
         ensures few { result ≤ MOST_TASKS }
     {
         self.edges.len()
@@ -62,6 +78,21 @@ impl Graph {
         ensures { result.now ≡ upstreams_of self.now.upstreams task }
     {
         self.edges[task as usize].as_slice()
+    }
+
+    /// The tasks of which a task is a direct upstream, in file order, each once.
+    pub fn downstreams(&self, task: u32) -> &[u32]
+        requires { task < length self.now.upstreams }
+        ensures { IsRisingListOf (IsUpstream self.now.upstreams task) result.now }
+    {
+        self.downstreams[task as usize].as_slice()
+    }
+
+    /// The tasks without downstreams, in file order.
+    pub fn leaves(&self) -> &[u32]
+        ensures { IsRisingListOf (IsLeaf self.now.upstreams) result.now }
+    {
+        self.leaves.as_slice()
     }
 
     /// The number of edges of the longest path that ends in a task.
@@ -79,6 +110,23 @@ impl Graph {
         ensures { IsTrue result ↔ Reaches self.now.upstreams from to }
     {
         self.rows[to as usize][from as usize]
+    }
+
+    /// The tasks that a task reaches, in file order.
+    pub fn descendants(&self, alloc: Global, task: u32) -> Result<Vec<u32>, OutOfMemory>
+        requires { task < length self.now.upstreams }
+        ensures { IfOk result (λ tasks. IsRisingListOf (Reaches self.now.upstreams task) tasks.items) }
+    {
+        let reached = column(alloc, self.rows.as_slice(), task as usize)?;
+        marked_places(alloc, reached.as_slice())
+    }
+
+    /// The tasks that reach a task, in file order.
+    pub fn ancestors(&self, alloc: Global, task: u32) -> Result<Vec<u32>, OutOfMemory>
+        requires { task < length self.now.upstreams }
+        ensures { IfOk result (λ tasks. IsRisingListOf (λ a. Reaches self.now.upstreams a task) tasks.items) }
+    {
+        marked_places(alloc, self.rows[task as usize].as_slice())
     }
 
     /// The tasks by rank, and those of one rank in file order.
@@ -123,7 +171,7 @@ impl Graph {
 #[derive(Debug, Drop, Error)]
 pub enum GraphFault {
     /// The edges have a cycle: each of these tasks is a direct upstream of the next, and the last of the first.
-    /// The task that comes first in the file is named first.
+    /// It begins with the earliest task that lies on a cycle, and is the first of the shortest from there.
     #[error("there is a cycle")]
     Cycle(Sequence<u32>),
     #[error("out of memory")]
@@ -140,25 +188,6 @@ impl From<OutOfMemory> for GraphFault {
     }
 }
 
-/// Ids, numbered in order.
-fn numbered(alloc: Global, ids: Vec<String>) -> Result<IndexSet<String>, OutOfMemory>
-    requires { AreDistinct (texts ids.items) }
-    ensures { IfOk result (λ set. set.keys ≡ ids.items) }
-{
-    let mut set = IndexSet::new(alloc);
-    for id in ids {
-        set.insert(id)?;
-    }
-    Ok(set)
-}
-
-/// The first task without a rank.
-fn first_unranked(ranks: &[Option<u32>]) -> Option<usize>
-    ensures { MatchOption result (AllRanked ranks.now) (λ t. (t < length ranks.now) × (rank_at ranks.now t ≡ None)) }
-{
-    ranks.iter().position(|r| r.is_none())
-}
-
 /// The ranks of tasks that all have one.
 fn unwrapped(alloc: Global, ranks: &[Option<u32>]) -> Result<Vec<u32>, OutOfMemory>
     ensures { IfOk result (λ v. v.items ≡ map (λ r. unwrap_or r 0) ranks.now) }
@@ -170,7 +199,7 @@ impl Graph {
     ghost use Rattle.bf_graph.specs.Faults.{IsRightFault};
 
     /// The graph of the tasks with these ids, in file order, and for each the numbers of its upstreams. It is
-    /// refused where the edges have a cycle, by one of them.
+    /// refused where the edges have a cycle.
     pub fn build(
         alloc: Global,
         ids: Vec<String>,
@@ -184,18 +213,39 @@ impl Graph {
         ensures acyclic { OnOk result (IsAcyclic (lists upstreams.items)) }
         ensures cycle { IfErr result (λ e. IsRightFault (lists upstreams.items) e) }
     {
-        let Found { ranks, rows } = found_in(alloc, upstreams.as_slice())?;
-        if let Some(start) = first_unranked(ranks.as_slice()) {
-            let cycle = cycle_from(alloc, upstreams.as_slice(), ranks.as_slice(), start as u32)?;
+        let Some(found) = found_in(alloc, upstreams.as_slice())? else {
+            let cycle = named_cycle(alloc, upstreams.as_slice())?;
             return Err(GraphFault::Cycle(Sequence::from_vec(cycle)));
-        }
-        let ranks = unwrapped(alloc, ranks.as_slice())?;
-        let ids = numbered(alloc, ids)?;
+        };
+        Ok(Graph::of_found(alloc, ids, upstreams, found)?)
+    }
+
+    /// The graph of tasks whose ranks were found.
+    fn of_found(
+        alloc: Global,
+        ids: Vec<String>,
+        edges: Vec<Vec<u32>>,
+        found: Found,
+    ) -> Result<Graph, OutOfMemory>
+        requires distinct { AreDistinct (texts ids.items) }
+        requires same { length ids.items ≡ length edges.items }
+        requires few { length ids.items ≤ MOST_TASKS }
+        requires in_range { AreInRange (lists edges.items) }
+        requires found { AreAllFound edges.items found }
+        ensures ok { IfOk result (λ g. g ≡ record { ids = texts ids.items; upstreams = lists edges.items }) }
+        ensures acyclic { OnOk result (IsAcyclic (lists edges.items)) }
+    {
+        let ranks = unwrapped(alloc, found.ranks.as_slice())?;
+        let ids = set_of(alloc, ids)?;
+        let downstreams = downstreams_of(alloc, edges.as_slice())?;
+        let leaves = leaves_of(alloc, downstreams.as_slice())?;
         Ok(Graph {
             ids,
-            edges: upstreams,
+            edges,
+            downstreams,
+            leaves,
             ranks,
-            rows,
+            rows: found.rows,
         })
     }
 }

@@ -4,9 +4,13 @@
 //! ends in it, so ranks rise along edges, and going through tasks by rank meets each after its upstreams.
 #![tactic(auto)]
 
+mod climb;
 mod cycles;
 mod graph;
+mod ids;
+mod lookups;
 mod ranking;
 mod reach;
 
 pub use graph::{Graph, GraphFault, MOST_TASKS};
+pub use ids::Ids;

@@ -15,6 +15,10 @@ table_rule = record (new_rule (codes "table")) { value_names = 1; required = tru
 abbrev pub at_rule : Rule
 at_rule = record (new_rule (codes "at")) { long = Some (codes "at"); value_names = 1; required = true }
 
+-- `check GRAPH`
+abbrev pub check_app : App
+check_app = with_rule (new_app (codes "check")) graph_rule
+
 -- `single GRAPH TABLE --at T`
 abbrev pub single_app : App
 single_app = with_rule (with_rule (with_rule (new_app (codes "single")) graph_rule) table_rule) at_rule
@@ -27,4 +31,4 @@ bare_app = record {
 }
 
 abbrev pub backfill_app : App
-backfill_app = with_subcommand bare_app single_app.top
+backfill_app = with_subcommand (with_subcommand bare_app check_app.top) single_app.top

@@ -6,3 +6,4 @@ pub mod Refusal
 pub mod Status
 pub mod OneRun
 pub mod Driving
+pub mod Graphs

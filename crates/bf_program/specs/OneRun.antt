@@ -1,15 +1,13 @@
 -- What the command `single` reports: the recursion over dates, of one run, over what a table answers.
-use Rattle.std.specs.Prelude.{◌≡◌, ◌≢◌, ◌<◌, ℕ, Bool, true, false, List, [], ◌∷◌, length, Option, Some, Ok, Err}
+use Rattle.std.specs.Prelude.{◌≡◌, ◌≢◌, ◌<◌, ℕ, Bool, true, false, List, [], ◌∷◌, length, Option, Some, None, option_map, Ok, Err}
 use Rattle.std.specs.FinMap as map
 use Rattle.jiff.specs.declared.timestamp.Timestamp.{Timestamp}
 use Rattle.bf_value.specs.declared.name.JobName.{JobName}
 use Rattle.bf_value.specs.Names.{name_cmp}
 use Rattle.bf_read.specs.declared.draft.Draft.{Draft}
-use Rattle.bf_read.specs.Gives.{Fails}
-use Rattle.bf_read.specs.Reading.{graph_in, graph_file_of}
-use Rattle.bf_check.specs.Checked.{Checked}
 use Rattle.bf_check.specs.declared.plan.Dag.{Dag}
-use Rattle.bf_check.specs.Checking.{dag_of, IsAccepted, IsFaultOf}
+use Rattle.bf_check.specs.Checking.{dag_of}
+use Rattle.bf_check.specs.Served.{first_unserved}
 use Rattle.bf_interval.specs.declared.interval.Interval.{Interval}
 use Rattle.bf_interval.specs.Years.{IsInYears}
 use Rattle.bf_xcom.specs.declared.values.RunState.{RunState}
@@ -25,8 +23,9 @@ use Rattle.bf_report.specs.declared.report.Report.{Report}
 use Rattle.bf_report.specs.Dated.{IsDated}
 use Rattle.bf_report.specs.Device.{sent}
 use Rattle.bf_report.specs.Report.{report_text}
+use Rattle.bf_program.specs.Graphs.{IsGraph, IsFaultIn}
 use Rattle.bf_program.specs.declared.one_run.SingleFault.{SingleFault}
-use Rattle.bf_program.specs.declared.one_run.SingleFault.TheVariants.{Graph, Plan, Table, OutsideYears, OutOfMemory, Write}
+use Rattle.bf_program.specs.declared.one_run.SingleFault.TheVariants.{Plan, NotYet, Table, OutsideYears, OutOfMemory, Write}
 
 -- each outcome is the grade of what the table answers
 abbrev pub AreAnswered : Dag → List TableEntry → Look → Type 0
@@ -42,10 +41,6 @@ pub record IsLedgerOver (dag : Dag) (table : List TableEntry) (ledger : Look) : 
   pub defined : IsDefined dag 1 ledger
   pub asked : AreAsked dag 1 ledger
   pub answered : AreAnswered dag table ledger
-
--- the graph's bytes say this
-abbrev pub IsFileOf : List ℕ → Draft → Type 0
-IsFileOf bytes draft = graph_in bytes ≡ Ok (graph_file_of draft)
 
 abbrev pub is_success : RunState → Bool
 is_success RunState.Success = true
@@ -69,47 +64,45 @@ pub record IsReportedOver (dag : Dag) (table : List TableEntry) (at : Timestamp)
 pub record IsReported (graph table : List ℕ) (at : Timestamp) (before after : Option (List ℕ)) (success : Bool) : Type 0 where
   pub draft : Draft
   pub entries : List TableEntry
-  pub graph_says : IsFileOf graph draft
-  pub accepted : IsAccepted draft
+  pub graph_is : IsGraph graph draft
   pub table_says : table_of table ≡ Ok entries
   pub in_years : IsInYears at.nanosecond
   pub reported : IsReportedOver (dag_of draft) entries at before after success
 
 -- ---- why there is no report
 
--- the graph's bytes say a graph without a fault
-pub record IsGraph (graph : List ℕ) : Type 0 where
+-- the graph's bytes say a graph without a fault, and it uses no part that isn't built
+pub record IsRunnable (graph : List ℕ) : Type 0 where
   pub draft : Draft
-  pub says : IsFileOf graph draft
-  pub accepted : IsAccepted draft
+  pub graph_is : IsGraph graph draft
+  pub built : first_unserved (dag_of draft) ≡ None
+
+-- the graph has no fault, and the id is that of its first task which uses a part that isn't built
+pub record IsNotYet (graph : List ℕ) (id : List ℕ) : Type 0 where
+  pub draft : Draft
+  pub graph_is : IsGraph graph draft
+  pub first : option_map (λ task. task.id) (first_unserved (dag_of draft)) ≡ Some id
 
 -- the table's bytes say a table
 pub record IsTable (table : List ℕ) : Type 0 where
   pub entries : List TableEntry
   pub says : table_of table ≡ Ok entries
 
--- the fault is the first: those of the graph file go before those of the plan, these before those of the table, and the moment comes last;
+-- the fault is the first: those of the graph file and of its plan go before those of the table, and the moment comes last;
 -- only then is the run made, and memory or the device may be wanting
 abbrev pub IsFaultOfRun : List ℕ → List ℕ → Timestamp → SingleFault → Type 0
-IsFaultOfRun graph table at (Graph fault) = Fails fault (graph_in graph)
-IsFaultOfRun graph table at (Plan fault) = (draft : Draft) × IsFileOf graph draft × IsFaultOf draft fault
-IsFaultOfRun graph table at (Table fault) = IsGraph graph × (fault ≢ TableFault.OutOfMemory → table_of table ≡ Err fault)
-IsFaultOfRun graph table at OutsideYears = IsGraph graph × IsTable table × ¬ (IsInYears at.nanosecond)
-IsFaultOfRun graph table at OutOfMemory = IsGraph graph × IsTable table × IsInYears at.nanosecond
-IsFaultOfRun graph table at (Write fault) = IsGraph graph × IsTable table × IsInYears at.nanosecond
+IsFaultOfRun graph table at (Plan fault) = IsFaultIn graph fault
+IsFaultOfRun graph table at (NotYet id) = IsNotYet graph id
+IsFaultOfRun graph table at (Table fault) = IsRunnable graph × (fault ≢ TableFault.OutOfMemory → table_of table ≡ Err fault)
+IsFaultOfRun graph table at OutsideYears = IsRunnable graph × IsTable table × ¬ (IsInYears at.nanosecond)
+IsFaultOfRun graph table at OutOfMemory = (draft : Draft) × IsGraph graph draft
+IsFaultOfRun graph table at (Write fault) = IsRunnable graph × IsTable table × IsInYears at.nanosecond
 
--- a plan of what the graph's bytes say. For private clauses.
-pub record IsPlanOf (graph : List ℕ) (plan : Checked) : Type 0 where
-  pub draft : Draft
-  pub graph_says : IsFileOf graph draft
-  pub accepted : IsAccepted draft
-  pub dag : plan.dag ≡ dag_of draft
-
--- the fault is the graph's own, of its file or of its plan
-abbrev pub IsFaultIn : List ℕ → SingleFault → Type 0
-IsFaultIn graph (Graph fault) = Fails fault (graph_in graph)
-IsFaultIn graph (Plan fault) = (draft : Draft) × IsFileOf graph draft × IsFaultOf draft fault
-IsFaultIn graph _ = ⊥
+-- the fault names the first task that uses a part which isn't built; or memory is wanting
+abbrev pub IsUnserved : Dag → SingleFault → Type 0
+IsUnserved dag (NotYet id) = option_map (λ task. task.id) (first_unserved dag) ≡ Some id
+IsUnserved dag OutOfMemory = Unit {0}
+IsUnserved dag _ = ⊥
 
 -- the fault comes after all that is read was found right
 abbrev pub comes_late : SingleFault → Bool

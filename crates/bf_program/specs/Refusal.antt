@@ -4,14 +4,15 @@ use Rattle.bf_report.specs.declared.sending.Cause.{Cause}
 use Rattle.bf_report.specs.declared.sending.Cause.TheVariants as cause
 use Rattle.bf_read.specs.declared.fault.ReadFault.{ReadFault}
 use Rattle.bf_read.specs.declared.fault.ReadFault.TheVariants as read
-use Rattle.bf_check.specs.declared.fault.CheckFault.{CheckFault}
-use Rattle.bf_check.specs.declared.fault.CheckFault.TheVariants as check
+use Rattle.bf_check.specs.Refusals.{check_number}
 use Rattle.bf_try.specs.declared.table.TableFault.{TableFault}
 use Rattle.bf_try.specs.declared.table.TableFault.TheVariants as table
+use Rattle.bf_program.specs.declared.graphs.PlanFault.{PlanFault}
+use Rattle.bf_program.specs.declared.graphs.PlanFault.TheVariants as plan
 use Rattle.bf_program.specs.declared.one_run.SingleFault.{SingleFault}
 use Rattle.bf_program.specs.declared.one_run.SingleFault.TheVariants as single
 use Rattle.bf_program.specs.declared.refusal.CommandFault.{CommandFault}
-use Rattle.bf_program.specs.declared.refusal.CommandFault.TheVariants.{Single, BadMoment, OutOfMemory, CannotRead, CannotWrite}
+use Rattle.bf_program.specs.declared.refusal.CommandFault.TheVariants.{Plan, Single, BadMoment, OutOfMemory, CannotRead, CannotWrite}
 
 -- ---- refusals have numbers, and faults have none
 
@@ -23,24 +24,24 @@ read_number (read.DuplicateTask id) = Some 4
 read_number (read.LimitPassed p) = Some 5
 read_number read.OutOfMemory = None
 
-abbrev pub check_number : CheckFault → Option ℕ
-check_number (check.UnknownUpstream id) = Some 6
-check_number (check.Cycle ids) = Some 7
-check_number check.OutOfMemory = None
+abbrev pub plan_number : PlanFault → Option ℕ
+plan_number (plan.Read fault) = read_number fault
+plan_number (plan.Check fault) = check_number fault
 
 abbrev pub table_number : TableFault → Option ℕ
 table_number (table.BadTable n) = Some 19
 table_number table.OutOfMemory = None
 
 abbrev pub single_number : SingleFault → Option ℕ
-single_number (single.Graph fault) = read_number fault
-single_number (single.Plan fault) = check_number fault
+single_number (single.Plan fault) = plan_number fault
+single_number (single.NotYet id) = Some 90
 single_number (single.Table fault) = table_number fault
 single_number single.OutsideYears = Some 25
 single_number single.OutOfMemory = None
 single_number (single.Write fault) = None
 
 abbrev pub number_of : CommandFault → Option ℕ
+number_of (Plan fault) = plan_number fault
 number_of (Single fault) = single_number fault
 number_of BadMoment = Some 28
 number_of OutOfMemory = None

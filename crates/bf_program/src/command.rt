@@ -2,7 +2,7 @@
 ghost use Rattle.std.specs.Prelude.{◌≡◌, IfOk, false};
 ghost use Rattle.clap.specs.Words.{app_of, rule_of};
 ghost use Rattle.clap.specs.declared.builder.command.Command.TheViews.{out-Command};
-ghost use Rattle.bf_program.specs.CommandLine.{backfill_app, single_app, graph_rule, table_rule, at_rule};
+ghost use Rattle.bf_program.specs.CommandLine.{backfill_app, check_app, single_app, graph_rule, table_rule, at_rule};
 
 use clap::{Arg, Command};
 use std::alloc::{AllocError, Global};
@@ -38,6 +38,15 @@ fn at<'a>(alloc: Global) -> Arg<'a>
         .required(true)
 }
 
+fn check<'a>(alloc: Global) -> Result<Command<'a>, AllocError>
+    ensures app { IfOk result (λ c. app_of c ≡ check_app) }
+    ensures local { IfOk result (λ c. (out-Command c).has_globals ≡ false) }
+{
+    Command::new(alloc, "check")
+        .about("Checks the graph, and tells how many tasks and edges it has")
+        .arg(graph(alloc))
+}
+
 fn single<'a>(alloc: Global) -> Result<Command<'a>, AllocError>
     ensures app { IfOk result (λ c. app_of c ≡ single_app) }
     ensures local { IfOk result (λ c. (out-Command c).has_globals ≡ false) }
@@ -57,5 +66,6 @@ pub fn backfill<'a>(alloc: Global) -> Result<Command<'a>, AllocError>
         .about("Runs a graph of tasks once for each data interval of a range of dates")
         .subcommand_required(true)
         .arg_required_else_help(true)
+        .subcommand(check(alloc)?)?
         .subcommand(single(alloc)?)
 }

@@ -8,8 +8,15 @@ pub struct SingleAsked {
     pub at: String,
 }
 
+/// `check GRAPH`: whether a graph file, named by path, has a fault.
+#[derive(Debug, Drop)]
+pub struct CheckAsked {
+    pub graph: String,
+}
+
 /// A subcommand with its paths and options.
 #[derive(Debug, Drop)]
 pub enum Asked {
+    Check(CheckAsked),
     Single(SingleAsked),
 }

@@ -1,10 +1,12 @@
 //! The command line, the files that it names, and what the program prints of them.
 #![tactic(auto)]
 
+mod checked;
 mod command;
 mod disk;
 mod driving;
 pub mod forms;
+mod graphs;
 mod input;
 mod one_run;
 mod program;
@@ -16,6 +18,7 @@ mod status;
 mod stored;
 
 pub use disk::Disk;
+pub use graphs::{GraphSize, PlanFault, check_graph};
 pub use one_run::{SingleFault, run_single};
 pub use program::answer;
 pub use reading::asked;

@@ -1,18 +1,18 @@
 //! One run of a graph over a table, from bytes to bytes.
-ghost use Rattle.std.specs.Prelude.{◌≡◌, true, IfOk, IfErr, IsSome, Some, slice_get};
-ghost use Rattle.bf_check.specs.Served.{IsServed};
-ghost use Rattle.bf_program.specs.OneRun.{IsFileOf, IsFaultIn, IsFaultOfRun, IsPlanOf, IsReported, IsReportedOver, comes_late, is_success as succeeds};
+ghost use Rattle.std.specs.Prelude.{◌≡◌, true, IfOk, IfErr, OnOk, IsSome, None, Some, slice_get};
+ghost use Rattle.bf_check.specs.Served.{first_unserved as unserved, IsServed};
+ghost use Rattle.bf_program.specs.OneRun.{IsFaultOfRun, IsReported, IsReportedOver, IsUnserved, comes_late, is_success as succeeds};
 ghost use Rattle.bf_xcom.specs.declared.values.RunState.{RunState as RunStateTerm};
 ghost use Rattle.bf_interval.specs.Years.{IsInYears};
-ghost use Rattle.bf_program.specs.Refusal.{read_number, check_number, table_number, single_number};
+ghost use Rattle.bf_program.specs.Refusal.{table_number, single_number};
 
 use crate::driving::ended_run;
-use bf_check::{CheckFault, Plan, check};
+use crate::graphs::{PlanFault, plan_in};
+use bf_check::{Plan, first_unserved};
 use bf_interval::{Interval, is_in_years};
-use bf_read::{Draft, ReadFault, read_graph};
 use bf_report::{Write, WriteFault, report_of, write_report};
 use bf_try::{Table, TableFault, TableRunner};
-use bf_value::OutOfMemory;
+use bf_value::{OutOfMemory, Text};
 use bf_xcom::RunState;
 use jiff::Timestamp;
 use std::alloc::Global;
@@ -22,9 +22,10 @@ use thiserror::Error;
 #[derive(Debug, Drop, Error)]
 pub enum SingleFault {
     #[error("{0}")]
-    Graph(ReadFault),
-    #[error("{0}")]
-    Plan(CheckFault),
+    Plan(PlanFault),
+    /// The task of this id, the first in the file of its kind, uses a part that isn't built yet.
+    #[error("not yet: {0}")]
+    NotYet(Text),
     #[error("{0}")]
     Table(TableFault),
     /// A moment that lies outside the years 1970 to 2199.
@@ -34,29 +35,6 @@ pub enum SingleFault {
     OutOfMemory,
     #[error("{0}")]
     Write(WriteFault),
-}
-
-fn read_fault_number(fault: &ReadFault) -> Option<u32>
-    ensures { result ≡ read_number fault.now }
-{
-    match fault {
-        ReadFault::NotJson => Some(1),
-        ReadFault::Shape(_) => Some(2),
-        ReadFault::BadName(_) => Some(3),
-        ReadFault::DuplicateTask(_) => Some(4),
-        ReadFault::LimitPassed(_) => Some(5),
-        ReadFault::OutOfMemory => None,
-    }
-}
-
-fn check_fault_number(fault: &CheckFault) -> Option<u32>
-    ensures { result ≡ check_number fault.now }
-{
-    match fault {
-        CheckFault::UnknownUpstream(_) => Some(6),
-        CheckFault::Cycle(_) => Some(7),
-        CheckFault::OutOfMemory => None,
-    }
 }
 
 fn table_fault_number(fault: &TableFault) -> Option<u32>
@@ -74,8 +52,8 @@ impl SingleFault {
         ensures { result ≡ single_number self.now }
     {
         match self {
-            SingleFault::Graph(fault) => read_fault_number(fault),
-            SingleFault::Plan(fault) => check_fault_number(fault),
+            SingleFault::Plan(fault) => fault.number(),
+            SingleFault::NotYet(_) => Some(90),
             SingleFault::Table(fault) => table_fault_number(fault),
             SingleFault::OutsideYears => Some(25),
             SingleFault::OutOfMemory | SingleFault::Write(_) => None,
@@ -94,24 +72,26 @@ impl From<OutOfMemory> for SingleFault {
     }
 }
 
-fn draft_in(alloc: Global, graph: &[u8]) -> Result<Draft, SingleFault>
-    ensures ok { IfOk result (IsFileOf graph.now) }
-    ensures fault { IfErr result (IsFaultIn graph.now) }
-{
-    match read_graph(alloc, graph) {
-        Ok(draft) => Ok(draft),
-        Err(fault) => Err(SingleFault::Graph(fault)),
+impl From<PlanFault> for SingleFault {
+    ghost use Rattle.std.specs.Prelude.{◌≡◌};
+    ghost use Rattle.bf_program.specs.declared.one_run.SingleFault.TheVariants.{Plan};
+
+    ghost from_gives = { λ fault e. e ≡ Plan fault };
+
+    fn from(fault: PlanFault) -> SingleFault {
+        SingleFault::Plan(fault)
     }
 }
 
-fn plan_in(alloc: Global, graph: &[u8]) -> Result<Plan, SingleFault>
-    ensures plan { IfOk result (IsPlanOf graph.now) }
-    ensures fault { IfErr result (IsFaultIn graph.now) }
-    ensures served { IfOk result (λ plan. IsServed plan.dag) }
+/// Refuses a plan that uses a part which isn't built yet.
+fn refuse_unserved(alloc: Global, plan: &Plan) -> Result<(), SingleFault>
+    ensures served { OnOk result (IsServed plan.now.dag) }
+    ensures none { OnOk result (unserved plan.now.dag ≡ None) }
+    ensures first { IfErr result (IsUnserved plan.now.dag) }
 {
-    match check(alloc, draft_in(alloc, graph)?) {
-        Ok(plan) => Ok(plan),
-        Err(fault) => Err(SingleFault::Plan(fault)),
+    match first_unserved(plan.dag()) {
+        Some(task) => Err(SingleFault::NotYet(task.id.copy(alloc)?)),
+        None => Ok(()),
     }
 }
 
@@ -150,7 +130,8 @@ fn run_over<W: Write>(
 }
 
 /// Runs a graph once, at this moment, with its tries answered by a table, and writes the report. Says whether the run
-/// is a success. The graph's faults go before the table's, and these before the moment's.
+/// is a success. The graph's faults go before a part that isn't built yet, this before the table's, and these before the
+/// moment's.
 #[tactic(auto, using(crate::proofs::Files::reported))]
 pub fn run_single<W: Write>(
     alloc: Global,
@@ -164,6 +145,7 @@ pub fn run_single<W: Write>(
     ensures refused { IfErr result (λ f. IsSome (single_number f) → W.written out.new ≡ W.written out.old) }
 {
     let plan = plan_in(alloc, graph)?;
+    refuse_unserved(alloc, &plan)?;
     let table = match Table::read(alloc, table) {
         Ok(table) => table,
         Err(fault) => return Err(SingleFault::Table(fault)),

@@ -5,6 +5,7 @@ ghost use Rattle.bf_program.specs.CommandLine.{backfill_app};
 ghost use Rattle.bf_program.specs.Refusal.{number_of};
 ghost use Rattle.bf_program.specs.Status.{code_of, shown_as, EndsAs};
 
+use crate::checked::check_answered;
 use crate::forms::Asked;
 use crate::reading::asked;
 use crate::refusal::CommandFault;
@@ -17,8 +18,8 @@ use clap::error::ErrorKind;
 use std::alloc::Global;
 
 /// Answers a command line, of which the first word is the program's own name. Files are read from `files`, the
-/// report or help goes to `out`, and why there is none to `err`. Gives the exit status: 0 where every run is a
-/// success or help was asked for, 1 where some run failed, 2 where something was refused, and 3 at a fault.
+/// report, the size of a graph or help goes to `out`, and why there is none to `err`. Gives the exit status: 0 where every
+/// run is a success, a graph has no fault, or help was asked for, 1 where some run failed, 2 where something was refused, and 3 at a fault.
 #[tactic(auto, using(crate::proofs::Ends::fault_ends))]
 pub fn answer<S: Source, W: Write, E: Write>(
     alloc: Global,
@@ -56,6 +57,7 @@ fn line_answered<S: Source, W: Write, E: Write>(
         → IfErr result (λ f. number_of f ≡ None) }
 {
     match asked(alloc, words) {
+        Ok(Asked::Check(check)) => check_answered(alloc, check, files, out),
         Ok(Asked::Single(single)) => single_answered(alloc, single, files, out),
         Err(error) => shown(alloc, &error, out, err),
     }

@@ -5,7 +5,7 @@ ghost use Rattle.bf_program.specs.CommandLine.{backfill_app};
 ghost use Rattle.bf_program.specs.Asked.{IsAskedBy};
 
 use crate::command::backfill;
-use crate::forms::{Asked, SingleAsked};
+use crate::forms::{Asked, CheckAsked, SingleAsked};
 use clap::{ArgMatches, Error};
 use std::alloc::{AllocError, Global};
 
@@ -35,9 +35,18 @@ fn subcommand_asked(alloc: Global, matches: &ArgMatches<'_>) -> Result<Asked, Al
     ensures { IfOk result (IsAskedBy (subcommand_rows_of matches.now)) }
 {
     match matches.subcommand() {
+        Some(("check", inner)) => Ok(Asked::Check(check_asked(alloc, inner)?)),
         Some(("single", inner)) => Ok(Asked::Single(single_asked(alloc, inner)?)),
         _ => Err(AllocError),
     }
+}
+
+fn check_asked(alloc: Global, matches: &ArgMatches<'_>) -> Result<CheckAsked, AllocError>
+    ensures { IfOk result (λ c. IsAskedBy (Some (codes "check", rows_of (found_of matches.now))) (Asked.Check c)) }
+{
+    Ok(CheckAsked {
+        graph: required(alloc, matches, "graph")?,
+    })
 }
 
 fn single_asked(alloc: Global, matches: &ArgMatches<'_>) -> Result<SingleAsked, AllocError>

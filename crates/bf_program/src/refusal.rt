@@ -2,6 +2,7 @@
 ghost use Rattle.std.specs.Prelude.{◌≡◌, IsNone, IsSome};
 ghost use Rattle.bf_program.specs.Refusal.{number_of};
 
+use crate::graphs::PlanFault;
 use crate::one_run::SingleFault;
 use crate::status::Status;
 use bf_report::{Cause, WriteFault};
@@ -12,6 +13,8 @@ use thiserror::Error;
 /// Why a command gave no report: a refusal of what it was given, which has a number, or a fault, which has none.
 #[derive(Debug, Drop, Error)]
 pub enum CommandFault {
+    #[error("{0}")]
+    Plan(PlanFault),
     #[error("{0}")]
     Single(SingleFault),
     /// A text that is no moment, or one of a date that doesn't exist.
@@ -32,6 +35,7 @@ impl CommandFault {
         ensures { result ≡ number_of self.now }
     {
         match self {
+            CommandFault::Plan(fault) => fault.number(),
             CommandFault::Single(fault) => fault.number(),
             CommandFault::BadMoment => Some(28),
             CommandFault::OutOfMemory | CommandFault::CannotRead(_) | CommandFault::CannotWrite =>
@@ -102,5 +106,16 @@ impl From<SingleFault> for CommandFault {
 
     fn from(fault: SingleFault) -> CommandFault {
         CommandFault::Single(fault)
+    }
+}
+
+impl From<PlanFault> for CommandFault {
+    ghost use Rattle.std.specs.Prelude.{◌≡◌};
+    ghost use Rattle.bf_program.specs.declared.refusal.CommandFault.TheVariants.{Plan};
+
+    ghost from_gives = { λ fault e. e ≡ Plan fault };
+
+    fn from(fault: PlanFault) -> CommandFault {
+        CommandFault::Plan(fault)
     }
 }

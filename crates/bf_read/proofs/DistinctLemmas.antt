@@ -5,7 +5,7 @@ use Rattle.std.specs.Str.{bytes_eq}
 use Rattle.std.specs.Cmp.Lexicographic.{bytes_decides}
 use Rattle.std.proofs.lemmas.List.Elements.{filter_agree}
 use Rattle.std.proofs.lemmas.List.Folds.{list_any-append}
-use Rattle.bf_read.specs.Fields.{distinct}
+use Rattle.bf_read.specs.Drafts.{distinct}
 
 -- a text that is none of these
 abbrev pub is_new : List (List ℕ) → List ℕ → Bool

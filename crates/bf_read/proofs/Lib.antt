@@ -1,4 +1,5 @@
 pub mod FieldLemmas
+pub mod CommandLemmas
 pub mod DistinctLemmas
 pub mod TaskLemmas
 pub mod FileLemmas

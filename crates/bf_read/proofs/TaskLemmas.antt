@@ -1,10 +1,10 @@
 -- Tasks, read one after another.
-use Rattle.std.proofs.Common.{◌≡◌, ◌≢◌, ℕ, suc, ◌<◌, ◌≤◌, ◌+◌, List, [], ◌∷◌, ◌++◌, ◌||◌, length, AllPairs, get_or, map, drop, Ok, Err, refl, sym, ap, ◌∙◌, subst, arith, true≢false, length-append}
+use Rattle.std.proofs.Common.{◌≡◌, ◌≢◌, ℕ, suc, ◌<◌, ◌≤◌, ◌+◌, List, [], ◌∷◌, ◌++◌, ◌||◌, length, nat_le, All, AllPairs, get_or, map, drop, Ok, refl, sym, ap, ◌∙◌, subst, arith, true≢false, length-append}
 use Rattle.std.specs.List.{list_any}
 use Rattle.std.specs.Str.{bytes_eq}
 use Rattle.std.specs.Cmp.Lexicographic.{bytes_decides}
-use Rattle.std.proofs.lemmas.Bool.{le-leb, lt-leb}
 use Rattle.std.proofs.lemmas.List.{map-append}
+use Rattle.std.proofs.lemmas.List.Elements.{All-push}
 use Rattle.std.proofs.lemmas.List.Folds.{list_any_at}
 use Rattle.std.proofs.lemmas.List.Quantifiers.{all_pairs_push}
 use Rattle.std.proofs.lemmas.List.Sums.{sum_by-append}
@@ -13,11 +13,11 @@ use Rattle.serde_json.specs.View.{view, items_view}
 use Rattle.serde_json.specs.declared.value.Value.{Value}
 use Rattle.bf_read.specs.declared.draft.TaskDraft.{TaskDraft}
 use Rattle.bf_read.specs.declared.draft.TheConstants.{MOST_TASKS, MOST_EDGES}
-use Rattle.bf_read.specs.declared.fault.ReadFault.TheVariants.{LimitPassed}
-use Rattle.bf_read.specs.declared.path.Path.TheVariants.{Tasks}
+use Rattle.bf_read.specs.declared.path.Path.{Path}
 use Rattle.bf_read.specs.Gives.{◌>>=◌}
-use Rattle.bf_read.specs.Tasks.{edge_count, HaveDistinctIds, MayFollow}
-use Rattle.bf_read.specs.Reading.{task_at, tasks_from, few_tasks}
+use Rattle.bf_read.specs.Drafts.{edge_count, HaveDistinctIds, IsTask, MayFollow}
+use Rattle.bf_read.specs.Fields.{limit}
+use Rattle.bf_read.specs.Reading.{task_at, tasks_from}
 use Rattle.bf_read.proofs.FieldLemmas.{rest_from}
 
 -- ---- how many
@@ -26,13 +26,8 @@ items_len-items_view : (vs : List Value) → items_len (items_view vs) ≡ lengt
 items_len-items_view [] = refl
 items_len-items_view (v ∷ vs) = ap suc (items_len-items_view vs)
 
-pub few : (vs : List Value) → length vs ≤ MOST_TASKS → few_tasks (items_view vs) ≡ Ok tt
-unfolding few_tasks
-few vs h = rw (items_len-items_view vs, le-leb _ _ h)
-
-pub too_many : (vs : List Value) → MOST_TASKS < length vs → few_tasks (items_view vs) ≡ Err (LimitPassed Tasks)
-unfolding few_tasks
-too_many vs h = rw (items_len-items_view vs, lt-leb _ _ h)
+pub tasks_count : (p : Path) (vs : List Value) → limit p (nat_le (items_len (items_view vs)) MOST_TASKS) ≡ limit p (nat_le (length vs) MOST_TASKS)
+tasks_count p vs = ap (λ n. limit p (nat_le n MOST_TASKS)) (items_len-items_view vs)
 
 -- ---- the walk
 
@@ -57,13 +52,15 @@ any_id id (t ∷ ts) = ap (λ b. bytes_eq id t.id || b) (any_id id ts)
 pub record KeepsTasks (n : ℕ) (tasks : List TaskDraft) : Type 0 where
   pub len : length tasks ≡ n
   pub few_edges : edge_count tasks ≤ MOST_EDGES
-  pub distinct : HaveDistinctIds tasks
+  pub distinct_ids : HaveDistinctIds tasks
+  pub each : All IsTask tasks
 
 pub one_more : (n : ℕ) (ts : List TaskDraft) (t : TaskDraft) → KeepsTasks n ts → MayFollow ts t → KeepsTasks (n + 1) (ts ++ t ∷ [])
 one_more n ts t kept new = record {
   len = (let len = kept.len in omega (arith, len, length-append ts (t ∷ [])));
   few_edges = (let few = new.few in omega (arith, few, sum_by-append (λ (u : TaskDraft). length u.upstreams) ts (t ∷ [])));
-  distinct = subst (λ (ids : List (List ℕ)). AllPairs (λ a b. a ≢ b) ids) (sym (map-append (λ (u : TaskDraft). u.id) ts (t ∷ []))) (all_pairs_push (λ a b. a ≢ b) (map (λ (u : TaskDraft). u.id) ts) t.id kept.distinct other);
+  distinct_ids = subst (λ (ids : List (List ℕ)). AllPairs (λ a b. a ≢ b) ids) (sym (map-append (λ (u : TaskDraft). u.id) ts (t ∷ []))) (all_pairs_push (λ a b. a ≢ b) (map (λ (u : TaskDraft). u.id) ts) t.id kept.distinct_ids other);
+  each = All-push IsTask ts t kept.each new.is_task;
 }
   where
     other : (k : ℕ) (d : List ℕ) → k < length (map (λ (u : TaskDraft). u.id) ts) → get_or (map (λ (u : TaskDraft). u.id) ts) k d ≢ t.id

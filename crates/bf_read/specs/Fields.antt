@@ -1,26 +1,65 @@
 -- What is read of the members of JSON objects.
-use Rattle.std.specs.Prelude.{ℕ, ◌&&◌, ◌||◌, ◌==◌, List, [], ◌∷◌, length, filter, codes, Bool, true, not, nat_le, if◌then◌else◌, Option, Some, None, Result, Ok, Err}
+use Rattle.std.specs.Prelude.{ℕ, ℤ, pos, negsuc, ◌&&◌, ◌||◌, ◌==◌, List, [], ◌∷◌, length, codes, Bool, true, false, nat_le, if◌then◌else◌, Option, Some, None, option_map, option_and_then, Result, Ok, Err}
 use Rattle.std.specs.List.{list_all}
 use Rattle.std.specs.Str.{bytes_eq}
 use Rattle.serde_json.specs.Data.{Data, Items, no_items, item, Members, no_members, member}
-use Rattle.serde_json.specs.Find.{as_str, as_array, as_object}
+use Rattle.serde_json.specs.Find.{get, as_bool, as_number, as_i64, as_str, as_array, as_object}
+use Rattle.serde_json.specs.View.{view}
 use Rattle.bf_read.specs.declared.path.Path.{Path}
+use Rattle.bf_read.specs.declared.keys.GraphKey.{GraphKey}
+use Rattle.bf_read.specs.declared.keys.TaskKey.{TaskKey}
+use Rattle.bf_read.specs.declared.draft.PoolDraft.{PoolDraft}
+use Rattle.bf_read.specs.declared.draft.TheConstants.{MOST_SLOTS}
+use Rattle.bf_read.specs.declared.kinds.TaskKind.{TaskKind}
+use Rattle.bf_read.specs.declared.kinds.WeightRule.{WeightRule}
+use Rattle.bf_read.specs.declared.kinds.ContextVariable.{ContextVariable}
 use Rattle.bf_read.specs.declared.fault.ReadFault.{ReadFault}
-use Rattle.bf_read.specs.declared.fault.ReadFault.TheVariants.{Shape, BadName}
+use Rattle.bf_read.specs.declared.fault.ReadFault.TheVariants.{Shape, BadName, LimitPassed}
+use Rattle.bf_read.specs.declared.fields.Field.{Field}
 use Rattle.bf_read.specs.declared.fields.ObjectKind.{ObjectKind}
 use Rattle.bf_read.specs.declared.fields.TheConstants.{LONGEST_ID}
+use Rattle.bf_read.specs.Drafts.{distinct}
 use Rattle.bf_read.specs.Gives.{◌>>=◌}
+use Rattle.bf_read.specs.Keys.{graph_key_name, task_key_name, is_graph_key, is_task_key}
+
+-- a value and its place, where the value may be missing
+pub record Member : Type 0 where
+  pub path : Path
+  pub value : Option Data
+
+abbrev pub member_of : Field → Member
+member_of field = record { path = field.path; value = option_map (λ v. view v.now) field.value }
+
+-- the members of the object of the whole file, and of a task's
+abbrev pub graph_member : Data → GraphKey → Member
+graph_member d key = record { path = Path.Key key; value = get (graph_key_name key) d }
+
+abbrev pub task_member : ℕ → Data → TaskKey → Member
+task_member n d key = record { path = Path.TaskKey n key; value = get (task_key_name key) d }
 
 -- a value, or a fault at its path
 abbrev pub or_shape : {A : Type 0} → Path → Option A → Result A ReadFault
 or_shape p None = Err (Shape p)
 or_shape p (Some x) = Ok x
 
+-- a value of a type, which has to be there
+abbrev pub typed : {A : Type 0} → (Data → Option A) → Member → Result A ReadFault
+typed type_of m = or_shape m.path (option_and_then type_of m.value)
+
+-- what is read of a value, or what stands for a missing one
+abbrev pub if_there : {A : Type 0} → Option Data → A → Result A ReadFault → Result A ReadFault
+if_there None default read = Ok default
+if_there (Some d) default read = read
+
+-- a value that is there
+abbrev pub there : Path → Data → Member
+there p d = record { path = p; value = Some d }
+
 -- ---- objects and their keys
 
 abbrev pub is_key : ObjectKind → List ℕ → Bool
-is_key ObjectKind.Graph k = bytes_eq k (codes "dag_id") || bytes_eq k (codes "schedule") || bytes_eq k (codes "tasks")
-is_key ObjectKind.Task k = bytes_eq k (codes "id") || bytes_eq k (codes "upstream")
+is_key ObjectKind.Graph name = is_graph_key name
+is_key ObjectKind.Task name = is_task_key name
 
 abbrev pub has_known_keys : ObjectKind → Members → Bool
 has_known_keys kind no_members = true
@@ -38,10 +77,16 @@ object_at kind p d = do
 -- ---- texts and ids
 
 -- the text of a value that has to be there
-unfoldable pub text_at : Path → Option Data → Result (List ℕ) ReadFault
-text_at p value = do
-  d ← or_shape p value
-  or_shape p (as_str d)
+unfoldable pub text_at : Member → Result (List ℕ) ReadFault
+text_at = typed as_str
+
+-- a text, or what stands for a missing one
+unfoldable pub text_or : List ℕ → Member → Result (List ℕ) ReadFault
+text_or default m = if_there m.value default (text_at m)
+
+-- the source of the items of a task, if it has one
+unfoldable pub expand_at : Member → Result (Option (List ℕ)) ReadFault
+expand_at m = if_there m.value None (text_at m >>= λ s. Ok (Some s))
 
 -- an ASCII letter or digit, or one of - . _
 abbrev pub is_id_byte : ℕ → Bool
@@ -50,37 +95,115 @@ is_id_byte b = (nat_le 97 b && nat_le b 122) || (nat_le 65 b && nat_le b 90) || 
 abbrev pub is_id : List ℕ → Bool
 is_id s = nat_le 1 (length s) && nat_le (length s) LONGEST_ID && list_all is_id_byte s
 
+-- a text that has to be an id
+unfoldable pub named_at : Path → List ℕ → Result (List ℕ) ReadFault
+named_at p s = if is_id s then Ok s else Err (BadName p)
+
 -- an id that has to be there
-unfoldable pub id_at : Path → Option Data → Result (List ℕ) ReadFault
-id_at p value = do
-  s ← text_at p value
-  if is_id s then Ok s else Err (BadName p)
+unfoldable pub id_at : Member → Result (List ℕ) ReadFault
+id_at m = do
+  s ← text_at m
+  named_at m.path s
+
+-- ---- truth values and numbers
+
+-- a truth value, which is false where it is missing
+unfoldable pub flag_at : Member → Result Bool ReadFault
+flag_at m = if_there m.value false (typed as_bool m)
+
+-- a whole number that has to be there
+unfoldable pub whole_at : Member → Result ℤ ReadFault
+whole_at = typed (λ d. option_and_then as_i64 (as_number d))
+
+-- a number between these two
+unfoldable pub within : Path → ℕ → ℕ → ℤ → Result ℕ ReadFault
+within p least most (pos n) = if nat_le least n && nat_le n most then Ok n else Err (LimitPassed p)
+within p least most (negsuc n) = Err (LimitPassed p)
+
+-- a whole number between these two, or what stands for a missing one
+unfoldable pub count_at : ℕ → ℕ → ℕ → Member → Result ℕ ReadFault
+count_at default least most m = if_there m.value default (whole_at m >>= within m.path least most)
+
+-- a limit that has to hold
+unfoldable pub limit : Path → Bool → Result (Unit {0}) ReadFault
+limit p holds = if holds then Ok tt else Err (LimitPassed p)
 
 -- ---- lists
 
 -- the list of a value that has to be there
-unfoldable pub items_at : Path → Option Data → Result Items ReadFault
-items_at p value = do
-  d ← or_shape p value
-  or_shape p (as_array d)
+unfoldable pub items_at : Member → Result Items ReadFault
+items_at = typed as_array
+
+-- what is read of each item
+unfoldable pub each_item : {A : Type 0} → (Data → Result A ReadFault) → Items → Result (List A) ReadFault
+each_item f no_items = Ok []
+each_item f (item d ds) = do
+  x ← f d
+  xs ← each_item f ds
+  Ok (x ∷ xs)
+
+-- what is read of each member, by its name
+unfoldable pub each_member : {A : Type 0} → (List ℕ → Data → Result A ReadFault) → Members → Result (List A) ReadFault
+each_member f no_members = Ok []
+each_member f (member name d ms) = do
+  x ← f name d
+  xs ← each_member f ms
+  Ok (x ∷ xs)
 
 -- the texts of a list of texts
-unfoldable pub texts_in : Path → Items → Result (List (List ℕ)) ReadFault
-texts_in p no_items = Ok []
-texts_in p (item d ds) = do
-  s ← text_at p (Some d)
-  ss ← texts_in p ds
-  Ok (s ∷ ss)
-
--- each text once, in order of first use
-unfoldable pub distinct : List (List ℕ) → List (List ℕ)
-distinct [] = []
-distinct (s ∷ ss) = s ∷ filter (λ t. not (bytes_eq s t)) (distinct ss)
+abbrev pub texts_in : Path → Items → Result (List (List ℕ)) ReadFault
+texts_in p = each_item (λ d. text_at (there p d))
 
 -- the distinct upstreams of a task; none where the key is missing
-unfoldable pub upstreams_at : Path → Option Data → Result (List (List ℕ)) ReadFault
-upstreams_at p None = Ok []
-upstreams_at p (Some d) = do
-  ds ← items_at p (Some d)
-  ss ← texts_in p ds
-  Ok (distinct ss)
+unfoldable pub upstreams_at : Member → Result (List (List ℕ)) ReadFault
+upstreams_at m = if_there m.value [] (do
+  ds ← items_at m
+  ss ← texts_in m.path ds
+  Ok (distinct ss))
+
+-- ---- pools
+
+-- the members of a value that has to be there
+unfoldable pub members_at : Member → Result Members ReadFault
+members_at = typed as_object
+
+-- a pool of this name
+unfoldable pub pool_at : Path → List ℕ → Data → Result PoolDraft ReadFault
+pool_at p text d = do
+  number ← whole_at (there p d)
+  name ← named_at p text
+  slots ← within p 1 MOST_SLOTS number
+  Ok (record { name = name; slots = slots })
+
+-- the pools by name, as members stand in an object; none where the key is missing
+unfoldable pub pools_at : Member → Result (List PoolDraft) ReadFault
+pools_at m = if_there m.value [] (members_at m >>= each_member (pool_at m.path))
+
+-- ---- names
+
+unfoldable pub kind_named : List ℕ → Option TaskKind
+kind_named s = if bytes_eq s (codes "program") then Some TaskKind.Program else (if bytes_eq s (codes "branch") then Some TaskKind.Branch else None)
+
+-- a program where it is missing
+unfoldable pub kind_at : Member → Result TaskKind ReadFault
+kind_at m = if_there m.value TaskKind.Program (text_at m >>= λ s. or_shape m.path (kind_named s))
+
+unfoldable pub weight_rule_named : List ℕ → Option WeightRule
+weight_rule_named s =
+    if bytes_eq s (codes "downstream") then Some WeightRule.Downstream
+    else (if bytes_eq s (codes "upstream") then Some WeightRule.Upstream
+    else (if bytes_eq s (codes "absolute") then Some WeightRule.Absolute else None))
+
+-- that of downstreams where it is missing
+unfoldable pub weight_rule_at : Member → Result WeightRule ReadFault
+weight_rule_at m = if_there m.value WeightRule.Downstream (text_at m >>= λ s. or_shape m.path (weight_rule_named s))
+
+unfoldable pub context_named : List ℕ → Option ContextVariable
+context_named s =
+    if bytes_eq s (codes "logical_date") then Some ContextVariable.LogicalDate
+    else (if bytes_eq s (codes "data_interval_start") then Some ContextVariable.DataIntervalStart
+    else (if bytes_eq s (codes "data_interval_end") then Some ContextVariable.DataIntervalEnd
+    else (if bytes_eq s (codes "dag_id") then Some ContextVariable.DagId
+    else (if bytes_eq s (codes "task_id") then Some ContextVariable.TaskId
+    else (if bytes_eq s (codes "map_index") then Some ContextVariable.MapIndex
+    else (if bytes_eq s (codes "try_number") then Some ContextVariable.TryNumber else None))))))

@@ -1,4 +1,6 @@
-pub mod Tasks
+pub mod Drafts
 pub mod Gives
+pub mod Keys
 pub mod Fields
+pub mod Commands
 pub mod Reading

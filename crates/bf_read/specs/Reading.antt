@@ -1,33 +1,48 @@
 -- What is read of a graph file: what it says, or the first fault of the walk through it.
-use Rattle.std.specs.Prelude.{ℕ, ◌+◌, List, [], ◌∷◌, ◌++◌, length, codes, nat_le, if◌then◌else◌, Option, Some, None, Result, Ok, Err}
+use Rattle.std.specs.Prelude.{ℕ, ◌+◌, List, [], ◌∷◌, ◌++◌, length, codes, nat_le, if◌then◌else◌, Option, Some, None, is_some, Result, Ok, Err}
 use Rattle.std.specs.List.{list_any}
 use Rattle.std.specs.Str.{bytes_eq, is_utf8}
 use Rattle.serde_json.specs.Data.{Data, Items, no_items, item}
 use Rattle.serde_json.specs.Events.{items_len}
-use Rattle.serde_json.specs.Find.{get}
 use Rattle.serde_json.specs.Read.{read}
 use Rattle.bf_read.specs.declared.draft.Draft.{Draft}
+use Rattle.bf_read.specs.declared.draft.PoolDraft.{PoolDraft}
 use Rattle.bf_read.specs.declared.draft.TaskDraft.{TaskDraft}
-use Rattle.bf_read.specs.declared.draft.TheConstants.{MOST_TASKS, MOST_EDGES}
+use Rattle.bf_read.specs.declared.draft.TheConstants.{MOST_TASKS, MOST_EDGES, MOST_RETRIES, MOST_SLOTS, GREATEST_WEIGHT, MOST_ACTIVE_RUNS}
+use Rattle.bf_read.specs.declared.tasks.TaskPlace.{TaskPlace}
+use Rattle.bf_read.specs.declared.tasks.TaskWork.{TaskWork}
+use Rattle.bf_read.specs.declared.tasks.TaskDemand.{TaskDemand}
 use Rattle.bf_read.specs.declared.reader.TheConstants.{MOST_BYTES}
+use Rattle.bf_read.specs.declared.keys.GraphKey.{GraphKey}
+use Rattle.bf_read.specs.declared.keys.TaskKey.{TaskKey}
 use Rattle.bf_read.specs.declared.path.Path.{Path}
-use Rattle.bf_read.specs.declared.path.Path.TheVariants.{Bytes, Top, DagId, Schedule, Tasks, Task, TaskId, TaskUpstream}
 use Rattle.bf_read.specs.declared.fault.ReadFault.{ReadFault}
-use Rattle.bf_read.specs.declared.fault.ReadFault.TheVariants.{NotJson, DuplicateTask, LimitPassed}
+use Rattle.bf_read.specs.declared.fault.ReadFault.TheVariants.{NotJson, DuplicateTask}
 use Rattle.bf_read.specs.declared.fields.ObjectKind.{ObjectKind}
+use Rattle.bf_read.specs.Drafts.{edge_count}
 use Rattle.bf_read.specs.Gives.{◌>>=◌}
-use Rattle.bf_read.specs.Fields.{object_at, text_at, id_at, items_at, upstreams_at}
-use Rattle.bf_read.specs.Tasks.{edge_count}
+use Rattle.bf_read.specs.Fields.{Member, graph_member, task_member, object_at, text_at, text_or, id_at, kind_at, expand_at, flag_at, count_at, weight_rule_at, limit, items_at, upstreams_at, pools_at}
+use Rattle.bf_read.specs.Commands.{command_at}
 
 -- what a graph file says
 pub record GraphFile : Type 0 where
   pub dag_id : List ℕ
   pub schedule : List ℕ
+  pub zone : List ℕ
+  pub max_active_runs : ℕ
+  pub pools : List PoolDraft
   pub tasks : List TaskDraft
 
 -- what the file of a draft says
 abbrev pub graph_file_of : Draft → GraphFile
-graph_file_of draft = record { dag_id = draft.dag_id; schedule = draft.schedule; tasks = draft.tasks }
+graph_file_of draft = record {
+  dag_id = draft.dag_id;
+  schedule = draft.schedule;
+  zone = draft.zone;
+  max_active_runs = draft.max_active_runs;
+  pools = draft.pools;
+  tasks = draft.tasks;
+}
 
 -- ---- tasks
 
@@ -35,19 +50,59 @@ graph_file_of draft = record { dag_id = draft.dag_id; schedule = draft.schedule;
 unfoldable pub fresh : List TaskDraft → List ℕ → Result (List ℕ) ReadFault
 fresh before id = if list_any (λ task. bytes_eq id task.id) before then Err (DuplicateTask id) else Ok id
 
--- upstreams that are not too many, with those of the tasks before
-unfoldable pub few_edges : Path → List TaskDraft → List (List ℕ) → Result (List (List ℕ)) ReadFault
-few_edges p before upstreams = if nat_le (edge_count before + length upstreams) MOST_EDGES then Ok upstreams else Err (LimitPassed p)
+-- a task's id and its upstreams, which with those of the tasks before are not too many
+unfoldable pub place_at : List TaskDraft → (TaskKey → Member) → Result TaskPlace ReadFault
+place_at before at = do
+  found ← id_at (at TaskKey.Id)
+  id ← fresh before found
+  upstreams ← upstreams_at (at TaskKey.Upstream)
+  _ ← limit (at TaskKey.Upstream).path (nat_le (edge_count before + length upstreams) MOST_EDGES)
+  Ok (record { id = id; upstreams = upstreams })
+
+-- what a task does, and when
+unfoldable pub work_at : (TaskKey → Member) → Result TaskWork ReadFault
+work_at at = do
+  rule ← text_or (codes "all_success") (at TaskKey.Rule)
+  kind ← kind_at (at TaskKey.Kind)
+  command ← command_at (is_some (at TaskKey.Expand).value) (at TaskKey.Command)
+  expand ← expand_at (at TaskKey.Expand)
+  depends_on_past ← flag_at (at TaskKey.DependsOnPast)
+  retries ← count_at 0 0 MOST_RETRIES (at TaskKey.Retries)
+  Ok (record { rule = rule; kind = kind; command = command; expand = expand; depends_on_past = depends_on_past; retries = retries })
+
+-- what a running try of a task takes, and what the task weighs
+unfoldable pub demand_at : (TaskKey → Member) → Result TaskDemand ReadFault
+demand_at at = do
+  pool ← text_or (codes "default_pool") (at TaskKey.Pool)
+  slots ← count_at 1 1 MOST_SLOTS (at TaskKey.PoolSlots)
+  weight ← count_at 1 0 GREATEST_WEIGHT (at TaskKey.PriorityWeight)
+  weight_rule ← weight_rule_at (at TaskKey.WeightRule)
+  Ok (record { pool = pool; slots = slots; weight = weight; weight_rule = weight_rule })
+
+abbrev pub task_of : TaskPlace → TaskWork → TaskDemand → TaskDraft
+task_of place work demand = record {
+  id = place.id;
+  upstreams = place.upstreams;
+  rule = work.rule;
+  kind = work.kind;
+  command = work.command;
+  expand = work.expand;
+  depends_on_past = work.depends_on_past;
+  retries = work.retries;
+  pool = demand.pool;
+  pool_slots = demand.slots;
+  priority_weight = demand.weight;
+  weight_rule = demand.weight_rule;
+}
 
 -- the task at n, after these
 unfoldable pub task_at : List TaskDraft → ℕ → Data → Result TaskDraft ReadFault
 task_at before n d = do
-  _ ← object_at ObjectKind.Task (Task n) d
-  found ← id_at (TaskId n) (get (codes "id") d)
-  id ← fresh before found
-  distinct ← upstreams_at (TaskUpstream n) (get (codes "upstream") d)
-  upstreams ← few_edges (TaskUpstream n) before distinct
-  Ok (record { id = id; upstreams = upstreams })
+  _ ← object_at ObjectKind.Task (Path.Task n) d
+  place ← place_at before (task_member n d)
+  work ← work_at (task_member n d)
+  demand ← demand_at (task_member n d)
+  Ok (task_of place work demand)
 
 -- these tasks, and those from n on
 unfoldable pub tasks_from : List TaskDraft → ℕ → Items → Result (List TaskDraft) ReadFault
@@ -56,21 +111,29 @@ tasks_from before n (item d ds) = do
   task ← task_at before n d
   tasks_from (before ++ task ∷ []) (n + 1) ds
 
--- not too many tasks
-unfoldable pub few_tasks : Items → Result (Unit {0}) ReadFault
-few_tasks ds = if nat_le (items_len ds) MOST_TASKS then Ok tt else Err (LimitPassed Tasks)
+-- the tasks, of which there may not be too many
+unfoldable pub tasks_at : Member → Result (List TaskDraft) ReadFault
+tasks_at m = do
+  ds ← items_at m
+  _ ← limit m.path (nat_le (items_len ds) MOST_TASKS)
+  tasks_from [] 0 ds
 
 -- ---- the whole
 
+unfoldable pub draft_at : (GraphKey → Member) → Result GraphFile ReadFault
+draft_at at = do
+  dag_id ← id_at (at GraphKey.DagId)
+  schedule ← text_at (at GraphKey.Schedule)
+  zone ← text_or (codes "UTC") (at GraphKey.Zone)
+  max_active_runs ← count_at 16 1 MOST_ACTIVE_RUNS (at GraphKey.MaxActiveRuns)
+  pools ← pools_at (at GraphKey.Pools)
+  tasks ← tasks_at (at GraphKey.Tasks)
+  Ok (record { dag_id = dag_id; schedule = schedule; zone = zone; max_active_runs = max_active_runs; pools = pools; tasks = tasks })
+
 unfoldable pub draft_of : Data → Result GraphFile ReadFault
 draft_of d = do
-  _ ← object_at ObjectKind.Graph Top d
-  dag_id ← id_at DagId (get (codes "dag_id") d)
-  schedule ← text_at Schedule (get (codes "schedule") d)
-  ds ← items_at Tasks (get (codes "tasks") d)
-  _ ← few_tasks ds
-  tasks ← tasks_from [] 0 ds
-  Ok (record { dag_id = dag_id; schedule = schedule; tasks = tasks })
+  _ ← object_at ObjectKind.Graph Path.Top d
+  draft_at (graph_member d)
 
 -- what a text says that reads as this data, or as none
 abbrev pub graph_of : Option Data → Result GraphFile ReadFault
@@ -83,4 +146,6 @@ data_in bytes = if is_utf8 bytes then read bytes else None
 
 -- what a graph file says, or its first fault: it is too long, or no JSON text, or its value lacks something
 unfoldable pub graph_in : List ℕ → Result GraphFile ReadFault
-graph_in bytes = if nat_le (length bytes) MOST_BYTES then graph_of (data_in bytes) else Err (LimitPassed Bytes)
+graph_in bytes = do
+  _ ← limit Path.Bytes (nat_le (length bytes) MOST_BYTES)
+  graph_of (data_in bytes)

@@ -1,8 +1,9 @@
 //! Drafts of graphs.
-ghost use Rattle.std.specs.Prelude.{◌≤◌, length};
-ghost use Rattle.bf_read.specs.Tasks.{edge_count, HaveDistinctIds};
-ghost use Rattle.bf_read.specs.declared.draft.TheConstants.{MOST_TASKS, MOST_EDGES};
+ghost use Rattle.std.specs.Prelude.{◌≡◌, ◌≤◌};
+ghost use Rattle.bf_read.specs.Drafts.{IsDraft, edge_count as edges};
+ghost use Rattle.bf_read.specs.declared.draft.TheConstants.{MOST_EDGES};
 
+use crate::kinds::{ContextVariable, TaskKind, WeightRule};
 use bf_value::{Sequence, Text};
 
 /// How many tasks a graph file may have.
@@ -11,22 +12,92 @@ pub const MOST_TASKS: usize = 2_000;
 /// How many distinct edges a graph file may have.
 pub const MOST_EDGES: usize = 20_000;
 
-/// What a graph file says of a task.
+/// How many words a command may have.
+pub const MOST_WORDS: usize = 64;
+
+/// How many distinct tasks a command may pull from.
+pub const MOST_PULLS: usize = 16;
+
+/// How many bytes a text in a command may have.
+pub const LONGEST_WORD: usize = 4_096;
+
+/// How often a failed try may be made again.
+pub const MOST_RETRIES: u32 = 100;
+
+/// How many slots a pool may have, and a task may take.
+pub const MOST_SLOTS: u32 = 1_000_000;
+
+/// What a task may weigh by itself.
+pub const GREATEST_WEIGHT: u32 = 1_000_000;
+
+/// How many runs may be open at once.
+pub const MOST_ACTIVE_RUNS: u32 = 4_096;
+
+/// A word of a task's command, as a graph file gives it.
+#[derive(Debug, Drop)]
+pub enum WordDraft {
+    Text(Text),
+    Context(ContextVariable),
+    /// What is pulled from the task of this id, if there is one.
+    Pull(Text),
+    /// The item of an instance of an expanded task.
+    Item,
+}
+
+/// A pool, as a graph file gives it.
+#[derive(Debug, Drop)]
+pub struct PoolDraft {
+    pub name: Text,
+    pub slots: u32,
+}
+
+/// What a graph file says of a task, with the defaults filled in. Tasks, rules and pools stand in it by their names, which
+/// needn't be those of any.
 #[derive(Debug, Drop)]
 pub struct TaskDraft {
     pub id: Text,
-    /// The distinct texts that the file gives as upstreams, in order of first use. No task need have them as its id.
+    /// Distinct, in order of first use.
     pub upstreams: Sequence<Text>,
+    pub rule: Text,
+    pub kind: TaskKind,
+    pub command: Sequence<WordDraft>,
+    /// The source of the items, of a task that is to be expanded.
+    pub expand: Option<Text>,
+    pub depends_on_past: bool,
+    pub retries: u32,
+    pub pool: Text,
+    pub pool_slots: u32,
+    pub priority_weight: u32,
+    pub weight_rule: WeightRule,
 }
 
-/// What a graph file says.
+/// What a graph file says, with the defaults filled in.
 #[derive(Debug, Drop)]
 pub struct Draft {
     pub dag_id: Text,
     pub schedule: Text,
+    pub zone: Text,
+    pub max_active_runs: u32,
+    /// Those that the file names, by name in byte order.
+    pub pools: Sequence<PoolDraft>,
     /// In the order of the file.
     pub tasks: Sequence<TaskDraft>,
-    pub ghost few_tasks: { length tasks ≤ MOST_TASKS },
-    pub ghost few_edges: { edge_count tasks ≤ MOST_EDGES },
-    pub ghost distinct_ids: { HaveDistinctIds tasks },
+    pub ghost within_limits: { IsDraft max_active_runs pools tasks },
+}
+
+/// How many upstreams the tasks have.
+pub(crate) fn edges_of(tasks: &[TaskDraft]) -> usize
+    requires { edges tasks.now ≤ MOST_EDGES }
+    ensures { result ≡ edges tasks.now }
+{
+    tasks.iter().map(|task| task.upstreams.len()).sum()
+}
+
+impl Draft {
+    /// How many distinct edges there are.
+    pub fn edge_count(&self) -> usize
+        ensures { result ≡ edges self.now.tasks }
+    {
+        edges_of(self.tasks.as_slice())
+    }
 }

@@ -1,12 +1,13 @@
 //! Members of JSON objects, by their types.
-ghost use Rattle.std.specs.Prelude.{◌≡◌, map, option_map, string_bytes};
+ghost use Rattle.std.specs.Prelude.{◌≡◌, ◌≤◌, option_map, string_bytes, true, IfOk, OnOk};
 ghost use Rattle.std.specs.BTreeMap.{keys};
 ghost use Rattle.std.specs.List.{list_all};
 ghost use Rattle.serde_json.specs.View.{view, items_view, members_view};
 ghost use Rattle.bf_read.specs.Gives.{Gives};
-ghost use Rattle.bf_read.specs.Fields.{text_at as text, id_at as id, is_id_byte as id_byte, is_id as id_text, is_key as key, has_known_keys as has_known, object_at as object, items_at as items, texts_in as texts};
+ghost use Rattle.bf_read.specs.Fields.{member_of, there as place, graph_member, task_member, text_at as text, text_or as text_unless, expand_at as expand, id_at as id, is_id_byte as id_byte, is_id as id_text, named_at as named, is_key as key, has_known_keys as has_known, object_at as object, items_at as items, flag_at as flag, whole_at as whole, within as between, count_at as count, limit as limited, members_at as members};
 
 use crate::fault::ReadFault;
+use crate::keys::{GraphKey, TaskKey, is_graph_key, is_task_key};
 use crate::path::Path;
 use bf_value::Text;
 use serde_json::{Map, Value};
@@ -22,12 +23,66 @@ pub(crate) enum ObjectKind {
     Task,
 }
 
+/// A value and its place, where the value may be missing.
+#[derive(Clone, Copy)]
+pub(crate) struct Field<'a> {
+    pub(crate) path: Path,
+    pub(crate) value: Option<&'a Value>,
+}
+
+/// A value that is there.
+pub(crate) fn there<'a>(path: Path, value: &'a Value) -> Field<'a>
+    ensures { member_of result ≡ place path (view value.entry.now) }
+{
+    Field {
+        path,
+        value: Some(value),
+    }
+}
+
+/// The object of the whole file.
+#[derive(Clone, Copy)]
+pub(crate) struct GraphObject<'a> {
+    pub(crate) value: &'a Value,
+}
+
+/// The object of a task, and how many tasks stand before it.
+#[derive(Clone, Copy)]
+pub(crate) struct TaskObject<'a> {
+    pub(crate) n: u32,
+    pub(crate) value: &'a Value,
+}
+
+impl<'a> GraphObject<'a> {
+    /// The member at a key.
+    pub(crate) fn at(self, key: GraphKey) -> Field<'a>
+        ensures { member_of result ≡ graph_member (view self.entry.value.now) key }
+    {
+        Field {
+            path: Path::Key(key),
+            value: self.value.get(key.name()),
+        }
+    }
+}
+
+impl<'a> TaskObject<'a> {
+    /// The member at a key.
+    pub(crate) fn at(self, key: TaskKey) -> Field<'a>
+        ensures { member_of result ≡ task_member self.entry.n (view self.entry.value.now) key }
+    {
+        Field {
+            path: Path::TaskKey(self.n, key),
+            value: self.value.get(key.name()),
+        }
+    }
+}
+
 fn is_key(kind: ObjectKind, name: &str) -> bool
     ensures { result ≡ key kind name.now }
 {
     match kind {
-        ObjectKind::Graph => name == "dag_id" || name == "schedule" || name == "tasks",
-        ObjectKind::Task => name == "id" || name == "upstream",
+        ObjectKind::Graph => is_graph_key(name),
+        ObjectKind::Task => is_task_key(name),
     }
 }
 
@@ -56,12 +111,35 @@ pub(crate) fn object_at(kind: ObjectKind, path: Path, value: &Value) -> Result<(
 
 /// The text of a value that has to be there.
 #[tactic(auto, unfolding(crate::specs::Fields::text_at))]
-pub(crate) fn text_at<'a>(path: Path, value: Option<&'a Value>) -> Result<&'a str, ReadFault>
-    ensures { Gives (λ s. s.now) result (text path (option_map (λ v. view v.now) value.entry)) }
+pub(crate) fn text_at<'a>(field: Field<'a>) -> Result<&'a str, ReadFault>
+    ensures { Gives (λ s. s.now) result (text (member_of field.entry)) }
 {
-    value
+    field
+        .value
         .and_then(|value| value.as_str())
-        .ok_or(ReadFault::Shape(path))
+        .ok_or(ReadFault::Shape(field.path))
+}
+
+/// A text, or what stands for a missing one.
+#[tactic(auto, unfolding(crate::specs::Fields::text_or))]
+pub(crate) fn text_or(alloc: Global, default: &str, field: Field) -> Result<Text, ReadFault>
+    ensures { Gives (λ s. s) result (text_unless default.now (member_of field.entry)) }
+{
+    if field.value.is_none() {
+        return Ok(Text::copied(alloc, default)?);
+    }
+    Ok(Text::copied(alloc, text_at(field)?)?)
+}
+
+/// The source of the items of a task, if it has one.
+#[tactic(auto, unfolding(crate::specs::Fields::expand_at))]
+pub(crate) fn expand_at(alloc: Global, field: Field) -> Result<Option<Text>, ReadFault>
+    ensures { Gives (λ s. s) result (expand (member_of field.entry)) }
+{
+    if field.value.is_none() {
+        return Ok(None);
+    }
+    Ok(Some(Text::copied(alloc, text_at(field)?)?))
 }
 
 fn is_id_byte(byte: u8) -> bool
@@ -82,40 +160,106 @@ fn is_id(text: &str) -> bool
     1 <= text.len() && text.len() <= LONGEST_ID && are_id_bytes(text.as_bytes())
 }
 
-/// An id that has to be there.
-#[tactic(auto, unfolding(crate::specs::Fields::id_at))]
-pub(crate) fn id_at(alloc: Global, path: Path, value: Option<&Value>) -> Result<Text, ReadFault>
-    ensures { Gives (λ s. s) result (id path (option_map (λ v. view v.now) value.entry)) }
+/// A text that has to be an id.
+#[tactic(auto, unfolding(crate::specs::Fields::named_at))]
+pub(crate) fn named_at(alloc: Global, path: Path, text: &str) -> Result<Text, ReadFault>
+    ensures { Gives (λ s. s) result (named path text.now) }
 {
-    let text = text_at(path, value)?;
     if !is_id(text) {
         return Err(ReadFault::BadName(path));
     }
     Ok(Text::copied(alloc, text)?)
 }
 
-/// The list of a value that has to be there.
-#[tactic(auto, unfolding(crate::specs::Fields::items_at))]
-pub(crate) fn items_at<'a>(path: Path, value: Option<&'a Value>) -> Result<&'a [Value], ReadFault>
-    ensures { Gives (λ items. items_view items.now) result (items path (option_map (λ v. view v.now) value.entry)) }
+/// An id that has to be there.
+#[tactic(auto, unfolding(crate::specs::Fields::id_at))]
+pub(crate) fn id_at(alloc: Global, field: Field) -> Result<Text, ReadFault>
+    ensures { Gives (λ s. s) result (id (member_of field.entry)) }
 {
-    value
-        .and_then(|value| value.as_array())
-        .map(|items| items.as_slice())
-        .ok_or(ReadFault::Shape(path))
+    let text = text_at(field)?;
+    named_at(alloc, field.path, text)
 }
 
-/// The texts of a list of texts.
-pub(crate) fn texts_in<'a>(
-    alloc: Global,
-    path: Path,
-    items: &'a [Value],
-) -> Result<Vec<&'a str>, ReadFault>
-    ensures { Gives (λ v. map (λ s. s.now) v.items) result (texts path (items_view items.entry.now)) }
+/// A truth value, which is false where it is missing.
+#[tactic(auto, unfolding(crate::specs::Fields::flag_at))]
+pub(crate) fn flag_at(field: Field) -> Result<bool, ReadFault>
+    ensures { Gives (λ b. b) result (flag (member_of field.entry)) }
 {
-    let mut texts = Vec::new(alloc);
-    for item in items {
-        texts.push(text_at(path, Some(item))?)?;
+    match field.value {
+        None => Ok(false),
+        Some(value) => value.as_bool().ok_or(ReadFault::Shape(field.path)),
     }
-    Ok(texts)
+}
+
+/// A whole number that has to be there.
+#[tactic(auto, unfolding(crate::specs::Fields::whole_at))]
+pub(crate) fn whole_at(field: Field) -> Result<i64, ReadFault>
+    ensures { Gives (λ z. z) result (whole (member_of field.entry)) }
+{
+    field
+        .value
+        .and_then(|value| value.as_i64())
+        .ok_or(ReadFault::Shape(field.path))
+}
+
+/// Refuses a whole number that isn't between these two.
+#[tactic(auto, unfolding(crate::specs::Fields::within))]
+pub(crate) fn within(path: Path, least: u32, most: u32, number: i64) -> Result<u32, ReadFault>
+    ensures exact { Gives (λ n. n) result (between path least most number) }
+    ensures least { IfOk result (λ n. least ≤ n) }
+    ensures most { IfOk result (λ n. n ≤ most) }
+{
+    if number < i64::from(least) || i64::from(most) < number {
+        return Err(ReadFault::LimitPassed(path));
+    }
+    Ok(number as u32)
+}
+
+/// A whole number between two others, or what stands for a missing one.
+#[tactic(auto, unfolding(crate::specs::Fields::count_at))]
+pub(crate) fn count_at(default: u32, least: u32, most: u32, field: Field) -> Result<u32, ReadFault>
+    ensures exact { Gives (λ n. n) result (count default least most (member_of field.entry)) }
+    ensures least { least ≤ default → IfOk result (λ n. least ≤ n) }
+    ensures most { default ≤ most → IfOk result (λ n. n ≤ most) }
+{
+    if field.value.is_none() {
+        return Ok(default);
+    }
+    let number = whole_at(field)?;
+    within(field.path, least, most, number)
+}
+
+/// Refuses what passes a limit.
+#[tactic(auto, unfolding(crate::specs::Fields::limit))]
+pub(crate) fn limit(path: Path, holds: bool) -> Result<(), ReadFault>
+    ensures exact { Gives (λ u. u) result (limited path holds) }
+    ensures holds { OnOk result (holds ≡ true) }
+{
+    if !holds {
+        return Err(ReadFault::LimitPassed(path));
+    }
+    Ok(())
+}
+
+/// The list of a value that has to be there.
+#[tactic(auto, unfolding(crate::specs::Fields::items_at))]
+pub(crate) fn items_at<'a>(field: Field<'a>) -> Result<&'a [Value], ReadFault>
+    ensures { Gives (λ items. items_view items.now) result (items (member_of field.entry)) }
+{
+    field
+        .value
+        .and_then(|value| value.as_array())
+        .map(|items| items.as_slice())
+        .ok_or(ReadFault::Shape(field.path))
+}
+
+/// The members of a value that has to be there.
+#[tactic(auto, unfolding(crate::specs::Fields::members_at))]
+pub(crate) fn members_at<'a>(field: Field<'a>) -> Result<&'a Map<String, Value>, ReadFault>
+    ensures { Gives (λ ms. members_view ms.now.entries) result (members (member_of field.entry)) }
+{
+    field
+        .value
+        .and_then(|value| value.as_object())
+        .ok_or(ReadFault::Shape(field.path))
 }

@@ -1,21 +1,39 @@
 //! Graph files, read as drafts.
 //!
-//! A graph file is one JSON object: `dag_id` and `schedule` are texts, and `tasks` is a list of objects, each with
-//! an `id` and, where it has upstreams, a list `upstream` of their ids. `read_graph` gives the draft of such a file
-//! with its defaults filled in, or the first fault of its walk: the object, an unknown key of it, then its keys in
-//! their order, and the tasks in theirs. Whether ids that tasks refer to are there is looked at when a draft is checked.
+//! A graph file is one JSON object of at most 8,388,608 bytes. `dag_id` is an id, `schedule` and `zone` (`UTC`) are
+//! texts, `max_active_runs` (16) is a number from 1 to 4,096, `pools` (none) is an object of names to slots from 1 to
+//! 1,000,000, and `tasks` is a list of at most 2,000 objects. A task has an `id` of its own; what it comes after,
+//! `upstream` (none, 20,000 distinct ones over the file) and `rule` (`all_success`); what it does, `kind` (`program`, or
+//! `branch`), `command` (no words; texts, or objects with one key: `context`, `pull` or `item`), `expand` (none),
+//! `depends_on_past` (false) and `retries` (0, to 100); and what it takes, `pool` (`default_pool`), `pool_slots` (1, from
+//! 1 to 1,000,000), `priority_weight` (1, from 0 to 1,000,000) and `weight_rule` (`downstream`, or `upstream`,
+//! `absolute`). In parentheses stands what is meant by a missing key; the others have to be there.
+//!
+//! `read_graph` gives the draft of such a file with its defaults filled in, or the first fault of its walk: of each
+//! object an unknown key, then its keys in this order, the pools by name, and the tasks as they stand. For one key
+//! wrong types come before bad names, and these before limits and ids seen before. Whether ids that tasks refer to are
+//! there, and what a schedule, a zone and a rule mean, is looked at when a draft is checked.
 #![tactic(auto)]
 
+mod command;
 mod draft;
 mod fault;
 mod fields;
+mod keys;
 mod kinds;
 mod path;
+mod pools;
 mod reader;
-mod upstreams;
+mod tasks;
+mod texts;
 
-pub use draft::{Draft, MOST_EDGES, MOST_TASKS, TaskDraft};
+pub use command::pulls_of;
+pub use draft::{
+    Draft, GREATEST_WEIGHT, LONGEST_WORD, MOST_ACTIVE_RUNS, MOST_EDGES, MOST_PULLS, MOST_RETRIES,
+    MOST_SLOTS, MOST_TASKS, MOST_WORDS, PoolDraft, TaskDraft, WordDraft,
+};
 pub use fault::ReadFault;
+pub use keys::{GraphKey, TaskKey};
 pub use kinds::{ContextVariable, TaskKind, WeightRule};
 pub use path::Path;
 pub use reader::{MOST_BYTES, read_graph};

@@ -1,4 +1,5 @@
 //! Places in a graph file.
+use crate::keys::{GraphKey, TaskKey};
 use std::fmt;
 
 /// Where in a graph file a fault is. It is printed as the keys that lead there, and tasks count from 0:
@@ -9,12 +10,9 @@ pub enum Path {
     Bytes,
     /// The object of the whole file.
     Top,
-    DagId,
-    Schedule,
-    Tasks,
+    Key(GraphKey),
     Task(u32),
-    TaskId(u32),
-    TaskUpstream(u32),
+    TaskKey(u32, TaskKey),
 }
 
 impl fmt::Display for Path {
@@ -22,12 +20,9 @@ impl fmt::Display for Path {
         match self {
             Path::Bytes => write!(f, "bytes"),
             Path::Top => write!(f, "top"),
-            Path::DagId => write!(f, "dag_id"),
-            Path::Schedule => write!(f, "schedule"),
-            Path::Tasks => write!(f, "tasks"),
+            Path::Key(key) => write!(f, "{}", key.name()),
             Path::Task(n) => write!(f, "tasks[{n}]"),
-            Path::TaskId(n) => write!(f, "tasks[{n}].id"),
-            Path::TaskUpstream(n) => write!(f, "tasks[{n}].upstream"),
+            Path::TaskKey(n, key) => write!(f, "tasks[{n}].{}", key.name()),
         }
     }
 }

@@ -1,4 +1,8 @@
 //! Trigger rules, what they count, and what they say.
+ghost use Rattle.std.specs.Prelude.{◌≡◌};
+ghost use Rattle.bf_rule.specs.Names.{rule_named};
+ghost use Rattle.bf_rule.specs.Verdicts.{is_waiting};
+
 /// A trigger rule, by its name in Airflow ("Trigger Rules").
 #[derive(Clone, Copy, Debug, PartialEq, Eq)]
 pub enum Rule {
@@ -13,6 +17,35 @@ pub enum Rule {
     NoneFailedMinOneSuccess,
     NoneSkipped,
     Always,
+}
+
+impl Rule {
+    /// The rule of a name, as Airflow writes it: `all_success`.
+    pub fn named(name: &str) -> Option<Rule>
+        ensures { result ≡ rule_named name.now }
+    {
+        match name {
+            "all_success" => Some(Rule::AllSuccess),
+            "all_failed" => Some(Rule::AllFailed),
+            "all_skipped" => Some(Rule::AllSkipped),
+            "all_done" => Some(Rule::AllDone),
+            "one_success" => Some(Rule::OneSuccess),
+            "one_failed" => Some(Rule::OneFailed),
+            "one_done" => Some(Rule::OneDone),
+            "none_failed" => Some(Rule::NoneFailed),
+            "none_failed_min_one_success" => Some(Rule::NoneFailedMinOneSuccess),
+            "none_skipped" => Some(Rule::NoneSkipped),
+            "always" => Some(Rule::Always),
+            _ => None,
+        }
+    }
+
+    /// Whether a task of this rule is decided only once its upstreams are settled, and not before.
+    pub fn waits(self) -> bool
+        ensures { result ≡ is_waiting self }
+    {
+        !matches!(self, Rule::OneSuccess | Rule::OneFailed | Rule::OneDone | Rule::Always)
+    }
 }
 
 /// How many instances of the upstreams are in each state. A task that is undecided counts as one unfinished

@@ -1,6 +1,0 @@
-use Rattle.std.proofs.Common.{◌≡◌, map, take}
-use Rattle.bf_graph.specs.Shape.{texts}
-use Rattle.bf_check.proofs.shape.ids_of.Given as goal
-
-abbrev pub invariant-loop-task : goal.invariant-loop-task
-invariant-loop-task l = texts l.ids.items ≡ map (λ task. task.id) (take l.task-index l.tasks)

@@ -1,0 +1,10 @@
+use Rattle.std.proofs.Common.{◌≢◌, ◌<◌, ℕ, None}
+use Rattle.bf_graph.specs.Climbs.{IsDown}
+use Rattle.bf_graph.specs.Ranks.{rank_at}
+use Rattle.bf_graph.proofs.climb.found_in.Given as goal
+
+abbrev pub invariant-loop-t : goal.invariant-loop-t
+invariant-loop-t l = record {
+  down : IsDown l.edges l.climb;
+  ranked : (k : ℕ) → k < l.t → rank_at l.climb.found.ranks.items k ≢ None;
+}

@@ -1,0 +1,98 @@
+//! Ranks, found by climbing from each task to its upstreams.
+ghost use Rattle.std.specs.Prelude.{◌≡◌, ℕ, ◌<◌, List, None, Vec, length, Contains, MatchBool, MatchOption, IfOk};
+ghost use Rattle.std.specs.declared.alloc.Global.{Global as Heap};
+ghost use Rattle.bf_graph.specs.Edges.{lists, AreInRange};
+ghost use Rattle.bf_graph.specs.Ranks.{rank_at};
+ghost use Rattle.bf_graph.specs.Climbs.{AreAllFound, AreRankedBetween, IsFirstUnranked, IsDown, HasClimbed};
+ghost use Rattle.bf_graph.specs.Cycles.{HasCycle};
+
+use crate::ranking::Found;
+use crate::reach::unmarked;
+use bf_value::OutOfMemory;
+use std::alloc::Global;
+
+/// Ranks so far, and a path from a task up to an upstream without rank, and so on.
+#[derive(Drop)]
+struct Climb {
+    found: Found,
+    path: Vec<u32>,
+    /// Which tasks the path has come to.
+    seen: Vec<bool>,
+    /// How many of each task's upstreams are known to have ranks, so that none is looked at twice.
+    passed: Vec<usize>,
+}
+
+/// The place of the first upstream without rank.
+fn unranked_from(ranks: &[Option<u32>], upstreams: &[u32], from: usize) -> Option<usize>
+    requires { (u : ℕ) → Contains upstreams.now u → u < length ranks.now }
+    ensures { MatchOption result (AreRankedBetween ranks.now upstreams.now from (length upstreams.now))
+        (IsFirstUnranked ranks.now upstreams.now from) }
+{
+    for place in from..upstreams.len() {
+        if ranks[upstreams[place] as usize].is_none() {
+            return Some(place);
+        }
+    }
+    None
+}
+
+impl Climb {
+    fn new(alloc: Global, n: usize) -> Result<Climb, OutOfMemory>
+        ensures { IfOk result (λ c. (edges : List (Vec ℕ Heap)) → length edges ≡ n → IsDown edges c) }
+    {
+        Ok(Climb {
+            found: Found::new(alloc, n)?,
+            path: Vec::new(alloc),
+            seen: unmarked(alloc, n)?,
+            passed: vec![in alloc; 0; n]?,
+        })
+    }
+
+    /// Ranks a task, and before it those of its upstreams that have no rank; false where that comes upon a cycle.
+    fn climb(&mut self, alloc: Global, edges: &[Vec<u32>], start: u32) -> Result<bool, OutOfMemory>
+        requires in_range { AreInRange (lists edges.now) }
+        requires few { length edges.now < 4294967295 }
+        requires down { IsDown edges.now self.old }
+        requires within { start < length edges.now }
+        requires unranked { rank_at self.old.found.ranks.items start ≡ None }
+        ensures { IfOk result (λ is_ranked. MatchBool is_ranked
+            (HasClimbed edges.now start self.old self.new) (HasCycle (lists edges.now))) }
+    {
+        self.path.push(start)?;
+        self.seen[start as usize] = true;
+        'climb: while let Some(task) = self.path.pop() {
+            let upstreams = edges[task as usize].as_slice();
+            let passed = self.passed[task as usize];
+            let found = unranked_from(self.found.ranks.as_slice(), upstreams, passed);
+            let Some(place) = found else {
+                self.found.rank(alloc, edges, task)?;
+                continue;
+            };
+            let above = upstreams[place];
+            if self.seen[above as usize] {
+                return Ok(false);
+            }
+            self.passed[task as usize] = place;
+            self.path.push(task)?;
+            self.path.push(above)?;
+            self.seen[above as usize] = true;
+        }
+        Ok(true)
+    }
+}
+
+/// The rank of each task and which tasks reach it, if there is no cycle.
+pub(crate) fn found_in(alloc: Global, edges: &[Vec<u32>]) -> Result<Option<Found>, OutOfMemory>
+    requires in_range { AreInRange (lists edges.now) }
+    requires few { length edges.now < 4294967295 }
+    ensures { IfOk result (λ found. MatchOption found (HasCycle (lists edges.now)) (AreAllFound edges.now)) }
+{
+    let mut climb = Climb::new(alloc, edges.len())?;
+    for t in 0..edges.len() {
+        let rank = climb.found.ranks[t];
+        if rank.is_none() && !climb.climb(alloc, edges, t as u32)? {
+            return Ok(None);
+        }
+    }
+    Ok(Some(climb.found))
+}

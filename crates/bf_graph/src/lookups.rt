@@ -1,0 +1,123 @@
+//! Lists of tasks that a graph keeps or gives.
+ghost use Rattle.std.specs.Prelude.{◌≡◌, ◌+◌, ◌<◌, ◌≤◌, ◌==◌, ◌⊎◌, ℕ, true, List, All, Contains, length, map, [], IfOk, OnOk};
+ghost use Rattle.std.specs.List.Sorted.{IsStrictlyIncreasing};
+ghost use Rattle.bf_graph.specs.Edges.{lists, AreInRange};
+ghost use Rattle.bf_graph.specs.Reach.{is_marked};
+ghost use Rattle.bf_graph.specs.Lookups.{IsRisingListOf, IsLeaf, AreDownstreams, AreDownstreamsBelow};
+
+use bf_value::OutOfMemory;
+use std::alloc::Global;
+
+/// Adds a task to others that don't come after it, unless it is there.
+fn add_last(tasks: &mut Vec<u32>, task: u32) -> Result<(), OutOfMemory>
+    requires rising { IsStrictlyIncreasing tasks.old.items }
+    requires last { All (λ t. t ≤ task) tasks.old.items }
+    ensures { OnOk result (IsRisingListOf (λ t. Contains tasks.old.items t ⊎ (t ≡ task)) tasks.new.items) }
+{
+    if let Some(last) = tasks.last() {
+        if *last == task {
+            return Ok(());
+        }
+    }
+    tasks.push(task)?;
+    Ok(())
+}
+
+/// Adds a task to the downstreams of its upstreams.
+fn add_downstream(
+    edges: &[Vec<u32>],
+    found: &mut Vec<Vec<u32>>,
+    task: u32,
+) -> Result<(), OutOfMemory>
+    requires in_range { AreInRange (lists edges.now) }
+    requires within { task < length edges.now }
+    requires below { AreDownstreamsBelow (lists edges.now) task (lists found.old.items) }
+    ensures { OnOk result (AreDownstreamsBelow (lists edges.now) (task + 1) (lists found.new.items)) }
+{
+    for u in edges[task as usize].as_slice() {
+        add_last(&mut found[*u as usize], task)?;
+    }
+    Ok(())
+}
+
+/// For each task those of which it is a direct upstream.
+pub(crate) fn downstreams_of(
+    alloc: Global,
+    edges: &[Vec<u32>],
+) -> Result<Vec<Vec<u32>>, OutOfMemory>
+    requires in_range { AreInRange (lists edges.now) }
+    requires few { length edges.now < 4294967296 }
+    ensures { IfOk result (λ found. AreDownstreams (lists edges.now) (lists found.items)) }
+{
+    let mut found = empty_lists(alloc, edges.len())?;
+    for t in 0..edges.len() {
+        add_downstream(edges, &mut found, t as u32)?;
+    }
+    Ok(found)
+}
+
+/// So many empty lists.
+pub(crate) fn empty_lists<T: Drop>(alloc: Global, n: usize) -> Result<Vec<Vec<T>>, OutOfMemory>
+    ensures len { IfOk result (λ made. length made.items ≡ n) }
+    ensures empty { IfOk result (λ made. All (λ list. list.items ≡ []) made.items) }
+{
+    let mut made = Vec::with_capacity(alloc, n)?;
+    for _made in 0..n {
+        made.push(Vec::new(alloc))?;
+    }
+    Ok(made)
+}
+
+/// Which of these lists are empty.
+fn empty_ones(alloc: Global, lists: &[Vec<u32>]) -> Result<Vec<bool>, OutOfMemory>
+    ensures { IfOk result (λ marks. marks.items ≡ map (λ v. length v.items == 0) lists.now) }
+{
+    Ok(lists.iter().map(|list| list.is_empty()).collect(alloc)?)
+}
+
+/// The places that are marked.
+pub(crate) fn marked_places(alloc: Global, marks: &[bool]) -> Result<Vec<u32>, OutOfMemory>
+    requires { length marks.now < 4294967296 }
+    ensures { IfOk result (λ places. IsRisingListOf (λ t. is_marked marks.now t ≡ true) places.items) }
+{
+    let mut places = Vec::new(alloc);
+    for t in 0..marks.len() {
+        if marks[t] {
+            places.push(t as u32)?;
+        }
+    }
+    Ok(places)
+}
+
+/// The tasks without downstreams.
+pub(crate) fn leaves_of(alloc: Global, downstreams: &[Vec<u32>]) -> Result<Vec<u32>, OutOfMemory>
+    requires { length downstreams.now < 4294967296 }
+    ensures { IfOk result (λ leaves. (ups : List (List ℕ)) → AreDownstreams ups (lists downstreams.now)
+        → IsRisingListOf (IsLeaf ups) leaves.items) }
+{
+    let are_leaves = empty_ones(alloc, downstreams)?;
+    marked_places(alloc, are_leaves.as_slice())
+}
+
+fn is_marked_at(marks: &[bool], place: usize) -> bool
+    requires { place < length marks.now }
+    ensures { result ≡ is_marked marks.now place }
+{
+    marks[place]
+}
+
+/// Which rows have a mark at a place.
+pub(crate) fn column(
+    alloc: Global,
+    rows: &[Vec<bool>],
+    place: usize,
+) -> Result<Vec<bool>, OutOfMemory>
+    requires { All (λ row. place < length row.items) rows.now }
+    ensures { IfOk result (λ marks. marks.items ≡ map (λ row. is_marked row.items place) rows.now) }
+{
+    Ok(
+        rows.iter()
+            .map(|row| is_marked_at(row.as_slice(), place))
+            .collect(alloc)?,
+    )
+}

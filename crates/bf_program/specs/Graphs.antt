@@ -1,0 +1,43 @@
+-- What the bytes of a graph file say: a plan, or why there is none.
+use Rattle.std.specs.Prelude.{◌≡◌, ℕ, not, List, length, find, Option, None, option_map, Ok}
+use Rattle.bf_read.specs.declared.draft.Draft.{Draft}
+use Rattle.bf_read.specs.Drafts.{edge_count}
+use Rattle.bf_read.specs.Gives.{Fails}
+use Rattle.bf_read.specs.Reading.{graph_in, graph_file_of}
+use Rattle.bf_check.specs.Checked.{Checked}
+use Rattle.bf_check.specs.Checking.{dag_of}
+use Rattle.bf_check.specs.Refusals.{IsAccepted, IsFaultOf}
+use Rattle.bf_check.specs.Served.{first_unserved}
+use Rattle.bf_program.specs.declared.graphs.GraphSize.{GraphSize}
+use Rattle.bf_program.specs.declared.graphs.PlanFault.{PlanFault}
+use Rattle.bf_program.specs.declared.graphs.PlanFault.TheVariants.{Read, Check}
+
+-- the graph's bytes say this
+abbrev pub IsFileOf : List ℕ → Draft → Type 0
+IsFileOf bytes draft = graph_in bytes ≡ Ok (graph_file_of draft)
+
+-- the graph's bytes say a graph without a fault
+pub record IsGraph (graph : List ℕ) (draft : Draft) : Type 0 where
+  pub says : IsFileOf graph draft
+  pub accepted : IsAccepted draft
+
+-- the size of a graph: its tasks and its distinct edges
+abbrev pub size_of : Draft → GraphSize
+size_of draft = record { tasks = length draft.tasks; edges = edge_count draft.tasks }
+
+-- the bytes say a graph without a fault, of this size
+pub record IsSizeOf (graph : List ℕ) (size : GraphSize) : Type 0 where
+  pub draft : Draft
+  pub graph_is : IsGraph graph draft
+  pub size_is : size ≡ size_of draft
+
+-- the plan is that of a graph without a fault, which the bytes say
+pub record IsPlanOf (graph : List ℕ) (plan : Checked) : Type 0 where
+  pub draft : Draft
+  pub graph_is : IsGraph graph draft
+  pub dag : plan.dag ≡ dag_of draft
+
+-- the fault is the first: those of the file go before those of the graph that it says
+abbrev pub IsFaultIn : List ℕ → PlanFault → Type 0
+IsFaultIn graph (Read fault) = Fails fault (graph_in graph)
+IsFaultIn graph (Check fault) = (draft : Draft) × IsFileOf graph draft × IsFaultOf draft fault

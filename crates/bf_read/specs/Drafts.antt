@@ -1,0 +1,64 @@
+-- Drafts that a graph file may give: how many of each thing there are, and between which bounds.
+use Rattle.std.specs.Prelude.{◌≡◌, ◌≢◌, ℕ, ◌+◌, ◌≤◌, not, false, List, [], ◌∷◌, length, filter, All, AllPairs, map, sum_by, Option, Some, None}
+use Rattle.std.specs.List.{list_any, filter_map}
+use Rattle.std.specs.Str.{bytes_eq}
+use Rattle.bf_read.specs.declared.draft.TheConstants.{MOST_TASKS, MOST_EDGES, MOST_WORDS, MOST_PULLS, MOST_RETRIES, MOST_SLOTS, GREATEST_WEIGHT, MOST_ACTIVE_RUNS}
+use Rattle.bf_read.specs.declared.draft.PoolDraft.{PoolDraft}
+use Rattle.bf_read.specs.declared.draft.TaskDraft.{TaskDraft}
+use Rattle.bf_read.specs.declared.draft.WordDraft.{WordDraft}
+use Rattle.bf_read.specs.declared.draft.WordDraft.TheVariants.{Pull}
+
+-- each text once, in order of first use
+unfoldable pub distinct : List (List ℕ) → List (List ℕ)
+distinct [] = []
+distinct (s ∷ ss) = s ∷ filter (λ t. not (bytes_eq s t)) (distinct ss)
+
+abbrev pub pulled_by : WordDraft → Option (List ℕ)
+pulled_by (Pull id) = Some id
+pulled_by _ = None
+
+-- the distinct ids that the words of a command pull from, in order of first use
+abbrev pub pulled_in : List WordDraft → List (List ℕ)
+pulled_in words = distinct (filter_map pulled_by words)
+
+-- how many upstreams the tasks have
+abbrev pub edge_count : List TaskDraft → ℕ
+edge_count tasks = sum_by (λ task. length task.upstreams) tasks
+
+-- no two tasks have one id
+abbrev pub HaveDistinctIds : List TaskDraft → Type 0
+HaveDistinctIds tasks = AllPairs (λ a b. a ≢ b) (map (λ task. task.id) tasks)
+
+-- a task whose numbers and words are within their limits
+pub record IsTask (task : TaskDraft) : Type 0 where
+  pub few_words : length task.command ≤ MOST_WORDS
+  pub few_pulls : length (pulled_in task.command) ≤ MOST_PULLS
+  pub few_retries : task.retries ≤ MOST_RETRIES
+  pub some_slots : 1 ≤ task.pool_slots
+  pub few_slots : task.pool_slots ≤ MOST_SLOTS
+  pub light : task.priority_weight ≤ GREATEST_WEIGHT
+
+-- the tasks of a draft
+pub record AreTasks (tasks : List TaskDraft) : Type 0 where
+  pub few : length tasks ≤ MOST_TASKS
+  pub few_edges : edge_count tasks ≤ MOST_EDGES
+  pub distinct_ids : HaveDistinctIds tasks
+  pub each : All IsTask tasks
+
+-- a pool whose size is within its limits
+pub record IsPool (pool : PoolDraft) : Type 0 where
+  pub some_slots : 1 ≤ pool.slots
+  pub few_slots : pool.slots ≤ MOST_SLOTS
+
+-- the numbers, the pools and the tasks of a draft
+pub record IsDraft (max_active_runs : ℕ) (pools : List PoolDraft) (tasks : List TaskDraft) : Type 0 where
+  pub some_runs : 1 ≤ max_active_runs
+  pub few_runs : max_active_runs ≤ MOST_ACTIVE_RUNS
+  pub are_pools : All IsPool pools
+  pub are_tasks : AreTasks tasks
+
+-- a task that may follow these: none of them has its id, and its upstreams are not too many
+pub record MayFollow (before : List TaskDraft) (task : TaskDraft) : Type 0 where
+  pub fresh : list_any (λ other. bytes_eq task.id other.id) before ≡ false
+  pub few : edge_count before + length task.upstreams ≤ MOST_EDGES
+  pub is_task : IsTask task

@@ -1,0 +1,190 @@
+//! The commands of tasks.
+ghost use Rattle.std.specs.Prelude.{◌≡◌, ◌≤◌, length, map, nat_le, option_map, IfOk};
+ghost use Rattle.std.specs.List.{filter_map, list_all};
+ghost use Rattle.serde_json.specs.View.{view, items_view, members_view};
+ghost use Rattle.bf_read.specs.Drafts.{pulled_by, pulled_in};
+ghost use Rattle.bf_read.specs.Gives.{Gives};
+ghost use Rattle.bf_read.specs.Fields.{member_of};
+ghost use Rattle.bf_read.specs.Commands.{only_of as only, only_member as only_in, context_word as context, pull_word as pull, item_word as item, keyed_word as keyed, word_at as word, words_in as words, is_short as short, command_at as command};
+
+use crate::draft::{LONGEST_WORD, MOST_PULLS, MOST_WORDS, WordDraft};
+use crate::fault::ReadFault;
+use crate::fields::{Field, flag_at, items_at, limit, text_at, there};
+use crate::kinds::ContextVariable;
+use crate::path::Path;
+use crate::texts::distinct;
+use bf_value::{OutOfMemory, Sequence, Text};
+use serde_json::{Map, Value};
+use std::alloc::Global;
+
+fn only_of<'a>(members: &'a Map<String, Value>) -> Option<(&'a str, &'a Value)>
+    ensures { option_map (λ m. (m.0.now, view m.1.now)) result ≡ only (members_view members.entry.now.entries) }
+{
+    if members.len() != 1 {
+        return None;
+    }
+    let Some((key, value)) = members.first_key_value() else {
+        return None;
+    };
+    Some((key.as_str(), value))
+}
+
+/// The member of an object with exactly one key.
+#[tactic(auto, unfolding(crate::specs::Commands::only_member))]
+fn only_member<'a>(path: Path, value: &'a Value) -> Result<(&'a str, &'a Value), ReadFault>
+    ensures { Gives (λ m. (m.0.now, view m.1.now)) result (only_in path (view value.entry.now)) }
+{
+    value
+        .as_object()
+        .and_then(|members| only_of(members))
+        .ok_or(ReadFault::Shape(path))
+}
+
+#[tactic(auto, unfolding(crate::specs::Commands::context_word))]
+fn context_word(field: Field) -> Result<WordDraft, ReadFault>
+    ensures { Gives (λ w. w) result (context (member_of field.entry)) }
+{
+    let name = text_at(field)?;
+    match ContextVariable::named(name) {
+        None => Err(ReadFault::Shape(field.path)),
+        Some(variable) => Ok(WordDraft::Context(variable)),
+    }
+}
+
+#[tactic(auto, unfolding(crate::specs::Commands::pull_word))]
+fn pull_word(alloc: Global, field: Field) -> Result<WordDraft, ReadFault>
+    ensures { Gives (λ w. w) result (pull (member_of field.entry)) }
+{
+    let id = text_at(field)?;
+    Ok(WordDraft::Pull(Text::copied(alloc, id)?))
+}
+
+#[tactic(auto, unfolding(crate::specs::Commands::item_word))]
+fn item_word(is_expanded: bool, field: Field) -> Result<WordDraft, ReadFault>
+    ensures { Gives (λ w. w) result (item is_expanded (member_of field.entry)) }
+{
+    let is_item = flag_at(field)?;
+    if !is_item || !is_expanded {
+        return Err(ReadFault::Shape(field.path));
+    }
+    Ok(WordDraft::Item)
+}
+
+/// The word of an object whose one member is this.
+#[tactic(auto, unfolding(crate::specs::Commands::keyed_word))]
+fn keyed_word(
+    alloc: Global,
+    is_expanded: bool,
+    key: &str,
+    field: Field,
+) -> Result<WordDraft, ReadFault>
+    ensures { Gives (λ w. w) result (keyed is_expanded key.now (member_of field.entry)) }
+{
+    match key {
+        "context" => context_word(field),
+        "pull" => pull_word(alloc, field),
+        "item" => item_word(is_expanded, field),
+        _ => Err(ReadFault::Shape(field.path)),
+    }
+}
+
+#[tactic(auto, unfolding(crate::specs::Commands::word_at))]
+fn word_at(
+    alloc: Global,
+    is_expanded: bool,
+    path: Path,
+    value: &Value,
+) -> Result<WordDraft, ReadFault>
+    ensures { Gives (λ w. w) result (word is_expanded path (view value.now)) }
+{
+    if let Some(text) = value.as_str() {
+        return Ok(WordDraft::Text(Text::copied(alloc, text)?));
+    }
+    let (key, value) = only_member(path, value)?;
+    keyed_word(alloc, is_expanded, key, there(path, value))
+}
+
+fn words_in(
+    alloc: Global,
+    is_expanded: bool,
+    path: Path,
+    items: &[Value],
+) -> Result<Vec<WordDraft>, ReadFault>
+    ensures { Gives (λ v. v.items) result (words is_expanded path (items_view items.now)) }
+{
+    let mut words = Vec::new(alloc);
+    for item in items {
+        words.push(word_at(alloc, is_expanded, path, item)?)?;
+    }
+    Ok(words)
+}
+
+fn is_short(word: &WordDraft) -> bool
+    ensures { result ≡ short word.now }
+{
+    match word {
+        WordDraft::Text(text) => text.as_str().len() <= LONGEST_WORD,
+        WordDraft::Pull(id) => id.as_str().len() <= LONGEST_WORD,
+        WordDraft::Context(_) | WordDraft::Item => true,
+    }
+}
+
+fn are_short(words: &[WordDraft]) -> bool
+    ensures { result ≡ list_all short words.now }
+{
+    words.iter().all(|word| is_short(word))
+}
+
+fn pulled_id<'a>(word: &'a WordDraft) -> Option<&'a str>
+    ensures { option_map (λ s. s.now) result ≡ pulled_by word.entry.now }
+{
+    match word {
+        WordDraft::Pull(id) => Some(id.as_str()),
+        _ => None,
+    }
+}
+
+/// The ids that the words pull from, repeats too.
+fn pulled_ids<'a>(alloc: Global, words: &'a [WordDraft]) -> Result<Vec<&'a str>, OutOfMemory>
+    ensures { IfOk result (λ v. map (λ s. s.now) v.items ≡ filter_map pulled_by words.entry.now) }
+{
+    let mut ids = Vec::new(alloc);
+    for word in words {
+        if let Some(id) = pulled_id(word) {
+            ids.push(id)?;
+        }
+    }
+    Ok(ids)
+}
+
+/// The distinct ids that the words of a command pull from, in order of first use.
+pub fn pulls_of(alloc: Global, words: &[WordDraft]) -> Result<Vec<Text>, OutOfMemory>
+    ensures { IfOk result (λ v. v.items ≡ pulled_in words.now) }
+{
+    let ids = pulled_ids(alloc, words)?;
+    distinct(alloc, ids.as_slice())
+}
+
+/// The command of a task, without words where the key is missing. Its limits are looked at once each word
+/// has its shape.
+#[tactic(auto, unfolding(crate::specs::Commands::command_at))]
+pub(crate) fn command_at(
+    alloc: Global,
+    is_expanded: bool,
+    field: Field,
+) -> Result<Sequence<WordDraft>, ReadFault>
+    ensures exact { Gives (λ ws. ws) result (command is_expanded (member_of field.entry)) }
+    ensures few_words { IfOk result (λ ws. length ws ≤ MOST_WORDS) }
+    ensures few_pulls { IfOk result (λ ws. length (pulled_in ws) ≤ MOST_PULLS) }
+{
+    if field.value.is_none() {
+        return Ok(Sequence::new(alloc));
+    }
+    let items = items_at(field)?;
+    let words = words_in(alloc, is_expanded, field.path, items)?;
+    limit(field.path, words.len() <= MOST_WORDS)?;
+    limit(field.path, are_short(words.as_slice()))?;
+    let pulls = pulls_of(alloc, words.as_slice())?;
+    limit(field.path, pulls.len() <= MOST_PULLS)?;
+    Ok(Sequence::from_vec(words))
+}

@@ -1,0 +1,107 @@
+//! The keys of a graph file.
+ghost use Rattle.std.specs.Prelude.{◌≡◌};
+ghost use Rattle.std.specs.List.{list_any};
+ghost use Rattle.std.specs.Str.{bytes_eq};
+ghost use Rattle.bf_read.specs.Keys.{graph_key_name, task_key_name, is_graph_key as graph_key, is_task_key as task_key};
+
+/// A key of the object of the whole file.
+#[derive(Clone, Copy, Debug, PartialEq, Eq)]
+pub enum GraphKey {
+    DagId,
+    Schedule,
+    Zone,
+    MaxActiveRuns,
+    Pools,
+    Tasks,
+}
+
+/// A key of a task's object.
+#[derive(Clone, Copy, Debug, PartialEq, Eq)]
+pub enum TaskKey {
+    Id,
+    Upstream,
+    Rule,
+    Kind,
+    Command,
+    Expand,
+    DependsOnPast,
+    Retries,
+    Pool,
+    PoolSlots,
+    PriorityWeight,
+    WeightRule,
+}
+
+const GRAPH_KEYS: [GraphKey; 6] = [
+    GraphKey::DagId,
+    GraphKey::Schedule,
+    GraphKey::Zone,
+    GraphKey::MaxActiveRuns,
+    GraphKey::Pools,
+    GraphKey::Tasks,
+];
+
+const TASK_KEYS: [TaskKey; 12] = [
+    TaskKey::Id,
+    TaskKey::Upstream,
+    TaskKey::Rule,
+    TaskKey::Kind,
+    TaskKey::Command,
+    TaskKey::Expand,
+    TaskKey::DependsOnPast,
+    TaskKey::Retries,
+    TaskKey::Pool,
+    TaskKey::PoolSlots,
+    TaskKey::PriorityWeight,
+    TaskKey::WeightRule,
+];
+
+impl GraphKey {
+    /// The key as it stands in a file.
+    pub fn name(self) -> &'static str
+        ensures { result.now ≡ graph_key_name self }
+    {
+        match self {
+            GraphKey::DagId => "dag_id",
+            GraphKey::Schedule => "schedule",
+            GraphKey::Zone => "zone",
+            GraphKey::MaxActiveRuns => "max_active_runs",
+            GraphKey::Pools => "pools",
+            GraphKey::Tasks => "tasks",
+        }
+    }
+}
+
+impl TaskKey {
+    /// The key as it stands in a file.
+    pub fn name(self) -> &'static str
+        ensures { result.now ≡ task_key_name self }
+    {
+        match self {
+            TaskKey::Id => "id",
+            TaskKey::Upstream => "upstream",
+            TaskKey::Rule => "rule",
+            TaskKey::Kind => "kind",
+            TaskKey::Command => "command",
+            TaskKey::Expand => "expand",
+            TaskKey::DependsOnPast => "depends_on_past",
+            TaskKey::Retries => "retries",
+            TaskKey::Pool => "pool",
+            TaskKey::PoolSlots => "pool_slots",
+            TaskKey::PriorityWeight => "priority_weight",
+            TaskKey::WeightRule => "weight_rule",
+        }
+    }
+}
+
+pub(crate) fn is_graph_key(name: &str) -> bool
+    ensures { result ≡ graph_key name.now }
+{
+    GRAPH_KEYS.iter().any(|key| name == key.name())
+}
+
+pub(crate) fn is_task_key(name: &str) -> bool
+    ensures { result ≡ task_key name.now }
+{
+    TASK_KEYS.iter().any(|key| name == key.name())
+}

@@ -1,0 +1,55 @@
+//! The pools of a graph file.
+ghost use Rattle.std.specs.Prelude.{◌≡◌, All, IfOk};
+ghost use Rattle.serde_json.specs.View.{view, members_view};
+ghost use Rattle.bf_read.specs.Drafts.{IsPool};
+ghost use Rattle.bf_read.specs.Gives.{Gives};
+ghost use Rattle.bf_read.specs.Fields.{member_of, pool_at as pool, each_member, pools_at as pools};
+
+use crate::draft::{MOST_SLOTS, PoolDraft};
+use crate::fault::ReadFault;
+use crate::fields::{Field, members_at, named_at, there, whole_at, within};
+use crate::path::Path;
+use bf_value::Sequence;
+use serde_json::{Map, Value};
+use std::alloc::Global;
+
+#[tactic(auto, unfolding(crate::specs::Fields::pool_at))]
+fn pool_at(alloc: Global, path: Path, name: &str, value: &Value) -> Result<PoolDraft, ReadFault>
+    ensures exact { Gives (λ p. p) result (pool path name.now (view value.now)) }
+    ensures pool { IfOk result IsPool }
+{
+    let number = whole_at(there(path, value))?;
+    let name = named_at(alloc, path, name)?;
+    let slots = within(path, 1, MOST_SLOTS, number)?;
+    Ok(PoolDraft { name, slots })
+}
+
+/// The pools by name: a map's keys stand in byte order.
+fn pools_in(
+    alloc: Global,
+    path: Path,
+    members: &Map<String, Value>,
+) -> Result<Vec<PoolDraft>, ReadFault>
+    ensures exact { Gives (λ v. v.items) result (each_member (pool path) (members_view members.now.entries)) }
+    ensures pools { IfOk result (λ v. All IsPool v.items) }
+{
+    let mut pools = Vec::new(alloc);
+    for (name, value) in members.iter() {
+        pools.push(pool_at(alloc, path, name.as_str(), value)?)?;
+    }
+    Ok(pools)
+}
+
+/// The pools that a file names, of which there are none where the key is missing.
+#[tactic(auto, unfolding(crate::specs::Fields::pools_at))]
+pub(crate) fn pools_at(alloc: Global, field: Field) -> Result<Sequence<PoolDraft>, ReadFault>
+    ensures exact { Gives (λ ps. ps) result (pools (member_of field.entry)) }
+    ensures pools { IfOk result (λ ps. All IsPool ps) }
+{
+    if field.value.is_none() {
+        return Ok(Sequence::new(alloc));
+    }
+    let members = members_at(field)?;
+    let pools = pools_in(alloc, field.path, members)?;
+    Ok(Sequence::from_vec(pools))
+}

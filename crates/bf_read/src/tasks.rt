@@ -1,0 +1,201 @@
+//! The tasks of a graph file.
+ghost use Rattle.std.specs.Prelude.{◌≡◌, ◌+◌, ◌≤◌, [], false, length, nat_le, IfOk, OnOk};
+ghost use Rattle.std.specs.List.{list_any};
+ghost use Rattle.std.specs.Str.{bytes_eq};
+ghost use Rattle.serde_json.specs.Events.{items_len};
+ghost use Rattle.serde_json.specs.View.{view, items_view};
+ghost use Rattle.bf_read.specs.Gives.{Gives};
+ghost use Rattle.bf_read.specs.Drafts.{edge_count, pulled_in, AreTasks, MayFollow};
+ghost use Rattle.bf_read.specs.Fields.{member_of, task_member, limit as limited};
+ghost use Rattle.bf_read.specs.Reading.{fresh as new, place_at as place, work_at as work, demand_at as demand, task_at as task, tasks_from, tasks_at as tasks};
+
+use crate::command::command_at;
+use crate::draft::{
+    GREATEST_WEIGHT, MOST_EDGES, MOST_PULLS, MOST_RETRIES, MOST_SLOTS, MOST_TASKS, MOST_WORDS,
+    TaskDraft, WordDraft, edges_of,
+};
+use crate::fault::ReadFault;
+use crate::fields::{
+    Field, ObjectKind, TaskObject, count_at, expand_at, flag_at, id_at, items_at, limit, object_at,
+    text_or,
+};
+use crate::keys::TaskKey;
+use crate::kinds::{TaskKind, WeightRule, kind_at, weight_rule_at};
+use crate::path::Path;
+use crate::texts::upstreams_at;
+use bf_value::{Sequence, Text};
+use serde_json::Value;
+use std::alloc::Global;
+
+/// What a task is called, and which tasks it comes after.
+#[derive(Drop)]
+struct TaskPlace {
+    id: Text,
+    upstreams: Sequence<Text>,
+}
+
+/// What a task does, and when.
+#[derive(Drop)]
+struct TaskWork {
+    rule: Text,
+    kind: TaskKind,
+    command: Sequence<WordDraft>,
+    expand: Option<Text>,
+    depends_on_past: bool,
+    retries: u32,
+}
+
+/// What a running try of a task takes, and what the task weighs.
+#[derive(Drop)]
+struct TaskDemand {
+    pool: Text,
+    slots: u32,
+    weight: u32,
+    weight_rule: WeightRule,
+}
+
+fn is_seen(tasks: &[TaskDraft], id: &str) -> bool
+    ensures { result ≡ list_any (λ task. bytes_eq id.now task.id) tasks.now }
+{
+    tasks.iter().any(|task| id == task.id.as_str())
+}
+
+/// Refuses an id that a task before has.
+#[tactic(auto, unfolding(crate::specs::Reading::fresh))]
+fn fresh(tasks: &[TaskDraft], id: Text) -> Result<Text, ReadFault>
+    ensures exact { Gives (λ id. id) result (new tasks.now id) }
+    ensures fresh { IfOk result (λ id. list_any (λ task. bytes_eq id task.id) tasks.now ≡ false) }
+{
+    if is_seen(tasks, id.as_str()) {
+        return Err(ReadFault::DuplicateTask(id));
+    }
+    Ok(id)
+}
+
+#[tactic(auto, unfolding(crate::specs::Reading::place_at))]
+fn place_of(alloc: Global, tasks: &[TaskDraft], task: TaskObject) -> Result<TaskPlace, ReadFault>
+    requires { edge_count tasks.now ≤ MOST_EDGES }
+    ensures exact { Gives (λ p. p) result (place tasks.now (task_member task.entry.n (view task.entry.value.now))) }
+    ensures fresh { IfOk result (λ p. list_any (λ task. bytes_eq p.id task.id) tasks.now ≡ false) }
+    ensures few { IfOk result (λ p. edge_count tasks.now + length p.upstreams ≤ MOST_EDGES) }
+{
+    let id = id_at(alloc, task.at(TaskKey::Id))?;
+    let id = fresh(tasks, id)?;
+    let field = task.at(TaskKey::Upstream);
+    let upstreams = upstreams_at(alloc, field)?;
+    limit(field.path, upstreams.len() <= MOST_EDGES - edges_of(tasks))?;
+    Ok(TaskPlace {
+        id,
+        upstreams: Sequence::from_vec(upstreams),
+    })
+}
+
+#[tactic(auto, unfolding(crate::specs::Reading::work_at))]
+fn work_of(alloc: Global, task: TaskObject) -> Result<TaskWork, ReadFault>
+    ensures exact { Gives (λ w. w) result (work (task_member task.entry.n (view task.entry.value.now))) }
+    ensures few_words { IfOk result (λ w. length w.command ≤ MOST_WORDS) }
+    ensures few_pulls { IfOk result (λ w. length (pulled_in w.command) ≤ MOST_PULLS) }
+    ensures few_retries { IfOk result (λ w. w.retries ≤ MOST_RETRIES) }
+{
+    let rule = text_or(alloc, "all_success", task.at(TaskKey::Rule))?;
+    let kind = kind_at(task.at(TaskKey::Kind))?;
+    let source = task.at(TaskKey::Expand);
+    let is_expanded = source.value.is_some();
+    let command = command_at(alloc, is_expanded, task.at(TaskKey::Command))?;
+    let expand = expand_at(alloc, source)?;
+    let depends_on_past = flag_at(task.at(TaskKey::DependsOnPast))?;
+    let retries = count_at(0, 0, MOST_RETRIES, task.at(TaskKey::Retries))?;
+    Ok(TaskWork {
+        rule,
+        kind,
+        command,
+        expand,
+        depends_on_past,
+        retries,
+    })
+}
+
+#[tactic(auto, unfolding(crate::specs::Reading::demand_at))]
+fn demand_of(alloc: Global, task: TaskObject) -> Result<TaskDemand, ReadFault>
+    ensures exact { Gives (λ d. d) result (demand (task_member task.entry.n (view task.entry.value.now))) }
+    ensures some_slots { IfOk result (λ d. 1 ≤ d.slots) }
+    ensures few_slots { IfOk result (λ d. d.slots ≤ MOST_SLOTS) }
+    ensures light { IfOk result (λ d. d.weight ≤ GREATEST_WEIGHT) }
+{
+    let pool = text_or(alloc, "default_pool", task.at(TaskKey::Pool))?;
+    let slots = count_at(1, 1, MOST_SLOTS, task.at(TaskKey::PoolSlots))?;
+    let weight = count_at(1, 0, GREATEST_WEIGHT, task.at(TaskKey::PriorityWeight))?;
+    let weight_rule = weight_rule_at(task.at(TaskKey::WeightRule))?;
+    Ok(TaskDemand {
+        pool,
+        slots,
+        weight,
+        weight_rule,
+    })
+}
+
+/// The task at n, after those before it.
+#[tactic(auto, unfolding(crate::specs::Reading::task_at))]
+fn task_of(
+    alloc: Global,
+    tasks: &[TaskDraft],
+    n: u32,
+    value: &Value,
+) -> Result<TaskDraft, ReadFault>
+    requires { edge_count tasks.now ≤ MOST_EDGES }
+    ensures exact { Gives (λ t. t) result (task tasks.now n (view value.now)) }
+    ensures follows { IfOk result (MayFollow tasks.now) }
+{
+    object_at(ObjectKind::Task, Path::Task(n), value)?;
+    let task = TaskObject { n, value };
+    let place = place_of(alloc, tasks, task)?;
+    let work = work_of(alloc, task)?;
+    let demand = demand_of(alloc, task)?;
+    Ok(TaskDraft {
+        id: place.id,
+        upstreams: place.upstreams,
+        rule: work.rule,
+        kind: work.kind,
+        command: work.command,
+        expand: work.expand,
+        depends_on_past: work.depends_on_past,
+        retries: work.retries,
+        pool: demand.pool,
+        pool_slots: demand.slots,
+        priority_weight: demand.weight,
+        weight_rule: demand.weight_rule,
+    })
+}
+
+fn tasks_of(alloc: Global, items: &[Value]) -> Result<Vec<TaskDraft>, ReadFault>
+    requires { length items.now ≤ MOST_TASKS }
+    ensures exact { Gives (λ v. v.items) result (tasks_from [] 0 (items_view items.now)) }
+    ensures tasks { IfOk result (λ v. AreTasks v.items) }
+{
+    let mut tasks = Vec::new(alloc);
+    for (n, item) in items.iter().enumerate() {
+        let task = task_of(alloc, tasks.as_slice(), n as u32, item)?;
+        tasks.push(task)?;
+    }
+    Ok(tasks)
+}
+
+/// Refuses more tasks than there may be.
+fn few_tasks(path: Path, items: &[Value]) -> Result<(), ReadFault>
+    ensures exact { Gives (λ u. u) result (limited path (nat_le (items_len (items_view items.now)) MOST_TASKS)) }
+    ensures few { OnOk result (length items.now ≤ MOST_TASKS) }
+{
+    limit(path, items.len() <= MOST_TASKS)
+}
+
+/// The tasks of a file, which have to be there.
+#[tactic(auto, unfolding(crate::specs::Reading::tasks_at))]
+pub(crate) fn tasks_at(alloc: Global, field: Field) -> Result<Sequence<TaskDraft>, ReadFault>
+    ensures exact { Gives (λ ts. ts) result (tasks (member_of field.entry)) }
+    ensures tasks { IfOk result AreTasks }
+{
+    let items = items_at(field)?;
+    few_tasks(field.path, items)?;
+    let tasks = tasks_of(alloc, items)?;
+    Ok(Sequence::from_vec(tasks))
+}

@@ -1,0 +1,52 @@
+//! Lists of texts.
+ghost use Rattle.std.specs.Prelude.{◌≡◌, map, IfOk};
+ghost use Rattle.serde_json.specs.View.{items_view};
+ghost use Rattle.bf_read.specs.Gives.{Gives};
+ghost use Rattle.bf_read.specs.Drafts.{distinct as distinct_texts};
+ghost use Rattle.bf_read.specs.Fields.{member_of, texts_in as texts, upstreams_at as upstreams};
+
+use crate::fault::ReadFault;
+use crate::fields::{Field, items_at, text_at, there};
+use crate::path::Path;
+use bf_value::{OutOfMemory, Text};
+use serde_json::Value;
+use std::alloc::Global;
+use std::collections::HashSet;
+
+/// The texts of a list of texts.
+fn texts_in<'a>(alloc: Global, path: Path, items: &'a [Value]) -> Result<Vec<&'a str>, ReadFault>
+    ensures { Gives (λ v. map (λ s. s.now) v.items) result (texts path (items_view items.entry.now)) }
+{
+    let mut texts = Vec::new(alloc);
+    for item in items {
+        texts.push(text_at(there(path, item))?)?;
+    }
+    Ok(texts)
+}
+
+/// Each text once, in order of first use.
+pub(crate) fn distinct(alloc: Global, texts: &[&str]) -> Result<Vec<Text>, OutOfMemory>
+    ensures { IfOk result (λ v. v.items ≡ distinct_texts (map (λ s. s.now) texts.now)) }
+{
+    let mut seen = HashSet::new(alloc);
+    let mut found = Vec::new(alloc);
+    for text in texts {
+        if seen.insert(*text)? {
+            found.push(Text::copied(alloc, text)?)?;
+        }
+    }
+    Ok(found)
+}
+
+/// The distinct upstreams of a task, of which there are none where the key is missing.
+#[tactic(auto, unfolding(crate::specs::Fields::upstreams_at))]
+pub(crate) fn upstreams_at(alloc: Global, field: Field) -> Result<Vec<Text>, ReadFault>
+    ensures { Gives (λ v. v.items) result (upstreams (member_of field.entry)) }
+{
+    if field.value.is_none() {
+        return Ok(Vec::new(alloc));
+    }
+    let items = items_at(field)?;
+    let texts = texts_in(alloc, field.path, items)?;
+    Ok(distinct(alloc, texts.as_slice())?)
+}
