@@ -133,6 +133,8 @@ for call in memory open read write; do
     for example in one_task diamond skip; do
         each "$call" single "$example/graph.json" "$example/table.json" --at 2024-01-01
     done
+    each "$call" check every_key/graph.json
+    each "$call" single every_key/graph.json one_task/table.json --at 2024-01-01
     each "$call" single "$work/cycle" one_task/table.json --at 2024-01-01
     each "$call" single one_task/graph.json one_task/table.json --at 2024-02-30
     each "$call" single --help

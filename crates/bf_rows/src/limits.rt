@@ -1,4 +1,5 @@
 //! Files at their limits, and one beyond.
+use crate::checks::{is_answered, is_refused};
 use crate::program::{DAY, ONE, ONE_REPORT, expect, single};
 use std::alloc::Global;
 use std::process::Abort;
@@ -155,4 +156,66 @@ fn an_id_has_at_most_250_bytes(rt: HostRuntime) -> Result<(), Fail> {
 fn graph_named(alloc: Global, length: usize) -> Result<String, Fail> {
     let id = String::from_utf8(vec![in alloc; b'd'; length]?)?;
     Ok(format!(in alloc; "{{\"dag_id\":\"{id}\",\"schedule\":\"\",\"tasks\":[]}}")?)
+}
+
+/// A graph of one task with this command.
+fn graph_with_command(alloc: Global, words: &str) -> Result<String, Fail> {
+    Ok(
+        format!(in alloc; "{{\"dag_id\":\"d\",\"schedule\":\"\",\"tasks\":[{{\"id\":\"a\",\"command\":[{words}]}}]}}")?,
+    )
+}
+
+/// A graph of so many tasks, and one behind them that pulls from each.
+fn graph_that_pulls(alloc: Global, pulls: usize) -> Result<String, Fail> {
+    let mut text = String::from_str(alloc, r#"{"dag_id":"d","schedule":"","tasks":["#)?;
+    let mut words = String::new(alloc);
+    for task in 0..pulls {
+        push_task(alloc, &mut text, task, 0)?;
+        push_pull(alloc, &mut words, task)?;
+    }
+    let names = names_below(alloc, pulls)?;
+    text.push_str(
+        format!(in alloc; ",{{\"id\":\"last\",\"upstream\":[{names}],\"command\":[{words}]}}]}}")?.as_str(),
+    )?;
+    Ok(text)
+}
+
+fn push_pull(alloc: Global, words: &mut String, task: usize) -> Result<(), Fail> {
+    let comma = if task == 0 { "" } else { "," };
+    words.push_str(format!(in alloc; "{comma}{{\"pull\":\"t{task}\"}}")?.as_str())?;
+    Ok(())
+}
+
+#[test]
+fn a_command_has_at_most_64_words(rt: HostRuntime) -> Result<(), Fail> {
+    let alloc = rt.alloc();
+    let most = graph_with_command(alloc, names_below(alloc, 64)?.as_str())?;
+    is_answered(&rt, alloc, most.as_bytes(), 0, "ok 1 tasks, 0 edges\n", "")?;
+    let more = graph_with_command(alloc, names_below(alloc, 65)?.as_str())?;
+    is_refused(&rt, alloc, more.as_bytes(), "5 limit passed: tasks[0].command")
+}
+
+#[test]
+fn a_word_has_at_most_4096_bytes(rt: HostRuntime) -> Result<(), Fail> {
+    let alloc = rt.alloc();
+    let longest = String::from_utf8(vec![in alloc; b'w'; 4_096]?)?;
+    let words = format!(in alloc; "\"{longest}\"")?;
+    let most = graph_with_command(alloc, words.as_str())?;
+    is_answered(&rt, alloc, most.as_bytes(), 0, "ok 1 tasks, 0 edges\n", "")?;
+    let words = format!(in alloc; "\"{longest}w\"")?;
+    let more = graph_with_command(alloc, words.as_str())?;
+    is_refused(&rt, alloc, more.as_bytes(), "5 limit passed: tasks[0].command")?;
+    // It is a limit of the file, and goes before what the graph lacks.
+    let words = format!(in alloc; "{{\"pull\":\"{longest}w\"}}")?;
+    let pulled = graph_with_command(alloc, words.as_str())?;
+    is_refused(&rt, alloc, pulled.as_bytes(), "5 limit passed: tasks[0].command")
+}
+
+#[test]
+fn a_command_pulls_from_at_most_16_tasks(rt: HostRuntime) -> Result<(), Fail> {
+    let alloc = rt.alloc();
+    let most = graph_that_pulls(alloc, 16)?;
+    is_answered(&rt, alloc, most.as_bytes(), 0, "ok 17 tasks, 16 edges\n", "")?;
+    let more = graph_that_pulls(alloc, 17)?;
+    is_refused(&rt, alloc, more.as_bytes(), "5 limit passed: tasks[17].command")
 }

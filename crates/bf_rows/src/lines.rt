@@ -10,6 +10,7 @@ const HELP: &str = "Runs a graph of tasks once for each data interval of a range
     Usage: backfill <COMMAND>\n\
     \n\
     Commands:\n\
+    \x20 check   Checks the graph, and tells how many tasks and edges it has\n\
     \x20 single  Runs the graph once, answering each task from a table\n\
     \x20 help    Print this message or the help of the given subcommand(s)\n\
     \n\
@@ -28,8 +29,26 @@ const SINGLE_HELP: &str = "Runs the graph once, answering each task from a table
     \x20     --at <T>  The run's moment in UTC, as 2024-01-31 or 2024-01-31T06:00:00Z\n\
     \x20 -h, --help    Print help\n";
 
+const CHECK_HELP: &str = "Checks the graph, and tells how many tasks and edges it has\n\
+    \n\
+    Usage: backfill check <GRAPH>\n\
+    \n\
+    Arguments:\n\
+    \x20 <GRAPH>  The task graph, a JSON file\n\
+    \n\
+    Options:\n\
+    \x20 -h, --help  Print help\n";
+
 /// Wrong lines, with the line by which `clap` begins its answer.
-const WRONG: [(&[&str], &str); 13] = [
+const WRONG: [(&[&str], &str); 15] = [
+    (
+        &["backfill", "check"],
+        "error: the following required arguments were not provided:\n  <GRAPH>\n",
+    ),
+    (
+        &["backfill", "check", "g", "h"],
+        "error: unexpected argument 'h' found\n",
+    ),
     (
         &["backfill", "dry"],
         "error: unrecognized subcommand 'dry'\n",
@@ -140,6 +159,7 @@ fn help_is_shown_on_standard_output(rt: HostRuntime) -> Result<(), Fail> {
     is_helped(&rt, alloc, &["backfill", "--help"], HELP)?;
     is_helped(&rt, alloc, &["backfill", "-h"], HELP)?;
     is_helped(&rt, alloc, &["backfill", "help"], HELP)?;
+    is_helped(&rt, alloc, &["backfill", "check", "--help"], CHECK_HELP)?;
     is_helped(&rt, alloc, &["backfill", "single", "--help"], SINGLE_HELP)?;
     is_helped(&rt, alloc, &["backfill", "single", "g", "-h"], SINGLE_HELP)?;
     is_helped(&rt, alloc, &["backfill", "help", "single"], SINGLE_HELP)

@@ -20,7 +20,43 @@ const CYCLE: &str = r#"{"dag_id":"d","schedule":"","tasks":[{"id":"a","upstream"
 const CYCLE_AND_UNKNOWN: &str =
     r#"{"dag_id":"d","schedule":"","tasks":[{"id":"a","upstream":["a"]},{"id":"b","upstream":["c"]}]}"#;
 
-const FAULTS: [Faults<'static>; 15] = [
+/// Its first task that uses a part which isn't built yet is `m`.
+const NOT_YET: &str = r#"{"dag_id":"d","schedule":"","tasks":[{"id":"a"},{"id":"m","upstream":["a"],"expand":"a"},
+    {"id":"s","upstream":["m"],"command":[{"pull":"m"}]},{"id":"b","kind":"branch"}]}"#;
+
+const FAULTS: [Faults<'static>; 19] = [
+    Faults {
+        graph: Some(NOT_YET),
+        table: Some("{"),
+        at: "2200-01-01",
+        status: 2,
+        err: "refused 90 not yet: m\n",
+    },
+    Faults {
+        graph: Some(NOT_YET),
+        table: None,
+        at: DAY,
+        status: 3,
+        err: "fault: cannot read t\n",
+    },
+    Faults {
+        graph: Some(
+            r#"{"dag_id":"d","schedule":"","tasks":[{"id":"b","kind":"branch"},{"id":"t","kind":"branch","upstream":["b"],"expand":"b"}]}"#,
+        ),
+        table: Some("[]"),
+        at: DAY,
+        status: 2,
+        err: "refused 17 branch misuse: t\n",
+    },
+    Faults {
+        graph: Some(
+            r#"{"dag_id":"d","schedule":"","tasks":[{"id":"a"},{"id":"s","upstream":["a"],"command":["echo",{"pull":"a"}]}]}"#,
+        ),
+        table: Some("[]"),
+        at: DAY,
+        status: 2,
+        err: "refused 90 not yet: s\n",
+    },
     Faults {
         graph: None,
         table: Some("[]"),

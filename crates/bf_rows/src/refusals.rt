@@ -18,7 +18,7 @@ const SHAPES: [(&str, &str); 17] = [
     ("null", "top"),
     ("{}", "dag_id"),
     (
-        r#"{"dag_id":"d","schedule":"","tasks":[],"zone":"UTC"}"#,
+        r#"{"dag_id":"d","schedule":"","tasks":[],"catchup":false}"#,
         "top",
     ),
     (r#"{"Dag_id":"d"}"#, "top"),
@@ -32,7 +32,7 @@ const SHAPES: [(&str, &str); 17] = [
         "tasks[3]",
     ),
     (
-        r#"{"dag_id":"d","schedule":"","tasks":[{"id":"a"},{"id":"b","retries":0}]}"#,
+        r#"{"dag_id":"d","schedule":"","tasks":[{"id":"a"},{"id":"b","sla":0}]}"#,
         "tasks[1]",
     ),
     (

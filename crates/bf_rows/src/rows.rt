@@ -136,6 +136,83 @@ const SHAPES: [Row<'static>; 6] = [
     ),
 ];
 
+/// Retries and trigger rules.
+const RULES: [Row<'static>; 7] = [
+    (
+        r#"{"dag_id":"d","schedule":"@daily","tasks":[{"id":"a","retries":1},{"id":"b","upstream":["a"]}]}"#,
+        r#"[{"task":"a","status":1}]"#,
+        1,
+        "@backfill 1 d\n\
+        @run 2024-01-01T00:00:00Z 2024-01-01T00:00:00Z failed\n\
+        a -1 failed 2 -\n\
+        b -1 upstream_failed 0 -\n\
+        @end 1\n",
+    ),
+    (
+        r#"{"dag_id":"d","schedule":"@daily","tasks":[{"id":"a","retries":2},{"id":"b","upstream":["a"]}]}"#,
+        r#"[{"task":"a","status":99}]"#,
+        0,
+        "@backfill 1 d\n\
+        @run 2024-01-01T00:00:00Z 2024-01-01T00:00:00Z success\n\
+        a -1 skipped 1 -\n\
+        b -1 skipped 0 -\n\
+        @end 1\n",
+    ),
+    (
+        r#"{"dag_id":"d","schedule":"@daily","tasks":[{"id":"a","retries":100,"depends_on_past":true}]}"#,
+        r#"[{"status":3}]"#,
+        1,
+        "@backfill 1 d\n\
+        @run 2024-01-01T00:00:00Z 2024-01-01T00:00:00Z failed\n\
+        a -1 failed 101 -\n\
+        @end 1\n",
+    ),
+    (
+        r#"{"dag_id":"d","schedule":"@daily","tasks":[{"id":"x"},{"id":"y"},{"id":"z","upstream":["x","y"],"rule":"one_success"}]}"#,
+        r#"[{"task":"z"},{"status":99}]"#,
+        0,
+        "@backfill 1 d\n\
+        @run 2024-01-01T00:00:00Z 2024-01-01T00:00:00Z success\n\
+        x -1 skipped 1 -\n\
+        y -1 skipped 1 -\n\
+        z -1 skipped 0 -\n\
+        @end 1\n",
+    ),
+    (
+        r#"{"dag_id":"d","schedule":"@daily","tasks":[{"id":"x"},{"id":"y"},{"id":"z","upstream":["x","y"],"rule":"one_success"}]}"#,
+        r#"[{"task":"x","status":99},{"task":"y","status":1}]"#,
+        1,
+        "@backfill 1 d\n\
+        @run 2024-01-01T00:00:00Z 2024-01-01T00:00:00Z failed\n\
+        x -1 skipped 1 -\n\
+        y -1 failed 1 -\n\
+        z -1 upstream_failed 0 -\n\
+        @end 1\n",
+    ),
+    // A leaf that succeeds makes the run a success, whatever came before it.
+    (
+        r#"{"dag_id":"d","schedule":"@daily","tasks":[{"id":"x"},{"id":"z","upstream":["x"],"rule":"all_done"}]}"#,
+        r#"[{"task":"x","status":1}]"#,
+        0,
+        "@backfill 1 d\n\
+        @run 2024-01-01T00:00:00Z 2024-01-01T00:00:00Z success\n\
+        x -1 failed 1 -\n\
+        z -1 success 1 -\n\
+        @end 1\n",
+    ),
+    // Pools bound what runs at once, and not what comes of it.
+    (
+        r#"{"dag_id":"d","schedule":"@daily","max_active_runs":1,"pools":{"p":2},"tasks":[{"id":"x","pool":"p","pool_slots":2},{"id":"z","upstream":["x"],"pool":"p","rule":"one_failed"}]}"#,
+        "[]",
+        0,
+        "@backfill 1 d\n\
+        @run 2024-01-01T00:00:00Z 2024-01-01T00:00:00Z success\n\
+        x -1 success 1 -\n\
+        z -1 skipped 0 -\n\
+        @end 1\n",
+    ),
+];
+
 fn ends_so(rt: &impl Abort, alloc: Global, row: &Row<'_>) -> Result<(), Fail> {
     let ending = single(alloc, row.0.as_bytes(), row.1.as_bytes(), DAY)?;
     expect(rt, &ending, row.2, row.3, "");
@@ -153,6 +230,14 @@ fn joins_are_reported(rt: HostRuntime) -> Result<(), Fail> {
 #[test]
 fn graphs_are_reported(rt: HostRuntime) -> Result<(), Fail> {
     for row in &SHAPES {
+        ends_so(&rt, rt.alloc(), row)?;
+    }
+    Ok(())
+}
+
+#[test]
+fn rules_and_retries_are_reported(rt: HostRuntime) -> Result<(), Fail> {
+    for row in &RULES {
         ends_so(&rt, rt.alloc(), row)?;
     }
     Ok(())
