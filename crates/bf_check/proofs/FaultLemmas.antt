@@ -1,5 +1,5 @@
 -- Which of the faults of a draft is answered.
-use Rattle.std.proofs.Common.{◌≡◌, inl, inr, ℕ, suc, ◌<◌, ◌==◌, List, Bool, true, false, Option, Some, None, option_map, if◌then◌else◌, Result, IfErr, OnOk, refl, sym, ap, ◌∙◌, subst, arith}
+use Rattle.std.proofs.Common.{◌≡◌, inl, inr, ℕ, suc, ◌<◌, ◌==◌, List, Bool, true, Option, Some, None, option_map, if◌then◌else◌, Result, IfErr, OnOk, refl, sym, ap, ◌∙◌, subst, arith}
 use Rattle.std.specs.List.{find}
 use Rattle.std.proofs.lemmas.Bool.{cases_lt}
 use Rattle.std.proofs.lemmas.Result.{IfOk-weaker, IfErr-weaker}

@@ -1,7 +1,7 @@
 -- What is settled when a task is decided, by paths.
-use Rattle.std.proofs.Common.{◌≡◌, inl, inr, ℕ, zero, suc, ◌<◌, List, [], ◌∷◌, ◌++◌, length, map, Contains, Bool, true, false, cond, Some, refl, sym, ap, ◌∙◌, subst, arith}
+use Rattle.std.proofs.Common.{◌≡◌, inl, inr, ℕ, zero, suc, List, [], ◌∷◌, ◌++◌, map, Contains, Bool, true, false, cond, refl, sym, subst, arith}
 use Rattle.std.specs.List.{slice_index_or}
-use Rattle.bf_graph.specs.Edges.{upstreams_of, IsUpstream, IsChain, IsCycle, IsAcyclic}
+use Rattle.bf_graph.specs.Edges.{upstreams_of, IsUpstream, IsChain, IsAcyclic}
 use Rattle.bf_graph.specs.Reach.{IsPath, Reaches}
 use Rattle.bf_read.specs.declared.draft.Draft.{Draft}
 use Rattle.bf_read.specs.declared.draft.TaskDraft.{TaskDraft}
@@ -10,7 +10,7 @@ use Rattle.bf_rule.specs.Verdicts.{is_waiting}
 use Rattle.bf_check.specs.declared.plan.Dag.{Dag}
 use Rattle.bf_check.specs.Plans.{no_task, task_of}
 use Rattle.bf_check.specs.Sound.{IsOneOf, IsSettledAncestor, Direct, Above}
-use Rattle.bf_check.specs.Checking.{ids_of, number_or_0, rule_of, task_in, dag_of, shape_in}
+use Rattle.bf_check.specs.Checking.{ids_of, number_or_0, task_in, dag_of, shape_in}
 use Rattle.bf_check.specs.Refusals.{settling_upstreams, settling_edges, LeadsTo, MayPull, PullsUnsettled}
 
 -- ---- one of a list

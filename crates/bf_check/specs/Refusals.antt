@@ -1,5 +1,5 @@
 -- Why `check` refuses a draft.
-use Rattle.std.specs.Prelude.{◌≡◌, ◌⊎◌, ℕ, ◌<◌, ◌&&◌, nat_lt, true, false, not, Bool, List, [], if◌then◌else◌, map, option_map, slice_get, Contains, Option, Some, None, unwrap_or, is_none, is_some}
+use Rattle.std.specs.Prelude.{◌≡◌, ℕ, ◌<◌, ◌&&◌, nat_lt, true, false, not, Bool, List, [], if◌then◌else◌, map, option_map, slice_get, Contains, Option, Some, None, unwrap_or, is_none, is_some}
 use Rattle.std.specs.List.{list_any, slice_index_or}
 use Rattle.std.specs.Str.{bytes_eq}
 use Rattle.bf_graph.specs.Edges.{IsAcyclic}

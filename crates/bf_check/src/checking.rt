@@ -9,7 +9,9 @@ use crate::fault::CheckFault;
 use crate::plan::{Dag, Limits, Plan};
 use crate::pools::limits_of;
 use crate::pulls::refuse_unsettled_pulls;
-use crate::refusing::{refuse_bad_rules, refuse_early_expansions, refuse_expanded_branches, refuse_sources};
+use crate::refusing::{
+    refuse_bad_rules, refuse_early_expansions, refuse_expanded_branches, refuse_sources,
+};
 use crate::tasks::tasks_of;
 use bf_graph::{Graph, Ids};
 use bf_read::Draft;

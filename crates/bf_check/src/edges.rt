@@ -59,7 +59,11 @@ fn first_with_unknown_upstream<'a>(ids: &Ids, tasks: &'a [TaskDraft]) -> Option<
 }
 
 /// Refuses a draft in which an upstream is no task.
-pub(crate) fn refuse_unknown_upstreams(alloc: Global, ids: &Ids, draft: &Draft) -> Result<(), CheckFault>
+pub(crate) fn refuse_unknown_upstreams(
+    alloc: Global,
+    ids: &Ids,
+    draft: &Draft,
+) -> Result<(), CheckFault>
     requires { ids.now ≡ ids_of draft.now.tasks }
     ensures ok { OnOk result (HasNoneBelow draft.now 7) }
     ensures err { IfErr result (IsFaultOf draft.now) }

@@ -32,7 +32,10 @@ fn names_default(pools: &[PoolDraft]) -> bool
 }
 
 /// The pools of a file, and the default pool where it doesn't name that.
-pub(crate) fn pools_of<'a>(alloc: Global, drafts: &'a [PoolDraft]) -> Result<Vec<Pool<'a>>, OutOfMemory>
+pub(crate) fn pools_of<'a>(
+    alloc: Global,
+    drafts: &'a [PoolDraft],
+) -> Result<Vec<Pool<'a>>, OutOfMemory>
     ensures pools { IfOk result (λ v. map pool_of v.items ≡ pools_in drafts.entry.now) }
     ensures few { IfOk result (λ v. length v.items ≤ 4294967295) }
 {
@@ -42,10 +45,16 @@ pub(crate) fn pools_of<'a>(alloc: Global, drafts: &'a [PoolDraft]) -> Result<Vec
     }
     let mut pools = Vec::new(alloc);
     for pool in drafts {
-        pools.push(Pool { name: pool.name.as_str(), slots: pool.slots })?;
+        pools.push(Pool {
+            name: pool.name.as_str(),
+            slots: pool.slots,
+        })?;
     }
     if !names_default(drafts) {
-        pools.push(Pool { name: DEFAULT_POOL, slots: DEFAULT_POOL_SLOTS })?;
+        pools.push(Pool {
+            name: DEFAULT_POOL,
+            slots: DEFAULT_POOL_SLOTS,
+        })?;
     }
     Ok(pools)
 }
@@ -111,7 +120,10 @@ fn refuse_unknown_pools(alloc: Global, pools: &[Pool<'_>], draft: &Draft) -> Res
     refuse(alloc, TaskFault::UnknownPool, found)
 }
 
-fn first_that_takes_too_much<'a>(pools: &[Pool<'_>], tasks: &'a [TaskDraft]) -> Option<&'a TaskDraft>
+fn first_that_takes_too_much<'a>(
+    pools: &[Pool<'_>],
+    tasks: &'a [TaskDraft],
+) -> Option<&'a TaskDraft>
     requires { length pools.now ≤ 4294967295 }
     ensures { option_map (λ task. task.now) result ≡ find (too_much (map pool_of pools.now)) tasks.entry.now }
 {
@@ -142,11 +154,20 @@ fn demand_of(pools: &[Pool<'_>], task: &TaskDraft) -> Demand
     }
 }
 
-fn demands_of(alloc: Global, pools: &[Pool<'_>], tasks: &[TaskDraft]) -> Result<Vec<Demand>, OutOfMemory>
+fn demands_of(
+    alloc: Global,
+    pools: &[Pool<'_>],
+    tasks: &[TaskDraft],
+) -> Result<Vec<Demand>, OutOfMemory>
     requires { length pools.now ≤ 4294967295 }
     ensures { IfOk result (λ v. v.items ≡ map (demand_in (map pool_of pools.now)) tasks.now) }
 {
-    Ok(tasks.iter().map(|task| demand_of(pools, task)).collect(alloc)?)
+    Ok(
+        tasks
+            .iter()
+            .map(|task| demand_of(pools, task))
+            .collect(alloc)?,
+    )
 }
 
 fn sizes_of(alloc: Global, pools: &[Pool<'_>]) -> Result<Vec<u32>, OutOfMemory>

@@ -23,7 +23,11 @@ fn settling_upstreams(alloc: Global, ids: &Ids, task: &TaskDraft) -> Result<Vec<
     }
 }
 
-fn settling_edges(alloc: Global, ids: &Ids, tasks: &[TaskDraft]) -> Result<Vec<Vec<u32>>, OutOfMemory>
+fn settling_edges(
+    alloc: Global,
+    ids: &Ids,
+    tasks: &[TaskDraft],
+) -> Result<Vec<Vec<u32>>, OutOfMemory>
     ensures { IfOk result (λ v. lists v.items ≡ map (settling_in ids.now) tasks.now) }
 {
     let mut edges = Vec::new(alloc);
@@ -94,7 +98,11 @@ fn refuse_pulls(alloc: Global, ids: &Ids, settling: &Graph, draft: &Draft) -> Re
 }
 
 /// Refuses a draft in which a task pulls from what needn't be settled when it is decided.
-pub(crate) fn refuse_unsettled_pulls(alloc: Global, ids: &Ids, draft: &Draft) -> Result<(), CheckFault>
+pub(crate) fn refuse_unsettled_pulls(
+    alloc: Global,
+    ids: &Ids,
+    draft: &Draft,
+) -> Result<(), CheckFault>
     requires ids { ids.now ≡ ids_of draft.now.tasks }
     requires below { HasNoneBelow draft.now 14 }
     ensures settled { OnOk result (AllMayPull draft.now) }

@@ -12,7 +12,11 @@ use bf_rule::Rule;
 use std::alloc::Global;
 
 /// Refuses a draft with this fault where a task was found that has it.
-pub(crate) fn refuse(alloc: Global, fault: TaskFault, found: Option<&TaskDraft>) -> Result<(), CheckFault>
+pub(crate) fn refuse(
+    alloc: Global,
+    fault: TaskFault,
+    found: Option<&TaskDraft>,
+) -> Result<(), CheckFault>
     ensures ok { OnOk result (option_map (λ task. task.now) found.entry ≡ None) }
     ensures err { IfErr result (Refuses fault (option_map (λ task. task.now) found.entry)) }
 {

@@ -43,7 +43,11 @@ fn word_of(pulled: &[Text], word: WordDraft) -> Word
     }
 }
 
-fn words_of(alloc: Global, pulled: &[Text], drafts: Sequence<WordDraft>) -> Result<Vec<Word>, OutOfMemory>
+fn words_of(
+    alloc: Global,
+    pulled: &[Text],
+    drafts: Sequence<WordDraft>,
+) -> Result<Vec<Word>, OutOfMemory>
     requires { length pulled.now ≤ MOST_PULLS }
     ensures { IfOk result (λ v. v.items ≡ map (word_in pulled.now) drafts) }
 {
@@ -63,7 +67,9 @@ fn task_of(alloc: Global, ids: &Ids, draft: TaskDraft) -> Result<Task, OutOfMemo
     let upstreams = numbers_of(alloc, ids, draft.upstreams.as_slice())?;
     let pulled = pulls_of(alloc, draft.command.as_slice())?;
     let pulls = numbers_of(alloc, ids, pulled.as_slice())?;
-    let expand = draft.expand.map(|id| ids.number_of(id.as_str()).unwrap_or(0));
+    let expand = draft
+        .expand
+        .map(|id| ids.number_of(id.as_str()).unwrap_or(0));
     let command = words_of(alloc, pulled.as_slice(), draft.command)?;
     Ok(Task {
         id: draft.id,
@@ -79,7 +85,11 @@ fn task_of(alloc: Global, ids: &Ids, draft: TaskDraft) -> Result<Task, OutOfMemo
 }
 
 /// The tasks of a plan.
-pub(crate) fn tasks_of(alloc: Global, ids: &Ids, drafts: Sequence<TaskDraft>) -> Result<Vec<Task>, OutOfMemory>
+pub(crate) fn tasks_of(
+    alloc: Global,
+    ids: &Ids,
+    drafts: Sequence<TaskDraft>,
+) -> Result<Vec<Task>, OutOfMemory>
     requires { All IsTask drafts }
     ensures { IfOk result (λ v. v.items ≡ map (task_in ids.now) drafts) }
 {

@@ -1,5 +1,5 @@
 -- Pools with what is occupied of them.
-use Rattle.std.specs.Prelude.{◌≡◌, ℕ, ◌+◌, ◌≤◌, List, length, slice_index_or, slice_set}
+use Rattle.std.specs.Prelude.{◌≡◌, ℕ, ◌≤◌, List, length, slice_index_or, slice_set}
 
 -- how many slots each pool has, and how many of them are occupied
 pub record Slots : Type 0 where

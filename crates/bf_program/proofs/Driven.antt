@@ -1,5 +1,5 @@
 -- What an event does to one run over a table.
-use Rattle.std.proofs.Common.{◌≡◌, ℕ, zero, suc, ◌<◌, Bool, true, false, List, Option, Some, slice_get, length, None, refl, sym, ap, ◌∙◌, inl, inr, arith}
+use Rattle.std.proofs.Common.{◌≡◌, ℕ, zero, suc, Bool, List, Option, Some, None, refl, sym, ap, ◌∙◌, inl, inr, arith}
 use Rattle.std.specs.FinMap as map
 use Rattle.std.specs.List.{All}
 use Rattle.jiff_core.proofs.SignedLemmas.{signed_arith}
@@ -13,7 +13,7 @@ use Rattle.bf_try.specs.Grades.{grade_of}
 use Rattle.bf_try.specs.Tables.{answer_of, Answering}
 use Rattle.bf_core.specs.declared.event.Event.{Event}
 use Rattle.bf_core.specs.declared.event.Event.TheVariants.{Open, Settle, Expand, Begin, End, Close}
-use Rattle.bf_core.specs.Events.{IsEnabled, after, entry_in, put, with_phase, write}
+use Rattle.bf_core.specs.Events.{IsEnabled, after, entry_in}
 use Rattle.bf_core.specs.Cores.{Backfill, moved, opening}
 use Rattle.bf_check.specs.Served.{IsServed}
 use Rattle.bf_check.specs.Sound.{AreLimits, IsSound}
@@ -24,7 +24,6 @@ use Rattle.bf_core.specs.Agreement.{IsOutcome, AreRunStates}
 use Rattle.bf_core.specs.Recursion.{out, run_state_of}
 use Rattle.bf_core.specs.declared.ended.Ended.{Ended}
 use Rattle.bf_check.specs.declared.plan.Dag.{Dag}
-use Rattle.bf_try.specs.declared.table.TableEntry.{TableEntry}
 use Rattle.bf_interval.specs.Years.{IsInYears}
 use Rattle.bf_report.specs.declared.report.Report.{Report}
 use Rattle.bf_report.specs.Dated.{IsDated, IsShownInterval}

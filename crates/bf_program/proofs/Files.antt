@@ -9,7 +9,7 @@ use Rattle.bf_try.specs.declared.table.TableFault.{TableFault}
 use Rattle.bf_try.specs.Tables.{table_of}
 use Rattle.bf_program.specs.declared.one_run.SingleFault.{SingleFault}
 use Rattle.bf_program.specs.declared.one_run.SingleFault.TheVariants.{Plan, NotYet, Table, OutsideYears, OutOfMemory, Write}
-use Rattle.bf_program.specs.Graphs.{IsFaultIn, IsPlanOf}
+use Rattle.bf_program.specs.Graphs.{IsPlanOf}
 use Rattle.bf_program.specs.OneRun.{IsFaultOfRun, IsRunnable, IsReportedOver, IsReported, IsTable, IsUnserved, comes_late}
 
 -- ---- the whole

@@ -1,15 +1,14 @@
 -- One task after the other: each event of the run may come when its turn comes.
-use Rattle.std.proofs.Common.{◌≡◌, ◌≢◌, ◌⊎◌, ◌<◌, ◌≤◌, ◌+◌, ◌&&◌, ℕ, zero, suc, negsuc, if◌then◌else◌, Bool, true, false, List, [], ◌∷◌, length, Option, None, Some, Result, Ok, Err, OnOk, is_some, option_map, slice_get, slice_index_or, nat_le, refl, sym, ap, ◌∙◌, subst, inl, inr, le_refl, arith}
+use Rattle.std.proofs.Common.{◌≡◌, ◌≢◌, ◌⊎◌, ◌<◌, ◌≤◌, ◌+◌, ◌&&◌, ℕ, suc, if◌then◌else◌, Bool, true, false, List, [], ◌∷◌, length, Option, None, Some, Result, Ok, Err, OnOk, is_some, option_map, slice_get, slice_index_or, nat_le, refl, sym, ap, ◌∙◌, subst, inl, inr, le_refl, arith}
 use Rattle.std.specs.FinMap as map
 use Rattle.std.proofs.lemmas.List.{length-map}
 use Rattle.std.proofs.lemmas.Option.{slice_get-get_or, slice_get_within}
-use Rattle.std.specs.List.{AllByRecursion}
 use Rattle.bf_value.specs.declared.memory.OutOfMemory.{OutOfMemory}
 use Rattle.bf_value.specs.declared.name.JobName.{JobName}
 use Rattle.bf_value.specs.Names.{name_cmp}
 use Rattle.bf_check.specs.Plans.{task_of, shape_of}
 use Rattle.bf_check.specs.Served.{IsServed}
-use Rattle.bf_check.specs.Sound.{AreLimits, IsOneOf, IsSound, demand_of, pool_size}
+use Rattle.bf_check.specs.Sound.{AreLimits, demand_of}
 use Rattle.bf_check.specs.declared.plan.Dag.{Dag}
 use Rattle.bf_check.specs.declared.plan.Limits.{Limits}
 use Rattle.bf_check.specs.declared.plan.Task.{Task}
@@ -36,12 +35,12 @@ use Rattle.bf_core.specs.Checks.{IsKnownAs}
 use Rattle.bf_core.specs.Cores.{Backfill, IsReplay, IsThere, moved, opening}
 use Rattle.bf_core.specs.declared.deciding.Decision.{Decision}
 use Rattle.bf_core.specs.Deciding.{Seen, after_verdict, decision, gate}
-use Rattle.bf_core.specs.Events.{AllSettled, HasEnded, IsDecidable, IsEnabled, IsPresent, after, before_in, begun, cell_at, cell_of, change_instance, cons_result, decision_in, ended, entry_in, fresh, given_in, has_room, instance_of, next_run, occupied, phase_of, phase_in, phase_put_in, place_in, put, results, seen_in, start, value_in, with_phase, no_run}
+use Rattle.bf_core.specs.Events.{AllSettled, HasEnded, IsDecidable, IsEnabled, IsPresent, after, before_in, begun, cell_at, cell_of, change_instance, cons_result, decision_in, ended, fresh, given_in, instance_of, next_run, phase_of, phase_in, phase_put_in, place_in, put, results, seen_in, start, value_in, with_phase}
 use Rattle.bf_core.specs.Words.{plain_after}
-use Rattle.bf_core.proofs.Enabling.{goes_on-not, has-room, present-there}
-use Rattle.bf_core.proofs.Kept.{replay-event, replay-rows, replay-shaped}
+use Rattle.bf_core.proofs.Enabling.{goes_on-not, has-room}
+use Rattle.bf_core.proofs.Kept.{replay-shaped}
 use Rattle.bf_core.proofs.Known.{has-instance, place-zero, present-from}
-use Rattle.bf_core.proofs.Pools.{le-from, occupied-begun, occupied-decided, occupied-ended, occupied-phase, start-occupied, takes}
+use Rattle.bf_core.proofs.Pools.{le-from, occupied-begun, occupied-decided, occupied-ended, occupied-phase, start-occupied}
 use Rattle.bf_core.proofs.Reading.{put-cases, put-here, put-there, with_phase-cell}
 use Rattle.bf_core.proofs.Rulings.{decision-is}
 use Rattle.bf_core.proofs.Shape.{length-phase, open-run, phase-there, put-phase, row_in}

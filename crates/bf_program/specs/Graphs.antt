@@ -1,5 +1,5 @@
 -- What the bytes of a graph file say: a plan, or why there is none.
-use Rattle.std.specs.Prelude.{◌≡◌, ℕ, not, List, length, find, Option, None, option_map, Ok}
+use Rattle.std.specs.Prelude.{◌≡◌, ℕ, List, length, Ok}
 use Rattle.bf_read.specs.declared.draft.Draft.{Draft}
 use Rattle.bf_read.specs.Drafts.{edge_count}
 use Rattle.bf_read.specs.Gives.{Fails}
@@ -7,7 +7,6 @@ use Rattle.bf_read.specs.Reading.{graph_in, graph_file_of}
 use Rattle.bf_check.specs.Checked.{Checked}
 use Rattle.bf_check.specs.Checking.{dag_of}
 use Rattle.bf_check.specs.Refusals.{IsAccepted, IsFaultOf}
-use Rattle.bf_check.specs.Served.{first_unserved}
 use Rattle.bf_program.specs.declared.graphs.GraphSize.{GraphSize}
 use Rattle.bf_program.specs.declared.graphs.PlanFault.{PlanFault}
 use Rattle.bf_program.specs.declared.graphs.PlanFault.TheVariants.{Read, Check}

@@ -15,7 +15,7 @@ use Rattle.bf_try.specs.declared.ledger.Entry.{Entry}
 use Rattle.bf_try.specs.declared.table.TableEntry.{TableEntry}
 use Rattle.bf_try.specs.declared.table.TableFault.{TableFault}
 use Rattle.bf_try.specs.Grades.{grade_of}
-use Rattle.bf_try.specs.Tables.{table_of, answer_of, Answering}
+use Rattle.bf_try.specs.Tables.{table_of, answer_of}
 use Rattle.bf_try.specs.Tries.{Look, name_of}
 use Rattle.bf_core.specs.Recursion.{IsDefined, Asks, out, run_state_of}
 use Rattle.bf_core.specs.Events.{place_in}

@@ -6,7 +6,8 @@ use std::process::Abort;
 use std::test::Fail;
 
 /// A graph with every key.
-pub const EVERY_KEY: &str = r#"{"dag_id":"d","schedule":"0 6 * * mon-fri","zone":"+01:00","max_active_runs":4,
+pub const EVERY_KEY: &str =
+    r#"{"dag_id":"d","schedule":"0 6 * * mon-fri","zone":"+01:00","max_active_runs":4,
  "pools":{"db":2},
  "tasks":[
   {"id":"src","command":["echo","[3,1,2]"],"retries":2},
@@ -83,15 +84,9 @@ const TASKS: [(&str, &str); 46] = [
         r#","command":[{"context":"ds"}]"#,
         "2 shape: tasks[1].command",
     ),
-    (
-        r#","command":[{"context":1}]"#,
-        "2 shape: tasks[1].command",
-    ),
+    (r#","command":[{"context":1}]"#, "2 shape: tasks[1].command"),
     (r#","command":[{"pull":1}]"#, "2 shape: tasks[1].command"),
-    (
-        r#","command":[{"item":true}]"#,
-        "2 shape: tasks[1].command",
-    ),
+    (r#","command":[{"item":true}]"#, "2 shape: tasks[1].command"),
     (
         r#","expand":"s","command":[{"item":false}]"#,
         "2 shape: tasks[1].command",
@@ -100,10 +95,7 @@ const TASKS: [(&str, &str); 46] = [
         r#","expand":"s","command":[{"item":true,"pull":"s"}]"#,
         "2 shape: tasks[1].command",
     ),
-    (
-        r#","command":[{"word":"s"}]"#,
-        "2 shape: tasks[1].command",
-    ),
+    (r#","command":[{"word":"s"}]"#, "2 shape: tasks[1].command"),
     (r#","expand":1"#, "2 shape: tasks[1].expand"),
     // The key `expand` stands there, so the item is good, and its value is looked at behind the command.
     (
@@ -128,10 +120,7 @@ const TASKS: [(&str, &str); 46] = [
     (r#","retries":101"#, "5 limit passed: tasks[1].retries"),
     (r#","retries":-1"#, "5 limit passed: tasks[1].retries"),
     (r#","pool":["p"]"#, "2 shape: tasks[1].pool"),
-    (
-        r#","pool_slots":0"#,
-        "5 limit passed: tasks[1].pool_slots",
-    ),
+    (r#","pool_slots":0"#, "5 limit passed: tasks[1].pool_slots"),
     (
         r#","pool_slots":1000001"#,
         "5 limit passed: tasks[1].pool_slots",
@@ -144,32 +133,20 @@ const TASKS: [(&str, &str); 46] = [
         r#","priority_weight":1000001"#,
         "5 limit passed: tasks[1].priority_weight",
     ),
-    (
-        r#","weight_rule":"none""#,
-        "2 shape: tasks[1].weight_rule",
-    ),
+    (r#","weight_rule":"none""#, "2 shape: tasks[1].weight_rule"),
     (r#","retry_delay":1"#, "2 shape: tasks[1]"),
     (r#","pool":"q""#, "8 unknown pool: t"),
-    (
-        r#","pool":"p","pool_slots":3"#,
-        "9 slots beyond pool: t",
-    ),
+    (r#","pool":"p","pool_slots":3"#, "9 slots beyond pool: t"),
     (r#","pool_slots":129"#, "9 slots beyond pool: t"),
     (r#","rule":"all_good""#, "10 bad rule: t"),
     (r#","rule":"ALL_SUCCESS""#, "10 bad rule: t"),
     // s isn't upstream, z isn't there, and no task is settled when it is decided itself.
-    (
-        r#","command":[{"pull":"s"}]"#,
-        "14 pull not settled: t",
-    ),
+    (r#","command":[{"pull":"s"}]"#, "14 pull not settled: t"),
     (
         r#","upstream":["s"],"command":[{"pull":"z"}]"#,
         "14 pull not settled: t",
     ),
-    (
-        r#","command":[{"pull":"t"}]"#,
-        "14 pull not settled: t",
-    ),
+    (r#","command":[{"pull":"t"}]"#, "14 pull not settled: t"),
     (
         r#","upstream":["s"],"rule":"always","command":[{"pull":"s"}]"#,
         "14 pull not settled: t",
@@ -195,7 +172,10 @@ const TASKS: [(&str, &str); 46] = [
 const GRAPHS: [(&str, &str); 30] = [
     ("{", "1 not json"),
     ("[]", "2 shape: top"),
-    (r#"{"dag_id":" ","schedule":"","tasks":[]}"#, "3 bad name: dag_id"),
+    (
+        r#"{"dag_id":" ","schedule":"","tasks":[]}"#,
+        "3 bad name: dag_id",
+    ),
     (
         r#"{"dag_id":"d","schedule":"","tasks":[{"id":"a"},{"id":"a"}]}"#,
         "4 duplicate task: a",
@@ -408,7 +388,12 @@ fn the_shortest_cycle_from_the_earliest_task_is_named(rt: HostRuntime) -> Result
 #[test]
 fn a_file_that_breaks_off_is_no_json(rt: HostRuntime) -> Result<(), Fail> {
     for length in 0..EVERY_KEY.len() {
-        is_refused(&rt, rt.alloc(), &EVERY_KEY.as_bytes()[..length], "1 not json")?;
+        is_refused(
+            &rt,
+            rt.alloc(),
+            &EVERY_KEY.as_bytes()[..length],
+            "1 not json",
+        )?;
     }
     Ok(())
 }

@@ -160,9 +160,9 @@ fn graph_named(alloc: Global, length: usize) -> Result<String, Fail> {
 
 /// A graph of one task with this command.
 fn graph_with_command(alloc: Global, words: &str) -> Result<String, Fail> {
-    Ok(
-        format!(in alloc; "{{\"dag_id\":\"d\",\"schedule\":\"\",\"tasks\":[{{\"id\":\"a\",\"command\":[{words}]}}]}}")?,
-    )
+    Ok(format!(in alloc;
+        "{{\"dag_id\":\"d\",\"schedule\":\"\",\"tasks\":[{{\"id\":\"a\",\"command\":[{words}]}}]}}"
+    )?)
 }
 
 /// A graph of so many tasks, and one behind them that pulls from each.
@@ -174,9 +174,9 @@ fn graph_that_pulls(alloc: Global, pulls: usize) -> Result<String, Fail> {
         push_pull(alloc, &mut words, task)?;
     }
     let names = names_below(alloc, pulls)?;
-    text.push_str(
-        format!(in alloc; ",{{\"id\":\"last\",\"upstream\":[{names}],\"command\":[{words}]}}]}}")?.as_str(),
-    )?;
+    text.push_str(format!(in alloc;
+        ",{{\"id\":\"last\",\"upstream\":[{names}],\"command\":[{words}]}}]}}"
+    )?.as_str())?;
     Ok(text)
 }
 
@@ -192,7 +192,12 @@ fn a_command_has_at_most_64_words(rt: HostRuntime) -> Result<(), Fail> {
     let most = graph_with_command(alloc, names_below(alloc, 64)?.as_str())?;
     is_answered(&rt, alloc, most.as_bytes(), 0, "ok 1 tasks, 0 edges\n", "")?;
     let more = graph_with_command(alloc, names_below(alloc, 65)?.as_str())?;
-    is_refused(&rt, alloc, more.as_bytes(), "5 limit passed: tasks[0].command")
+    is_refused(
+        &rt,
+        alloc,
+        more.as_bytes(),
+        "5 limit passed: tasks[0].command",
+    )
 }
 
 #[test]
@@ -204,18 +209,40 @@ fn a_word_has_at_most_4096_bytes(rt: HostRuntime) -> Result<(), Fail> {
     is_answered(&rt, alloc, most.as_bytes(), 0, "ok 1 tasks, 0 edges\n", "")?;
     let words = format!(in alloc; "\"{longest}w\"")?;
     let more = graph_with_command(alloc, words.as_str())?;
-    is_refused(&rt, alloc, more.as_bytes(), "5 limit passed: tasks[0].command")?;
+    is_refused(
+        &rt,
+        alloc,
+        more.as_bytes(),
+        "5 limit passed: tasks[0].command",
+    )?;
     // It is a limit of the file, and goes before what the graph lacks.
     let words = format!(in alloc; "{{\"pull\":\"{longest}w\"}}")?;
     let pulled = graph_with_command(alloc, words.as_str())?;
-    is_refused(&rt, alloc, pulled.as_bytes(), "5 limit passed: tasks[0].command")
+    is_refused(
+        &rt,
+        alloc,
+        pulled.as_bytes(),
+        "5 limit passed: tasks[0].command",
+    )
 }
 
 #[test]
 fn a_command_pulls_from_at_most_16_tasks(rt: HostRuntime) -> Result<(), Fail> {
     let alloc = rt.alloc();
     let most = graph_that_pulls(alloc, 16)?;
-    is_answered(&rt, alloc, most.as_bytes(), 0, "ok 17 tasks, 16 edges\n", "")?;
+    is_answered(
+        &rt,
+        alloc,
+        most.as_bytes(),
+        0,
+        "ok 17 tasks, 16 edges\n",
+        "",
+    )?;
     let more = graph_that_pulls(alloc, 17)?;
-    is_refused(&rt, alloc, more.as_bytes(), "5 limit passed: tasks[17].command")
+    is_refused(
+        &rt,
+        alloc,
+        more.as_bytes(),
+        "5 limit passed: tasks[17].command",
+    )
 }

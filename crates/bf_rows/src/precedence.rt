@@ -21,7 +21,8 @@ const CYCLE_AND_UNKNOWN: &str =
     r#"{"dag_id":"d","schedule":"","tasks":[{"id":"a","upstream":["a"]},{"id":"b","upstream":["c"]}]}"#;
 
 /// Its first task that uses a part which isn't built yet is `m`.
-const NOT_YET: &str = r#"{"dag_id":"d","schedule":"","tasks":[{"id":"a"},{"id":"m","upstream":["a"],"expand":"a"},
+const NOT_YET: &str =
+    r#"{"dag_id":"d","schedule":"","tasks":[{"id":"a"},{"id":"m","upstream":["a"],"expand":"a"},
     {"id":"s","upstream":["m"],"command":[{"pull":"m"}]},{"id":"b","kind":"branch"}]}"#;
 
 const FAULTS: [Faults<'static>; 19] = [

@@ -44,7 +44,10 @@ impl Rule {
     pub fn waits(self) -> bool
         ensures { result ≡ is_waiting self }
     {
-        !matches!(self, Rule::OneSuccess | Rule::OneFailed | Rule::OneDone | Rule::Always)
+        !matches!(
+            self,
+            Rule::OneSuccess | Rule::OneFailed | Rule::OneDone | Rule::Always
+        )
     }
 }
 

@@ -1,11 +1,11 @@
-use Rattle.std.proofs.Common.{◌≡◌, [], ℕ, List, length, map, Contains, slice_index_or, ap, sym, ◌∙◌, subst, arith}
+use Rattle.std.proofs.Common.{[], ℕ, List, length, map, Contains, slice_index_or, ap, sym, ◌∙◌, subst, arith}
 use Rattle.std.proofs.lemmas.List.{length-map}
 use Rattle.bf_graph.specs.Cycles.{IsNamedCycle}
 use Rattle.bf_graph.specs.Edges.{lists, AreInRange, IsAcyclic}
 use Rattle.bf_graph.proofs.AcyclicLemmas.{cycle_within}
 use Rattle.bf_read.specs.declared.draft.TaskDraft.{TaskDraft}
 use Rattle.bf_check.specs.declared.fault.TaskFault.TheVariants.{UnknownUpstream}
-use Rattle.bf_check.specs.Checking.{ids_of, number_or_0, shape_in}
+use Rattle.bf_check.specs.Checking.{ids_of, number_or_0}
 use Rattle.bf_check.proofs.FaultLemmas.{with_edges}
 use Rattle.bf_check.proofs.PlanLemmas.{in_range, edges_made}
 use Rattle.bf_check.proofs.edges.graph_of.Goals as goal

@@ -3,7 +3,7 @@ use Rattle.std.proofs.lemmas.Option.{slice_get_read, slice_get_within}
 use Rattle.bf_read.specs.declared.draft.TaskDraft.{TaskDraft}
 use Rattle.bf_read.specs.Drafts.{pulled_in}
 use Rattle.bf_check.specs.declared.fault.TaskFault.TheVariants.{PullNotSettled}
-use Rattle.bf_check.specs.Refusals.{AllMayPull, MayPull, HasNoneBelow}
+use Rattle.bf_check.specs.Refusals.{MayPull}
 use Rattle.bf_check.proofs.FaultLemmas.{with_fault}
 use Rattle.bf_check.proofs.ListLemmas.{each_so_far}
 use Rattle.bf_check.proofs.PullLemmas.{may_pull, unsettled}
@@ -17,15 +17,17 @@ returns-then-not-may_pull_all-clause-err c =
     let task = c.task-item.result in
     let here : slice_get draft.tasks t ≡ Some task = ap (λ (ts : List TaskDraft). slice_get ts t) (sym c.as_slice-task-items.ensures) ∙ slice_get_read tasks _ t task refl c.loop-t-test.true c.task-item.is in
     let pulled = c.as_slice-in-loop-t.ensures.value ∙ c.in_ok-pulled.ensures ∙ ap pulled_in c.as_slice.ensures in
-    let one = c.may_pull_all.ensures.not_all (search rules) in
-    (record {
-      t = t;
-      task = task;
-      there = here;
-      has = unsettled draft _ _ c.requires.ids c.requires.settling t task _ pulled one;
-      none_before = λ s other h there (id, among, cannot). cannot (c.loop-t.invariant s other h there id among);
-      id_is = c.in_ok-copy.ensures;
-    }, c.requires.below)
+    let one = c.may_pull_all.ensures.not_all (search rules) in (
+      record {
+        t = t;
+        task = task;
+        there = here;
+        has = unsettled draft _ _ c.requires.ids c.requires.settling t task _ pulled one;
+        none_before = λ s other h there (id, among, cannot). cannot (c.loop-t.invariant s other h there id among);
+        id_is = c.in_ok-copy.ensures;
+      },
+      c.requires.below,
+    )
 
 pub loop-t-preserved : goal.loop-t-preserved
 loop-t-preserved c =

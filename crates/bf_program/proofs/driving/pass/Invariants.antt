@@ -1,4 +1,3 @@
-use Rattle.std.proofs.Common.{◌≤◌}
 use Rattle.bf_program.specs.Driving.{HasTried, IsDriven}
 use Rattle.bf_program.proofs.driving.pass.Given as goal
 
