@@ -4,12 +4,7 @@
 # beginning of the report) on standard output. Needs a C compiler.
 set -euo pipefail
 
-root=$(dirname "$(dirname "$(dirname "$(readlink -f "${BASH_SOURCE[0]}")")")")
-work=$(mktemp -d)
-trap 'rm -rf "$work"' EXIT
-
-"$root/backfill" --help > /dev/null
-program=$root/crates/backfill/out/backfill
+source "$(dirname "$(readlink -f "${BASH_SOURCE[0]}")")/../../bench/program.sh"
 
 cat > "$work/refuse.c" <<'C'
 #define _GNU_SOURCE
@@ -128,7 +123,7 @@ each() {
 }
 
 cd "$root/examples"
-printf '{"dag_id":"d","schedule":"","tasks":[{"id":"a","upstream":["b"]},{"id":"b","upstream":["a"]}]}' > "$work/cycle"
+printf '{"dag_id":"d","schedule":"@daily","tasks":[{"id":"a","upstream":["b"]},{"id":"b","upstream":["a"]}]}' > "$work/cycle"
 for call in memory open read write; do
     for example in one_task diamond skip; do
         each "$call" single "$example/graph.json" "$example/table.json" --at 2024-01-01

@@ -7,11 +7,12 @@ use Rattle.bf_graph.specs.Edges.{IsAcyclic}
 use Rattle.bf_read.specs.declared.draft.Draft.{Draft}
 use Rattle.bf_read.specs.declared.draft.TaskDraft.{TaskDraft}
 use Rattle.bf_check.specs.declared.fault.CheckFault.{CheckFault}
-use Rattle.bf_check.specs.declared.fault.CheckFault.TheVariants.{Task, Cycle, OutOfMemory}
+use Rattle.bf_check.specs.declared.fault.CheckFault.TheVariants.{Task, Cycle, BadCron, NeverFires, BadZone, OutOfMemory}
 use Rattle.bf_check.specs.declared.fault.TaskFault.{TaskFault}
 use Rattle.bf_check.specs.declared.fault.TaskFault.TheVariants.{UnknownUpstream, UnknownPool, SlotsBeyondPool, BadRule, PullNotSettled, ExpandSource, ExpandRule, BranchMisuse}
 use Rattle.bf_check.specs.Checking.{shape_in}
-use Rattle.bf_check.specs.Refusals.{number, Has, NoneHas, IsFirst, IsFaultOf, HasNoneBelow, IsAccepted, Refuses}
+use Rattle.bf_check.specs.Schedules.{IsScheduled}
+use Rattle.bf_check.specs.Refusals.{number, Has, NoneHas, IsFirst, IsFaultOf, IsEarlyFaultOf, IsLateFaultOf, HasNoneBelow, HasNoFault, Refuses}
 use Rattle.bf_check.proofs.ListLemmas.{none_passes, first_passing}
 
 -- ---- numbers
@@ -96,7 +97,7 @@ module _ (draft : Draft) where
       by ExpandRule h = absurd (omega (arith, h))
       by BranchMisuse h = absurd (omega (arith, h))
 
-  pub accepted : HasNoneBelow draft 18 → IsAccepted draft
+  pub accepted : HasNoneBelow draft 18 → HasNoFault draft
   accepted below = record { tasks = by; edges = below.edges (omega arith) }
     where
       by : (fault : TaskFault) → NoneHas draft fault
@@ -133,17 +134,20 @@ module _ (draft : Draft) (fault : TaskFault) (test : TaskDraft → Bool)
       }
 
   -- the task that the test finds is the first with the fault, which is the draft's
-  pub first_found : (e : CheckFault) → Refuses fault (find test draft.tasks) e → IsFaultOf draft e
-  first_found (Task kind id) (is, named) = go (find test draft.tasks) refl named
+  pub first_found : (file : Option (List ℕ)) → (13 < number fault → IsScheduled draft file) → (e : CheckFault) → Refuses fault (find test draft.tasks) e → IsFaultOf draft file e
+  first_found file timed (Task kind id) (is, named) = go (find test draft.tasks) refl named
     where
       P : TaskFault → Type 0
-      P k = IsFirst draft k id × HasNoneBelow draft (number k)
+      P k = IsFirst draft k id × HasNoneBelow draft (number k) × (13 < number k → IsScheduled draft file)
 
       go : (found : Option TaskDraft) → find test draft.tasks ≡ found → option_map (λ task. task.id) found ≡ Some id → P kind
       go None f named = absurd (cc)
-      go (Some task) f named = subst P (sym is) (first_has task id f (cc), below)
-  first_found (Cycle ids) wrong = absurd wrong
-  first_found OutOfMemory any = tt
+      go (Some task) f named = subst P (sym is) (first_has task id f (cc), below, timed)
+  first_found file timed (Cycle ids) wrong = absurd wrong
+  first_found file timed BadCron wrong = absurd wrong
+  first_found file timed NeverFires wrong = absurd wrong
+  first_found file timed BadZone wrong = absurd wrong
+  first_found file timed OutOfMemory any = tt
 
   -- ---- what a refusal of what the test finds says
 
@@ -154,5 +158,11 @@ module _ (draft : Draft) (fault : TaskFault) (test : TaskDraft → Bool)
     pub refused_ok : (7 < suc (number fault) → 7 < number fault) → OnOk r (found ≡ None) → OnOk r (HasNoneBelow draft (suc (number fault)))
     refused_ok next ok = IfOk-weaker r (λ _. found ≡ None) (λ _. HasNoneBelow draft (suc (number fault))) (λ _ none. none_found next (sym looked ∙ none)) ok
 
-    pub refused_err : IfErr r (Refuses fault found) → IfErr r (IsFaultOf draft)
-    refused_err err = IfErr-weaker r _ _ (λ e refuses. first_found e (subst (λ (o : Option TaskDraft). Refuses fault o e) looked refuses)) err
+    refused : (file : Option (List ℕ)) → (13 < number fault → IsScheduled draft file) → (e : CheckFault) → Refuses fault found e → IsFaultOf draft file e
+    refused file timed e refuses = first_found file timed e (subst (λ (o : Option TaskDraft). Refuses fault o e) looked refuses)
+
+    pub refused_early : number fault < 14 → IfErr r (Refuses fault found) → IfErr r (IsEarlyFaultOf draft)
+    refused_early early err = IfErr-weaker r (Refuses fault found) (IsEarlyFaultOf draft) (λ e refuses file. refused file (λ h. absurd (omega (arith, h, early))) e refuses) err
+
+    pub refused_late : IfErr r (Refuses fault found) → IfErr r (IsLateFaultOf draft)
+    refused_late err = IfErr-weaker r (Refuses fault found) (IsLateFaultOf draft) (λ e refuses file timed. refused file (λ h. timed) e refuses) err

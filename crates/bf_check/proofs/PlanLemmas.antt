@@ -25,7 +25,7 @@ use Rattle.bf_check.specs.declared.plan.Limits.{Limits}
 use Rattle.bf_check.specs.Plans.{no_task, task_of, shape_of}
 use Rattle.bf_check.specs.Sound.{IsOneOf, IsSettledAncestor, IsSound, AreLimits, IsChecked, no_demand, demand_of, pool_size}
 use Rattle.bf_check.specs.Checking.{ids_of, number_of, number_or_0, task_in, dag_of, shape_in, pools_of, pool_number, default_pool, names_default, demand_in, limits_of}
-use Rattle.bf_check.specs.Refusals.{has_unknown_upstream, is_no_upstream, settling_upstreams, settling_edges, takes_too_much, MayPull, AllMayPull, NoneHas, IsAccepted}
+use Rattle.bf_check.specs.Refusals.{has_unknown_upstream, is_no_upstream, settling_upstreams, settling_edges, takes_too_much, MayPull, AllMayPull, NoneHas, HasNoFault}
 use Rattle.bf_check.proofs.ListLemmas.{map-then}
 use Rattle.bf_check.proofs.PullLemmas.{contains_one, one_contained, shape_at, edge_there}
 
@@ -170,7 +170,7 @@ module _ (draft : Draft) where
 
   -- ---- the dag
 
-  pub is_sound : IsAccepted draft → AllMayPull draft → Ranking (shape_in ds).upstreams → IsSound dag
+  pub is_sound : HasNoFault draft → AllMayPull draft → Ranking (shape_in ds).upstreams → IsSound dag
   is_sound accepted pulls ranked =
       let ranking : Ranking (shape_of dag).upstreams = subst (λ (s : Shape). Ranking s.upstreams) (sym shape_is) ranked in
       let all = length-map dag.tasks (λ (task : Task). task.upstreams) in
@@ -200,10 +200,10 @@ module _ (draft : Draft) where
   pool_within name None e some = absurd (true≢false some)
   pool_within name (Some n) e some = (let all = length-map pools (λ (pool : PoolDraft). pool.slots) in let low = (position-Some (λ (pool : PoolDraft). bytes_eq name pool.name) pools n default_pool e).0 in omega (arith, all, low))
 
-  within_task : IsAccepted draft → (t : ℕ) → t < length ds → (demand_of limits t).pool < length limits.pools
+  within_task : HasNoFault draft → (t : ℕ) → t < length ds → (demand_of limits t).pool < length limits.pools
   within_task accepted t h = made_within (λ (demand : Demand). demand.pool < length limits.pools) (demand_in pools) no_demand ds (λ i task there. pool_within task.pool _ refl (false_from_ne_true (is_none (pool_number pools task.pool)) (accepted.tasks UnknownPool i task there))) t h
 
-  room_at : IsAccepted draft → (t : ℕ) → (demand_of limits t).slots ≤ pool_size limits (demand_of limits t).pool
+  room_at : HasNoFault draft → (t : ℕ) → (demand_of limits t).slots ≤ pool_size limits (demand_of limits t).pool
   room_at accepted t = made_at (λ (demand : Demand). demand.slots ≤ pool_size limits demand.pool) (demand_in pools) no_demand ds (omega arith) (λ i task there. ltb-false _ _ (false_from_ne_true (takes_too_much pools task) (accepted.tasks SlotsBeyondPool i task there))) t
 
   some_at : (t : ℕ) → t < length ds → 1 ≤ (demand_of limits t).slots
@@ -226,7 +226,7 @@ module _ (draft : Draft) where
   bounded_at : (pool : ℕ) → pool_size limits pool ≤ 1_000_000
   bounded_at pool = made_at (λ (size : ℕ). size ≤ 1_000_000) (λ (p : PoolDraft). p.slots) 0 pools (omega arith) (λ i p there. (all_at IsPool pools i p all_pools there).few_slots) pool
 
-  pub are_limits : IsAccepted draft → AreLimits dag limits
+  pub are_limits : HasNoFault draft → AreLimits dag limits
   are_limits accepted =
       let made = length-map ds (task_in ids) in
       record {
@@ -240,5 +240,5 @@ module _ (draft : Draft) where
         few_runs = draft.within_limits.few_runs;
       }
 
-  pub is_checked : IsAccepted draft → AllMayPull draft → Ranking (shape_in ds).upstreams → IsChecked dag limits (shape_in ds)
+  pub is_checked : HasNoFault draft → AllMayPull draft → Ranking (shape_in ds).upstreams → IsChecked dag limits (shape_in ds)
   is_checked accepted pulls ranking = record { sound = is_sound accepted pulls ranking; limits_fit = are_limits accepted; graph_is = sym shape_is }

@@ -2,6 +2,6 @@ pub mod Plans
 pub mod Sound
 pub mod Checked
 pub mod Checking
+pub mod Schedules
 pub mod Refusals
 pub mod Served
-pub mod PoolsInUse

@@ -13,10 +13,13 @@ use Rattle.bf_read.specs.Drafts.{pulled_in}
 use Rattle.bf_rule.specs.Names.{rule_named}
 use Rattle.bf_rule.specs.Verdicts.{is_waiting}
 use Rattle.bf_check.specs.declared.fault.CheckFault.{CheckFault}
-use Rattle.bf_check.specs.declared.fault.CheckFault.TheVariants.{Task, Cycle, OutOfMemory}
+use Rattle.bf_check.specs.declared.fault.CheckFault.TheVariants.{Task, Cycle, BadCron, NeverFires, BadZone, OutOfMemory}
 use Rattle.bf_check.specs.declared.fault.TaskFault.{TaskFault}
 use Rattle.bf_check.specs.declared.fault.TaskFault.TheVariants.{UnknownUpstream, UnknownPool, SlotsBeyondPool, BadRule, PullNotSettled, ExpandSource, ExpandRule, BranchMisuse}
+use Rattle.bf_cron.specs.Cron.{schedule_of}
+use Rattle.bf_cron.specs.declared.spec.CronSpec.{CronSpec}
 use Rattle.bf_check.specs.Plans.{is_branch_kind}
+use Rattle.bf_check.specs.Schedules.{Fires, IsScheduled, NeverFiresIn, IsNoZone}
 use Rattle.bf_check.specs.Sound.{IsSettledAncestor}
 use Rattle.bf_check.specs.Checking.{ids_of, number_of, pool_number, pools_of, rule_of, dag_of, shape_in, number_or_0}
 
@@ -83,6 +86,9 @@ number BranchMisuse = 17
 abbrev pub check_number : CheckFault → Option ℕ
 check_number (Task fault id) = Some (number fault)
 check_number (Cycle ids) = Some 7
+check_number BadCron = Some 11
+check_number NeverFires = Some 12
+check_number BadZone = Some 13
 check_number OutOfMemory = None
 
 -- the task t of the draft has this fault
@@ -113,29 +119,45 @@ pub record IsFirst (draft : Draft) (fault : TaskFault) (id : List ℕ) : Type 0 
 abbrev pub NameCycle : Shape → List (List ℕ) → Type 0
 NameCycle shape names = (ts : List ℕ) × IsNamedCycle shape.upstreams ts × (names ≡ map (λ t. slice_index_or shape.ids t []) ts)
 
--- the draft has no fault whose number is below n
+-- the tasks and edges of the draft have no fault whose number is below n
 pub record HasNoneBelow (draft : Draft) (n : ℕ) : Type 0 where
   pub tasks : (fault : TaskFault) → number fault < n → NoneHas draft fault
   pub edges : 7 < n → IsAcyclic (shape_in draft.tasks).upstreams
 
--- the draft has no fault
-pub record IsAccepted (draft : Draft) : Type 0 where
+-- the tasks and edges of the draft have no fault
+pub record HasNoFault (draft : Draft) : Type 0 where
   pub tasks : (fault : TaskFault) → NoneHas draft fault
   pub edges : IsAcyclic (shape_in draft.tasks).upstreams
 
--- of the faults that the draft has this is the one of the least number; want of memory may stand in its place
-abbrev pub IsFaultOf : Draft → CheckFault → Type 0
-IsFaultOf draft (Task fault id) = IsFirst draft fault id × HasNoneBelow draft (number fault)
-IsFaultOf draft (Cycle ids) = NameCycle (shape_in draft.tasks) ids × HasNoneBelow draft 7
-IsFaultOf draft OutOfMemory = Unit {0}
+-- the draft has no fault, with this zone file
+pub record IsAccepted (draft : Draft) (file : Option (List ℕ)) : Type 0 where
+  pub graph : HasNoFault draft
+  pub scheduled : IsScheduled draft file
+
+-- of the faults that the draft has, with this zone file, this is the one of the least number; want of memory may stand in its place
+abbrev pub IsFaultOf : Draft → Option (List ℕ) → CheckFault → Type 0
+IsFaultOf draft file (Task fault id) = IsFirst draft fault id × HasNoneBelow draft (number fault) × (13 < number fault → IsScheduled draft file)
+IsFaultOf draft file (Cycle ids) = NameCycle (shape_in draft.tasks) ids × HasNoneBelow draft 7
+IsFaultOf draft file BadCron = (schedule_of draft.schedule ≡ None) × HasNoneBelow draft 11
+IsFaultOf draft file NeverFires = NeverFiresIn draft.schedule × HasNoneBelow draft 12
+IsFaultOf draft file BadZone = IsNoZone draft.zone file × (spec : CronSpec) × Fires draft.schedule spec × HasNoneBelow draft 13
+IsFaultOf draft file OutOfMemory = Unit {0}
 
 -- ---- while a draft is looked through
+
+-- a fault of a draft whatever its schedule and zone are
+abbrev pub IsEarlyFaultOf : Draft → CheckFault → Type 0
+IsEarlyFaultOf draft fault = (file : Option (List ℕ)) → IsFaultOf draft file fault
+
+-- a fault of a draft whose schedule and zone are right
+abbrev pub IsLateFaultOf : Draft → CheckFault → Type 0
+IsLateFaultOf draft fault = (file : Option (List ℕ)) → IsScheduled draft file → IsFaultOf draft file fault
 
 -- the fault is this one, of the task that was found; or memory is wanting
 abbrev pub Refuses : TaskFault → Option TaskDraft → CheckFault → Type 0
 Refuses expected found (Task fault id) = (fault ≡ expected) × (option_map (λ task. task.id) found ≡ Some id)
-Refuses expected found (Cycle ids) = ⊥
 Refuses expected found OutOfMemory = Unit {0}
+Refuses expected found _ = ⊥
 
 -- each task may pull from what it pulls from
 abbrev pub AllMayPull : Draft → Type 0

@@ -4,7 +4,7 @@ ghost use Rattle.bf_graph.specs.Edges.{lists};
 ghost use Rattle.bf_graph.specs.Ranks.{Ranking};
 ghost use Rattle.bf_graph.specs.Shape.{texts};
 ghost use Rattle.bf_check.specs.Checking.{ids_of, number_or_0, shape_in};
-ghost use Rattle.bf_check.specs.Refusals.{has_unknown_upstream as unknown_upstream, HasNoneBelow, IsFaultOf};
+ghost use Rattle.bf_check.specs.Refusals.{has_unknown_upstream as unknown_upstream, HasNoneBelow, IsEarlyFaultOf};
 
 use crate::fault::{CheckFault, TaskFault};
 use crate::refusing::refuse;
@@ -66,7 +66,7 @@ pub(crate) fn refuse_unknown_upstreams(
 ) -> Result<(), CheckFault>
     requires { ids.now ≡ ids_of draft.now.tasks }
     ensures ok { OnOk result (HasNoneBelow draft.now 7) }
-    ensures err { IfErr result (IsFaultOf draft.now) }
+    ensures err { IfErr result (IsEarlyFaultOf draft.now) }
 {
     let found = first_with_unknown_upstream(ids, draft.tasks.as_slice());
     refuse(alloc, TaskFault::UnknownUpstream, found)
@@ -101,7 +101,7 @@ pub(crate) fn graph_of(alloc: Global, ids: &Ids, draft: &Draft) -> Result<Graph,
     ensures graph { IfOk result (λ graph. graph ≡ shape_in draft.now.tasks) }
     ensures ranking { OnOk result (Ranking (shape_in draft.now.tasks).upstreams) }
     ensures ok { OnOk result (HasNoneBelow draft.now 8) }
-    ensures err { IfErr result (IsFaultOf draft.now) }
+    ensures err { IfErr result (IsEarlyFaultOf draft.now) }
 {
     let tasks = draft.tasks.as_slice();
     let edges = edges_of(alloc, ids, tasks)?;

@@ -63,6 +63,15 @@ pub enum CheckFault {
     /// through the task that comes first in the file of all that lie on one, and begins with that.
     #[error("cycle: {}", Spaced(.0))]
     Cycle(Sequence<Text>),
+    /// The schedule is neither a cron expression nor a preset.
+    #[error("bad cron")]
+    BadCron,
+    /// No civil minute matches the schedule.
+    #[error("never fires")]
+    NeverFires,
+    /// The zone is none, or its file is missing or can't be read.
+    #[error("bad zone")]
+    BadZone,
     #[error("out of memory")]
     OutOfMemory,
 }
@@ -75,6 +84,9 @@ impl CheckFault {
         match self {
             CheckFault::Task(fault, _) => Some(fault.number()),
             CheckFault::Cycle(_) => Some(7),
+            CheckFault::BadCron => Some(11),
+            CheckFault::NeverFires => Some(12),
+            CheckFault::BadZone => Some(13),
             CheckFault::OutOfMemory => None,
         }
     }

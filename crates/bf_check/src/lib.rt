@@ -8,10 +8,13 @@ mod plan;
 mod pools;
 mod pulls;
 mod refusing;
+mod schedules;
 mod served;
 mod tasks;
 
+pub use bf_cron::CronSpec;
 pub use bf_read::{ContextVariable, TaskKind, WeightRule};
+pub use bf_zone::Zone;
 pub use checking::check;
 pub use fault::{CheckFault, TaskFault};
 pub use plan::{Dag, Demand, Limits, Plan, Task, Word};

@@ -3,6 +3,7 @@ ghost use Rattle.std.specs.Prelude.{◌≡◌, ◌<◌, length};
 ghost use Rattle.bf_check.specs.Plans.{shape_of, task_of};
 ghost use Rattle.bf_check.specs.Sound.{IsSound, AreLimits, demand_of};
 
+use bf_cron::CronSpec;
 use bf_graph::Graph;
 use bf_read::{ContextVariable, TaskKind, WeightRule};
 use bf_rule::Rule;
@@ -69,6 +70,7 @@ pub struct Limits {
 pub struct Plan {
     dag: Dag,
     limits: Limits,
+    schedule: CronSpec,
     graph: Graph,
 }
 
@@ -80,11 +82,12 @@ impl Model for Plan {
 
     ghost Value = { Checked };
 
-    ghost coded = { Prim.hlevel (codes, d.the_row.coded, l.the_row.coded) };
+    ghost use Rattle.bf_cron.specs.contracts.spec.CronSpec as s;
+    ghost coded = { Prim.hlevel (codes, d.the_row.coded, l.the_row.coded, s.the_row.coded) };
 
     ghost use Rattle.bf_check.specs.Sound.{IsChecked};
 
-    ghost view = { λ p. record { dag = p.dag; limits = p.limits } };
+    ghost view = { λ p. record { dag = p.dag; limits = p.limits; schedule = p.schedule } };
 
     ghost invariant = { λ p. IsChecked p.dag p.limits p.graph };
 }
@@ -104,11 +107,16 @@ impl Plan {
     ghost use Rattle.bf_check.specs.Sound.{IsChecked};
 
     /// A plan of what was checked.
-    pub(crate) fn new(dag: Dag, limits: Limits, graph: Graph) -> Plan
+    pub(crate) fn new(dag: Dag, limits: Limits, schedule: CronSpec, graph: Graph) -> Plan
         requires { IsChecked dag limits graph }
-        ensures { result ≡ record { dag = dag; limits = limits } }
+        ensures { result ≡ record { dag = dag; limits = limits; schedule = schedule } }
     {
-        Plan { dag, limits, graph }
+        Plan {
+            dag,
+            limits,
+            schedule,
+            graph,
+        }
     }
 
     /// What the recursion over dates reads.
@@ -125,6 +133,13 @@ impl Plan {
         ensures fit { AreLimits self.now.dag self.now.limits }
     {
         &self.limits
+    }
+
+    /// When runs are due.
+    pub fn schedule(&self) -> &CronSpec
+        ensures { result.now ≡ self.now.schedule }
+    {
+        &self.schedule
     }
 
     /// What a running try of a task takes.

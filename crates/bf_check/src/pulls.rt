@@ -2,7 +2,7 @@
 ghost use Rattle.std.specs.Prelude.{◌≡◌, ◌↔◌, ◌<◌, ℕ, List, false, length, map, Contains, IsTrue, IfOk, IfErr, OnOk};
 ghost use Rattle.bf_graph.specs.Edges.{lists};
 ghost use Rattle.bf_check.specs.Checking.{ids_of};
-ghost use Rattle.bf_check.specs.Refusals.{settling_upstreams as settling_in, settling_edges as edges_in, AllMayPull, HasNoneBelow, IsFaultOf, LeadsTo};
+ghost use Rattle.bf_check.specs.Refusals.{settling_upstreams as settling_in, settling_edges as edges_in, AllMayPull, HasNoneBelow, IsLateFaultOf, LeadsTo};
 
 use crate::edges::{numbers_of, texts_of};
 use crate::fault::{CheckFault, TaskFault};
@@ -86,7 +86,7 @@ fn refuse_pulls(alloc: Global, ids: &Ids, settling: &Graph, draft: &Draft) -> Re
     requires below { HasNoneBelow draft.now 14 }
     ensures settled { OnOk result (AllMayPull draft.now) }
     ensures ok { OnOk result (HasNoneBelow draft.now 15) }
-    ensures err { IfErr result (IsFaultOf draft.now) }
+    ensures err { IfErr result (IsLateFaultOf draft.now) }
 {
     for (t, task) in draft.tasks.as_slice().iter().enumerate() {
         let pulled = pulls_of(alloc, task.command.as_slice())?;
@@ -107,7 +107,7 @@ pub(crate) fn refuse_unsettled_pulls(
     requires below { HasNoneBelow draft.now 14 }
     ensures settled { OnOk result (AllMayPull draft.now) }
     ensures ok { OnOk result (HasNoneBelow draft.now 15) }
-    ensures err { IfErr result (IsFaultOf draft.now) }
+    ensures err { IfErr result (IsLateFaultOf draft.now) }
 {
     let settling = settling_graph(alloc, ids, draft)?;
     refuse_pulls(alloc, ids, &settling, draft)

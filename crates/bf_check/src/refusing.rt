@@ -1,6 +1,6 @@
 //! Faults of single tasks: of all that have one the first in the file is named.
 ghost use Rattle.std.specs.Prelude.{◌≡◌, None, find, IfErr, OnOk, option_map};
-ghost use Rattle.bf_check.specs.Refusals.{has_bad_rule as bad_rule, expands_no_upstream as no_upstream, expands_early as early, expands_branch as branch, HasNoneBelow, IsAccepted, IsFaultOf, Refuses};
+ghost use Rattle.bf_check.specs.Refusals.{has_bad_rule as bad_rule, expands_no_upstream as no_upstream, expands_early as early, expands_branch as branch, HasNoneBelow, HasNoFault, IsEarlyFaultOf, IsLateFaultOf, Refuses};
 ghost use Rattle.std.specs.List.{list_any};
 ghost use Rattle.std.specs.Str.{bytes_eq};
 ghost use Rattle.bf_check.specs.Checking.{rule_of as rule_in};
@@ -79,7 +79,7 @@ fn first_bad_rule<'a>(tasks: &'a [TaskDraft]) -> Option<&'a TaskDraft>
 pub(crate) fn refuse_bad_rules(alloc: Global, draft: &Draft) -> Result<(), CheckFault>
     requires { HasNoneBelow draft.now 10 }
     ensures ok { OnOk result (HasNoneBelow draft.now 14) }
-    ensures err { IfErr result (IsFaultOf draft.now) }
+    ensures err { IfErr result (IsEarlyFaultOf draft.now) }
 {
     let found = first_bad_rule(draft.tasks.as_slice());
     refuse(alloc, TaskFault::BadRule, found)
@@ -95,7 +95,7 @@ fn first_without_source<'a>(tasks: &'a [TaskDraft]) -> Option<&'a TaskDraft>
 pub(crate) fn refuse_sources(alloc: Global, draft: &Draft) -> Result<(), CheckFault>
     requires { HasNoneBelow draft.now 15 }
     ensures ok { OnOk result (HasNoneBelow draft.now 16) }
-    ensures err { IfErr result (IsFaultOf draft.now) }
+    ensures err { IfErr result (IsLateFaultOf draft.now) }
 {
     let found = first_without_source(draft.tasks.as_slice());
     refuse(alloc, TaskFault::ExpandSource, found)
@@ -111,7 +111,7 @@ fn first_early_expansion<'a>(tasks: &'a [TaskDraft]) -> Option<&'a TaskDraft>
 pub(crate) fn refuse_early_expansions(alloc: Global, draft: &Draft) -> Result<(), CheckFault>
     requires { HasNoneBelow draft.now 16 }
     ensures ok { OnOk result (HasNoneBelow draft.now 17) }
-    ensures err { IfErr result (IsFaultOf draft.now) }
+    ensures err { IfErr result (IsLateFaultOf draft.now) }
 {
     let found = first_early_expansion(draft.tasks.as_slice());
     refuse(alloc, TaskFault::ExpandRule, found)
@@ -126,8 +126,8 @@ fn first_expanded_branch<'a>(tasks: &'a [TaskDraft]) -> Option<&'a TaskDraft>
 /// Refuses a draft in which a branch is expanded.
 pub(crate) fn refuse_expanded_branches(alloc: Global, draft: &Draft) -> Result<(), CheckFault>
     requires { HasNoneBelow draft.now 17 }
-    ensures ok { OnOk result (IsAccepted draft.now) }
-    ensures err { IfErr result (IsFaultOf draft.now) }
+    ensures ok { OnOk result (HasNoFault draft.now) }
+    ensures err { IfErr result (IsLateFaultOf draft.now) }
 {
     let found = first_expanded_branch(draft.tasks.as_slice());
     refuse(alloc, TaskFault::BranchMisuse, found)

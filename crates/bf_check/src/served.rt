@@ -3,12 +3,11 @@ ghost use Rattle.std.specs.Prelude.{◌≡◌, None, not, find, option_map};
 ghost use Rattle.bf_check.specs.Served.{first_unserved as unserved, is_served as served, IsServed};
 
 use crate::plan::{Dag, Task};
-use bf_read::TaskKind;
 
 fn is_served(task: &Task) -> bool
     ensures { result ≡ served task.now }
 {
-    task.kind == TaskKind::Program && task.expand.is_none() && task.pulls.is_empty()
+    task.expand.is_none()
 }
 
 fn unserved_in<'a>(tasks: &'a [Task]) -> Option<&'a Task>
@@ -17,7 +16,7 @@ fn unserved_in<'a>(tasks: &'a [Task]) -> Option<&'a Task>
     tasks.iter().find(|task| !is_served(task))
 }
 
-/// The first task that uses a part which isn't built yet: it branches, is expanded, or pulls.
+/// The first task that uses a part which isn't built yet: it is expanded.
 pub fn first_unserved(dag: &Dag) -> Option<&Task>
     ensures first { option_map (λ task. task.now) result ≡ unserved dag.now }
     ensures none { result ≡ None → IsServed dag.now }

@@ -1,13 +1,13 @@
 -- What a core keeps when an event comes.
-use Rattle.std.proofs.Common.{◌≡◌, ℕ, suc, zero, ◌++◌, List, [], ◌∷◌, length, refl, sym, ap, ◌∙◌, subst, inl, inr, arith}
+use Rattle.std.proofs.Common.{◌≡◌, ℕ, suc, zero, ◌++◌, List, [], ◌∷◌, length, Option, refl, sym, ap, ◌∙◌, subst, inl, inr, arith}
 use Rattle.bf_check.specs.Served.{IsServed}
 use Rattle.bf_pool.specs.Slots.{Slots, occupied_of}
-use Rattle.bf_core.specs.Terms.{Dag, Limits, State, Cell, Instance, Event, Verdict, RunPhase, task_of}
-use Rattle.bf_core.specs.Deciding.{Seen, Decision, decision, gate}
+use Rattle.bf_core.specs.Terms.{Dag, Limits, State, Cell, Instance, Event, Verdict, RunPhase, Xval, task_of}
+use Rattle.bf_core.specs.Deciding.{Seen, Decision, decision, gate, pulled}
 use Rattle.bf_core.specs.Events.{cell_at, cell_of, change_at, change_instance, begun, ended, put, with_phase, next_run, decision_in, place_in, after, occupied, IsEnabled, IsLegal, HasEnded, replay, seen_in, before_in}
 use Rattle.bf_core.specs.Agreement.{IsOutcome}
 use Rattle.bf_core.specs.Few.{IsFew, AreFew}
-use Rattle.bf_core.specs.Words.{plain_after}
+use Rattle.bf_core.specs.Words.{unmapped_after}
 use Rattle.bf_core.specs.Cores.{Backfill, moved, IsReplay, IsCore}
 use Rattle.bf_core.specs.Checks.{HasRows}
 use Rattle.bf_core.proofs.Reading.{put-cases, with_phase-cell}
@@ -52,19 +52,19 @@ replay-outcome b is over = ended-is b.dag is.sound b.runs b.state (replay-invari
 
 -- ---- few instances
 
-few-plain : (v : Verdict) → IsFew (cell_of (plain_after v))
-few-plain Verdict.Wait = tt
-few-plain Verdict.Blocked = tt
-few-plain Verdict.Skip = tt
-few-plain Verdict.UpstreamFailed = tt
-few-plain Verdict.Run = omega arith
+few-unmapped : (pulled : List (Option Xval)) (v : Verdict) → IsFew (cell_of (unmapped_after pulled v))
+few-unmapped pulled Verdict.Wait = tt
+few-unmapped pulled Verdict.Blocked = tt
+few-unmapped pulled Verdict.Skip = tt
+few-unmapped pulled Verdict.UpstreamFailed = tt
+few-unmapped pulled Verdict.Run = omega arith
 
 few-decided : (dag : Dag) → IsServed dag → (s : State) (k t : ℕ) → IsFew (cell_of (decision_in dag s k t))
 unfolding decision_in decision
 few-decided dag served s k t =
     let seen : ℕ → Seen = λ u. seen_in (cell_at s k u) in
     let v : Verdict = gate dag k seen (before_in s k t) t in
-    subst (λ (d : Decision). IsFew (cell_of d)) (sym (decision-is dag t (served.unmapped t) (served.no_pulls t) seen v)) (few-plain v)
+    subst (λ (d : Decision). IsFew (cell_of d)) (sym (decision-is dag t (served.unmapped t) seen v)) (few-unmapped (pulled dag seen t) v)
 
 length-change : (f : Instance → Instance) (xs : List Instance) (i : ℕ) → length (change_at f xs i) ≡ length xs
 length-change f [] i = refl

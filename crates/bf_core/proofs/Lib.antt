@@ -22,3 +22,5 @@ pub mod Enabling
 pub mod Slotted
 pub mod Closing
 pub mod Starting
+pub mod Pulled
+pub mod Branching

@@ -15,7 +15,7 @@ pub use Rattle.bf_check.specs.declared.plan.Demand.{Demand}
 unfoldable pub use Rattle.bf_check.specs.Plans.{task_of}
 pub use Rattle.bf_check.specs.Plans.{is_branch, shape_of}
 pub use Rattle.bf_check.specs.Sound.{IsOneOf, IsSettledAncestor, Direct, Above, IsSound, demand_of, pool_size}
-pub use Rattle.bf_mapped.specs.declared.items.Items.{Items}
+pub use Rattle.bf_mapped.specs.declared.source.Items.{Items}
 pub use Rattle.bf_xcom.specs.declared.values.Given.{Given}
 pub use Rattle.bf_xcom.specs.declared.values.Outcome.{Outcome}
 pub use Rattle.bf_xcom.specs.declared.values.RunState.{RunState}

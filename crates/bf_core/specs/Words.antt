@@ -1,8 +1,10 @@
--- Small words about phases.
-use Rattle.std.specs.Prelude.{Bool, true, false, not, ◌&&◌, ◌||◌, if◌then◌else◌, List, [], ◌∷◌, None}
-use Rattle.std.specs.List.{list_all, list_any}
+-- Small words about phases, and about what instances pushed.
+use Rattle.std.specs.Prelude.{ℕ, Bool, true, false, not, ◌&&◌, ◌||◌, if◌then◌else◌, List, [], ◌∷◌, Option, None, Some, is_none}
+use Rattle.std.specs.List.{list_all, list_any, filter_map}
+use Rattle.bf_value.specs.Views.{list_of}
+use Rattle.bf_xcom.specs.Pulls.{pushed_by}
 use Rattle.bf_core.specs.Deciding.{Decision}
-use Rattle.bf_core.specs.Terms.{Phase, Instance, Verdict, is_failed}
+use Rattle.bf_core.specs.Terms.{Dag, Instance, Outcome, Phase, Task, TaskValue, Verdict, Xval, followed, is_failed, shape_of}
 
 abbrev pub is_finished : Phase → Bool
 is_finished (Phase.Finished o) = true
@@ -18,13 +20,45 @@ ran_ruling xs =
     if not (list_all (λ x. is_finished x.phase) xs) then Verdict.Wait
     else (if list_all (λ x. passed x.phase) xs then Verdict.Run else Verdict.Blocked)
 
--- what comes of a verdict on a task that pulls nothing and is not expanded
-abbrev pub plain_after : Verdict → Decision
-plain_after Verdict.Wait = Decision.Wait
-plain_after Verdict.Blocked = Decision.Blocked
-plain_after Verdict.Skip = Decision.Skipped
-plain_after Verdict.UpstreamFailed = Decision.UpstreamFailed
-plain_after Verdict.Run = Decision.Instances (record { item = None; pulled = [] } ∷ [])
+-- what comes of a verdict on a task that isn't expanded
+abbrev pub unmapped_after : List (Option Xval) → Verdict → Decision
+unmapped_after pulled Verdict.Wait = Decision.Wait
+unmapped_after pulled Verdict.Blocked = Decision.Blocked
+unmapped_after pulled Verdict.Skip = Decision.Skipped
+unmapped_after pulled Verdict.UpstreamFailed = Decision.UpstreamFailed
+unmapped_after pulled Verdict.Run = Decision.Instances (record { item = None; pulled = pulled } ∷ [])
+
+-- the value is known, and has this property
+abbrev pub known_to_be : (TaskValue → Bool) → Option TaskValue → Bool
+known_to_be p None = false
+known_to_be p (Some v) = p v
+
+-- the branch u whose instance is in this phase succeeded, and does not follow the task t
+abbrev pub phase_skips : Dag → ℕ → ℕ → Phase → Bool
+phase_skips dag t u (Phase.Finished (Outcome.Success v)) = not (followed (shape_of dag) u v t)
+phase_skips dag t u _ = false
+
+abbrev pub instances_skip : Dag → ℕ → ℕ → List Instance → Bool
+instances_skip dag t u [] = false
+instances_skip dag t u (x ∷ xs) = list_all (λ x. is_finished x.phase) (x ∷ xs) && phase_skips dag t u x.phase
+
+-- what an instance pushed, where it has finished
+abbrev pub pushed_in : Phase → Option Xval
+pushed_in (Phase.Finished o) = pushed_by o
+pushed_in _ = None
+
+abbrev pub pushed_by_one : Instance → Option Xval
+pushed_by_one x = pushed_in x.phase
+
+abbrev pub pushed_by_first : List Instance → Option Xval
+pushed_by_first [] = None
+pushed_by_first (x ∷ xs) = pushed_by_one x
+
+-- what is pulled from a task by its instances, where all have finished
+abbrev pub pulled_from : Task → List Instance → Option Xval
+pulled_from source xs =
+    if not (list_all (λ x. is_finished x.phase) xs) then None
+    else (if is_none source.expand then pushed_by_first xs else Some (list_of (filter_map pushed_by_one xs)))
 
 abbrev pub is_failed_phase : Phase → Bool
 is_failed_phase (Phase.Finished o) = is_failed o

@@ -1,17 +1,18 @@
 //! Decisions.
 ghost use Rattle.std.specs.Prelude.{◌≡◌, ◌<◌, ◌≤◌, ◌↔◌, [], ◌∷◌, length, map, IsTrue, IfOk, None};
-ghost use Rattle.bf_rule.specs.Verdicts.{total};
 ghost use Rattle.bf_check.specs.Served.{IsServed};
-ghost use Rattle.bf_core.specs.Events.{cell_at, seen_in, before_in, counts_of_cell, value_in, decision_in, fresh, cell_of};
-ghost use Rattle.bf_core.specs.Deciding.{counts_over, gate as gate_of, past_ruling, past_after};
+ghost use Rattle.bf_core.specs.Events.{cell_at, seen_in, before_in, value_in, decision_in, fresh, cell_of};
+ghost use Rattle.bf_core.specs.Deciding.{gate as gate_of, past_ruling, past_after, pull_seen};
 ghost use Rattle.bf_core.specs.Few.{AreFew};
-ghost use Rattle.bf_core.specs.Words.{plain_after};
-ghost use Rattle.bf_core.specs.Terms.{task_of};
+ghost use Rattle.bf_core.specs.Checks.{HasRows};
+ghost use Rattle.bf_core.specs.Words.{unmapped_after};
 
+use crate::pulling::pull_all;
+use crate::ruling::ruling;
 use crate::state::{Cell, Instance, Phase, State};
-use bf_check::Dag;
-use bf_rule::{Counts, Verdict, verdict};
-use bf_value::{OutOfMemory, Sequence};
+use bf_check::{Dag, Plan, Task};
+use bf_rule::Verdict;
+use bf_value::{OutOfMemory, Sequence, Xval};
 use bf_xcom::Given;
 use std::alloc::Global;
 
@@ -25,34 +26,6 @@ pub enum Decision {
     UpstreamFailed,
     /// It gets an instance for each of these, by map index.
     Instances(Sequence<Given>),
-}
-
-/// How many instances of a task are in each state; of one that isn't there as of one that is undecided.
-fn counts_at(state: &State, run: u32, task: u32) -> Counts
-    requires { AreFew state.now }
-    ensures counts { result ≡ counts_of_cell (cell_at state.now run task) }
-    ensures few { total result ≤ 1_024 }
-{
-    match state.cell(run, task) {
-        Some(cell) => cell.counts(),
-        None => Counts {
-            unfinished: 1,
-            ..Counts::NONE
-        },
-    }
-}
-
-/// How many instances of these upstreams are in each state.
-fn counts_of_upstreams(state: &State, run: u32, upstreams: &[u32]) -> Counts
-    requires few { AreFew state.now }
-    requires few_upstreams { length upstreams.now ≤ 20_000 }
-    ensures { result ≡ counts_over (λ u. seen_in (cell_at state.now run u)) upstreams.now }
-{
-    let mut counts = Counts::NONE;
-    for upstream in upstreams {
-        counts = counts.plus(counts_at(state, run, *upstream));
-    }
-    counts
 }
 
 /// What the previous run says of a task that depends on its past.
@@ -77,60 +50,68 @@ fn with_past(state: &State, run: u32, task: u32, depends_on_past: bool, verdict:
 }
 
 /// What the upstreams and the past say of a task.
-fn gate(dag: &Dag, state: &State, run: u32, task: u32) -> Verdict
-    requires served { IsServed dag.now }
-    requires task { task < length dag.now.tasks }
-    requires few_upstreams { length (task_of dag.now task).upstreams ≤ 20_000 }
+#[tactic(auto, unfolding(crate::specs::Deciding::gate))]
+fn gate(plan: &Plan, state: &State, run: u32, task: u32) -> Verdict
+    requires task { task < length plan.now.dag.tasks }
     requires few { AreFew state.now }
-    ensures { result ≡ gate_of dag.now run (λ u. seen_in (cell_at state.now run u)) (before_in state.now run task) task }
+    ensures { result ≡ gate_of plan.now.dag run (λ u. seen_in (cell_at state.now run u)) (before_in state.now run task) task }
 {
-    let decided = dag.task(task);
-    let counts = counts_of_upstreams(state, run, decided.upstreams.as_slice());
-    let verdict = verdict(decided.rule, &counts);
-    with_past(state, run, task, decided.depends_on_past, verdict)
+    let depends_on_past = plan.dag().task(task).depends_on_past;
+    let verdict = ruling(plan, state, run, task);
+    with_past(state, run, task, depends_on_past, verdict)
 }
 
-/// An instance that is given nothing.
-fn unmapped(alloc: Global) -> Result<Decision, OutOfMemory>
-    ensures { IfOk result (λ d. d ≡ Decision.Instances (record { item = None; pulled = [] } ∷ [])) }
+/// One instance, which is given what was pulled.
+fn unmapped(alloc: Global, pulled: Vec<Option<Xval>>) -> Result<Decision, OutOfMemory>
+    ensures { IfOk result (λ d. d ≡ Decision.Instances (record { item = None; pulled = pulled.items } ∷ [])) }
 {
     let mut givens = Sequence::new(alloc);
     givens.push(Given {
         item: None,
-        pulled: Sequence::new(alloc),
+        pulled: Sequence::from_vec(pulled),
     })?;
     Ok(Decision::Instances(givens))
 }
 
-/// What comes of a verdict on a task that pulls nothing and is not expanded.
-fn decision_after(alloc: Global, verdict: Verdict) -> Result<Decision, OutOfMemory>
-    ensures { IfOk result (λ d. d ≡ plain_after verdict) }
+/// The one instance of a task that isn't expanded, which is given what the task pulls.
+fn instance(
+    alloc: Global,
+    dag: &Dag,
+    state: &State,
+    run: u32,
+    task: &Task,
+) -> Result<Decision, OutOfMemory>
+    requires { HasRows dag.now state.now }
+    ensures { IfOk result (λ d. d ≡ unmapped_after (map (pull_seen dag.now (λ u. seen_in (cell_at state.now run u))) task.now.pulls) Verdict.Run) }
 {
-    match verdict {
-        Verdict::Wait => Ok(Decision::Wait),
-        Verdict::Blocked => Ok(Decision::Blocked),
-        Verdict::Skip => Ok(Decision::Skipped),
-        Verdict::UpstreamFailed => Ok(Decision::UpstreamFailed),
-        Verdict::Run => unmapped(alloc),
-    }
+    let pulled = pull_all(alloc, dag, state, run, task.pulls.as_slice())?;
+    unmapped(alloc, pulled)
 }
 
 /// What is decided of a task now.
 pub(crate) fn decide(
     alloc: Global,
-    dag: &Dag,
+    plan: &Plan,
     state: &State,
     run: u32,
     task: u32,
 ) -> Result<Decision, OutOfMemory>
-    requires served { IsServed dag.now }
-    requires task { task < length dag.now.tasks }
-    requires few_upstreams { length (task_of dag.now task).upstreams ≤ 20_000 }
+    requires served { IsServed plan.now.dag }
+    requires task { task < length plan.now.dag.tasks }
     requires few { AreFew state.now }
-    ensures { IfOk result (λ d. d ≡ decision_in dag.now state.now run task) }
+    requires rows { HasRows plan.now.dag state.now }
+    ensures { IfOk result (λ d. d ≡ decision_in plan.now.dag state.now run task) }
 {
-    let verdict = gate(dag, state, run, task);
-    decision_after(alloc, verdict)
+    match gate(plan, state, run, task) {
+        Verdict::Wait => Ok(Decision::Wait),
+        Verdict::Blocked => Ok(Decision::Blocked),
+        Verdict::Skip => Ok(Decision::Skipped),
+        Verdict::UpstreamFailed => Ok(Decision::UpstreamFailed),
+        Verdict::Run => {
+            let dag = plan.dag();
+            instance(alloc, dag, state, run, dag.task(task))
+        }
+    }
 }
 
 fn fresh_instances(

@@ -10,6 +10,8 @@ mod event;
 mod laws;
 mod machine;
 mod opening;
+mod pulling;
+mod ruling;
 mod seen;
 mod state;
 mod trying;

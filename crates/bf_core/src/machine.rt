@@ -120,7 +120,7 @@ impl<'a> Core<'a> {
     {
         let dag = self.plan.dag();
         undecided(dag, &self.state, run, task)?;
-        let decision = decide(self.alloc, dag, &self.state, run, task)?;
+        let decision = decide(self.alloc, self.plan, &self.state, run, task)?;
         if decision.waits() {
             return Err(Illegal::NotEnabled);
         }

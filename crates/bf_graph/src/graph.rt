@@ -12,11 +12,10 @@ ghost use Rattle.bf_graph.specs.Order.{IsByRank, StandBehind, pair_cmp, ranked_t
 
 use crate::climb::found_in;
 use crate::cycles::named_cycle;
-use crate::ids::set_of;
+use crate::ids::Ids;
 use crate::lookups::{column, downstreams_of, leaves_of, marked_places};
 use crate::ranking::Found;
 use bf_value::{OutOfMemory, Sequence};
-use indexmap::IndexSet;
 use std::alloc::Global;
 use std::marker::Model;
 use thiserror::Error;
@@ -27,7 +26,7 @@ pub const MOST_TASKS: usize = 2_000;
 /// Tasks with their upstreams, and no cycle. A task is known by its number in file order.
 #[derive(Drop)]
 pub struct Graph {
-    ids: IndexSet<String>,
+    ids: Ids,
     edges: Vec<Vec<u32>>,
     downstreams: Vec<Vec<u32>>,
     leaves: Vec<u32>,
@@ -37,14 +36,14 @@ pub struct Graph {
 }
 
 impl Model for Graph {
-    ghost use Rattle.bf_graph.specs.Shape.{Shape, IsKept, texts};
+    ghost use Rattle.bf_graph.specs.Shape.{Shape, IsKept};
     ghost use Rattle.bf_graph.specs.Edges.{lists};
 
     ghost Value = { Shape };
 
-    ghost view = { λ g. record { ids = texts g.ids.keys; upstreams = lists g.edges.items } };
+    ghost view = { λ g. record { ids = g.ids; upstreams = lists g.edges.items } };
 
-    ghost invariant = { λ g. IsKept g.ids.keys g.edges.items g.downstreams.items g.leaves.items g.ranks.items g.rows.items };
+    ghost invariant = { λ g. IsKept g.ids g.edges.items g.downstreams.items g.leaves.items g.ranks.items g.rows.items };
 }
 
 impl Graph {
@@ -52,7 +51,7 @@ impl Graph {
     pub fn number_of(&self, id: &str) -> Option<u32>
         ensures { result ≡ position (bytes_eq id.now) self.now.ids }
     {
-        self.ids.get_index_of(id).map(|number| number as u32)
+        self.ids.number_of(id)
     }
 
     /// The id of a task.
@@ -60,7 +59,7 @@ impl Graph {
         requires { task < length self.now.upstreams }
         ensures { slice_get self.now.ids task ≡ Some result.now }
     {
-        self.ids.as_slice()[task as usize].as_str()
+        self.ids.get(task)
     }
 
     /// How many tasks there are.
@@ -236,7 +235,7 @@ impl Graph {
         ensures acyclic { OnOk result (IsAcyclic (lists edges.items)) }
     {
         let ranks = unwrapped(alloc, found.ranks.as_slice())?;
-        let ids = set_of(alloc, ids)?;
+        let ids = Ids::numbered(alloc, ids)?;
         let downstreams = downstreams_of(alloc, edges.as_slice())?;
         let leaves = leaves_of(alloc, downstreams.as_slice())?;
         Ok(Graph {

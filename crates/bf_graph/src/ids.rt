@@ -1,5 +1,5 @@
 //! Ids of tasks, numbered.
-ghost use Rattle.std.specs.Prelude.{◌≡◌, ◌≤◌, length, position, IfOk};
+ghost use Rattle.std.specs.Prelude.{◌≡◌, ◌<◌, ◌≤◌, length, position, slice_get, Some, IfOk};
 ghost use Rattle.std.specs.Str.{bytes_eq};
 ghost use Rattle.bf_graph.specs.Shape.{texts, AreDistinct};
 ghost use Rattle.bf_graph.specs.declared.graph.TheConstants.{MOST_TASKS};
@@ -45,17 +45,17 @@ impl Ids {
         self.set.get_index_of(id).map(|number| number as u32)
     }
 
-    /// A law: no two ids are equal, and there are not too many.
-    pub fn known(&self)
-        ensures distinct { AreDistinct self.now }
-        ensures few { length self.now ≤ MOST_TASKS }
+    /// The id with a number.
+    pub(crate) fn get(&self, number: u32) -> &str
+        requires { number < length self.now }
+        ensures { slice_get self.now number ≡ Some result.now }
     {
-        let _set = &self.set;
+        self.set.as_slice()[number as usize].as_str()
     }
 }
 
 /// Ids as a set that numbers them in order.
-pub(crate) fn set_of(alloc: Global, ids: Vec<String>) -> Result<IndexSet<String>, OutOfMemory>
+fn set_of(alloc: Global, ids: Vec<String>) -> Result<IndexSet<String>, OutOfMemory>
     requires { AreDistinct (texts ids.items) }
     ensures { IfOk result (λ set. set.keys ≡ ids.items) }
 {

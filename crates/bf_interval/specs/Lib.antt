@@ -1,1 +1,4 @@
 pub mod Years
+pub mod Fires
+pub mod Intervals
+pub mod Search

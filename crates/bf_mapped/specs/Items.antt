@@ -1,12 +1,11 @@
 -- The items that a source gives an expansion.
-use Rattle.std.specs.Prelude.{List, Some}
+use Rattle.std.specs.Prelude.{Some}
 use Rattle.std.specs.List.{filter_map}
-use Rattle.bf_value.specs.declared.xval.Xval.{Xval}
 use Rattle.bf_value.specs.declared.xval.Xval.TheVariants.{List as ListOf}
 use Rattle.bf_value.specs.Views.{xvals_of}
-use Rattle.bf_mapped.specs.declared.items.SourceValues.{SourceValues}
-use Rattle.bf_mapped.specs.declared.items.SourceValues.TheVariants.{Pushed, Each, Absent}
-use Rattle.bf_mapped.specs.declared.items.Items.{Items}
+use Rattle.bf_mapped.specs.declared.source.SourceValues.{SourceValues}
+use Rattle.bf_mapped.specs.declared.source.SourceValues.TheVariants.{Pushed, Each, Absent}
+use Rattle.bf_mapped.specs.declared.source.Items.{Items}
 
 -- an unmapped source gives the list that it pushed, an expanded one what its instances pushed, in index order
 abbrev pub items_of : SourceValues → Items

@@ -1,6 +1,8 @@
 //! Dynamic task mapping: the items that a source gives the task that is expanded over it.
 #![tactic(auto)]
 
-mod items;
+mod expanding;
+mod source;
 
-pub use items::{Items, SourceValues};
+pub use expanding::items;
+pub use source::{Items, SourceValues};

@@ -1,5 +1,5 @@
 -- What an event does to one run over a table.
-use Rattle.std.proofs.Common.{◌≡◌, ℕ, zero, suc, Bool, List, Option, Some, None, refl, sym, ap, ◌∙◌, inl, inr, arith}
+use Rattle.std.proofs.Common.{◌≡◌, ℕ, zero, suc, Bool, List, [], ◌∷◌, Option, Some, None, refl, sym, ap, ◌∙◌, inl, inr, arith}
 use Rattle.std.specs.FinMap as map
 use Rattle.std.specs.List.{All}
 use Rattle.jiff_core.proofs.SignedLemmas.{signed_arith}
@@ -9,6 +9,7 @@ use Rattle.bf_value.specs.Names.{name_cmp}
 use Rattle.bf_xcom.specs.declared.values.Given.{Given}
 use Rattle.bf_xcom.specs.declared.values.Outcome.{Outcome}
 use Rattle.bf_try.specs.declared.ledger.Entry.{Entry}
+use Rattle.bf_try.specs.declared.table.TableEntry.{TableEntry}
 use Rattle.bf_try.specs.Grades.{grade_of}
 use Rattle.bf_try.specs.Tables.{answer_of, Answering}
 use Rattle.bf_core.specs.declared.event.Event.{Event}
@@ -28,19 +29,19 @@ use Rattle.bf_interval.specs.Years.{IsInYears}
 use Rattle.bf_report.specs.declared.report.Report.{Report}
 use Rattle.bf_report.specs.Dated.{IsDated, IsShownInterval}
 use Rattle.bf_report.specs.Device.{sent}
-use Rattle.bf_report.specs.Moment.{IsShown}
+use Rattle.bf_moment.specs.Moment.{IsShown}
 use Rattle.bf_report.specs.Report.{report_text}
-use Rattle.bf_program.specs.OneRun.{AreAnswered, IsReportedOver, intervals_at, is_success}
+use Rattle.bf_program.specs.OneRun.{AreAnswered, IsReportedOver, answering_at, intervals_at, is_success}
 use Rattle.bf_program.specs.Driving.{EndsByTable, IsDriven, IsOver}
 
 -- an entry with the table's answer keeps all as the table answers
 noted-answered : (runner : Answering) (ledger : map.FinMap name_cmp Entry) (n : JobName) (given : Given) (o : Outcome)
-    → o ≡ grade_of runner.dag n.task (answer_of runner.dag runner.entries n)
-    → AreAnswered runner.dag runner.entries (entry_in ledger)
-    → AreAnswered runner.dag runner.entries (entry_in (map.insert ledger n (record { given = given; outcome = o })))
+    → o ≡ grade_of runner.dag n.task (answer_of runner n)
+    → AreAnswered runner (entry_in ledger)
+    → AreAnswered runner (entry_in (map.insert ledger n (record { given = given; outcome = o })))
 noted-answered runner ledger n given o graded before m e is = elim (entry-cases ledger n noted m) [
   | inl p ↦ (let held : e ≡ noted = some-injective (sym is ∙ p.1) in
-      ap (λ x. x.outcome) held ∙ (graded ∙ ap (λ x. grade_of runner.dag x.task (answer_of runner.dag runner.entries x)) (sym p.0)))
+      ap (λ x. x.outcome) held ∙ (graded ∙ ap (λ x. grade_of runner.dag x.task (answer_of runner x)) (sym p.0)))
   | inr p ↦ before m e (sym p.1 ∙ is)
 ]
   where
@@ -51,8 +52,8 @@ noted-answered runner ledger n given o graded before m e is = elim (entry-cases 
     some-injective h = cc
 
 -- what may come keeps the tries as the table answers, where it ends none otherwise
-answered_after : (runner : Answering) (b : Backfill) (e : Event) → EndsByTable runner e → AreAnswered runner.dag runner.entries (entry_in b.state.ledger)
-    → AreAnswered runner.dag runner.entries (entry_in (after b.dag b.state e).ledger)
+answered_after : (runner : Answering) (b : Backfill) (e : Event) → EndsByTable runner e → AreAnswered runner (entry_in b.state.ledger)
+    → AreAnswered runner (entry_in (after b.dag b.state e).ledger)
 unfolding after
 answered_after runner b Open by_table answered = answered
 answered_after runner b (Settle k t) by_table answered = answered
@@ -94,12 +95,12 @@ over runner b ended d same outcome states =
     record { outcome = rw same one; run_states = rw same two; answered = rw same d.answered }
 
 -- the report of a run that has ended
-pub reported_over : (runner : Answering) (at : Timestamp) (before after : Option (List ℕ)) (success : Bool) (ended : Ended) (report : Report)
-    → IsOver runner ended → IsDated runner.dag (intervals_at at) (entry_in ended.state.ledger) report
+pub reported_over : (dag : Dag) (table : List TableEntry) (at : Timestamp) (before after : Option (List ℕ)) (success : Bool) (ended : Ended) (report : Report)
+    → IsOver (answering_at dag table at) ended → IsDated dag (intervals_at at) (entry_in ended.state.ledger) report
     → after ≡ sent before (report_text report)
-    → success ≡ is_success (run_state_of runner.dag (out runner.dag (entry_in ended.state.ledger) 0))
-    → IsReportedOver runner.dag runner.entries at before after success
-reported_over runner at before after success ended report is dated text state = record {
+    → success ≡ is_success (run_state_of dag (out dag (entry_in ended.state.ledger) 0))
+    → IsReportedOver dag table at before after success
+reported_over dag table at before after success ended report is dated text state = record {
   ledger = ended.state.ledger;
   report = report;
   over_table = record { defined = is.outcome.defined; asked = is.outcome.asked; answered = is.answered };
@@ -116,3 +117,8 @@ shown_in_years at years zero d below =
     let shown : IsShown at.nanosecond = (omega (arith, signed_arith), omega (arith, signed_arith)) in
     (shown, shown)
 shown_in_years at years (suc k) d below = let none : ⊥ = omega arith in absurd none
+
+-- and so has the start of the one run
+pub start_in_years : (at : Timestamp) → IsInYears at.nanosecond → All (λ (start : Timestamp). IsShown start.nanosecond) (at ∷ [])
+start_in_years at years zero d below = (shown_in_years at years zero (record { start = at; end = at }) (omega arith)).0
+start_in_years at years (suc k) d below = let none : ⊥ = omega arith in absurd none

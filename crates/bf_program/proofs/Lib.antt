@@ -4,3 +4,5 @@ pub mod Ends
 pub mod Driven
 pub mod Files
 pub mod Progress
+pub mod OneList
+pub mod ListedIntervals

@@ -5,6 +5,7 @@ use Rattle.std.proofs.lemmas.List.{length-map}
 use Rattle.std.proofs.lemmas.Option.{slice_get-get_or, slice_get_within}
 use Rattle.bf_value.specs.declared.memory.OutOfMemory.{OutOfMemory}
 use Rattle.bf_value.specs.declared.name.JobName.{JobName}
+use Rattle.bf_value.specs.declared.xval.Xval.{Xval}
 use Rattle.bf_value.specs.Names.{name_cmp}
 use Rattle.bf_check.specs.Plans.{task_of, shape_of}
 use Rattle.bf_check.specs.Served.{IsServed}
@@ -34,9 +35,9 @@ use Rattle.bf_core.specs.declared.state.State.{State}
 use Rattle.bf_core.specs.Checks.{IsKnownAs}
 use Rattle.bf_core.specs.Cores.{Backfill, IsReplay, IsThere, moved, opening}
 use Rattle.bf_core.specs.declared.deciding.Decision.{Decision}
-use Rattle.bf_core.specs.Deciding.{Seen, after_verdict, decision, gate}
+use Rattle.bf_core.specs.Deciding.{Seen, after_verdict, decision, gate, pulled}
 use Rattle.bf_core.specs.Events.{AllSettled, HasEnded, IsDecidable, IsEnabled, IsPresent, after, before_in, begun, cell_at, cell_of, change_instance, cons_result, decision_in, ended, fresh, given_in, instance_of, next_run, phase_of, phase_in, phase_put_in, place_in, put, results, seen_in, start, value_in, with_phase}
-use Rattle.bf_core.specs.Words.{plain_after}
+use Rattle.bf_core.specs.Words.{unmapped_after}
 use Rattle.bf_core.proofs.Enabling.{goes_on-not, has-room}
 use Rattle.bf_core.proofs.Kept.{replay-shaped}
 use Rattle.bf_core.proofs.Known.{has-instance, place-zero, present-from}
@@ -83,25 +84,27 @@ able runner b t d n = record { run_is_open = n.idle.run_is_open; is_task = n.is_
 pub settle_may : (runner : Answering) (b : Backfill) (t : ℕ) → IsDriven runner b → IsNext b t → IsEnabled b.dag b.limits b.state (Event.Settle 0 t)
 settle_may runner b t d n = (able runner b t d n, goes_on-not b.dag d.served b.state 0 t)
 
-abbrev none_given : Given
-none_given = record { item = None; pulled = [] }
+-- what a task is given
+abbrev given_to : Dag → State → ℕ → Given
+given_to dag s t = record { item = None; pulled = pulled dag (λ u. seen_in (cell_at s 0 u)) t }
 
 -- a task that is decided is settled, or has one instance
-plain-cell : (v : Verdict) → plain_after v ≢ Decision.Wait → (is_some (value_in (cell_of (plain_after v))) ≡ true) ⊎ (cell_of (plain_after v) ≡ Cell.Ran (fresh none_given ∷ []))
-plain-cell Verdict.Wait n = absurd (n refl)
-plain-cell Verdict.Blocked n = inl refl
-plain-cell Verdict.Skip n = inl refl
-plain-cell Verdict.UpstreamFailed n = inl refl
-plain-cell Verdict.Run n = inr refl
+unmapped-cell : (pulls : List (Option Xval)) (v : Verdict) → unmapped_after pulls v ≢ Decision.Wait
+    → (is_some (value_in (cell_of (unmapped_after pulls v))) ≡ true) ⊎ (cell_of (unmapped_after pulls v) ≡ Cell.Ran (fresh (record { item = None; pulled = pulls }) ∷ []))
+unmapped-cell pulls Verdict.Wait n = absurd (n refl)
+unmapped-cell pulls Verdict.Blocked n = inl refl
+unmapped-cell pulls Verdict.Skip n = inl refl
+unmapped-cell pulls Verdict.UpstreamFailed n = inl refl
+unmapped-cell pulls Verdict.Run n = inr refl
 
 decided-cell : (dag : Dag) → IsServed dag → (s : State) (t : ℕ) → decision_in dag s 0 t ≢ Decision.Wait
-    → (is_some (value_in (cell_of (decision_in dag s 0 t))) ≡ true) ⊎ (cell_of (decision_in dag s 0 t) ≡ Cell.Ran (fresh none_given ∷ []))
+    → (is_some (value_in (cell_of (decision_in dag s 0 t))) ≡ true) ⊎ (cell_of (decision_in dag s 0 t) ≡ Cell.Ran (fresh (given_to dag s t) ∷ []))
 unfolding decision_in decision
 decided-cell dag served s t n =
     let seen : ℕ → Seen = λ u. seen_in (cell_at s 0 u) in
     let v : Verdict = gate dag 0 seen (before_in s 0 t) t in
-    let is : after_verdict dag seen t v ≡ plain_after v = decision-is dag t (served.unmapped t) (served.no_pulls t) seen v in
-    rw is (plain-cell v (λ e. n (is ∙ e)))
+    let is : after_verdict dag seen t v ≡ unmapped_after (pulled dag seen t) v = decision-is dag t (served.unmapped t) seen v in
+    rw is (unmapped-cell (pulled dag seen t) v (λ e. n (is ∙ e)))
 
 -- the tasks but one are as they were where a cell of that one is put
 kept-put : (s : State) (t : ℕ) (c : Cell) → AreKept s (put s 0 t c) t
@@ -124,7 +127,7 @@ settled_once runner b t d n = record {
   };
   stands = elim (decided-cell b.dag d.served b.state t (decides runner b t d n)) [
     | inl e ↦ inl (ap (λ c. is_some (value_in c)) here ∙ e)
-    | inr e ↦ inr (record { held = fresh none_given; alone = here ∙ e; comes = refl; waits = refl; from = omega arith; allowed = omega arith })
+    | inr e ↦ inr (record { held = fresh (given_to b.dag b.state t); alone = here ∙ e; comes = refl; waits = refl; from = omega arith; allowed = omega arith })
   ];
   kept = kept-put b.state t new;
   same = refl;

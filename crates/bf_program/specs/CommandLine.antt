@@ -11,17 +11,33 @@ graph_rule = record (new_rule (codes "graph")) { value_names = 1; required = tru
 abbrev pub table_rule : Rule
 table_rule = record (new_rule (codes "table")) { value_names = 1; required = true }
 
+-- `--zone-file PATH`
+abbrev pub zone_file_rule : Rule
+zone_file_rule = record (new_rule (codes "zone_file")) { long = Some (codes "zone-file"); value_names = 1 }
+
 -- `--at T`
 abbrev pub at_rule : Rule
 at_rule = record (new_rule (codes "at")) { long = Some (codes "at"); value_names = 1; required = true }
 
--- `check GRAPH`
-abbrev pub check_app : App
-check_app = with_rule (new_app (codes "check")) graph_rule
+-- `--from T`
+abbrev pub from_rule : Rule
+from_rule = record (new_rule (codes "from")) { long = Some (codes "from"); value_names = 1; required = true }
 
--- `single GRAPH TABLE --at T`
+-- `--to T`
+abbrev pub to_rule : Rule
+to_rule = record (new_rule (codes "to")) { long = Some (codes "to"); value_names = 1; required = true }
+
+-- `check GRAPH [--zone-file PATH]`
+abbrev pub check_app : App
+check_app = with_rule (with_rule (new_app (codes "check")) graph_rule) zone_file_rule
+
+-- `list GRAPH --from T --to T [--zone-file PATH]`
+abbrev pub list_app : App
+list_app = with_rule (with_rule (with_rule (with_rule (new_app (codes "list")) graph_rule) zone_file_rule) from_rule) to_rule
+
+-- `single GRAPH TABLE --at T [--zone-file PATH]`
 abbrev pub single_app : App
-single_app = with_rule (with_rule (with_rule (new_app (codes "single")) graph_rule) table_rule) at_rule
+single_app = with_rule (with_rule (with_rule (with_rule (new_app (codes "single")) graph_rule) zone_file_rule) table_rule) at_rule
 
 -- `backfill`, which wants a subcommand and without a word shows its help
 abbrev pub bare_app : App
@@ -30,5 +46,9 @@ bare_app = record {
   subs = [];
 }
 
+-- with the commands that look at a graph alone
+abbrev pub looking_app : App
+looking_app = with_subcommand (with_subcommand bare_app check_app.top) list_app.top
+
 abbrev pub backfill_app : App
-backfill_app = with_subcommand (with_subcommand bare_app check_app.top) single_app.top
+backfill_app = with_subcommand looking_app single_app.top

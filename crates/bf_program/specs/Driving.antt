@@ -21,14 +21,14 @@ use Rattle.bf_program.specs.OneRun.{AreAnswered}
 
 -- a try ends by the grade of the table's answer
 abbrev pub EndsByTable : Answering → Event → Type 0
-EndsByTable runner (Event.End n o) = o ≡ grade_of runner.dag n.task (answer_of runner.dag runner.entries n)
+EndsByTable runner (Event.End n o) = o ≡ grade_of runner.dag n.task (answer_of runner n)
 EndsByTable runner e = Unit {0}
 
 -- one run of the runner's graph, whose tries so far have the table's answers
 pub record IsDriven (runner : Answering) (b : Backfill) : Type 0 where
   pub dag : b.dag ≡ runner.dag
   pub runs : b.runs ≡ 1
-  pub answered : AreAnswered runner.dag runner.entries (entry_in b.state.ledger)
+  pub answered : AreAnswered runner (entry_in b.state.ledger)
   pub replayed : IsReplay b
   pub served : IsServed b.dag
   pub limits_fit : AreLimits b.dag b.limits
@@ -37,7 +37,7 @@ pub record IsDriven (runner : Answering) (b : Backfill) : Type 0 where
 pub record IsOver (runner : Answering) (ended : Ended) : Type 0 where
   pub outcome : IsOutcome runner.dag 1 ended.state
   pub run_states : AreRunStates runner.dag (entry_in ended.state.ledger) 1 ended.run_states
-  pub answered : AreAnswered runner.dag runner.entries (entry_in ended.state.ledger)
+  pub answered : AreAnswered runner (entry_in ended.state.ledger)
 
 -- ---- one task after the other
 

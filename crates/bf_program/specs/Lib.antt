@@ -7,3 +7,4 @@ pub mod Status
 pub mod OneRun
 pub mod Driving
 pub mod Graphs
+pub mod Lists

@@ -15,7 +15,7 @@ use Rattle.bf_try.specs.declared.ledger.Entry.{Entry}
 use Rattle.bf_try.specs.declared.table.TableEntry.{TableEntry}
 use Rattle.bf_try.specs.declared.table.TableFault.{TableFault}
 use Rattle.bf_try.specs.Grades.{grade_of}
-use Rattle.bf_try.specs.Tables.{table_of, answer_of}
+use Rattle.bf_try.specs.Tables.{Answering, table_of, answer_of, dates_of}
 use Rattle.bf_try.specs.Tries.{Look, name_of}
 use Rattle.bf_core.specs.Recursion.{IsDefined, Asks, out, run_state_of}
 use Rattle.bf_core.specs.Events.{place_in}
@@ -28,8 +28,8 @@ use Rattle.bf_program.specs.declared.one_run.SingleFault.{SingleFault}
 use Rattle.bf_program.specs.declared.one_run.SingleFault.TheVariants.{Plan, NotYet, Table, OutsideYears, OutOfMemory, Write}
 
 -- each outcome is the grade of what the table answers
-abbrev pub AreAnswered : Dag → List TableEntry → Look → Type 0
-AreAnswered dag table ledger = (n : JobName) (e : Entry) → ledger n ≡ Some e → e.outcome ≡ grade_of dag n.task (answer_of dag table n)
+abbrev pub AreAnswered : Answering → Look → Type 0
+AreAnswered over ledger = (n : JobName) (e : Entry) → ledger n ≡ Some e → e.outcome ≡ grade_of over.dag n.task (answer_of over n)
 
 -- each try is one that the recursion asks for, in these runs
 abbrev pub AreAsked : Dag → ℕ → Look → Type 0
@@ -37,10 +37,14 @@ AreAsked dag runs ledger = (n : JobName) (e : Entry) → ledger n ≡ Some e →
     (n.run < runs) × (n.task < length dag.tasks) × (n ≡ name_of dag n.run n.task (place_in dag n) n.attempt) × Asks dag ledger n.run n.task (place_in dag n) n.attempt e.given
 
 -- the ledger of one run over a table: it holds the tries that the recursion asks for and no other, each with its answer
-pub record IsLedgerOver (dag : Dag) (table : List TableEntry) (ledger : Look) : Type 0 where
-  pub defined : IsDefined dag 1 ledger
-  pub asked : AreAsked dag 1 ledger
-  pub answered : AreAnswered dag table ledger
+pub record IsLedgerOver (over : Answering) (ledger : Look) : Type 0 where
+  pub defined : IsDefined over.dag 1 ledger
+  pub asked : AreAsked over.dag 1 ledger
+  pub answered : AreAnswered over ledger
+
+-- a table's answers to one run at a moment
+abbrev pub answering_at : Dag → List TableEntry → Timestamp → Answering
+answering_at dag table at = record { dag = dag; dates = dates_of (at ∷ []); entries = table }
 
 abbrev pub is_success : RunState → Bool
 is_success RunState.Success = true
@@ -55,16 +59,16 @@ intervals_at at = record { start = at; end = at } ∷ []
 pub record IsReportedOver (dag : Dag) (table : List TableEntry) (at : Timestamp) (before after : Option (List ℕ)) (success : Bool) : Type 0 where
   pub ledger : map.FinMap name_cmp Entry
   pub report : Report
-  pub over_table : IsLedgerOver dag table (map.get ledger)
+  pub over_table : IsLedgerOver (answering_at dag table at) (map.get ledger)
   pub dated : IsDated dag (intervals_at at) (map.get ledger) report
   pub text : after ≡ sent before (report_text report)
   pub state : success ≡ is_success (run_state_of dag (out dag (map.get ledger) 0))
 
 -- the bytes say a graph, which has no fault, and a table, and what went out is the report of one run of this over that
-pub record IsReported (graph table : List ℕ) (at : Timestamp) (before after : Option (List ℕ)) (success : Bool) : Type 0 where
+pub record IsReported (graph : List ℕ) (file : Option (List ℕ)) (table : List ℕ) (at : Timestamp) (before after : Option (List ℕ)) (success : Bool) : Type 0 where
   pub draft : Draft
   pub entries : List TableEntry
-  pub graph_is : IsGraph graph draft
+  pub graph_is : IsGraph graph file draft
   pub table_says : table_of table ≡ Ok entries
   pub in_years : IsInYears at.nanosecond
   pub reported : IsReportedOver (dag_of draft) entries at before after success
@@ -72,15 +76,15 @@ pub record IsReported (graph table : List ℕ) (at : Timestamp) (before after : 
 -- ---- why there is no report
 
 -- the graph's bytes say a graph without a fault, and it uses no part that isn't built
-pub record IsRunnable (graph : List ℕ) : Type 0 where
+pub record IsRunnable (graph : List ℕ) (file : Option (List ℕ)) : Type 0 where
   pub draft : Draft
-  pub graph_is : IsGraph graph draft
+  pub graph_is : IsGraph graph file draft
   pub built : first_unserved (dag_of draft) ≡ None
 
 -- the graph has no fault, and the id is that of its first task which uses a part that isn't built
-pub record IsNotYet (graph : List ℕ) (id : List ℕ) : Type 0 where
+pub record IsNotYet (graph : List ℕ) (file : Option (List ℕ)) (id : List ℕ) : Type 0 where
   pub draft : Draft
-  pub graph_is : IsGraph graph draft
+  pub graph_is : IsGraph graph file draft
   pub first : option_map (λ task. task.id) (first_unserved (dag_of draft)) ≡ Some id
 
 -- the table's bytes say a table
@@ -90,13 +94,13 @@ pub record IsTable (table : List ℕ) : Type 0 where
 
 -- the fault is the first: those of the graph file and of its plan go before those of the table, and the moment comes last;
 -- only then is the run made, and memory or the device may be wanting
-abbrev pub IsFaultOfRun : List ℕ → List ℕ → Timestamp → SingleFault → Type 0
-IsFaultOfRun graph table at (Plan fault) = IsFaultIn graph fault
-IsFaultOfRun graph table at (NotYet id) = IsNotYet graph id
-IsFaultOfRun graph table at (Table fault) = IsRunnable graph × (fault ≢ TableFault.OutOfMemory → table_of table ≡ Err fault)
-IsFaultOfRun graph table at OutsideYears = IsRunnable graph × IsTable table × ¬ (IsInYears at.nanosecond)
-IsFaultOfRun graph table at OutOfMemory = (draft : Draft) × IsGraph graph draft
-IsFaultOfRun graph table at (Write fault) = IsRunnable graph × IsTable table × IsInYears at.nanosecond
+abbrev pub IsFaultOfRun : List ℕ → Option (List ℕ) → List ℕ → Timestamp → SingleFault → Type 0
+IsFaultOfRun graph file table at (Plan fault) = IsFaultIn graph file fault
+IsFaultOfRun graph file table at (NotYet id) = IsNotYet graph file id
+IsFaultOfRun graph file table at (Table fault) = IsRunnable graph file × (fault ≢ TableFault.OutOfMemory → table_of table ≡ Err fault)
+IsFaultOfRun graph file table at OutsideYears = IsRunnable graph file × IsTable table × ¬ (IsInYears at.nanosecond)
+IsFaultOfRun graph file table at OutOfMemory = (draft : Draft) × IsGraph graph file draft
+IsFaultOfRun graph file table at (Write fault) = IsRunnable graph file × IsTable table × IsInYears at.nanosecond
 
 -- the fault names the first task that uses a part which isn't built; or memory is wanting
 abbrev pub IsUnserved : Dag → SingleFault → Type 0

@@ -11,8 +11,11 @@ use Rattle.bf_program.specs.declared.graphs.PlanFault.{PlanFault}
 use Rattle.bf_program.specs.declared.graphs.PlanFault.TheVariants as plan
 use Rattle.bf_program.specs.declared.one_run.SingleFault.{SingleFault}
 use Rattle.bf_program.specs.declared.one_run.SingleFault.TheVariants as single
+use Rattle.bf_interval.specs.Intervals.{fault_number}
+use Rattle.bf_program.specs.declared.listing.ListFault.{ListFault}
+use Rattle.bf_program.specs.declared.listing.ListFault.TheVariants as list
 use Rattle.bf_program.specs.declared.refusal.CommandFault.{CommandFault}
-use Rattle.bf_program.specs.declared.refusal.CommandFault.TheVariants.{Plan, Single, BadMoment, OutOfMemory, CannotRead, CannotWrite}
+use Rattle.bf_program.specs.declared.refusal.CommandFault.TheVariants.{Plan, Single, List, BadMoment, OutOfMemory, CannotRead, CannotWrite}
 
 -- ---- refusals have numbers, and faults have none
 
@@ -40,9 +43,16 @@ single_number single.OutsideYears = Some 25
 single_number single.OutOfMemory = None
 single_number (single.Write fault) = None
 
+abbrev pub list_number : ListFault → Option ℕ
+list_number (list.Plan fault) = plan_number fault
+list_number (list.Range fault) = fault_number fault
+list_number list.OutOfMemory = None
+list_number (list.Write fault) = None
+
 abbrev pub number_of : CommandFault → Option ℕ
 number_of (Plan fault) = plan_number fault
 number_of (Single fault) = single_number fault
+number_of (List fault) = list_number fault
 number_of BadMoment = Some 28
 number_of OutOfMemory = None
 number_of (CannotRead path) = None

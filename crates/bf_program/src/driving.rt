@@ -33,7 +33,7 @@ fn advance(core: &mut Core<'_>, runner: &TableRunner<'_>, event: Event) -> Resul
 
 /// The table's answer to a try. No try is given up.
 fn answer_to(runner: &TableRunner<'_>, ticket: Ticket) -> Result<Done, OutOfMemory>
-    ensures { IfOk result (λ done. done.raw ≡ answer_of runner.now.dag runner.now.entries ticket.name) }
+    ensures { IfOk result (λ done. done.raw ≡ answer_of runner.now ticket.name) }
 {
     match runner.run(ticket) {
         Ok(done) => Ok(done),

@@ -1,22 +1,32 @@
-//! What a command line asks for.
-/// `single GRAPH TABLE --at T`: one run whose interval starts and ends at `T`, its tasks answered from a
-/// table. The files are named by path, and `T` stands as it was written.
+//! What a command line asks for. Files are named by path, and moments stand as they were written.
+/// `GRAPH [--zone-file PATH]`: a graph file, and the zone file that its zone `file` means.
 #[derive(Debug, Drop)]
-pub struct SingleAsked {
+pub struct GraphAsked {
     pub graph: String,
-    pub table: String,
-    pub at: String,
+    pub zone_file: Option<String>,
 }
 
-/// `check GRAPH`: whether a graph file, named by path, has a fault.
+/// `list GRAPH --from T --to T`: the data intervals of a range.
 #[derive(Debug, Drop)]
-pub struct CheckAsked {
-    pub graph: String,
+pub struct ListAsked {
+    pub graph: GraphAsked,
+    pub from: String,
+    pub to: String,
+}
+
+/// `single GRAPH TABLE --at T`: one run whose interval starts and ends at `T`, its tasks answered from a table.
+#[derive(Debug, Drop)]
+pub struct SingleAsked {
+    pub graph: GraphAsked,
+    pub table: String,
+    pub at: String,
 }
 
 /// A subcommand with its paths and options.
 #[derive(Debug, Drop)]
 pub enum Asked {
-    Check(CheckAsked),
+    /// `check GRAPH`: whether a graph file has a fault.
+    Check(GraphAsked),
+    List(ListAsked),
     Single(SingleAsked),
 }

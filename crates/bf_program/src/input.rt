@@ -1,10 +1,15 @@
 //! The files that a command line names.
-ghost use Rattle.std.specs.Prelude.{◌≡◌, ◌<◌, ◌^◌, ◌⊎◌, ℕ, List, IfOk, IfErr, IfSome, IsSome, string_bytes};
+ghost use Rattle.std.specs.Prelude.{◌≡◌, ◌<◌, ◌^◌, ◌⊎◌, ℕ, List, IfOk, IfErr, IfSome, IsSome, option_map, is_some, string_bytes};
 ghost use Rattle.bf_program.specs.Source.{IsWholeUpTo};
+ghost use Rattle.bf_program.specs.declared.input.TheConstants.{LONGEST_FILE};
 
+use crate::forms::GraphAsked;
 use crate::refusal::CommandFault;
 use crate::source::{Source, SourceFault};
+use bf_report::moment_in;
 use bf_value::Text;
+use bf_zone::MOST_FILE_BYTES;
+use jiff::Timestamp;
 use std::alloc::Global;
 
 /// A graph file and a table have at most this many bytes.
@@ -30,5 +35,52 @@ pub fn file_bytes<S: Source>(
         Ok(bytes) => Ok(bytes),
         Err(SourceFault::CannotRead) => Err(CommandFault::CannotRead(Text::new(path))),
         Err(SourceFault::OutOfMemory) => Err(CommandFault::OutOfMemory),
+    }
+}
+
+/// The bytes of a graph file, and those of a zone file where one was named.
+#[derive(Drop)]
+pub(crate) struct GraphFiles {
+    pub(crate) graph: Vec<u8>,
+    pub(crate) zone_file: Option<Vec<u8>>,
+}
+
+impl GraphFiles {
+    /// The zone file's bytes.
+    pub(crate) fn zone_file(&self) -> Option<&[u8]>
+        ensures { option_map (λ s. s.now) result ≡ option_map (λ v. v.items) self.now.zone_file }
+    {
+        match &self.zone_file {
+            Some(bytes) => Some(bytes.as_slice()),
+            None => None,
+        }
+    }
+}
+
+/// Reads the graph file, and then the zone file where one is named.
+pub(crate) fn graph_files<S: Source>(
+    alloc: Global,
+    asked: GraphAsked,
+    files: &mut S,
+) -> Result<GraphFiles, CommandFault>
+    ensures graph { IfOk result (λ f. IfSome (S.file files.old (string_bytes asked.graph)) (λ held.
+        IsWholeUpTo LONGEST_FILE held f.graph.items)) }
+    ensures named { IfOk result (λ f. is_some f.zone_file ≡ is_some asked.zone_file) }
+{
+    let graph = file_bytes(alloc, asked.graph, LONGEST_FILE, files)?;
+    let zone_file = match asked.zone_file {
+        Some(path) => Some(file_bytes(alloc, path, MOST_FILE_BYTES, files)?),
+        None => None,
+    };
+    Ok(GraphFiles { graph, zone_file })
+}
+
+/// The moment of a text.
+pub(crate) fn moment_of(text: &str) -> Result<Timestamp, CommandFault>
+    ensures { IfErr result (λ f. f ≡ CommandFault.BadMoment) }
+{
+    match moment_in(text) {
+        Some(moment) => Ok(moment),
+        None => Err(CommandFault::BadMoment),
     }
 }

@@ -8,6 +8,9 @@ mod driving;
 pub mod forms;
 mod graphs;
 mod input;
+mod laws;
+mod listed;
+mod listing;
 mod one_run;
 mod program;
 mod reading;
@@ -19,6 +22,8 @@ mod stored;
 
 pub use disk::Disk;
 pub use graphs::{GraphSize, PlanFault, check_graph};
+pub use laws::one_list;
+pub use listing::{ListFault, run_list};
 pub use one_run::{SingleFault, run_single};
 pub use program::answer;
 pub use reading::asked;

@@ -1,5 +1,5 @@
 //! One run of a graph over a table, from bytes to bytes.
-ghost use Rattle.std.specs.Prelude.{◌≡◌, true, IfOk, IfErr, OnOk, IsSome, None, Some, slice_get};
+ghost use Rattle.std.specs.Prelude.{◌≡◌, true, IfOk, IfErr, OnOk, IsSome, None, Some, slice_get, option_map};
 ghost use Rattle.bf_check.specs.Served.{first_unserved as unserved, IsServed};
 ghost use Rattle.bf_program.specs.OneRun.{IsFaultOfRun, IsReported, IsReportedOver, IsUnserved, comes_late, is_success as succeeds};
 ghost use Rattle.bf_xcom.specs.declared.values.RunState.{RunState as RunStateTerm};
@@ -105,7 +105,7 @@ fn has_succeeded(states: &[RunState]) -> bool
 }
 
 /// Writes the report of one run over the table, and says whether the run is a success.
-#[tactic(auto, using(crate::proofs::Driven::reported_over, crate::proofs::Driven::shown_in_years))]
+#[tactic(auto, using(crate::proofs::Driven::shown_in_years, crate::proofs::Driven::start_in_years))]
 fn run_over<W: Write>(
     alloc: Global,
     plan: &Plan,
@@ -120,7 +120,7 @@ fn run_over<W: Write>(
     ensures refused { IfErr result (λ f. IsSome (single_number f) → W.written out.new ≡ W.written out.old) }
 {
     let intervals = [Interval { start: at, end: at }];
-    let runner = TableRunner::new(alloc, table, plan);
+    let runner = TableRunner::new(alloc, table, plan, &[at])?;
     let ended = ended_run(alloc, plan, &runner, &intervals)?;
     let report = report_of(alloc, plan, &intervals, &ended)?;
     match write_report(alloc, &report, out) {
@@ -132,19 +132,19 @@ fn run_over<W: Write>(
 /// Runs a graph once, at this moment, with its tries answered by a table, and writes the report. Says whether the run
 /// is a success. The graph's faults go before a part that isn't built yet, this before the table's, and these before the
 /// moment's.
-#[tactic(auto, using(crate::proofs::Files::reported))]
 pub fn run_single<W: Write>(
     alloc: Global,
     graph: &[u8],
+    zone_file: Option<&[u8]>,
     table: &[u8],
     at: Timestamp,
     out: &mut W,
 ) -> Result<bool, SingleFault>
-    ensures ok { IfOk result (IsReported graph.now table.now at (W.written out.old) (W.written out.new)) }
-    ensures fault { IfErr result (IsFaultOfRun graph.now table.now at) }
+    ensures ok { IfOk result (IsReported graph.now (option_map (λ s. s.now) zone_file.entry) table.now at (W.written out.old) (W.written out.new)) }
+    ensures fault { IfErr result (IsFaultOfRun graph.now (option_map (λ s. s.now) zone_file.entry) table.now at) }
     ensures refused { IfErr result (λ f. IsSome (single_number f) → W.written out.new ≡ W.written out.old) }
 {
-    let plan = plan_in(alloc, graph)?;
+    let plan = plan_in(alloc, graph, zone_file)?;
     refuse_unserved(alloc, &plan)?;
     let table = match Table::read(alloc, table) {
         Ok(table) => table,

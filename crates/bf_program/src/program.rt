@@ -7,6 +7,7 @@ ghost use Rattle.bf_program.specs.Status.{code_of, shown_as, EndsAs};
 
 use crate::checked::check_answered;
 use crate::forms::Asked;
+use crate::listed::list_answered;
 use crate::reading::asked;
 use crate::refusal::CommandFault;
 use crate::single::single_answered;
@@ -18,8 +19,8 @@ use clap::error::ErrorKind;
 use std::alloc::Global;
 
 /// Answers a command line, of which the first word is the program's own name. Files are read from `files`, the
-/// report, the size of a graph or help goes to `out`, and why there is none to `err`. Gives the exit status: 0 where every
-/// run is a success, a graph has no fault, or help was asked for, 1 where some run failed, 2 where something was refused, and 3 at a fault.
+/// report, the size of a graph, the intervals or help goes to `out`, and why there is none to `err`. Gives the exit status: 0 where every
+/// run is a success, a graph has no fault, the intervals were listed, or help was asked for, 1 where some run failed, 2 where something was refused, and 3 at a fault.
 #[tactic(auto, using(crate::proofs::Ends::fault_ends))]
 pub fn answer<S: Source, W: Write, E: Write>(
     alloc: Global,
@@ -58,6 +59,7 @@ fn line_answered<S: Source, W: Write, E: Write>(
 {
     match asked(alloc, words) {
         Ok(Asked::Check(check)) => check_answered(alloc, check, files, out),
+        Ok(Asked::List(list)) => list_answered(alloc, list, files, out),
         Ok(Asked::Single(single)) => single_answered(alloc, single, files, out),
         Err(error) => shown(alloc, &error, out, err),
     }

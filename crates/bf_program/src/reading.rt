@@ -1,11 +1,11 @@
 //! Reads a command line.
-ghost use Rattle.std.specs.Prelude.{◌≡◌, IfOk, map, string_bytes, Some, codes};
+ghost use Rattle.std.specs.Prelude.{◌≡◌, IfOk, map, option_map, string_bytes, Some, codes};
 ghost use Rattle.clap.specs.Words.{fault_of, FailsBy, subcommand_of, first_of, found_of, rows_of, subcommand_rows_of};
 ghost use Rattle.bf_program.specs.CommandLine.{backfill_app};
-ghost use Rattle.bf_program.specs.Asked.{IsAskedBy};
+ghost use Rattle.bf_program.specs.Asked.{IsAskedBy, IsGraphBy};
 
 use crate::command::backfill;
-use crate::forms::{Asked, CheckAsked, SingleAsked};
+use crate::forms::{Asked, GraphAsked, ListAsked, SingleAsked};
 use clap::{ArgMatches, Error};
 use std::alloc::{AllocError, Global};
 
@@ -35,17 +35,29 @@ fn subcommand_asked(alloc: Global, matches: &ArgMatches<'_>) -> Result<Asked, Al
     ensures { IfOk result (IsAskedBy (subcommand_rows_of matches.now)) }
 {
     match matches.subcommand() {
-        Some(("check", inner)) => Ok(Asked::Check(check_asked(alloc, inner)?)),
+        Some(("check", inner)) => Ok(Asked::Check(graph_asked(alloc, inner)?)),
+        Some(("list", inner)) => Ok(Asked::List(list_asked(alloc, inner)?)),
         Some(("single", inner)) => Ok(Asked::Single(single_asked(alloc, inner)?)),
         _ => Err(AllocError),
     }
 }
 
-fn check_asked(alloc: Global, matches: &ArgMatches<'_>) -> Result<CheckAsked, AllocError>
-    ensures { IfOk result (λ c. IsAskedBy (Some (codes "check", rows_of (found_of matches.now))) (Asked.Check c)) }
+fn graph_asked(alloc: Global, matches: &ArgMatches<'_>) -> Result<GraphAsked, AllocError>
+    ensures { IfOk result (IsGraphBy (rows_of (found_of matches.now))) }
 {
-    Ok(CheckAsked {
+    Ok(GraphAsked {
         graph: required(alloc, matches, "graph")?,
+        zone_file: optional(alloc, matches, "zone_file")?,
+    })
+}
+
+fn list_asked(alloc: Global, matches: &ArgMatches<'_>) -> Result<ListAsked, AllocError>
+    ensures { IfOk result (λ l. IsAskedBy (Some (codes "list", rows_of (found_of matches.now))) (Asked.List l)) }
+{
+    Ok(ListAsked {
+        graph: graph_asked(alloc, matches)?,
+        from: required(alloc, matches, "from")?,
+        to: required(alloc, matches, "to")?,
     })
 }
 
@@ -53,10 +65,24 @@ fn single_asked(alloc: Global, matches: &ArgMatches<'_>) -> Result<SingleAsked, 
     ensures { IfOk result (λ s. IsAskedBy (Some (codes "single", rows_of (found_of matches.now))) (Asked.Single s)) }
 {
     Ok(SingleAsked {
-        graph: required(alloc, matches, "graph")?,
+        graph: graph_asked(alloc, matches)?,
         table: required(alloc, matches, "table")?,
         at: required(alloc, matches, "at")?,
     })
+}
+
+#[tactic(auto, using(crate::proofs::Rows::first_rows))]
+fn optional(
+    alloc: Global,
+    matches: &ArgMatches<'_>,
+    id: &str,
+) -> Result<Option<String>, AllocError>
+    ensures { IfOk result (λ t. first_of id.now (rows_of (found_of matches.now)) ≡ option_map string_bytes t) }
+{
+    match matches.get_str(id) {
+        Some(value) => Ok(Some(String::from_str(alloc, value)?)),
+        None => Ok(None),
+    }
 }
 
 #[tactic(auto, using(crate::proofs::Rows::first_rows))]

@@ -3,6 +3,7 @@ ghost use Rattle.std.specs.Prelude.{◌≡◌, IsNone, IsSome};
 ghost use Rattle.bf_program.specs.Refusal.{number_of};
 
 use crate::graphs::PlanFault;
+use crate::listing::ListFault;
 use crate::one_run::SingleFault;
 use crate::status::Status;
 use bf_report::{Cause, WriteFault};
@@ -17,6 +18,8 @@ pub enum CommandFault {
     Plan(PlanFault),
     #[error("{0}")]
     Single(SingleFault),
+    #[error("{0}")]
+    List(ListFault),
     /// A text that is no moment, or one of a date that doesn't exist.
     #[error("bad moment")]
     BadMoment,
@@ -37,6 +40,7 @@ impl CommandFault {
         match self {
             CommandFault::Plan(fault) => fault.number(),
             CommandFault::Single(fault) => fault.number(),
+            CommandFault::List(fault) => fault.number(),
             CommandFault::BadMoment => Some(28),
             CommandFault::OutOfMemory | CommandFault::CannotRead(_) | CommandFault::CannotWrite =>
                 None,
@@ -106,6 +110,17 @@ impl From<SingleFault> for CommandFault {
 
     fn from(fault: SingleFault) -> CommandFault {
         CommandFault::Single(fault)
+    }
+}
+
+impl From<ListFault> for CommandFault {
+    ghost use Rattle.std.specs.Prelude.{◌≡◌};
+    ghost use Rattle.bf_program.specs.declared.refusal.CommandFault.TheVariants.{List};
+
+    ghost from_gives = { λ fault e. e ≡ List fault };
+
+    fn from(fault: ListFault) -> CommandFault {
+        CommandFault::List(fault)
     }
 }
 

@@ -3,3 +3,4 @@ pub mod CommandLemmas
 pub mod DistinctLemmas
 pub mod TaskLemmas
 pub mod FileLemmas
+pub mod PoolLemmas

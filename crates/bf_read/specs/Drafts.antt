@@ -1,6 +1,9 @@
 -- Drafts that a graph file may give: how many of each thing there are, and between which bounds.
 use Rattle.std.specs.Prelude.{◌≡◌, ◌≢◌, ℕ, ◌+◌, ◌≤◌, not, false, List, [], ◌∷◌, length, filter, All, AllPairs, map, sum_by, Option, Some, None}
 use Rattle.std.specs.List.{list_any, filter_map}
+use Rattle.std.specs.Cmp.Lexicographic.{slice_cmp}
+use Rattle.std.specs.Ordering.{nat_cmp}
+use Rattle.std.specs.declared.cmp.Ordering.TheVariants.{Less}
 use Rattle.std.specs.Str.{bytes_eq}
 use Rattle.bf_read.specs.declared.draft.TheConstants.{MOST_TASKS, MOST_EDGES, MOST_WORDS, MOST_PULLS, MOST_RETRIES, MOST_SLOTS, GREATEST_WEIGHT, MOST_ACTIVE_RUNS}
 use Rattle.bf_read.specs.declared.draft.PoolDraft.{PoolDraft}
@@ -50,11 +53,16 @@ pub record IsPool (pool : PoolDraft) : Type 0 where
   pub some_slots : 1 ≤ pool.slots
   pub few_slots : pool.slots ≤ MOST_SLOTS
 
+-- each pool's name is below those behind it, byte by byte
+abbrev pub StandByName : List PoolDraft → Type 0
+StandByName pools = AllPairs (λ a b. slice_cmp nat_cmp a.name b.name ≡ Less) pools
+
 -- the numbers, the pools and the tasks of a draft
 pub record IsDraft (max_active_runs : ℕ) (pools : List PoolDraft) (tasks : List TaskDraft) : Type 0 where
   pub some_runs : 1 ≤ max_active_runs
   pub few_runs : max_active_runs ≤ MOST_ACTIVE_RUNS
   pub are_pools : All IsPool pools
+  pub by_name : StandByName pools
   pub are_tasks : AreTasks tasks
 
 -- a task that may follow these: none of them has its id, and its upstreams are not too many

@@ -163,7 +163,8 @@ fn is_id(text: &str) -> bool
 /// A text that has to be an id.
 #[tactic(auto, unfolding(crate::specs::Fields::named_at))]
 pub(crate) fn named_at(alloc: Global, path: Path, text: &str) -> Result<Text, ReadFault>
-    ensures { Gives (λ s. s) result (named path text.now) }
+    ensures exact { Gives (λ s. s) result (named path text.now) }
+    ensures same { IfOk result (λ s. s ≡ text.now) }
 {
     if !is_id(text) {
         return Err(ReadFault::BadName(path));

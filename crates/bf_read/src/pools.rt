@@ -1,7 +1,7 @@
 //! The pools of a graph file.
 ghost use Rattle.std.specs.Prelude.{◌≡◌, All, IfOk};
 ghost use Rattle.serde_json.specs.View.{view, members_view};
-ghost use Rattle.bf_read.specs.Drafts.{IsPool};
+ghost use Rattle.bf_read.specs.Drafts.{IsPool, StandByName};
 ghost use Rattle.bf_read.specs.Gives.{Gives};
 ghost use Rattle.bf_read.specs.Fields.{member_of, pool_at as pool, each_member, pools_at as pools};
 
@@ -16,6 +16,7 @@ use std::alloc::Global;
 #[tactic(auto, unfolding(crate::specs::Fields::pool_at))]
 fn pool_at(alloc: Global, path: Path, name: &str, value: &Value) -> Result<PoolDraft, ReadFault>
     ensures exact { Gives (λ p. p) result (pool path name.now (view value.now)) }
+    ensures named { IfOk result (λ p. p.name ≡ name.now) }
     ensures pool { IfOk result IsPool }
 {
     let number = whole_at(there(path, value))?;
@@ -32,6 +33,7 @@ fn pools_in(
 ) -> Result<Vec<PoolDraft>, ReadFault>
     ensures exact { Gives (λ v. v.items) result (each_member (pool path) (members_view members.now.entries)) }
     ensures pools { IfOk result (λ v. All IsPool v.items) }
+    ensures by_name { IfOk result (λ v. StandByName v.items) }
 {
     let mut pools = Vec::new(alloc);
     for (name, value) in members.iter() {
@@ -45,6 +47,7 @@ fn pools_in(
 pub(crate) fn pools_at(alloc: Global, field: Field) -> Result<Sequence<PoolDraft>, ReadFault>
     ensures exact { Gives (λ ps. ps) result (pools (member_of field.entry)) }
     ensures pools { IfOk result (λ ps. All IsPool ps) }
+    ensures by_name { IfOk result StandByName }
 {
     if field.value.is_none() {
         return Ok(Sequence::new(alloc));

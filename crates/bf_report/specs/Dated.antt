@@ -10,7 +10,7 @@ use Rattle.bf_core.specs.Recursion.{out, run_state_of}
 use Rattle.bf_report.specs.declared.report.TaskReport.{TaskReport}
 use Rattle.bf_report.specs.declared.report.RunReport.{RunReport}
 use Rattle.bf_report.specs.declared.report.Report.{Report}
-use Rattle.bf_report.specs.Moment.{IsShown}
+use Rattle.bf_moment.specs.Moment.{IsShown}
 
 -- the results of a task that ran: all of an expanded one, and the one of an unmapped task
 abbrev pub reported_results : Bool → List TaskResult → TaskReport

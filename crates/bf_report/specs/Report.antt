@@ -9,7 +9,7 @@ use Rattle.bf_xcom.specs.declared.values.RunState.{RunState}
 use Rattle.bf_report.specs.declared.report.TaskReport.{TaskReport}
 use Rattle.bf_report.specs.declared.report.RunReport.{RunReport}
 use Rattle.bf_report.specs.declared.report.Report.{Report}
-use Rattle.bf_report.specs.Moment.{moment_text}
+use Rattle.bf_moment.specs.Moment.{moment_text}
 
 -- a line is its fields, separated by one space, and a line feed
 abbrev pub line : List (List ℕ) → List ℕ

@@ -10,8 +10,7 @@
 //! @end 1
 //! ```
 //!
-//! `write_report` makes the whole text in memory and then sends it to a device, a `Write`. Moments are printed and
-//! read here too, since reports, tables and the command line spell them alike.
+//! `write_report` makes the whole text in memory and then sends it to a device, a `Write`.
 #![tactic(auto)]
 
 mod dated;
@@ -19,20 +18,17 @@ mod device;
 mod halting;
 mod lines;
 mod memory;
-mod moment;
 mod output;
-mod reading;
 mod report;
 mod sending;
 mod writing;
 
+pub use bf_moment::{Moment, moment_bytes, moment_in};
 pub use dated::report_of;
 pub use device::{Halt, Write};
 pub use halting::Halting;
 pub use memory::Memory;
-pub use moment::{Moment, moment_bytes};
 pub use output::Output;
-pub use reading::moment_in;
 pub use report::{Report, RunReport, TaskReport};
 pub use sending::{Cause, WriteFault, send};
 pub use writing::write_report;

@@ -1,5 +1,5 @@
 //! Reports.
-ghost use Rattle.bf_report.specs.Moment.{IsShown};
+ghost use Rattle.bf_moment.specs.Moment.{IsShown};
 
 use bf_interval::Interval;
 use bf_value::{Sequence, Text};

@@ -39,7 +39,7 @@ fn one_run_is_written_to_a_writer_of_std(rt: HostRuntime) -> Result<(), Fail> {
     let alloc = rt.alloc();
     let at = moment_in("2024-01-01").ok_or("it is a moment")?;
     let mut out = Output::new(Vec::new(alloc));
-    assert!(rt; run_single(alloc, ONE.as_bytes(), b"[]", at, &mut out)?);
+    assert!(rt; run_single(alloc, ONE.as_bytes(), None, b"[]", at, &mut out)?);
     assert_eq!(rt; out.into_inner().as_slice(), ONE_REPORT.as_bytes());
     let mut device = Memory::new(alloc);
     send(&mut device, b"ab")?;

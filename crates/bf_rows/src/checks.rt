@@ -20,53 +20,53 @@ pub const EVERY_KEY: &str =
 const GOOD: [(&str, &str); 12] = [
     (EVERY_KEY, "ok 3 tasks, 2 edges\n"),
     (
-        r#"{"dag_id":"d","schedule":"","tasks":[]}"#,
+        r#"{"dag_id":"d","schedule":"@daily","tasks":[]}"#,
         "ok 0 tasks, 0 edges\n",
     ),
     // An upstream that is named twice is one edge, and there is no singular.
     (
-        r#"{"dag_id":"d","schedule":"","tasks":[{"id":"a"},{"id":"b","upstream":["a","a"]}]}"#,
+        r#"{"dag_id":"d","schedule":"@daily","tasks":[{"id":"a"},{"id":"b","upstream":["a","a"]}]}"#,
         "ok 2 tasks, 1 edges\n",
     ),
     // A task may take all slots of its pool, of one that is named and of the default pool.
     (
-        r#"{"dag_id":"d","schedule":"","pools":{"p":2},"tasks":[{"id":"a","pool":"p","pool_slots":2},{"id":"b","pool_slots":128}]}"#,
+        r#"{"dag_id":"d","schedule":"@daily","pools":{"p":2},"tasks":[{"id":"a","pool":"p","pool_slots":2},{"id":"b","pool_slots":128}]}"#,
         "ok 2 tasks, 0 edges\n",
     ),
     // The file may give the default pool another size.
     (
-        r#"{"dag_id":"d","schedule":"","pools":{"default_pool":200},"tasks":[{"id":"a","pool_slots":200}]}"#,
+        r#"{"dag_id":"d","schedule":"@daily","pools":{"default_pool":200},"tasks":[{"id":"a","pool_slots":200}]}"#,
         "ok 1 tasks, 0 edges\n",
     ),
     // What is upstream of an upstream is settled too.
     (
-        r#"{"dag_id":"d","schedule":"","tasks":[{"id":"a"},{"id":"b","upstream":["a"]},{"id":"c","upstream":["b"],"command":[{"pull":"a"}]}]}"#,
+        r#"{"dag_id":"d","schedule":"@daily","tasks":[{"id":"a"},{"id":"b","upstream":["a"]},{"id":"c","upstream":["b"],"command":[{"pull":"a"}]}]}"#,
         "ok 3 tasks, 2 edges\n",
     ),
     // 17 words that pull from one task are one pull.
     (
-        r#"{"dag_id":"d","schedule":"","tasks":[{"id":"a"},{"id":"b","upstream":["a"],"command":[{"pull":"a"},{"pull":"a"},{"pull":"a"},{"pull":"a"},{"pull":"a"},{"pull":"a"},{"pull":"a"},{"pull":"a"},{"pull":"a"},{"pull":"a"},{"pull":"a"},{"pull":"a"},{"pull":"a"},{"pull":"a"},{"pull":"a"},{"pull":"a"},{"pull":"a"}]}]}"#,
+        r#"{"dag_id":"d","schedule":"@daily","tasks":[{"id":"a"},{"id":"b","upstream":["a"],"command":[{"pull":"a"},{"pull":"a"},{"pull":"a"},{"pull":"a"},{"pull":"a"},{"pull":"a"},{"pull":"a"},{"pull":"a"},{"pull":"a"},{"pull":"a"},{"pull":"a"},{"pull":"a"},{"pull":"a"},{"pull":"a"},{"pull":"a"},{"pull":"a"},{"pull":"a"}]}]}"#,
         "ok 2 tasks, 1 edges\n",
     ),
     (
-        r#"{"dag_id":"d","schedule":"","tasks":[{"id":"a","command":[{"context":"logical_date"},{"context":"data_interval_start"},{"context":"data_interval_end"},{"context":"dag_id"},{"context":"task_id"},{"context":"map_index"},{"context":"try_number"}]}]}"#,
+        r#"{"dag_id":"d","schedule":"@daily","tasks":[{"id":"a","command":[{"context":"logical_date"},{"context":"data_interval_start"},{"context":"data_interval_end"},{"context":"dag_id"},{"context":"task_id"},{"context":"map_index"},{"context":"try_number"}]}]}"#,
         "ok 1 tasks, 0 edges\n",
     ),
     (
-        r#"{"dag_id":"d","schedule":"","tasks":[{"id":"a","rule":"all_success"},{"id":"b","rule":"all_failed"},{"id":"c","rule":"all_skipped"},{"id":"d","rule":"all_done"},{"id":"e","rule":"one_success"},{"id":"f","rule":"one_failed"},{"id":"g","rule":"one_done"},{"id":"h","rule":"none_failed"},{"id":"i","rule":"none_failed_min_one_success"},{"id":"j","rule":"none_skipped"},{"id":"k","rule":"always"}]}"#,
+        r#"{"dag_id":"d","schedule":"@daily","tasks":[{"id":"a","rule":"all_success"},{"id":"b","rule":"all_failed"},{"id":"c","rule":"all_skipped"},{"id":"d","rule":"all_done"},{"id":"e","rule":"one_success"},{"id":"f","rule":"one_failed"},{"id":"g","rule":"one_done"},{"id":"h","rule":"none_failed"},{"id":"i","rule":"none_failed_min_one_success"},{"id":"j","rule":"none_skipped"},{"id":"k","rule":"always"}]}"#,
         "ok 11 tasks, 0 edges\n",
     ),
     (
-        r#"{"dag_id":"d","schedule":"","tasks":[{"id":"a","weight_rule":"downstream"},{"id":"b","weight_rule":"upstream"},{"id":"c","weight_rule":"absolute"},{"id":"d","kind":"branch"},{"id":"e","depends_on_past":true}]}"#,
+        r#"{"dag_id":"d","schedule":"@daily","tasks":[{"id":"a","weight_rule":"downstream"},{"id":"b","weight_rule":"upstream"},{"id":"c","weight_rule":"absolute"},{"id":"d","kind":"branch"},{"id":"e","depends_on_past":true}]}"#,
         "ok 5 tasks, 0 edges\n",
     ),
     // Each number at its least and at its greatest.
     (
-        r#"{"dag_id":"d","schedule":"","max_active_runs":1,"pools":{"p":1},"tasks":[{"id":"a","retries":0,"pool_slots":1,"priority_weight":0}]}"#,
+        r#"{"dag_id":"d","schedule":"@daily","max_active_runs":1,"pools":{"p":1},"tasks":[{"id":"a","retries":0,"pool_slots":1,"priority_weight":0}]}"#,
         "ok 1 tasks, 0 edges\n",
     ),
     (
-        r#"{"dag_id":"d","schedule":"","max_active_runs":4096,"pools":{"p":1000000},"tasks":[{"id":"a","pool":"p","retries":100,"pool_slots":1000000,"priority_weight":1000000}]}"#,
+        r#"{"dag_id":"d","schedule":"@daily","max_active_runs":4096,"pools":{"p":1000000},"tasks":[{"id":"a","pool":"p","retries":100,"pool_slots":1000000,"priority_weight":1000000}]}"#,
         "ok 1 tasks, 0 edges\n",
     ),
 ];
@@ -173,57 +173,57 @@ const GRAPHS: [(&str, &str); 30] = [
     ("{", "1 not json"),
     ("[]", "2 shape: top"),
     (
-        r#"{"dag_id":" ","schedule":"","tasks":[]}"#,
+        r#"{"dag_id":" ","schedule":"@daily","tasks":[]}"#,
         "3 bad name: dag_id",
     ),
     (
-        r#"{"dag_id":"d","schedule":"","tasks":[{"id":"a"},{"id":"a"}]}"#,
+        r#"{"dag_id":"d","schedule":"@daily","tasks":[{"id":"a"},{"id":"a"}]}"#,
         "4 duplicate task: a",
     ),
     (
-        r#"{"dag_id":"d","schedule":"","zone":1,"tasks":[]}"#,
+        r#"{"dag_id":"d","schedule":"@daily","zone":1,"tasks":[]}"#,
         "2 shape: zone",
     ),
     (
-        r#"{"dag_id":"d","schedule":"","max_active_runs":0,"tasks":[]}"#,
+        r#"{"dag_id":"d","schedule":"@daily","max_active_runs":0,"tasks":[]}"#,
         "5 limit passed: max_active_runs",
     ),
     (
-        r#"{"dag_id":"d","schedule":"","max_active_runs":4097,"tasks":[]}"#,
+        r#"{"dag_id":"d","schedule":"@daily","max_active_runs":4097,"tasks":[]}"#,
         "5 limit passed: max_active_runs",
     ),
     (
-        r#"{"dag_id":"d","schedule":"","pools":[],"tasks":[]}"#,
+        r#"{"dag_id":"d","schedule":"@daily","pools":[],"tasks":[]}"#,
         "2 shape: pools",
     ),
     (
-        r#"{"dag_id":"d","schedule":"","pools":{"p":"2"},"tasks":[]}"#,
+        r#"{"dag_id":"d","schedule":"@daily","pools":{"p":"2"},"tasks":[]}"#,
         "2 shape: pools",
     ),
     (
-        r#"{"dag_id":"d","schedule":"","pools":{"p q":2},"tasks":[]}"#,
+        r#"{"dag_id":"d","schedule":"@daily","pools":{"p q":2},"tasks":[]}"#,
         "3 bad name: pools",
     ),
     (
-        r#"{"dag_id":"d","schedule":"","pools":{"p":0},"tasks":[]}"#,
+        r#"{"dag_id":"d","schedule":"@daily","pools":{"p":0},"tasks":[]}"#,
         "5 limit passed: pools",
     ),
     (
-        r#"{"dag_id":"d","schedule":"","pools":{"p":1000001},"tasks":[]}"#,
+        r#"{"dag_id":"d","schedule":"@daily","pools":{"p":1000001},"tasks":[]}"#,
         "5 limit passed: pools",
     ),
     // Of one pool a wrong type comes first, then a bad name, then a limit; and each pool has its faults before the next
     // by name.
     (
-        r#"{"dag_id":"d","schedule":"","pools":{"p q":"2"},"tasks":[]}"#,
+        r#"{"dag_id":"d","schedule":"@daily","pools":{"p q":"2"},"tasks":[]}"#,
         "2 shape: pools",
     ),
     (
-        r#"{"dag_id":"d","schedule":"","pools":{"p q":0},"tasks":[]}"#,
+        r#"{"dag_id":"d","schedule":"@daily","pools":{"p q":0},"tasks":[]}"#,
         "3 bad name: pools",
     ),
     (
-        r#"{"dag_id":"d","schedule":"","pools":{"b":"2","a":0},"tasks":[]}"#,
+        r#"{"dag_id":"d","schedule":"@daily","pools":{"b":"2","a":0},"tasks":[]}"#,
         "5 limit passed: pools",
     ),
     // Keys come in the order of the format, and not of the file.
@@ -236,58 +236,58 @@ const GRAPHS: [(&str, &str); 30] = [
         "2 shape: schedule",
     ),
     (
-        r#"{"tasks":1,"pools":{"p":0},"max_active_runs":0,"zone":1,"schedule":"","dag_id":"d"}"#,
+        r#"{"tasks":1,"pools":{"p":0},"max_active_runs":0,"zone":1,"schedule":"@daily","dag_id":"d"}"#,
         "2 shape: zone",
     ),
     (
-        r#"{"tasks":1,"pools":{"p":0},"max_active_runs":0,"schedule":"","dag_id":"d"}"#,
+        r#"{"tasks":1,"pools":{"p":0},"max_active_runs":0,"schedule":"@daily","dag_id":"d"}"#,
         "5 limit passed: max_active_runs",
     ),
     (
-        r#"{"tasks":1,"pools":{"p":0},"schedule":"","dag_id":"d"}"#,
+        r#"{"tasks":1,"pools":{"p":0},"schedule":"@daily","dag_id":"d"}"#,
         "5 limit passed: pools",
     ),
     // The tasks' own keys too, and an unknown key before them.
     (
-        r#"{"dag_id":"d","schedule":"","tasks":[{"retries":101,"command":1,"kind":"x","rule":1,"upstream":["b"],"id":"a"}]}"#,
+        r#"{"dag_id":"d","schedule":"@daily","tasks":[{"retries":101,"command":1,"kind":"x","rule":1,"upstream":["b"],"id":"a"}]}"#,
         "2 shape: tasks[0].rule",
     ),
     (
-        r#"{"dag_id":"d","schedule":"","tasks":[{"retries":101,"command":1,"kind":"x","upstream":["b"],"id":"a","x":1}]}"#,
+        r#"{"dag_id":"d","schedule":"@daily","tasks":[{"retries":101,"command":1,"kind":"x","upstream":["b"],"id":"a","x":1}]}"#,
         "2 shape: tasks[0]",
     ),
     // The first task's fault comes first, and faults of the file before those of the graph.
     (
-        r#"{"dag_id":"d","schedule":"","tasks":[{"id":"a","retries":101},{"id":"b","rule":1}]}"#,
+        r#"{"dag_id":"d","schedule":"@daily","tasks":[{"id":"a","retries":101},{"id":"b","rule":1}]}"#,
         "5 limit passed: tasks[0].retries",
     ),
     (
-        r#"{"dag_id":"d","schedule":"","tasks":[{"id":"a","upstream":["z"]},{"id":"b","rule":1}]}"#,
+        r#"{"dag_id":"d","schedule":"@daily","tasks":[{"id":"a","upstream":["z"]},{"id":"b","rule":1}]}"#,
         "2 shape: tasks[1].rule",
     ),
     // Of a graph's faults the least number comes first, and then the earliest task.
     (
-        r#"{"dag_id":"d","schedule":"","tasks":[{"id":"a","pool":"q","upstream":["a"]},{"id":"b","upstream":["z"]}]}"#,
+        r#"{"dag_id":"d","schedule":"@daily","tasks":[{"id":"a","pool":"q","upstream":["a"]},{"id":"b","upstream":["z"]}]}"#,
         "6 unknown upstream: b",
     ),
     (
-        r#"{"dag_id":"d","schedule":"","tasks":[{"id":"a","pool":"q"},{"id":"b","upstream":["b"]}]}"#,
+        r#"{"dag_id":"d","schedule":"@daily","tasks":[{"id":"a","pool":"q"},{"id":"b","upstream":["b"]}]}"#,
         "7 cycle: b",
     ),
     (
-        r#"{"dag_id":"d","schedule":"","tasks":[{"id":"a","pool_slots":129},{"id":"b","pool":"q"},{"id":"c","pool":"r"}]}"#,
+        r#"{"dag_id":"d","schedule":"@daily","tasks":[{"id":"a","pool_slots":129},{"id":"b","pool":"q"},{"id":"c","pool":"r"}]}"#,
         "8 unknown pool: b",
     ),
     (
-        r#"{"dag_id":"d","schedule":"","tasks":[{"id":"a","rule":"x"},{"id":"b","pool_slots":129},{"id":"c","pool_slots":130}]}"#,
+        r#"{"dag_id":"d","schedule":"@daily","tasks":[{"id":"a","rule":"x"},{"id":"b","pool_slots":129},{"id":"c","pool_slots":130}]}"#,
         "9 slots beyond pool: b",
     ),
     (
-        r#"{"dag_id":"d","schedule":"","tasks":[{"id":"a","command":[{"pull":"z"}]},{"id":"b","rule":"x"}]}"#,
+        r#"{"dag_id":"d","schedule":"@daily","tasks":[{"id":"a","command":[{"pull":"z"}]},{"id":"b","rule":"x"}]}"#,
         "10 bad rule: b",
     ),
     (
-        r#"{"dag_id":"d","schedule":"","tasks":[{"id":"a","kind":"branch","expand":"z","rule":"always"},{"id":"b","command":[{"pull":"z"}]}]}"#,
+        r#"{"dag_id":"d","schedule":"@daily","tasks":[{"id":"a","kind":"branch","expand":"z","rule":"always"},{"id":"b","command":[{"pull":"z"}]}]}"#,
         "14 pull not settled: b",
     ),
 ];
@@ -295,26 +295,26 @@ const GRAPHS: [(&str, &str); 30] = [
 /// Graphs whose edges have cycles, and the ids of the one that is named.
 const CYCLES: [(&str, &str); 5] = [
     (
-        r#"{"dag_id":"d","schedule":"","tasks":[{"id":"a","upstream":["b"]},{"id":"b","upstream":["a"]}]}"#,
+        r#"{"dag_id":"d","schedule":"@daily","tasks":[{"id":"a","upstream":["b"]},{"id":"b","upstream":["a"]}]}"#,
         "a b",
     ),
     (
-        r#"{"dag_id":"d","schedule":"","tasks":[{"id":"a","upstream":["a"]}]}"#,
+        r#"{"dag_id":"d","schedule":"@daily","tasks":[{"id":"a","upstream":["a"]}]}"#,
         "a",
     ),
     // The cycle of b, c and d is as short, but a lies on one: of its two the shorter.
     (
-        r#"{"dag_id":"d","schedule":"","tasks":[{"id":"a","upstream":["d","c"]},{"id":"b","upstream":["a","d"]},{"id":"c","upstream":["b"]},{"id":"d","upstream":["c"]}]}"#,
+        r#"{"dag_id":"d","schedule":"@daily","tasks":[{"id":"a","upstream":["d","c"]},{"id":"b","upstream":["a","d"]},{"id":"c","upstream":["b"]},{"id":"d","upstream":["c"]}]}"#,
         "a b c",
     ),
     // Two as short ones lead through a: c stands before b in the file.
     (
-        r#"{"dag_id":"d","schedule":"","tasks":[{"id":"a","upstream":["d"]},{"id":"c","upstream":["a"]},{"id":"b","upstream":["a"]},{"id":"d","upstream":["b","c"]}]}"#,
+        r#"{"dag_id":"d","schedule":"@daily","tasks":[{"id":"a","upstream":["d"]},{"id":"c","upstream":["a"]},{"id":"b","upstream":["a"]},{"id":"d","upstream":["b","c"]}]}"#,
         "a c d",
     ),
     // a leads to a cycle and lies on none.
     (
-        r#"{"dag_id":"d","schedule":"","tasks":[{"id":"a"},{"id":"b","upstream":["c","a"]},{"id":"c","upstream":["b"]}]}"#,
+        r#"{"dag_id":"d","schedule":"@daily","tasks":[{"id":"a"},{"id":"b","upstream":["c","a"]},{"id":"c","upstream":["b"]}]}"#,
         "b c",
     ),
 ];
@@ -342,7 +342,7 @@ pub fn is_refused(rt: &impl Abort, alloc: Global, graph: &[u8], words: &str) -> 
 fn task_is_refused(rt: &impl Abort, alloc: Global, row: (&str, &str)) -> Result<(), Fail> {
     let members = row.0;
     let graph = format!(in alloc;
-        "{{\"dag_id\":\"d\",\"schedule\":\"\",\"pools\":{{\"p\":2}},\"tasks\":[{{\"id\":\"s\"}},{{\"id\":\"t\"{members}}}]}}"
+        "{{\"dag_id\":\"d\",\"schedule\":\"@daily\",\"pools\":{{\"p\":2}},\"tasks\":[{{\"id\":\"s\"}},{{\"id\":\"t\"{members}}}]}}"
     )?;
     is_refused(rt, alloc, graph.as_bytes(), row.1)
 }

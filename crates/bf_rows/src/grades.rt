@@ -1,6 +1,5 @@
 //! What the answer of a try is worth.
 ghost use Rattle.std.specs.Prelude.{◌≡◌, ◌<◌, length};
-ghost use Rattle.bf_check.specs.Served.{IsServed};
 
 use crate::plans::plan_of;
 use crate::program::ONE;
@@ -42,8 +41,7 @@ fn text_of_outcome(alloc: Global, outcome: &Outcome) -> Result<String, Fail> {
 }
 
 fn is_worth(rt: &impl Abort, alloc: Global, plan: &Plan, raw: &Raw, text: &str) -> Result<(), Fail>
-    requires served { IsServed plan.now.dag }
-    requires there { 0 < length plan.now.dag.tasks }
+    requires { 0 < length plan.now.dag.tasks }
 {
     let outcome = grade(alloc, plan, 0, raw)?;
     assert_eq!(rt; text_of_outcome(alloc, &outcome)?.as_str(), text);
@@ -58,8 +56,7 @@ fn code_is_worth(
     plan: &Plan,
     row: (i32, &[u8], &str),
 ) -> Result<(), Fail>
-    requires served { IsServed plan.now.dag }
-    requires there { 0 < length plan.now.dag.tasks }
+    requires { 0 < length plan.now.dag.tasks }
 {
     let raw = Raw {
         exit: Exit::Code(row.0),

@@ -3,6 +3,8 @@
 #![tactic(auto)]
 
 #[cfg(test)]
+mod branches;
+#[cfg(test)]
 mod calls;
 #[cfg(test)]
 mod checks;
@@ -17,7 +19,11 @@ mod limits;
 #[cfg(test)]
 mod lines;
 #[cfg(test)]
+mod lists;
+#[cfg(test)]
 mod moments;
+#[cfg(test)]
+mod passing;
 #[cfg(test)]
 mod plans;
 #[cfg(test)]
@@ -25,12 +31,22 @@ mod precedence;
 #[cfg(test)]
 mod program;
 #[cfg(test)]
+mod pulls;
+#[cfg(test)]
 mod refusals;
 #[cfg(test)]
 mod rows;
+#[cfg(test)]
+mod schedules;
+#[cfg(test)]
+mod stepping;
+#[cfg(test)]
+mod tables;
 #[cfg(test)]
 mod values;
 #[cfg(test)]
 mod verdicts;
 #[cfg(test)]
 mod words;
+#[cfg(test)]
+mod zone_files;

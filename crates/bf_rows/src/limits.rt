@@ -21,7 +21,7 @@ pub fn graph_of(
     with_edges: bool,
     last: usize,
 ) -> Result<String, Fail> {
-    let mut text = String::from_str(alloc, r#"{"dag_id":"d","schedule":"","tasks":["#)?;
+    let mut text = String::from_str(alloc, r#"{"dag_id":"d","schedule":"@daily","tasks":["#)?;
     for task in 0..tasks {
         let upstreams = if !with_edges {
             0
@@ -155,19 +155,19 @@ fn an_id_has_at_most_250_bytes(rt: HostRuntime) -> Result<(), Fail> {
 /// A graph whose id has so many bytes.
 fn graph_named(alloc: Global, length: usize) -> Result<String, Fail> {
     let id = String::from_utf8(vec![in alloc; b'd'; length]?)?;
-    Ok(format!(in alloc; "{{\"dag_id\":\"{id}\",\"schedule\":\"\",\"tasks\":[]}}")?)
+    Ok(format!(in alloc; "{{\"dag_id\":\"{id}\",\"schedule\":\"@daily\",\"tasks\":[]}}")?)
 }
 
 /// A graph of one task with this command.
 fn graph_with_command(alloc: Global, words: &str) -> Result<String, Fail> {
     Ok(format!(in alloc;
-        "{{\"dag_id\":\"d\",\"schedule\":\"\",\"tasks\":[{{\"id\":\"a\",\"command\":[{words}]}}]}}"
+        "{{\"dag_id\":\"d\",\"schedule\":\"@daily\",\"tasks\":[{{\"id\":\"a\",\"command\":[{words}]}}]}}"
     )?)
 }
 
 /// A graph of so many tasks, and one behind them that pulls from each.
 fn graph_that_pulls(alloc: Global, pulls: usize) -> Result<String, Fail> {
-    let mut text = String::from_str(alloc, r#"{"dag_id":"d","schedule":"","tasks":["#)?;
+    let mut text = String::from_str(alloc, r#"{"dag_id":"d","schedule":"@daily","tasks":["#)?;
     let mut words = String::new(alloc);
     for task in 0..pulls {
         push_task(alloc, &mut text, task, 0)?;

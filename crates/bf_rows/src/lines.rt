@@ -11,36 +11,52 @@ const HELP: &str = "Runs a graph of tasks once for each data interval of a range
     \n\
     Commands:\n\
     \x20 check   Checks the graph, and tells how many tasks and edges it has\n\
+    \x20 list    Lists the data intervals of the graph's schedule that start in a range\n\
     \x20 single  Runs the graph once, answering each task from a table\n\
     \x20 help    Print this message or the help of the given subcommand(s)\n\
     \n\
     Options:\n\
     \x20 -h, --help  Print help\n";
 
+const LIST_HELP: &str = "Lists the data intervals of the graph's schedule that start in a range\n\
+    \n\
+    Usage: backfill list [OPTIONS] --from <T> --to <T> <GRAPH>\n\
+    \n\
+    Arguments:\n\
+    \x20 <GRAPH>  The task graph, a JSON file\n\
+    \n\
+    Options:\n\
+    \x20     --zone-file <PATH>  The zone file that the graph's zone `file` means, as of the tz database\n\
+    \x20     --from <T>          The first moment at which an interval may start, in UTC\n\
+    \x20     --to <T>            The last moment at which an interval may start, in UTC\n\
+    \x20 -h, --help              Print help\n";
+
 const SINGLE_HELP: &str = "Runs the graph once, answering each task from a table\n\
     \n\
-    Usage: backfill single --at <T> <GRAPH> <TABLE>\n\
+    Usage: backfill single [OPTIONS] --at <T> <GRAPH> <TABLE>\n\
     \n\
     Arguments:\n\
     \x20 <GRAPH>  The task graph, a JSON file\n\
     \x20 <TABLE>  The answers of the tasks' tries, a JSON file\n\
     \n\
     Options:\n\
-    \x20     --at <T>  The run's moment in UTC, as 2024-01-31 or 2024-01-31T06:00:00Z\n\
-    \x20 -h, --help    Print help\n";
+    \x20     --zone-file <PATH>  The zone file that the graph's zone `file` means, as of the tz database\n\
+    \x20     --at <T>            The run's moment in UTC, as 2024-01-31 or 2024-01-31T06:00:00Z\n\
+    \x20 -h, --help              Print help\n";
 
 const CHECK_HELP: &str = "Checks the graph, and tells how many tasks and edges it has\n\
     \n\
-    Usage: backfill check <GRAPH>\n\
+    Usage: backfill check [OPTIONS] <GRAPH>\n\
     \n\
     Arguments:\n\
     \x20 <GRAPH>  The task graph, a JSON file\n\
     \n\
     Options:\n\
-    \x20 -h, --help  Print help\n";
+    \x20     --zone-file <PATH>  The zone file that the graph's zone `file` means, as of the tz database\n\
+    \x20 -h, --help              Print help\n";
 
 /// Wrong lines, with the line by which `clap` begins its answer.
-const WRONG: [(&[&str], &str); 15] = [
+const WRONG: [(&[&str], &str); 17] = [
     (
         &["backfill", "check"],
         "error: the following required arguments were not provided:\n  <GRAPH>\n",
@@ -48,6 +64,14 @@ const WRONG: [(&[&str], &str); 15] = [
     (
         &["backfill", "check", "g", "h"],
         "error: unexpected argument 'h' found\n",
+    ),
+    (
+        &["backfill", "list", "g"],
+        "error: the following required arguments were not provided:\n  --from <T>\n  --to <T>\n",
+    ),
+    (
+        &["backfill", "check", "g", "--zone-file"],
+        "error: a value is required for '--zone-file <PATH>' but none was supplied\n",
     ),
     (
         &["backfill", "dry"],
@@ -160,6 +184,7 @@ fn help_is_shown_on_standard_output(rt: HostRuntime) -> Result<(), Fail> {
     is_helped(&rt, alloc, &["backfill", "-h"], HELP)?;
     is_helped(&rt, alloc, &["backfill", "help"], HELP)?;
     is_helped(&rt, alloc, &["backfill", "check", "--help"], CHECK_HELP)?;
+    is_helped(&rt, alloc, &["backfill", "list", "--help"], LIST_HELP)?;
     is_helped(&rt, alloc, &["backfill", "single", "--help"], SINGLE_HELP)?;
     is_helped(&rt, alloc, &["backfill", "single", "g", "-h"], SINGLE_HELP)?;
     is_helped(&rt, alloc, &["backfill", "help", "single"], SINGLE_HELP)

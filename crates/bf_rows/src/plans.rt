@@ -1,5 +1,5 @@
 //! Plans of graph files.
-ghost use Rattle.std.specs.Prelude.{◌≡◌, IfOk, length};
+ghost use Rattle.std.specs.Prelude.{◌≡◌, IfOk, IsTrue, length};
 ghost use Rattle.bf_check.specs.Served.{IsServed};
 
 use bf_check::{Plan, check, first_unserved};
@@ -8,17 +8,31 @@ use bf_value::JobName;
 use std::alloc::Global;
 use std::test::Fail;
 
+fn checked(alloc: Global, graph: &str) -> Result<Plan, Fail> {
+    let draft = read_graph(alloc, graph.as_bytes())?;
+    let (plan, _zone) = check(alloc, draft, None)?;
+    Ok(plan)
+}
+
+fn is_served(plan: &Plan) -> bool
+    ensures { IsTrue result → IsServed plan.now.dag }
+{
+    match first_unserved(plan.dag()) {
+        Some(_) => false,
+        None => true,
+    }
+}
+
 /// The plan of a graph file that has one pool and uses no part which isn't built yet.
 pub fn plan_of(alloc: Global, graph: &str) -> Result<Plan, Fail>
     ensures served { IfOk result (λ plan. IsServed plan.dag) }
     ensures pools { IfOk result (λ plan. length plan.limits.pools ≡ 1) }
 {
-    let draft = read_graph(alloc, graph.as_bytes())?;
-    let plan = check(alloc, draft)?;
+    let plan = checked(alloc, graph)?;
     if plan.limits().pools.len() != 1 {
         return Err(Fail::from("it has other pools"));
     }
-    if first_unserved(plan.dag()).is_some() {
+    if !is_served(&plan) {
         return Err(Fail::from("it isn't served"));
     }
     Ok(plan)

@@ -15,14 +15,14 @@ struct Faults<'a> {
     err: &'a str,
 }
 
-const CYCLE: &str = r#"{"dag_id":"d","schedule":"","tasks":[{"id":"a","upstream":["a"]}]}"#;
+const CYCLE: &str = r#"{"dag_id":"d","schedule":"@daily","tasks":[{"id":"a","upstream":["a"]}]}"#;
 
 const CYCLE_AND_UNKNOWN: &str =
-    r#"{"dag_id":"d","schedule":"","tasks":[{"id":"a","upstream":["a"]},{"id":"b","upstream":["c"]}]}"#;
+    r#"{"dag_id":"d","schedule":"@daily","tasks":[{"id":"a","upstream":["a"]},{"id":"b","upstream":["c"]}]}"#;
 
 /// Its first task that uses a part which isn't built yet is `m`.
 const NOT_YET: &str =
-    r#"{"dag_id":"d","schedule":"","tasks":[{"id":"a"},{"id":"m","upstream":["a"],"expand":"a"},
+    r#"{"dag_id":"d","schedule":"@daily","tasks":[{"id":"a"},{"id":"m","upstream":["a"],"expand":"a"},
     {"id":"s","upstream":["m"],"command":[{"pull":"m"}]},{"id":"b","kind":"branch"}]}"#;
 
 const FAULTS: [Faults<'static>; 19] = [
@@ -42,7 +42,7 @@ const FAULTS: [Faults<'static>; 19] = [
     },
     Faults {
         graph: Some(
-            r#"{"dag_id":"d","schedule":"","tasks":[{"id":"b","kind":"branch"},{"id":"t","kind":"branch","upstream":["b"],"expand":"b"}]}"#,
+            r#"{"dag_id":"d","schedule":"@daily","tasks":[{"id":"b","kind":"branch"},{"id":"t","kind":"branch","upstream":["b"],"expand":"b"}]}"#,
         ),
         table: Some("[]"),
         at: DAY,
@@ -51,12 +51,12 @@ const FAULTS: [Faults<'static>; 19] = [
     },
     Faults {
         graph: Some(
-            r#"{"dag_id":"d","schedule":"","tasks":[{"id":"a"},{"id":"s","upstream":["a"],"command":["echo",{"pull":"a"}]}]}"#,
+            r#"{"dag_id":"d","schedule":"@daily","tasks":[{"id":"a"},{"id":"b","kind":"branch"},{"id":"s","upstream":["a"],"command":["echo",{"pull":"a"}]},{"id":"e","upstream":["a"],"expand":"a"}]}"#,
         ),
         table: Some("[]"),
         at: DAY,
         status: 2,
-        err: "refused 90 not yet: s\n",
+        err: "refused 90 not yet: e\n",
     },
     Faults {
         graph: None,
@@ -158,7 +158,7 @@ const FAULTS: [Faults<'static>; 19] = [
     },
     Faults {
         graph: Some(
-            r#"{"dag_id":"d","schedule":"","tasks":[{"id":"a"},{"id":"a","upstream":1},{"x":1}]}"#,
+            r#"{"dag_id":"d","schedule":"@daily","tasks":[{"id":"a"},{"id":"a","upstream":1},{"x":1}]}"#,
         ),
         table: Some("[]"),
         at: DAY,

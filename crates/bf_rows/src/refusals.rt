@@ -18,41 +18,41 @@ const SHAPES: [(&str, &str); 17] = [
     ("null", "top"),
     ("{}", "dag_id"),
     (
-        r#"{"dag_id":"d","schedule":"","tasks":[],"catchup":false}"#,
+        r#"{"dag_id":"d","schedule":"@daily","tasks":[],"catchup":false}"#,
         "top",
     ),
     (r#"{"Dag_id":"d"}"#, "top"),
     (r#"{"dag_id":null}"#, "dag_id"),
     (r#"{"dag_id":"d","tasks":[]}"#, "schedule"),
     (r#"{"dag_id":"d","schedule":1,"tasks":[]}"#, "schedule"),
-    (r#"{"dag_id":"d","schedule":""}"#, "tasks"),
-    (r#"{"dag_id":"d","schedule":"","tasks":{}}"#, "tasks"),
+    (r#"{"dag_id":"d","schedule":"@daily"}"#, "tasks"),
+    (r#"{"dag_id":"d","schedule":"@daily","tasks":{}}"#, "tasks"),
     (
-        r#"{"dag_id":"d","schedule":"","tasks":[{"id":"a"},{"id":"b"},{"id":"c"},"d"]}"#,
+        r#"{"dag_id":"d","schedule":"@daily","tasks":[{"id":"a"},{"id":"b"},{"id":"c"},"d"]}"#,
         "tasks[3]",
     ),
     (
-        r#"{"dag_id":"d","schedule":"","tasks":[{"id":"a"},{"id":"b","sla":0}]}"#,
+        r#"{"dag_id":"d","schedule":"@daily","tasks":[{"id":"a"},{"id":"b","sla":0}]}"#,
         "tasks[1]",
     ),
     (
-        r#"{"dag_id":"d","schedule":"","tasks":[{}]}"#,
+        r#"{"dag_id":"d","schedule":"@daily","tasks":[{}]}"#,
         "tasks[0].id",
     ),
     (
-        r#"{"dag_id":"d","schedule":"","tasks":[{"id":["a"]}]}"#,
+        r#"{"dag_id":"d","schedule":"@daily","tasks":[{"id":["a"]}]}"#,
         "tasks[0].id",
     ),
     (
-        r#"{"dag_id":"d","schedule":"","tasks":[{"id":"a","upstream":"a"}]}"#,
+        r#"{"dag_id":"d","schedule":"@daily","tasks":[{"id":"a","upstream":"a"}]}"#,
         "tasks[0].upstream",
     ),
     (
-        r#"{"dag_id":"d","schedule":"","tasks":[{"id":"a","upstream":null}]}"#,
+        r#"{"dag_id":"d","schedule":"@daily","tasks":[{"id":"a","upstream":null}]}"#,
         "tasks[0].upstream",
     ),
     (
-        r#"{"dag_id":"d","schedule":"","tasks":[{"id":"a"},{"id":"b","upstream":["a",1]}]}"#,
+        r#"{"dag_id":"d","schedule":"@daily","tasks":[{"id":"a"},{"id":"b","upstream":["a",1]}]}"#,
         "tasks[1].upstream",
     ),
 ];
@@ -60,62 +60,62 @@ const SHAPES: [(&str, &str); 17] = [
 /// Graphs with the whole line that refuses them.
 const NAMES_AND_EDGES: [(&str, &str); 13] = [
     (
-        r#"{"dag_id":"","schedule":"","tasks":[]}"#,
+        r#"{"dag_id":"","schedule":"@daily","tasks":[]}"#,
         "refused 3 bad name: dag_id\n",
     ),
     (
-        r#"{"dag_id":"d\n","schedule":"","tasks":[]}"#,
+        r#"{"dag_id":"d\n","schedule":"@daily","tasks":[]}"#,
         "refused 3 bad name: dag_id\n",
     ),
     (
-        r#"{"dag_id":"d","schedule":"","tasks":[{"id":"a"},{"id":"a b"}]}"#,
+        r#"{"dag_id":"d","schedule":"@daily","tasks":[{"id":"a"},{"id":"a b"}]}"#,
         "refused 3 bad name: tasks[1].id\n",
     ),
     (
-        r#"{"dag_id":"d","schedule":"","tasks":[{"id":"é"}]}"#,
+        r#"{"dag_id":"d","schedule":"@daily","tasks":[{"id":"é"}]}"#,
         "refused 3 bad name: tasks[0].id\n",
     ),
     (
-        r#"{"dag_id":"d","schedule":"","tasks":[{"id":"a"},{"id":"A"},{"id":"a"}]}"#,
+        r#"{"dag_id":"d","schedule":"@daily","tasks":[{"id":"a"},{"id":"A"},{"id":"a"}]}"#,
         "refused 4 duplicate task: a\n",
     ),
     (
-        r#"{"dag_id":"d","schedule":"","tasks":[{"id":"a"},{"id":"b","upstream":["a","c"]}]}"#,
+        r#"{"dag_id":"d","schedule":"@daily","tasks":[{"id":"a"},{"id":"b","upstream":["a","c"]}]}"#,
         "refused 6 unknown upstream: b\n",
     ),
     (
-        r#"{"dag_id":"d","schedule":"","tasks":[{"id":"a","upstream":["no id"]},{"id":"b","upstream":["c"]}]}"#,
+        r#"{"dag_id":"d","schedule":"@daily","tasks":[{"id":"a","upstream":["no id"]},{"id":"b","upstream":["c"]}]}"#,
         "refused 6 unknown upstream: a\n",
     ),
     (
-        r#"{"dag_id":"d","schedule":"","tasks":[{"id":"a","upstream":["A"]}]}"#,
+        r#"{"dag_id":"d","schedule":"@daily","tasks":[{"id":"a","upstream":["A"]}]}"#,
         "refused 6 unknown upstream: a\n",
     ),
     (
-        r#"{"dag_id":"d","schedule":"","tasks":[{"id":"a","upstream":["b"]},{"id":"b","upstream":["a"]}]}"#,
+        r#"{"dag_id":"d","schedule":"@daily","tasks":[{"id":"a","upstream":["b"]},{"id":"b","upstream":["a"]}]}"#,
         "refused 7 cycle: a b\n",
     ),
     (
-        r#"{"dag_id":"d","schedule":"","tasks":[{"id":"a"},{"id":"b","upstream":["a","b"]}]}"#,
+        r#"{"dag_id":"d","schedule":"@daily","tasks":[{"id":"a"},{"id":"b","upstream":["a","b"]}]}"#,
         "refused 7 cycle: b\n",
     ),
     (
-        r#"{"dag_id":"d","schedule":"","tasks":[{"id":"a","upstream":["c"]},{"id":"b","upstream":["a"]},
+        r#"{"dag_id":"d","schedule":"@daily","tasks":[{"id":"a","upstream":["c"]},{"id":"b","upstream":["a"]},
             {"id":"c","upstream":["b"]},{"id":"e","upstream":["c"]}]}"#,
         "refused 7 cycle: a b c\n",
     ),
     (
-        r#"{"dag_id":"d","schedule":"","tasks":[{"id":"a","upstream":["b"]},{"id":"b","upstream":["c"]},
+        r#"{"dag_id":"d","schedule":"@daily","tasks":[{"id":"a","upstream":["b"]},{"id":"b","upstream":["c"]},
             {"id":"c","upstream":["a"]}]}"#,
         "refused 7 cycle: a c b\n",
     ),
     (
-        r#"{"dag_id":"d","schedule":"","tasks":[{"id":"r"},{"id":"s","upstream":["r","t"]},{"id":"t","upstream":["s"]}]}"#,
+        r#"{"dag_id":"d","schedule":"@daily","tasks":[{"id":"r"},{"id":"s","upstream":["r","t"]},{"id":"t","upstream":["s"]}]}"#,
         "refused 7 cycle: s t\n",
     ),
 ];
 
-const TABLES: [(&str, &str); 17] = [
+const TABLES: [(&str, &str); 26] = [
     ("", "file"),
     ("[", "file"),
     ("{}", "file"),
@@ -130,12 +130,19 @@ const TABLES: [(&str, &str); 17] = [
     (r#"[{"status":0.5}]"#, "0"),
     (r#"[{"status":"1"}]"#, "0"),
     (r#"[{"status":null}]"#, "0"),
-    (r#"[{"out":""}]"#, "0"),
-    (r#"[{},{"status":255},{"index":-1},{"try":1}]"#, "2"),
-    (
-        r#"[{},{},{},{},{},{},{},{},{},{},{"run":"2024-01-01T00:00:00Z"}]"#,
-        "10",
-    ),
+    (r#"[{"out":1}]"#, "0"),
+    (r#"[{"out":null}]"#, "0"),
+    (r#"[{"index":"1"}]"#, "0"),
+    (r#"[{"index":-0}]"#, "0"),
+    (r#"[{"try":1.0}]"#, "0"),
+    (r#"[{"try":9223372036854775808}]"#, "0"),
+    // Only the long form of a moment that exists stands for a run.
+    (r#"[{"run":"2024-01-01"}]"#, "0"),
+    (r#"[{"run":"2024-02-30T00:00:00Z"}]"#, "0"),
+    (r#"[{"run":"2024-01-01T00:00:60Z"}]"#, "0"),
+    (r#"[{"run":1}]"#, "0"),
+    (r#"[{},{"status":255},{"exit":1},{"status":256}]"#, "2"),
+    (r#"[{},{},{},{},{},{},{},{},{},{},{"runs":""}]"#, "10"),
 ];
 
 fn is_refused(

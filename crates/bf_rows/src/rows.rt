@@ -16,7 +16,7 @@ const CHAIN: &str = r#"{"dag_id":"chain","schedule":"0 6 * * *",
 
 const DIAMOND: &str =
     r#"{"tasks":[{"id":"top"},{"id":"left","upstream":["top"]},{"id":"right","upstream":["top"]},
-    {"upstream":["left","right"],"id":"foot"}],"schedule":"","dag_id":"D.i-a_1"}"#;
+    {"upstream":["left","right"],"id":"foot"}],"schedule":"@daily","dag_id":"D.i-a_1"}"#;
 
 const NO_TASKS: &str = r#"{"dag_id":"d","schedule":"@daily","tasks":[]}"#;
 

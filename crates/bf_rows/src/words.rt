@@ -2,19 +2,44 @@
 use bf_program::{CommandFault, SingleFault};
 use bf_try::TableFault;
 use bf_value::Text;
+use std::alloc::Global;
+use std::process::Abort;
 use std::test::Fail;
 
-#[test]
-fn command_faults_have_a_line(rt: HostRuntime) -> Result<(), Fail> {
-    let alloc = rt.alloc();
-    let fault = CommandFault::OutOfMemory;
-    assert_eq!(rt; fault.line(alloc)?.as_str(), "fault: out of memory\n");
-    let fault = CommandFault::CannotRead(Text::copied(alloc, "a b")?);
-    assert_eq!(rt; fault.line(alloc)?.as_str(), "fault: cannot read a b\n");
-    let fault = CommandFault::Single(SingleFault::Table(TableFault::BadTable(Some(u32::MAX))));
-    assert_eq!(rt;
-        fault.line(alloc)?.as_str(),
-        "refused 19 bad table: 4294967295\n"
-    );
+fn is_told(rt: &impl Abort, alloc: Global, fault: CommandFault, line: &str) -> Result<(), Fail> {
+    let told = fault.line(alloc)?;
+    assert_eq!(rt; told.as_str(), line);
     Ok(())
+}
+
+#[test]
+fn want_of_memory_has_a_line(rt: HostRuntime) -> Result<(), Fail> {
+    is_told(
+        &rt,
+        rt.alloc(),
+        CommandFault::OutOfMemory,
+        "fault: out of memory\n",
+    )
+}
+
+#[test]
+fn an_unreadable_path_has_a_line(rt: HostRuntime) -> Result<(), Fail> {
+    let path = Text::copied(rt.alloc(), "a b")?;
+    is_told(
+        &rt,
+        rt.alloc(),
+        CommandFault::CannotRead(path),
+        "fault: cannot read a b\n",
+    )
+}
+
+#[test]
+fn the_last_entry_of_a_table_has_a_line(rt: HostRuntime) -> Result<(), Fail> {
+    let fault = SingleFault::Table(TableFault::BadTable(Some(u32::MAX)));
+    is_told(
+        &rt,
+        rt.alloc(),
+        CommandFault::Single(fault),
+        "refused 19 bad table: 4294967295\n",
+    )
 }

@@ -1,12 +1,11 @@
 -- A verdict that was taken is not revised by what finishes later.
-use Rattle.std.proofs.Common.{◌≡◌, ◌≢◌, ℕ, suc, zero, ◌+◌, ◌<◌, ◌≤◌, ◌==◌, nat_lt, Bool, true, false, not, ◌&&◌, ◌||◌, refl, sym, ap, ◌∙◌, arith, ltb-true, ltb-false, lt-ltb, le-ltb}
+use Rattle.std.proofs.Common.{◌≡◌, ◌≢◌, ℕ, suc, zero, ◌+◌, ◌≤◌, ◌==◌, nat_lt, Bool, true, false, ◌||◌, refl, sym, ap, ◌∙◌, arith}
 use Rattle.std.proofs.lemmas.Bool.Decides.{nat_tests}
 use Rattle.bf_rule.specs.declared.rule.Rule.{Rule}
-use Rattle.bf_rule.specs.declared.rule.Rule.TheVariants.{AllSuccess as All_success, AllFailed as All_failed, AllSkipped as All_skipped, AllDone as All_done, OneSuccess as One_success, OneFailed as One_failed, OneDone as One_done, NoneFailed as None_failed, NoneFailedMinOneSuccess as None_failed_min_one_success, NoneSkipped as None_skipped, Always}
+use Rattle.bf_rule.specs.declared.rule.Rule.TheVariants.{OneSuccess as One_success, OneFailed as One_failed, OneDone as One_done, Always}
 use Rattle.bf_rule.specs.declared.rule.Counts.{Counts}
-use Rattle.bf_rule.specs.declared.rule.Verdict.{Verdict}
-use Rattle.bf_rule.specs.declared.rule.Verdict.TheVariants.{Wait, Run, Skip, UpstreamFailed as Upstream_fail, Blocked as Block}
-use Rattle.bf_rule.specs.Verdicts.{is_waiting, verdict_of, fires, finished, failures, total, table, add}
+use Rattle.bf_rule.specs.declared.rule.Verdict.TheVariants.{Wait, Run}
+use Rattle.bf_rule.specs.Verdicts.{verdict_of, fires, finished, add}
 
 -- the second counts came later: more has finished, and nothing changed if all had
 pub record IsLater (c d : Counts) : Type 0 where

@@ -38,6 +38,11 @@ followed_to shape branch value (suc depth) t =
 unfoldable pub followed : Shape → ℕ → Option Xval → ℕ → Bool
 followed shape branch value t = followed_to shape branch value (length shape.ids) t
 
+-- the same of a branch that names one task or nothing
+abbrev pub followed_by_name : Shape → ℕ → ℕ → Option (List ℕ) → Bool
+followed_by_name shape branch t None = false
+followed_by_name shape branch t (Some name) = followed shape branch (Some (Text name)) t
+
 -- ---- what a branch may push
 
 abbrev pub is_downstream_number : Shape → ℕ → Option ℕ → Bool

@@ -4,8 +4,10 @@
 //! and an answer other than `Wait` is never revised by what finishes later.
 #![tactic(auto)]
 
+mod branching;
 mod deciding;
 mod rule;
 
+pub use branching::{followed, names_downstreams};
 pub use deciding::verdict;
 pub use rule::{Counts, Rule, Verdict};

@@ -1,13 +1,16 @@
 -- What a grade gives is an outcome that a grade could give.
-use Rattle.std.proofs.Common.{◌≡◌, ◌≢◌, ◌≤◌, ℕ, zero, suc, ℤ, if◌then◌else◌, Bool, true, false, List, [], ◌∷◌, Option, None, Some, option_map, option_and_then, refl, subst, arith}
+use Rattle.std.proofs.Common.{◌≡◌, ◌≢◌, ◌≤◌, ℕ, zero, suc, ℤ, if◌then◌else◌, Bool, true, false, pos, IsUtf8, List, [], ◌∷◌, Option, None, Some, option_map, option_and_then, refl, sym, ap, ◌∙◌, subst, arith}
 use Rattle.std.specs.Str.{is_utf8}
-use Rattle.std.proofs.lemmas.Bool.{le-leb}
+use Rattle.std.proofs.lemmas.Bool.{and_parts, le-leb, leb-true}
+use Rattle.std.proofs.lemmas.Str.{is_utf8-from_IsUtf8}
 use Rattle.serde_json.specs.Data.{Data, null, boolean, number, string, array, object, Items, no_items, item}
 use Rattle.serde_json.specs.Find.{as_i64}
 use Rattle.serde_json.specs.Read.{read}
 use Rattle.bf_value.specs.Json.{deepest, plain_in, plains_in, pushed_by, value_of_line, value_or_text}
 use Rattle.bf_value.specs.Plain.{Plain, flag, int, text, list, nil, Plains, none, more, plain_depth, plains_depth}
+use Rattle.bf_value.specs.Views.{plain_of}
 use Rattle.bf_value.specs.declared.xval.Xval.{Xval}
+use Rattle.bf_value.specs.declared.xval.Xval.TheVariants.{Flag, Int, Text, List as ListOf, Nil}
 use Rattle.bf_check.specs.declared.plan.Dag.{Dag}
 use Rattle.bf_xcom.specs.declared.values.Outcome.{Outcome}
 use Rattle.bf_try.specs.declared.answers.Exit.{Exit}
@@ -125,3 +128,42 @@ answer-fits dag t _ _ = refl
 pub grade_fits : (dag : Dag) (t : ℕ) (raw : Raw) → fits dag t (grade_of dag t raw) ≡ true
 unfolding grade_of
 grade_fits dag t raw = answer-fits dag t raw.exit raw.line
+
+-- ---- and what fits is a grade
+
+value-fact : (x : Xval) → is_value_of_lines (Some x) ≡ true → (x ≢ Nil) × (plain_depth (plain_of x) ≤ deepest)
+value-fact (Flag b) e = (λ h. cc, omega arith)
+value-fact (Int z) e = (λ h. cc, omega arith)
+value-fact (Text s) e = (λ h. cc, omega arith)
+value-fact (ListOf ps) e = (λ h. cc, leb-true _ _ e)
+value-fact Nil e = cc
+
+-- the text of a value that lines may have is a line with this value
+pub line_reads_back : (x : Xval) (line : List ℕ) → (x ≢ Nil → plain_depth (plain_of x) ≤ deepest → value_of_line line ≡ Some x) → is_value_of_lines (Some x) ≡ true → value_of_line line ≡ Some x
+line_reads_back x line back e = let fact = value-fact x e in back fact.0 fact.1
+
+success_parts : (dag : Dag) (t : ℕ) (v : Option Xval) → fits dag t (Outcome.Success v) ≡ true → (is_value_of_lines v ≡ true) × (may_push dag t v ≡ true)
+unfolding fits
+success_parts dag t v e = and_parts _ _ e
+
+-- a line that reads as what a task may push is graded as a success that pushes it
+pub success_graded : (dag : Dag) (t : ℕ) (v : Option Xval) (line : List ℕ) → IsUtf8 line → (is_value_of_lines v ≡ true → value_of_line line ≡ v) → fits dag t (Outcome.Success v) ≡ true
+    → grade_of dag t (record { exit = Exit.Code (pos 0); line = Line.Bytes line }) ≡ Outcome.Success v
+unfolding grade_of
+success_graded dag t v line utf8 reads e =
+    let parts = success_parts dag t v e in
+    rw (is_utf8-from_IsUtf8 line utf8) (ap (grade_value dag t) (reads parts.0) ∙ ap (λ b. if b then Outcome.Success v else Outcome.Failed) parts.1)
+
+-- the same of an answer and an outcome that are equal to these
+pub success_answered : (o : Outcome) (raw : Raw) (v : Option Xval) (line : List ℕ) → o ≡ Outcome.Success v → raw ≡ record { exit = Exit.Code (pos 0); line = Line.Bytes line } → IsUtf8 line → (is_value_of_lines v ≡ true → value_of_line line ≡ v)
+    → (dag : Dag) (t : ℕ) → fits dag t o ≡ true → grade_of dag t raw ≡ o
+success_answered o raw v line is answer utf8 reads dag t e =
+    ap (grade_of dag t) answer ∙ success_graded dag t v line utf8 reads (subst (λ (x : Outcome). fits dag t x ≡ true) is e) ∙ sym is
+
+pub failed_answered : (o : Outcome) (raw : Raw) (line : List ℕ) → o ≡ Outcome.Failed → raw ≡ record { exit = Exit.Code (pos 1); line = Line.Bytes line } → (dag : Dag) (t : ℕ) → grade_of dag t raw ≡ o
+unfolding grade_of
+failed_answered o raw line is answer dag t = ap (grade_of dag t) answer ∙ sym is
+
+pub skipped_answered : (o : Outcome) (raw : Raw) (line : List ℕ) → o ≡ Outcome.Skipped → raw ≡ record { exit = Exit.Code (pos 99); line = Line.Bytes line } → (dag : Dag) (t : ℕ) → grade_of dag t raw ≡ o
+unfolding grade_of
+skipped_answered o raw line is answer dag t = ap (grade_of dag t) answer ∙ sym is

@@ -1,42 +1,77 @@
--- What the tasks of a plan that is served may push, and the grades of lines.
-use Rattle.std.proofs.Common.{◌≡◌, ℕ, suc, Bool, true, false, not, ◌&&◌, ◌||◌, List, [], ◌∷◌, Option, None, slice_index_or, if◌then◌else◌, IsUtf8, refl, ap, ap₂, ◌∙◌}
+-- What the tasks of a plan may push, and the grades of lines.
+use Rattle.std.proofs.Common.{◌≡◌, ℕ, suc, ◌<◌, Bool, true, false, ◌||◌, List, [], ◌∷◌, length, get_or, Contains, Option, None, Some, if◌then◌else◌, IsUtf8, refl, sym, ap, ◌∙◌, inl, inr, arith, true≢false}
 use Rattle.std.specs.List.{list_any}
 use Rattle.std.specs.Str.{is_utf8}
+use Rattle.std.proofs.lemmas.Bool.{cases_lt, eqb-true}
+use Rattle.std.proofs.lemmas.List.{get_or_past}
+use Rattle.std.proofs.lemmas.List.Folds.{list_any_at}
 use Rattle.std.proofs.lemmas.Str.{IsUtf8-from_is_utf8, is_utf8-from_IsUtf8}
 use Rattle.bf_value.specs.Json.{value_of_line}
 use Rattle.bf_value.specs.declared.xval.Xval.{Xval}
+use Rattle.bf_graph.specs.Edges.{IsUpstream}
+use Rattle.bf_graph.specs.Lookups.{IsRisingListOf}
 use Rattle.bf_check.specs.declared.plan.Task.{Task}
 use Rattle.bf_check.specs.declared.plan.Dag.{Dag}
-use Rattle.bf_check.specs.Plans.{no_task, task_of, is_branch, is_branch_kind}
-use Rattle.bf_check.specs.Served.{IsServed}
+use Rattle.bf_check.specs.Plans.{no_task, task_of, shape_of}
+use Rattle.bf_check.specs.Sound.{IsSound}
+use Rattle.bf_check.proofs.PlanLemmas.{is_upstream}
 use Rattle.bf_xcom.specs.declared.values.Outcome.{Outcome}
-use Rattle.bf_try.specs.Grades.{gives_items, grade_line, grade_value, is_short, is_source, may_push}
+use Rattle.bf_try.specs.Grades.{grade_line, grade_value, is_source, may_push}
 
-no_source : (tasks : List Task) (t : ℕ) → ((u : ℕ) → (slice_index_or tasks u no_task).expand ≡ None) → list_any (λ task. is_source task.expand t) tasks ≡ false
-no_source [] t unmapped = refl
-no_source (task ∷ tasks) t unmapped = ap₂ (λ a b. a || b) (ap (λ source. is_source source t) (unmapped 0)) (no_source tasks t (λ u. unmapped (suc u)))
+-- ---- whether one of a list passes
 
-no_task_expanded : (dag : Dag) → IsServed dag → (u : ℕ) → (slice_index_or dag.tasks u no_task).expand ≡ None
-unfolding task_of
-no_task_expanded dag served u = served.unmapped u
+any_contained : {X : Type 0} (p : X → Bool) (xs : List X) (x : X) → Contains xs x → p x ≡ true → list_any p xs ≡ true
+any_contained p xs x (k, within, is) e = list_any_at p xs k x within (ap p is ∙ e)
 
-both_false : (a b : Bool) → b ≡ false → (a && b) ≡ false
-both_false true b e = e
-both_false false b e = refl
+record IsFoundAt {X : Type 0} (p : X → Bool) (xs : List X) (d : X) (k : ℕ) : Type 0 where
+  within : k < length xs
+  passes : p (get_or xs k d) ≡ true
 
-gives_no_items : (dag : Dag) (t : ℕ) → IsServed dag → gives_items dag t ≡ false
-gives_no_items dag t served = both_false _ _ (no_source dag.tasks t (no_task_expanded dag served))
+found_at : {X : Type 0} (p : X → Bool) (xs : List X) (d : X) → list_any p xs ≡ true → (k : ℕ) × IsFoundAt p xs d k
+found_at p [] d e = absurd (true≢false (sym e))
+found_at p (x ∷ xs) d e = go (p x) refl e (λ e. found_at p xs d e)
+  where
+    go : (b : Bool) → p x ≡ b → (b || list_any p xs) ≡ true → (list_any p xs ≡ true → (k : ℕ) × IsFoundAt p xs d k) → (k : ℕ) × IsFoundAt p (x ∷ xs) d k
+    go true f e rest = (0, record { within = omega arith; passes = f })
+    go false f e rest = let found = rest e in (suc found.0, record { within = omega (arith, found.1.within); passes = found.1.passes })
 
-is_no_branch : (dag : Dag) (t : ℕ) → IsServed dag → is_branch (task_of dag t) ≡ false
-is_no_branch dag t served = ap is_branch_kind (served.no_branch t)
+pub same_answer : (a b : Bool) → (a ≡ true → b ≡ true) → (b ≡ true → a ≡ true) → a ≡ b
+same_answer true b f g = sym (f refl)
+same_answer false false f g = refl
+same_answer false true f g = g refl
 
-nothing_else : (short branch follows gives items : Bool) → branch ≡ false → gives ≡ false → (short && ((not branch || follows) && (not gives || items))) ≡ short
-nothing_else true branch follows gives items b g = rw (b, g)
-nothing_else false branch follows gives items b g = refl
+-- ---- a task that another is expanded over
 
--- a short text is all that is asked
-pub may_push_served : (dag : Dag) (t : ℕ) (v : Option Xval) → IsServed dag → may_push dag t v ≡ is_short v
-may_push_served dag t v served = nothing_else (is_short v) _ _ _ _ (is_no_branch dag t served) (gives_no_items dag t served)
+source_is : (expand : Option ℕ) (t : ℕ) → is_source expand t ≡ true → expand ≡ Some t
+source_is None t e = absurd (true≢false (sym e))
+source_is (Some source) t e = ap Some (eqb-true source t e)
+
+-- it is a direct upstream of that one, so the downstreams tell
+module _ (dag : Dag) (sound : IsSound dag) (source : ℕ) (downstreams : List ℕ) (rising : IsRisingListOf (IsUpstream (shape_of dag).upstreams source) downstreams) where
+  task_there : (t : ℕ) → is_source (task_of dag t).expand source ≡ true → t < length dag.tasks
+  unfolding task_of
+  task_there t e = elim (cases_lt t (length dag.tasks)) as (λ _. t < length dag.tasks) [
+    | inl lt ↦ lt
+    | inr ge ↦ absurd (true≢false (sym e ∙ ap (λ (task : Task). is_source task.expand source) (get_or_past dag.tasks t no_task ge)))
+  ]
+
+  some_task : list_any (λ t. is_source (task_of dag t).expand source) downstreams ≡ true → list_any (λ task. is_source task.expand source) dag.tasks ≡ true
+  unfolding task_of
+  some_task e =
+      let found = found_at (λ t. is_source (task_of dag t).expand source) downstreams 0 e in
+      let t = get_or downstreams found.0 0 in
+      list_any_at (λ (task : Task). is_source task.expand source) dag.tasks t no_task (task_there t found.1.passes) found.1.passes
+
+  some_downstream : list_any (λ task. is_source task.expand source) dag.tasks ≡ true → list_any (λ t. is_source (task_of dag t).expand source) downstreams ≡ true
+  unfolding task_of
+  some_downstream e =
+      let found = found_at (λ (task : Task). is_source task.expand source) dag.tasks no_task e in
+      let t = found.0 in
+      let up = is_upstream dag t source (sound.source_is_upstream t source (source_is (task_of dag t).expand source found.1.passes)) in
+      any_contained (λ u. is_source (task_of dag u).expand source) downstreams t ((rising.exact t).1 up) found.1.passes
+
+  pub downstreams_tell : list_any (λ t. is_source (task_of dag t).expand source) downstreams ≡ list_any (λ task. is_source task.expand source) dag.tasks
+  downstreams_tell = same_answer _ _ some_task some_downstream
 
 -- ---- the grade of a line
 

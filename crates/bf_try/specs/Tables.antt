@@ -1,11 +1,16 @@
 -- What a table of answers says, and what it answers.
-use Rattle.std.specs.Prelude.{◌≡◌, ℕ, ◌+◌, ◌&&◌, ◌||◌, ℤ, pos, negsuc, nat_le, Bool, true, false, if◌then◌else◌, List, [], ◌∷◌, length, codes, find, Option, Some, None, option_map, option_and_then, Result, Ok, Err}
-use Rattle.std.specs.Option.{option_map_or}
+use Rattle.std.specs.Prelude.{◌≡◌, ℕ, ◌+◌, ◌&&◌, ℤ, pos, negsuc, nat_le, Bool, true, false, if◌then◌else◌, List, [], ◌∷◌, length, map, codes, find, slice_index_or, Option, Some, None, option_map, option_and_then, Result, Ok, Err}
+use Rattle.std.specs.Ordering.{int_eq}
+use Rattle.std.specs.List.{list_any}
 use Rattle.std.specs.Str.{is_utf8, bytes_eq}
 use Rattle.serde_json.specs.Data.{Data, object, Items, no_items, item, Members, no_members, member}
 use Rattle.serde_json.specs.Find.{get, as_number, as_i64, as_str, as_array}
 use Rattle.serde_json.specs.Read.{read}
+use Rattle.jiff.specs.declared.timestamp.Timestamp.{Timestamp}
+use Rattle.bf_value.specs.Line.{last_line}
 use Rattle.bf_value.specs.declared.name.JobName.{JobName}
+use Rattle.bf_moment.specs.Long.{is_long}
+use Rattle.bf_moment.specs.Moment.{moment_text}
 use Rattle.bf_check.specs.declared.plan.Dag.{Dag}
 use Rattle.bf_check.specs.Plans.{task_of}
 use Rattle.bf_try.specs.declared.answers.Exit.{Exit}
@@ -18,7 +23,7 @@ use Rattle.bf_try.specs.declared.table.TableFault.TheVariants.{BadTable, OutOfMe
 -- ---- an entry
 
 abbrev pub is_key : List ℕ → Bool
-is_key k = bytes_eq k (codes "task") || bytes_eq k (codes "status")
+is_key k = list_any (bytes_eq k) (codes "task" ∷ codes "index" ∷ codes "run" ∷ codes "try" ∷ codes "status" ∷ codes "out" ∷ [])
 
 abbrev pub has_known_keys : Members → Bool
 has_known_keys no_members = true
@@ -29,10 +34,21 @@ abbrev pub is_entry : Data → Bool
 is_entry (object ms) = has_known_keys ms
 is_entry _ = false
 
--- the text of a key, which need not be there
-abbrev pub task_in : Option Data → Option (Option (List ℕ))
-task_in None = Some None
-task_in (Some d) = option_map Some (as_str d)
+-- a key that need not be there
+abbrev pub if_there : {A : Type 0} → (Data → Option A) → Option Data → Option (Option A)
+if_there read None = Some None
+if_there read (Some d) = option_map Some (read d)
+
+-- a whole number
+abbrev pub number_of : Data → Option ℤ
+number_of d = option_and_then as_i64 (as_number d)
+
+abbrev pub date_from : List ℕ → Option (List ℕ)
+date_from text = if is_long text then Some text else None
+
+-- the long form of a moment that exists
+abbrev pub date_in : Data → Option (List ℕ)
+date_in d = option_and_then date_from (as_str d)
 
 abbrev pub status_from : ℤ → Option ℕ
 status_from (pos n) = if nat_le n 255 then Some n else None
@@ -41,15 +57,31 @@ status_from (negsuc n) = None
 -- a whole number from 0 to 255, or 0 where the key is not there
 abbrev pub status_in : Option Data → Option ℕ
 status_in None = Some 0
-status_in (Some d) = option_and_then status_from (option_and_then as_i64 (as_number d))
+status_in (Some d) = option_and_then status_from (number_of d)
 
-abbrev pub entry_with : Option (Option (List ℕ)) → Option ℕ → Option TableEntry
-entry_with (Some task) (Some status) = Some (record { task = task; status = status })
-entry_with _ _ = None
+-- the last line of an output, which is empty where the key is not there
+abbrev pub line_in : Option Data → Option (List ℕ)
+line_in None = Some []
+line_in (Some d) = option_map last_line (as_str d)
+
+infixl 10 ◌>>=◌
+abbrev ◌>>=◌ : {A B : Type 0} → Option A → (A → Option B) → Option B
+o >>= f = option_and_then f o
+
+-- what stands under the keys of an entry, where all of it is right
+abbrev pub entry_with : Data → Option TableEntry
+entry_with d = do
+  task ← if_there as_str (get (codes "task") d)
+  index ← if_there number_of (get (codes "index") d)
+  run ← if_there date_in (get (codes "run") d)
+  attempt ← if_there number_of (get (codes "try") d)
+  status ← status_in (get (codes "status") d)
+  line ← line_in (get (codes "out") d)
+  Some (record { task = task; index = index; run = run; attempt = attempt; status = status; line = line })
 
 -- the entry that JSON data is, where it is one
 unfoldable pub entry_of : Data → Option TableEntry
-entry_of d = if is_entry d then entry_with (task_in (get (codes "task") d)) (status_in (get (codes "status") d)) else None
+entry_of d = if is_entry d then entry_with d else None
 
 -- ---- a table
 
@@ -99,19 +131,35 @@ Gives view (Err OutOfMemory) given = Unit {0}
 
 -- ---- what a table answers
 
--- the entry answers for tasks of this id
-abbrev pub is_for : List ℕ → TableEntry → Bool
-is_for id entry = option_map_or (λ task. bytes_eq task id) entry.task true
+-- an entry that names none answers for each
+abbrev pub is_text : Option (List ℕ) → List ℕ → Bool
+is_text None text = true
+is_text (Some named) text = bytes_eq named text
 
--- the status of the first entry for this id, or 0
-abbrev pub status_of : List TableEntry → List ℕ → ℕ
-status_of entries id = option_map_or (λ entry. entry.status) (find (is_for id) entries) 0
+abbrev pub is_number : Option ℤ → ℤ → Bool
+is_number None n = true
+is_number (Some named) n = int_eq named n
 
--- the status of the first entry that matches, and an empty line
-unfoldable pub answer_of : Dag → List TableEntry → JobName → Raw
-answer_of dag entries name = record { exit = Exit.Code (pos (status_of entries (task_of dag name.task).id)); line = Line.Bytes [] }
+-- the entry answers for this try of a task with this id, in a run of this logical date
+abbrev pub answers_for : List ℕ → List ℕ → JobName → TableEntry → Bool
+answers_for id date name entry =
+    is_text entry.task id && is_text entry.run date && is_number entry.index name.index && is_number entry.attempt (pos name.attempt)
 
--- what contracts see of a table's runner
+-- status 0 and an empty line, where no entry answers
+abbrev pub raw_of : Option TableEntry → Raw
+raw_of None = record { exit = Exit.Code (pos 0); line = Line.Bytes [] }
+raw_of (Some entry) = record { exit = Exit.Code (pos entry.status); line = Line.Bytes entry.line }
+
+-- the logical dates of runs, as reports spell them
+abbrev pub dates_of : List Timestamp → List (List ℕ)
+dates_of starts = map (λ start. moment_text start.nanosecond) starts
+
+-- what contracts see of a table's runner: the tasks, the logical dates of the runs, and the table
 pub record Answering : Type 0 where
   pub dag : Dag
+  pub dates : List (List ℕ)
   pub entries : List TableEntry
+
+-- the answer of the first entry that answers for the try
+unfoldable pub answer_of : Answering → JobName → Raw
+answer_of over name = raw_of (find (answers_for (task_of over.dag name.task).id (slice_index_or over.dates name.run []) name) over.entries)

@@ -50,6 +50,10 @@ result_of dag ledger k t i =
 
 -- ---- two ledgers
 
+-- an equal outcome, where the other try was given the same
+abbrev pub Agree : Entry → Option Entry → Type 0
+Agree d other = (e : Entry) → other ≡ Some e → d.given ≡ e.given → d.outcome ≡ e.outcome
+
 -- equal outcomes wherever name and Given are equal
 abbrev pub AreAlike : Look → Look → Type 0
 AreAlike one two = (n : JobName) (d e : Entry) → one n ≡ Some d → two n ≡ Some e → d.given ≡ e.given → d.outcome ≡ e.outcome

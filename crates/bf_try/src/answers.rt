@@ -1,5 +1,7 @@
 //! What a program answers.
 ghost use Rattle.std.specs.Prelude.{◌≡◌, IfOk};
+ghost use Rattle.bf_try.specs.declared.answers.Exit.{Exit as ExitTerm};
+ghost use Rattle.bf_try.specs.declared.answers.Line.{Line as LineTerm};
 
 use bf_value::{OutOfMemory, Sequence};
 use std::alloc::Global;
@@ -27,14 +29,18 @@ pub struct Raw {
     pub line: Line,
 }
 
+pub(crate) fn copied(alloc: Global, bytes: &[u8]) -> Result<Sequence<u8>, OutOfMemory>
+    ensures { IfOk result (λ copy. copy ≡ bytes.now) }
+{
+    Ok(Sequence::from_vec(bytes.to_vec(alloc)?))
+}
+
 impl Line {
     fn copy(&self, alloc: Global) -> Result<Line, OutOfMemory>
         ensures { IfOk result (λ line. line ≡ self.now) }
     {
         match self {
-            Line::Bytes(bytes) => Ok(Line::Bytes(Sequence::from_vec(
-                bytes.as_slice().to_vec(alloc)?,
-            ))),
+            Line::Bytes(bytes) => Ok(Line::Bytes(copied(alloc, bytes.as_slice())?)),
             Line::TooMuch => Ok(Line::TooMuch),
             Line::ReadFault => Ok(Line::ReadFault),
         }
@@ -42,6 +48,16 @@ impl Line {
 }
 
 impl Raw {
+    /// The answer of a program that ended with this status after this last line.
+    pub fn with_code(code: i32, line: Sequence<u8>) -> Raw
+        ensures { result ≡ record { exit = ExitTerm.Code code; line = LineTerm.Bytes line } }
+    {
+        Raw {
+            exit: Exit::Code(code),
+            line: Line::Bytes(line),
+        }
+    }
+
     /// An equal one.
     pub fn copy(&self, alloc: Global) -> Result<Raw, OutOfMemory>
         ensures { IfOk result (λ raw. raw ≡ self.now) }

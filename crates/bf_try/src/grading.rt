@@ -1,18 +1,25 @@
 //! Grades.
-ghost use Rattle.std.specs.Prelude.{◌≡◌, ◌<◌, ℕ, true, length, IfOk};
-ghost use Rattle.bf_check.specs.declared.plan.Dag.{Dag};
+ghost use Rattle.std.specs.Prelude.{◌≡◌, ◌<◌, ◌||◌, ℕ, true, not, length, IfOk, IsUtf8};
+ghost use Rattle.bf_value.specs.Json.{value_of_line};
+ghost use Rattle.bf_check.specs.declared.plan.Dag.{Dag as DagTerm};
 ghost use Rattle.bf_try.specs.declared.answers.Raw.{Raw as RawTerm};
-ghost use Rattle.bf_check.specs.Served.{IsServed};
-ghost use Rattle.bf_try.specs.Grades.{grade_of, grade_line as line_grade, fits as fits_in, may_push as pushable, is_value_of_lines as of_lines};
+ghost use Rattle.std.specs.List.{list_any};
+ghost use Rattle.bf_rule.specs.Branches.{names_downstreams as names_downstreams_in};
+ghost use Rattle.bf_check.specs.Plans.{task_of, shape_of, is_branch as branch};
+ghost use Rattle.bf_try.specs.Grades.{grade_of, grade_line as line_grade, fits as fits_in, gives_items as items_given, is_list_of_items as list_of_items, is_short as short, is_source, is_value_of_lines as of_lines, may_push as pushable};
 
-use crate::answers::{Exit, Line, Raw};
-use bf_check::Plan;
-use bf_value::{LineFault, OutOfMemory, Xval, read_line};
+use crate::answers::{Exit, Line, Raw, copied};
+use bf_check::{Dag, Plan, TaskKind};
+use bf_rule::names_downstreams;
+use bf_value::{LineFault, OutOfMemory, Sequence, Xval, read_line, text_of};
 use bf_xcom::Outcome;
 use std::alloc::Global;
 
 /// How many bytes the compact JSON text of a pushed value may have.
 const LONGEST_TEXT: usize = 65_536;
+
+/// How many items a list may have that tasks are expanded over.
+const MOST_ITEMS: usize = 1_024;
 
 /// How deep the lists of a line's value may nest.
 const DEEPEST: usize = 64;
@@ -20,15 +27,91 @@ const DEEPEST: usize = 64;
 /// The status by which a try says that it is skipped. Airflow's `BashOperator` has the same.
 const SKIP_STATUS: i32 = 99;
 
-// The tasks that are served neither branch nor give items: of what a task may push only the length is left.
-fn may_push(plan: &Plan, task: u32, value: &Option<Xval>) -> bool
-    requires { IsServed plan.now.dag }
-    ensures { result ≡ pushable plan.now.dag task value.now }
+fn is_short(value: &Option<Xval>) -> bool
+    ensures { result ≡ short value.now }
 {
     match value {
         Some(value) => value.has_text_within(LONGEST_TEXT),
         None => true,
     }
+}
+
+fn is_list_of_items(value: &Option<Xval>) -> bool
+    ensures { result ≡ list_of_items value.now }
+{
+    match value {
+        Some(Xval::List(values)) => values.as_slice().len() <= MOST_ITEMS,
+        _ => false,
+    }
+}
+
+fn is_branch(plan: &Plan, task: u32) -> bool
+    requires { task < length plan.now.dag.tasks }
+    ensures { result ≡ branch (task_of plan.now.dag task) }
+{
+    match plan.dag().task(task).kind {
+        TaskKind::Branch => true,
+        TaskKind::Program => false,
+    }
+}
+
+fn is_source_of(source: u32, expand: Option<u32>) -> bool
+    ensures { result ≡ is_source expand source }
+{
+    match expand {
+        Some(other) => other == source,
+        None => false,
+    }
+}
+
+#[tactic(auto, unfolding(bf_check::specs::Plans::task_of))]
+fn is_expanded_over(dag: &Dag, task: u32, source: u32) -> bool
+    ensures { result ≡ is_source (task_of dag.now task).expand source }
+{
+    match dag.tasks.get(task as usize) {
+        Some(task) => is_source_of(source, task.expand),
+        None => false,
+    }
+}
+
+fn some_is_expanded_over(dag: &Dag, tasks: &[u32], source: u32) -> bool
+    ensures { result ≡ list_any (λ t. is_source (task_of dag.now t).expand source) tasks.now }
+{
+    tasks
+        .iter()
+        .any(|task| is_expanded_over(dag, *task, source))
+}
+
+// A task that is expanded over another is a direct downstream of it, so not all tasks are looked at.
+fn is_source_of_some(plan: &Plan, task: u32) -> bool
+    requires { task < length plan.now.dag.tasks }
+    ensures { result ≡ list_any (λ t. is_source t.expand task) plan.now.dag.tasks }
+{
+    let downstreams = plan.graph().downstreams(task);
+    some_is_expanded_over(plan.dag(), downstreams, task)
+}
+
+fn gives_items(plan: &Plan, task: u32) -> bool
+    requires { task < length plan.now.dag.tasks }
+    ensures { result ≡ items_given plan.now.dag task }
+{
+    plan.dag().task(task).expand.is_none() && is_source_of_some(plan, task)
+}
+
+fn names_followed(plan: &Plan, task: u32, value: &Option<Xval>) -> bool
+    requires { task < length plan.now.dag.tasks }
+    ensures { result ≡ (not (branch (task_of plan.now.dag task)) || names_downstreams_in (shape_of plan.now.dag) task value.now) }
+{
+    !is_branch(plan, task) || names_downstreams(plan.graph(), task, value.as_ref())
+}
+
+fn may_push(plan: &Plan, task: u32, value: &Option<Xval>) -> bool
+    requires { task < length plan.now.dag.tasks }
+    ensures { result ≡ pushable plan.now.dag task value.now }
+{
+    is_short(value)
+        && (names_followed(plan, task, value)
+            && (!gives_items(plan, task) || is_list_of_items(value)))
 }
 
 fn is_value_of_lines(value: &Option<Xval>) -> bool
@@ -44,8 +127,7 @@ fn is_value_of_lines(value: &Option<Xval>) -> bool
 /// Whether `grade` could give this outcome for a try of the task.
 #[tactic(auto, unfolding(crate::specs::Grades::fits))]
 pub fn fits(plan: &Plan, task: u32, outcome: &Outcome) -> bool
-    requires there { task < length plan.now.dag.tasks }
-    requires served { IsServed plan.now.dag }
+    requires { task < length plan.now.dag.tasks }
     ensures { result ≡ fits_in plan.now.dag task outcome.now }
 {
     match outcome {
@@ -55,7 +137,7 @@ pub fn fits(plan: &Plan, task: u32, outcome: &Outcome) -> bool
 }
 
 fn grade_line(alloc: Global, plan: &Plan, task: u32, line: &[u8]) -> Result<Outcome, OutOfMemory>
-    requires { IsServed plan.now.dag }
+    requires { task < length plan.now.dag.tasks }
     ensures { IfOk result (λ outcome. outcome ≡ line_grade plan.now.dag task line.now) }
 {
     match read_line(alloc, line) {
@@ -72,11 +154,13 @@ fn grade_line(alloc: Global, plan: &Plan, task: u32, line: &[u8]) -> Result<Outc
 }
 
 /// The outcome of a raw answer: failed where the program did not start, was ended by a signal or its output could
-/// not be had; skipped at status 99, with the line unread; failed at another status than 0; else by the line.
+/// not be had; skipped at status 99, with the line unread; failed at another status than 0; else by the line. That has
+/// failed where it is not UTF-8, where its value's text is longer than 65,536 bytes, where the task is a branch and the
+/// value doesn't name direct downstreams, and where a task is expanded over this one, itself unmapped, and the value is
+/// no list of at most 1,024 items; else it is a success that pushes the value.
 #[tactic(auto, unfolding(crate::specs::Grades::grade_of))]
 pub fn grade(alloc: Global, plan: &Plan, task: u32, raw: &Raw) -> Result<Outcome, OutOfMemory>
-    requires there { task < length plan.now.dag.tasks }
-    requires served { IsServed plan.now.dag }
+    requires { task < length plan.now.dag.tasks }
     ensures { IfOk result (λ outcome. outcome ≡ grade_of plan.now.dag task raw.now) }
 {
     let Exit::Code(status) = raw.exit else {
@@ -94,5 +178,29 @@ pub fn grade(alloc: Global, plan: &Plan, task: u32, raw: &Raw) -> Result<Outcome
 
 /// A law: a grade fits.
 pub fn grades_fit()
-    ensures { (dag : Dag) (task : ℕ) (raw : RawTerm) → fits_in dag task (grade_of dag task raw) ≡ true }
+    ensures { (dag : DagTerm) (task : ℕ) (raw : RawTerm) → fits_in dag task (grade_of dag task raw) ≡ true }
 {}
+
+/// The last line by which a program pushes this.
+fn line_for(alloc: Global, pushed: &Option<Xval>) -> Result<Sequence<u8>, OutOfMemory>
+    ensures text { IfOk result (λ line. IsUtf8 line) }
+    ensures reads_back { IfOk result (λ line. of_lines pushed.now ≡ true → value_of_line line ≡ pushed.now) }
+{
+    let Some(value) = pushed else {
+        return Ok(Sequence::new(alloc));
+    };
+    let text = text_of(alloc, value)?;
+    copied(alloc, text.as_str().as_bytes())
+}
+
+/// An answer whose grade is this outcome, for a try of each task that the outcome fits: so what fits is just what `grade`
+/// could give.
+pub fn answer_for(alloc: Global, outcome: &Outcome) -> Result<Raw, OutOfMemory>
+    ensures { IfOk result (λ raw. (dag : DagTerm) (task : ℕ) → fits_in dag task outcome.now ≡ true → grade_of dag task raw ≡ outcome.now) }
+{
+    match outcome {
+        Outcome::Success(pushed) => Ok(Raw::with_code(0, line_for(alloc, pushed)?)),
+        Outcome::Failed => Ok(Raw::with_code(1, Sequence::new(alloc))),
+        Outcome::Skipped => Ok(Raw::with_code(SKIP_STATUS, Sequence::new(alloc))),
+    }
+}

@@ -1,6 +1,9 @@
 //! Ledgers of tries.
-ghost use Rattle.std.specs.Prelude.{◌≡◌, ◌↔◌, None, IsSome, IfErr, OnOk, OnErr, option_copied};
+ghost use Rattle.std.specs.Prelude.{◌≡◌, ◌↔◌, All, None, IsSome, IsTrue, IfErr, OnOk, OnErr, option_copied};
 ghost use Rattle.std.specs.FinMap as map;
+ghost use Rattle.std.specs.BTreeMap.{IsOrdered};
+ghost use Rattle.bf_value.specs.Names.{name_cmp};
+ghost use Rattle.bf_try.specs.Tries.{Agree, AreAlike};
 
 use bf_value::JobName;
 use bf_xcom::{Given, Outcome};
@@ -77,4 +80,34 @@ impl Ledger {
             Err(failed) => Err((failed.value.1, NoteFault::OutOfMemory)),
         }
     }
+}
+
+fn agrees(entry: &Entry, other: Option<&Entry>) -> bool
+    ensures { IsTrue result ↔ Agree entry.now (option_copied other.entry) }
+{
+    match other {
+        Some(other) => {
+            !entry.given.is_same(&other.given) || entry.outcome.is_same(&other.outcome)
+        }
+        None => true,
+    }
+}
+
+fn all_agree(entries: &BTreeMap<JobName, Entry>, other: &Ledger) -> bool
+    ensures all { IsTrue result ↔ All (λ e. Agree e.1 (map.get other.now e.0)) entries.now.entries }
+    ensures ordered { IsOrdered name_cmp entries.now }
+{
+    for (name, entry) in entries.iter() {
+        if !agrees(entry, other.get(*name)) {
+            return false;
+        }
+    }
+    true
+}
+
+/// Whether tries of one name that were given the same ended alike in both ledgers.
+pub fn alike(one: &Ledger, other: &Ledger) -> bool
+    ensures { IsTrue result ↔ AreAlike (map.get one.now) (map.get other.now) }
+{
+    all_agree(&one.entries, other)
 }

@@ -10,14 +10,15 @@ mod grading;
 mod ledger;
 mod runner;
 mod table;
+mod table_index;
 mod table_reader;
 mod table_runner;
 mod tickets;
 
 pub use answers::{Exit, Line, Raw};
 pub use bf_xcom::Outcome;
-pub use grading::{fits, grade, grades_fit};
-pub use ledger::{Entry, Ledger, NoteFault};
+pub use grading::{answer_for, fits, grade, grades_fit};
+pub use ledger::{Entry, Ledger, NoteFault, alike};
 pub use runner::{RunnerFault, TaskRunner};
 pub use table::{Table, TableEntry, TableFault};
 pub use table_runner::TableRunner;

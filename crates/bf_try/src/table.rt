@@ -9,11 +9,20 @@ use std::error::Error;
 use std::fmt;
 use std::marker::Model;
 
-/// An answer: the status with which the tries of a task end. Without a task it answers for every task.
+/// An answer, and the tries that it answers for: those of all tasks, indexes, runs and try numbers, where it doesn't
+/// name one.
 #[derive(Debug, Drop)]
 pub struct TableEntry {
     pub task: Option<Text>,
+    /// A map index, -1 for an unmapped task.
+    pub index: Option<i64>,
+    /// The logical date of a run, as reports spell it.
+    pub run: Option<Text>,
+    /// The number of a try, from 1.
+    pub attempt: Option<i64>,
     pub status: u8,
+    /// The last line of the output.
+    pub line: Sequence<u8>,
 }
 
 /// A table of answers, of which the first entry that matches answers. Contracts see the list of its entries.
@@ -72,8 +81,10 @@ impl<T: Drop> From<AllocFailed<T>> for TableFault {
 }
 
 impl Table {
-    /// Reads a table: a JSON list of objects, in which the keys `task` (a text) and `status` (a whole number from
-    /// 0 to 255, by default 0) may stand. It has at most 8,388,608 bytes.
+    /// Reads a table: a JSON list of objects, of at most 8,388,608 bytes. Six keys may stand in an object: `task` (a
+    /// text), `index` and `try` (whole numbers) and `run` (`2024-01-31T06:05:09Z`, a moment that exists) say which
+    /// tries it answers for, `status` (a whole number from 0 to 255, by default 0) and `out` (a text, by default empty, of which
+    /// the last line counts) what it answers.
     pub fn read(alloc: Global, bytes: &[u8]) -> Result<Table, TableFault>
         ensures ok { IfOk result (λ table. table_of bytes.now ≡ Ok table) }
         ensures bad { IfErr result (λ fault. fault ≢ TableFault.OutOfMemory → table_of bytes.now ≡ Err fault) }

@@ -4,12 +4,14 @@ ghost use Rattle.std.specs.BTreeMap.{keys};
 ghost use Rattle.std.specs.List.{list_all};
 ghost use Rattle.std.specs.Option.{ForSome};
 ghost use Rattle.serde_json.specs.Events.{items_len};
-ghost use Rattle.serde_json.specs.Find.{as_array};
+ghost use Rattle.serde_json.specs.Find.{as_array, as_str};
 ghost use Rattle.serde_json.specs.View.{view, items_view, members_view};
-ghost use Rattle.bf_try.specs.Tables.{is_key as key, has_known_keys as known_keys, is_entry as entry, task_in, status_in, entry_of, entries_of, entries_from, json_of_file, table_of, table_with, Gives, Reads};
+ghost use Rattle.bf_try.specs.Tables.{is_key as key, has_known_keys as known_keys, is_entry as entry, if_there, number_of, date_in, status_in, line_in, entry_of, entries_of, entries_from, json_of_file, table_of, table_with, Gives, Reads};
 
+use crate::answers::copied;
 use crate::table::{TableEntry, TableFault};
-use bf_value::Text;
+use bf_moment::is_long_moment;
+use bf_value::{Sequence, Text, last_line};
 use serde_json::{Map, Value};
 use std::alloc::Global;
 
@@ -19,7 +21,7 @@ const LONGEST_TABLE: usize = 8_388_608;
 fn is_key(name: &str) -> bool
     ensures { result ≡ key name.now }
 {
-    name == "task" || name == "status"
+    matches!(name, "task" | "index" | "run" | "try" | "status" | "out")
 }
 
 fn are_keys(members: &Map<String, Value>) -> bool
@@ -53,16 +55,66 @@ fn object_at(number: u32, value: &Value) -> Result<(), TableFault>
     }
 }
 
-fn task_at(alloc: Global, number: u32, value: Option<&Value>) -> Result<Option<Text>, TableFault>
-    ensures { Reads (Some number) (λ t. t) result (task_in (option_map (λ v. view v.now) value.entry)) }
+fn text_at<'a>(number: u32, value: &'a Value) -> Result<&'a str, TableFault>
+    ensures { Reads (Some number) (λ t. t.now) result (as_str (view value.entry.now)) }
+{
+    value.as_str().ok_or(TableFault::BadTable(Some(number)))
+}
+
+fn number_at(number: u32, value: &Value) -> Result<i64, TableFault>
+    ensures { Reads (Some number) (λ n. n) result (number_of (view value.now)) }
+{
+    value.as_i64().ok_or(TableFault::BadTable(Some(number)))
+}
+
+fn named_task(alloc: Global, number: u32, value: Option<&Value>) -> Result<Option<Text>, TableFault>
+    ensures { Reads (Some number) (λ t. t) result (if_there as_str (option_map (λ v. view v.now) value.entry)) }
 {
     let Some(value) = value else {
         return Ok(None);
     };
-    let Some(text) = value.as_str() else {
-        return Err(TableFault::BadTable(Some(number)));
-    };
+    let text = text_at(number, value)?;
     Ok(Some(Text::copied(alloc, text)?))
+}
+
+fn named_number(number: u32, value: Option<&Value>) -> Result<Option<i64>, TableFault>
+    ensures { Reads (Some number) (λ n. n) result (if_there number_of (option_map (λ v. view v.now) value.entry)) }
+{
+    let Some(value) = value else {
+        return Ok(None);
+    };
+    Ok(Some(number_at(number, value)?))
+}
+
+fn date_at<'a>(number: u32, value: &'a Value) -> Result<&'a str, TableFault>
+    ensures { Reads (Some number) (λ t. t.now) result (date_in (view value.entry.now)) }
+{
+    let text = text_at(number, value)?;
+    if is_long_moment(text) {
+        Ok(text)
+    } else {
+        Err(TableFault::BadTable(Some(number)))
+    }
+}
+
+fn named_run(alloc: Global, number: u32, value: Option<&Value>) -> Result<Option<Text>, TableFault>
+    ensures { Reads (Some number) (λ t. t) result (if_there date_in (option_map (λ v. view v.now) value.entry)) }
+{
+    let Some(value) = value else {
+        return Ok(None);
+    };
+    let date = date_at(number, value)?;
+    Ok(Some(Text::copied(alloc, date)?))
+}
+
+fn line_at(alloc: Global, number: u32, value: Option<&Value>) -> Result<Sequence<u8>, TableFault>
+    ensures { Reads (Some number) (λ line. line) result (line_in (option_map (λ v. view v.now) value.entry)) }
+{
+    let Some(value) = value else {
+        return Ok(Sequence::new(alloc));
+    };
+    let out = text_at(number, value)?;
+    Ok(copied(alloc, last_line(out.as_bytes()))?)
 }
 
 fn status_at(number: u32, value: Option<&Value>) -> Result<u8, TableFault>
@@ -82,9 +134,20 @@ fn entry_at(alloc: Global, number: u32, value: &Value) -> Result<TableEntry, Tab
     ensures { Reads (Some number) (λ e. e) result (entry_of (view value.now)) }
 {
     object_at(number, value)?;
-    let task = task_at(alloc, number, value.get("task"))?;
+    let task = named_task(alloc, number, value.get("task"))?;
+    let index = named_number(number, value.get("index"))?;
+    let run = named_run(alloc, number, value.get("run"))?;
+    let attempt = named_number(number, value.get("try"))?;
     let status = status_at(number, value.get("status"))?;
-    Ok(TableEntry { task, status })
+    let line = line_at(alloc, number, value.get("out"))?;
+    Ok(TableEntry {
+        task,
+        index,
+        run,
+        attempt,
+        status,
+        line,
+    })
 }
 
 fn entries_in(alloc: Global, items: &[Value]) -> Result<Vec<TableEntry>, TableFault>

@@ -5,8 +5,8 @@ use Rattle.bf_value.specs.Views.{list_of}
 use Rattle.bf_value.specs.declared.xval.Xval.{Xval}
 use Rattle.bf_check.specs.declared.plan.Task.{Task}
 use Rattle.bf_mapped.specs.Items.{items_of}
-use Rattle.bf_mapped.specs.declared.items.Items.{Items}
-use Rattle.bf_mapped.specs.declared.items.SourceValues.{SourceValues}
+use Rattle.bf_mapped.specs.declared.source.Items.{Items}
+use Rattle.bf_mapped.specs.declared.source.SourceValues.{SourceValues}
 use Rattle.bf_xcom.specs.declared.values.Outcome.{Outcome}
 use Rattle.bf_xcom.specs.declared.values.Outcome.TheVariants.{Success, Failed, Skipped}
 use Rattle.bf_xcom.specs.declared.values.TaskResult.{TaskResult}

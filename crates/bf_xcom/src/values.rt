@@ -1,5 +1,6 @@
 //! What a try is given, and what comes of tries.
-ghost use Rattle.std.specs.Prelude.{◌≡◌, IfOk};
+ghost use Rattle.std.specs.Prelude.{◌≡◌, ◌↔◌, IfOk, IsTrue, option_copied};
+ghost use Rattle.bf_xcom.specs.Pulls.{pushed_by};
 
 use bf_value::{OutOfMemory, Sequence, Xval};
 use std::alloc::Global;
@@ -54,7 +55,25 @@ fn copy_of(alloc: Global, value: &Option<Xval>) -> Result<Option<Xval>, OutOfMem
     }
 }
 
+fn is_same(one: &Option<Xval>, other: &Option<Xval>) -> bool
+    ensures { IsTrue result ↔ (one.now ≡ other.now) }
+{
+    match (one, other) {
+        (Some(one), Some(other)) => one.is_same(other),
+        (None, None) => true,
+        _ => false,
+    }
+}
+
 impl Given {
+    /// Whether two are equal.
+    pub fn is_same(&self, other: &Given) -> bool
+        ensures { IsTrue result ↔ (self.now ≡ other.now) }
+    {
+        is_same(&self.item, &other.item)
+            && are_same(self.pulled.as_slice(), other.pulled.as_slice())
+    }
+
     /// An equal one.
     pub fn copy(&self, alloc: Global) -> Result<Given, OutOfMemory>
         ensures { IfOk result (λ given. given ≡ self.now) }
@@ -68,6 +87,20 @@ impl Given {
     }
 }
 
+fn are_same(one: &[Option<Xval>], other: &[Option<Xval>]) -> bool
+    ensures { IsTrue result ↔ (one.now ≡ other.now) }
+{
+    if one.len() != other.len() {
+        return false;
+    }
+    for i in 0..one.len() {
+        if !is_same(&one[i], &other[i]) {
+            return false;
+        }
+    }
+    true
+}
+
 fn copies_of(alloc: Global, values: &[Option<Xval>]) -> Result<Vec<Option<Xval>>, OutOfMemory>
     ensures { IfOk result (λ copies. copies.items ≡ values.now) }
 {
@@ -79,6 +112,27 @@ fn copies_of(alloc: Global, values: &[Option<Xval>]) -> Result<Vec<Option<Xval>>
 }
 
 impl Outcome {
+    /// What a try that ended so pushed: a value where it succeeded with one, else nothing.
+    pub fn pushed(&self) -> Option<&Xval>
+        ensures { option_copied result ≡ pushed_by self.now }
+    {
+        match self {
+            Outcome::Success(Some(value)) => Some(value),
+            Outcome::Success(None) | Outcome::Failed | Outcome::Skipped => None,
+        }
+    }
+
+    /// Whether two are equal.
+    pub fn is_same(&self, other: &Outcome) -> bool
+        ensures { IsTrue result ↔ (self.now ≡ other.now) }
+    {
+        match (self, other) {
+            (Outcome::Success(one), Outcome::Success(other)) => is_same(one, other),
+            (Outcome::Failed, Outcome::Failed) | (Outcome::Skipped, Outcome::Skipped) => true,
+            _ => false,
+        }
+    }
+
     /// An equal one.
     pub fn copy(&self, alloc: Global) -> Result<Outcome, OutOfMemory>
         ensures { IfOk result (λ outcome. outcome ≡ self.now) }

@@ -39,4 +39,4 @@ returns-in_ok-names-in-Err-Cycle-clause-err c =
     let whole = edges_made draft _ _ _ c.in_ok-edges.ensures c.requires.ids c.as_slice-tasks.ensures in
     let named : IsNamedCycle edges c.in-Err-Cycle.cycle = rw c.in-Err-Cycle.field-0-is at c.in-Err-Cycle.ensures.cycle in
     let names = c.from_vec.ensures ∙ c.in_ok-names-in-Err-Cycle.ensures ∙ ap (map (λ t. slice_index_or (ids_of c.as_slice-tasks.result.now) t [])) c.as_slice.ensures ∙ ap (λ (tasks : List TaskDraft). map (λ t. slice_index_or (ids_of tasks) t []) c.in-Err-Cycle.cycle) c.as_slice-tasks.ensures in
-    ((c.in-Err-Cycle.cycle, subst (λ (ups : List (List ℕ)). IsNamedCycle ups c.in-Err-Cycle.cycle) whole named, names), c.requires.known)
+    λ file. ((c.in-Err-Cycle.cycle, subst (λ (ups : List (List ℕ)). IsNamedCycle ups c.in-Err-Cycle.cycle) whole named, names), c.requires.known)

@@ -1,12 +1,14 @@
-use Rattle.std.proofs.Common.{◌≡◌, sym, ◌∙◌, rules}
-use Rattle.std.specs.Str.{bytes_eq}
-use Rattle.bf_graph.proofs.GraphLemmas.{position-map}
-use Rattle.bf_read.specs.declared.draft.PoolDraft.{PoolDraft}
-use Rattle.bf_check.specs.PoolsInUse.{pool_of}
+use Rattle.std.proofs.Common.{sym, ◌∙◌, true≢false, codes}
+use Rattle.std.specs.Cmp.Lexicographic.{bytes_decides}
+use Rattle.bf_check.proofs.PoolLemmas.{number_of_default, number_of_none}
 use Rattle.bf_check.proofs.pools.pool_number.Goals as goal
 
-pub returns-clause-number : goal.returns-clause-number
-returns-clause-number c =
-    let found = c.place_of.ensures.place ∙ sym (position-map (λ (pool : PoolDraft). bytes_eq c.args.name.now pool.name) pool_of c.args.pools.now) in
-    let same : c.map.result ≡ c.place_of.result = search rules in
-    same ∙ found
+pub returns-in-None : goal.returns-in-None
+returns-in-None c =
+    let q = c.args.name.now in
+    sym (number_of_default q c.args.pools.now (sym c.place_of.ensures.place ∙ c.in-None.is) ((bytes_decides q (codes "default_pool")).0 (sym c.eq.ensures ∙ c.if-eq.true)))
+
+pub returns-in-None-2 : goal.returns-in-None-2
+returns-in-None-2 c =
+    let q = c.args.name.now in
+    sym (number_of_none q c.args.pools.now (sym c.place_of.ensures.place ∙ c.in-None.is) (λ same. true≢false (sym ((bytes_decides q (codes "default_pool")).1 same) ∙ sym c.eq.ensures ∙ c.if-eq.false)))

@@ -17,7 +17,7 @@ returns-then-not-may_pull_all-clause-err c =
     let task = c.task-item.result in
     let here : slice_get draft.tasks t ≡ Some task = ap (λ (ts : List TaskDraft). slice_get ts t) (sym c.as_slice-task-items.ensures) ∙ slice_get_read tasks _ t task refl c.loop-t-test.true c.task-item.is in
     let pulled = c.as_slice-in-loop-t.ensures.value ∙ c.in_ok-pulled.ensures ∙ ap pulled_in c.as_slice.ensures in
-    let one = c.may_pull_all.ensures.not_all (search rules) in (
+    let one = c.may_pull_all.ensures.not_all (search rules) in λ file timed. (
       record {
         t = t;
         task = task;
@@ -27,6 +27,7 @@ returns-then-not-may_pull_all-clause-err c =
         id_is = c.in_ok-copy.ensures;
       },
       c.requires.below,
+      λ h. timed,
     )
 
 pub loop-t-preserved : goal.loop-t-preserved

@@ -8,6 +8,7 @@ use Rattle.bf_read.specs.Drafts.{IsPool}
 use Rattle.bf_read.specs.Gives.{◌>>=◌, Fails}
 use Rattle.bf_read.specs.Fields.{each_member, pool_at}
 use Rattle.bf_read.proofs.FieldLemmas.{after, member_read, all_members_read, fails_on}
+use Rattle.bf_read.proofs.PoolLemmas.{one_named, stand_by_name}
 use Rattle.bf_read.proofs.pools.pools_in.Goals as goal
 
 pub returns-in_err-pool_at-clause-exact : goal.returns-in_err-pool_at-clause-exact
@@ -34,6 +35,7 @@ loop-name-preserved c =
     record {
       read = ap (λ ps. after ps (each_member pool (members_view left))) items ∙ sym (next ∙ ap (λ r. r >>= λ x. after (so_far ++ x ∷ []) (each_member pool (members_view left))) read) ∙ c.loop-name.invariant.read;
       pools = subst Q (sym items) (All-push IsPool so_far _ c.loop-name.invariant.pools c.in_ok-pool_at.ensures.pool);
+      names = one_named so_far _ _ _ _ entry left items (c.in_ok-pool_at.ensures.named ∙ c.as_str.ensures.value) c.in-Some.ensures.steps c.loop-name.invariant.names;
     }
 
 pub returns-clause-exact : goal.returns-clause-exact
@@ -41,3 +43,6 @@ returns-clause-exact c =
     let pool = pool_at c.args.path in
     let so_far = c.loop-name.pools.items in
     sym c.loop-name.invariant.read ∙ ap (λ (es : List (String Global × Value)). after so_far (each_member pool (members_view es))) c.in-None.ensures.steps.0 ∙ all_members_read pool so_far
+
+pub returns-clause-by_name : goal.returns-clause-by_name
+returns-clause-by_name c = stand_by_name c.loop-name.pools.items _ _ c.in-None.ensures.steps.0 c.loop-name.invariant.names c.iter-name-items.ensures.ordered

@@ -15,8 +15,8 @@ running-requires-clause-served c = rw c.dag.ensures.dag c.self.invariant.served
 pub running-requires-clause-rows : goal.running-requires-clause-rows
 running-requires-clause-rows c = rw c.dag.ensures.dag (replay-rows _ c.self.invariant.replayed)
 
-pub fits-requires-clause-there : goal.fits-requires-clause-there
-fits-requires-clause-there c =
+pub fits-requires : goal.fits-requires
+fits-requires c =
     let present : _ = rw c.dag.ensures.dag at c.in_ok-instance.ensures.ok in
     (present-there c.self.inside.plan.now.dag c.self.inside.state (replay-rows _ c.self.invariant.replayed) c.args.name Phase.Running present).1
 

@@ -1,8 +1,8 @@
-use Rattle.std.proofs.Common.{List, Vec, ℕ, Bool, Global, String, length, ap, sym, ◌∙◌, subst, arith}
+use Rattle.std.proofs.Common.{List, Vec, ℕ, Bool, Global, string_bytes, length, ap, sym, ◌∙◌, subst, arith}
 use Rattle.std.proofs.lemmas.List.{length-map}
 use Rattle.bf_graph.specs.Edges.{lists, AreInRange}
 use Rattle.bf_graph.specs.Lookups.{AreDownstreams}
-use Rattle.bf_graph.specs.Shape.{texts, AreDistinct}
+use Rattle.bf_graph.specs.Shape.{AreDistinct}
 use Rattle.bf_graph.proofs.AcyclicLemmas.{no_cycle}
 use Rattle.bf_graph.proofs.ReachLemmas.{has_rows}
 use Rattle.bf_graph.proofs.GraphLemmas.{sound_ranks}
@@ -20,12 +20,11 @@ invariant_of-result c =
     let ids = c.in_ok-ids.ensures in
     let same = c.requires.same in
     let few = c.requires.few in
-    let P : List (String Global) → Type 0 = λ xs. AreDistinct (texts xs) in
     let Q : List (Vec ℕ Global) → Type 0 = λ es. AreDownstreams (lists es) (lists c.in_ok-downstreams.downstreams.items) in
     let below = subst Q c.as_slice-2.ensures.value c.in_ok-downstreams.ensures in
     record {
-      distinct = subst P (sym ids) c.requires.distinct;
-      one_id_each = ap length ids ∙ same;
+      distinct = subst AreDistinct (sym ids) c.requires.distinct;
+      one_id_each = ap length ids ∙ length-map c.args.ids.items string_bytes ∙ same;
       below = below;
       right_leaves = c.in_ok-leaves.ensures _ (subst (AreDownstreams _) (ap lists (sym c.as_slice-3.ensures.value)) below);
       one_rank_each = ranks.1;

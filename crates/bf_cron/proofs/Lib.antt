@@ -1,0 +1,9 @@
+mod Words
+mod Items
+pub mod Rules
+mod Decimals
+mod Forms
+mod Written
+mod Parts
+mod Schedules
+pub mod Dates

@@ -1,0 +1,3 @@
+pub mod Cron
+pub mod Grammar
+pub mod Minutes

@@ -1,0 +1,40 @@
+//! The five fields.
+ghost use Rattle.std.specs.Prelude.{◌≡◌};
+ghost use Rattle.bf_cron.specs.Cron.{least as least_of, greatest as greatest_of};
+
+/// One of the five fields of a schedule (crontab(5)).
+#[derive(Clone, Copy, Debug, PartialEq, Eq)]
+pub enum Field {
+    Minute,
+    Hour,
+    /// Of the month.
+    Day,
+    Month,
+    /// From Sunday, which is 0 and 7.
+    Weekday,
+}
+
+impl Field {
+    /// The least number that the field can have.
+    pub fn least(self) -> u8
+        ensures { result ≡ least_of self }
+    {
+        match self {
+            Field::Day | Field::Month => 1,
+            Field::Minute | Field::Hour | Field::Weekday => 0,
+        }
+    }
+
+    /// The greatest number that the field can have.
+    pub fn greatest(self) -> u8
+        ensures { result ≡ greatest_of self }
+    {
+        match self {
+            Field::Minute => 59,
+            Field::Hour => 23,
+            Field::Day => 31,
+            Field::Month => 12,
+            Field::Weekday => 7,
+        }
+    }
+}

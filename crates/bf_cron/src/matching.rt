@@ -1,0 +1,128 @@
+//! Which minutes a schedule has.
+ghost use Rattle.std.specs.Prelude.{◌≡◌, ◌<◌, ◌==◌, ◌+◌, ◌%◌};
+ghost use Rattle.jiff.specs.Words.{weekday_of};
+ghost use Rattle.bf_cron.specs.Cron.{Schedule, IsRead, Keeps, matches, has_number, spec_on_weekday, spec_on_day, spec_has_date, spec_matches, schedule_of};
+
+use crate::reading;
+use crate::spec::{CronFault, CronSpec};
+use jiff::civil::{Date, DateTime};
+use std::alloc::Global;
+
+fn has(word: u64, number: u8) -> bool
+    requires { number < 64 }
+    ensures { result ≡ has_number word number }
+{
+    (word >> number) & 1 == 1
+}
+
+fn day_number(date: Date) -> u8
+    ensures value { result ≡ date.day }
+    ensures bound { result < 32 }
+{
+    date.day() as u8
+}
+
+fn month_number(date: Date) -> u8
+    ensures value { result ≡ date.month }
+    ensures bound { result < 13 }
+{
+    date.month() as u8
+}
+
+/// From Sunday, which is 0.
+fn weekday_number(date: Date) -> u8
+    ensures { result ≡ (weekday_of date + 1) % 7 }
+{
+    date.weekday().to_sunday_zero_offset() as u8
+}
+
+fn hour_number(at: DateTime) -> u8
+    ensures { result ≡ at.time.hour }
+{
+    at.hour() as u8
+}
+
+fn minute_number(at: DateTime) -> u8
+    ensures { result ≡ at.time.minute }
+{
+    at.minute() as u8
+}
+
+impl CronSpec {
+    /// The schedule of a text: five fields or a preset (the crate's page). `Bad` comes exactly where the text is
+    /// neither.
+    pub fn read(alloc: Global, text: &str) -> Result<CronSpec, CronFault>
+        ensures { IsRead (schedule_of text.now) result }
+    {
+        let text = reading::expanded(text);
+        let fields = reading::fields(alloc, text.as_bytes())?;
+        let [minute, hour, day, month, weekday] = fields.as_slice() else {
+            return Err(CronFault::Bad);
+        };
+        match reading::spec(minute, hour, day, month, weekday) {
+            Some(spec) => Ok(spec),
+            None => Err(CronFault::Bad),
+        }
+    }
+
+    /// Whether the schedule has the date. Where both day and weekday are restricted either suffices, else both must
+    /// match (crontab(5)).
+    pub fn has_date(&self, date: Date) -> bool
+        ensures { result ≡ spec_has_date self.now date }
+    {
+        if !has(self.months, month_number(date)) {
+            return false;
+        }
+        self.has_day(day_number(date), weekday_number(date))
+    }
+
+    fn has_weekday(&self, weekday: u8) -> bool
+        requires { weekday < 7 }
+        ensures { result ≡ spec_on_weekday self.now weekday }
+    {
+        has(self.weekdays, weekday) || weekday == 0 && has(self.weekdays, 7)
+    }
+
+    fn has_day(&self, day: u8, weekday: u8) -> bool
+        requires day { day < 32 }
+        requires weekday { weekday < 7 }
+        ensures { result ≡ spec_on_day self.now day weekday }
+    {
+        let (on_day, on_weekday) = (has(self.days, day), self.has_weekday(weekday));
+        if !self.any_day && !self.any_weekday {
+            on_day || on_weekday
+        } else {
+            on_day && on_weekday
+        }
+    }
+
+    /// Whether the schedule has the hour.
+    pub fn has_hour(&self, hour: u8) -> bool
+        requires { hour < 24 }
+        ensures { result ≡ has_number self.now.hours hour }
+    {
+        has(self.hours, hour)
+    }
+
+    /// Whether the schedule has the minute of an hour.
+    pub fn has_minute(&self, minute: u8) -> bool
+        requires { minute < 60 }
+        ensures { result ≡ has_number self.now.minutes minute }
+    {
+        has(self.minutes, minute)
+    }
+
+    /// Whether the schedule has the civil minute. Only its minute, hour, day, month and weekday count.
+    pub fn matches(&self, at: DateTime) -> bool
+        ensures value { result ≡ spec_matches self.now at }
+        ensures rule { (s : Schedule) → Keeps self.now s → spec_matches self.now at ≡ matches s at }
+    {
+        if !self.has_minute(minute_number(at)) {
+            return false;
+        }
+        if !self.has_hour(hour_number(at)) {
+            return false;
+        }
+        self.has_date(at.date())
+    }
+}

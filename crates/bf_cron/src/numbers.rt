@@ -1,0 +1,115 @@
+//! The numbers, names and steps of items.
+ghost use Rattle.std.specs.Prelude.{◌≡◌, ◌≤◌, ◌<◌, ◌+◌, option_map, position, map, length, IfSome};
+ghost use Rattle.std.specs.Char.{to_ascii_lowercase};
+ghost use Rattle.std.specs.Str.{bytes_eq};
+ghost use Rattle.bf_cron.specs.declared.field.Field.TheVariants.{Month, Weekday};
+ghost use Rattle.bf_cron.specs.Cron.{names, digit, small_number, number_of, step_of};
+
+use crate::field::Field;
+
+fn digit_of(byte: u8) -> Option<u8>
+    ensures value { result ≡ digit byte }
+    ensures small { IfSome result (λ n. n ≤ 9) }
+{
+    match byte {
+        b'0'..=b'9' => Some(byte - b'0'),
+        _ => None,
+    }
+}
+
+/// A number of one or two digits.
+fn small(text: &[u8]) -> Option<u8>
+    ensures { result ≡ small_number text.now }
+{
+    match text {
+        [a] => digit_of(*a),
+        [a, b] => Some(10 * digit_of(*a)? + digit_of(*b)?),
+        _ => None,
+    }
+}
+
+/// The name in lower case.
+fn lower(text: &[u8]) -> [u8; 3]
+    requires { length text.now ≡ 3 }
+    ensures { result ≡ map to_ascii_lowercase text.now }
+{
+    [
+        text[0].to_ascii_lowercase(),
+        text[1].to_ascii_lowercase(),
+        text[2].to_ascii_lowercase(),
+    ]
+}
+
+/// January is 1.
+fn month(name: [u8; 3]) -> Option<u8>
+    ensures value { result ≡ option_map (λ i. i + 1) (position (λ known. bytes_eq known name) (names Month)) }
+    ensures small { IfSome result (λ n. n < 60) }
+{
+    match &name {
+        b"jan" => Some(1),
+        b"feb" => Some(2),
+        b"mar" => Some(3),
+        b"apr" => Some(4),
+        b"may" => Some(5),
+        b"jun" => Some(6),
+        b"jul" => Some(7),
+        b"aug" => Some(8),
+        b"sep" => Some(9),
+        b"oct" => Some(10),
+        b"nov" => Some(11),
+        b"dec" => Some(12),
+        _ => None,
+    }
+}
+
+/// Sunday is 0.
+fn weekday(name: [u8; 3]) -> Option<u8>
+    ensures value { result ≡ option_map (λ i. i + 0) (position (λ known. bytes_eq known name) (names Weekday)) }
+    ensures small { IfSome result (λ n. n < 60) }
+{
+    match &name {
+        b"sun" => Some(0),
+        b"mon" => Some(1),
+        b"tue" => Some(2),
+        b"wed" => Some(3),
+        b"thu" => Some(4),
+        b"fri" => Some(5),
+        b"sat" => Some(6),
+        _ => None,
+    }
+}
+
+/// What a number or a name stands for, if the field has it.
+pub(crate) fn number(field: Field, text: &[u8]) -> Option<u8>
+    ensures value { result ≡ number_of field text.now }
+    ensures small { IfSome result (λ n. n < 60) }
+{
+    if text.len() == 3 {
+        let name = lower(text);
+        return match field {
+            Field::Month => month(name),
+            Field::Weekday => weekday(name),
+            _ => None,
+        };
+    }
+    let value = small(text)?;
+    if (field.least()..=field.greatest()).contains(&value) {
+        Some(value)
+    } else {
+        None
+    }
+}
+
+/// A step, which is 1 where none is written.
+pub(crate) fn step(text: Option<&[u8]>) -> Option<u8>
+    ensures value { result ≡ step_of (option_map (λ s. s.now) text.entry) }
+    ensures above { IfSome result (λ n. 0 < n) }
+{
+    let Some(text) = text else {
+        return Some(1);
+    };
+    match small(text) {
+        Some(value) if (1..=59).contains(&value) => Some(value),
+        _ => None,
+    }
+}

@@ -1,0 +1,137 @@
+//! The reading of a text as a schedule.
+ghost use Rattle.std.specs.Prelude.{◌≡◌, ◌==◌, ◌<◌, ℕ, if◌then◌else◌, option_map, position, map, IfSome, IfOk, [], ◌∷◌};
+ghost use Rattle.std.specs.List.{before_first};
+ghost use Rattle.std.specs.Int.{bit_at};
+ghost use Rattle.bf_cron.specs.Cron.{after, item_of, item_has, field_of, fields_of, IsField, preset, IsItem, IsSpec, schedule_of_fields};
+
+use crate::field::Field;
+use crate::item::Item;
+use crate::numbers;
+use crate::spec::CronSpec;
+use std::alloc::{AllocError, Global};
+
+/// Where the first such byte stands.
+fn place(text: &[u8], at: u8) -> Option<usize>
+    ensures { result ≡ position (λ b. b == at) text.now }
+{
+    text.iter().position(|b| *b == at)
+}
+
+/// What stands before the first such byte, and what stands after it.
+fn cut(text: &[u8], at: u8) -> (&[u8], Option<&[u8]>)
+    ensures before { result.0.now ≡ before_first (λ b. b == at) text.now }
+    ensures rest { option_map (λ s. s.now) result.1 ≡ after at text.now }
+{
+    match place(text, at) {
+        Some(i) => (&text[..i], Some(&text[i + 1..])),
+        None => (text, None),
+    }
+}
+
+/// One item of a field.
+fn item(field: Field, text: &[u8]) -> Option<Item>
+    ensures value { result ≡ item_of field text.now }
+    ensures item { IfSome result IsItem }
+{
+    let (base, step) = cut(text, b'/');
+    if base == b"*".as_slice() {
+        let step = numbers::step(step)?;
+        return Some(Item {
+            low: field.least(),
+            high: field.greatest(),
+            step,
+        });
+    }
+    let (first, last) = cut(base, b'-');
+    match (last, step) {
+        (None, None) => {
+            let low = numbers::number(field, first)?;
+            Some(Item {
+                low,
+                high: low,
+                step: 1,
+            })
+        }
+        (None, Some(_)) => None,
+        (Some(last), step) => {
+            let low = numbers::number(field, first)?;
+            let high = numbers::number(field, last)?;
+            let step = numbers::step(step)?;
+            if low <= high {
+                Some(Item { low, high, step })
+            } else {
+                None
+            }
+        }
+    }
+}
+
+/// The word with the bits of an item's numbers set too.
+fn with_numbers(item: Item, word: u64) -> u64
+    requires { IsItem item }
+    ensures { (v : ℕ) → v < 64 → bit_at result v ≡ (if item_has v item then 1 else bit_at word v) }
+{
+    let mut all = word;
+    for number in item.low..item.high + 1 {
+        if (number - item.low) % item.step == 0 {
+            all |= 1u64 << number;
+        }
+    }
+    all
+}
+
+/// The word of a field, whose bits are the numbers of its items.
+fn field(field: Field, text: &[u8]) -> Option<u64>
+    ensures { IsField (field_of field text.now) result }
+{
+    let mut word = 0;
+    for part in text.split(|b| *b == b',') {
+        word = with_numbers(item(field, part)?, word);
+    }
+    Some(word)
+}
+
+/// The parts of a text between spaces and tabs.
+pub(crate) fn fields(alloc: Global, text: &[u8]) -> Result<Vec<&[u8]>, AllocError>
+    ensures { IfOk result (λ v. map (λ s. s.now) v.items ≡ fields_of text.now) }
+{
+    text.split(|b| *b == b' ' || *b == b'\t')
+        .filter(|part| !part.is_empty())
+        .collect(alloc)
+}
+
+/// The five fields that a preset stands for (Airflow's "Cron Presets"), or the text itself.
+pub(crate) fn expanded(text: &str) -> &str
+    ensures { result.now ≡ preset text.now }
+{
+    match text {
+        "@hourly" => "0 * * * *",
+        "@daily" => "0 0 * * *",
+        "@weekly" => "0 0 * * 0",
+        "@monthly" => "0 0 1 * *",
+        "@quarterly" => "0 0 1 */3 *",
+        "@yearly" => "0 0 1 1 *",
+        _ => text,
+    }
+}
+
+/// The schedule of five fields.
+pub(crate) fn spec(
+    minute: &[u8],
+    hour: &[u8],
+    day: &[u8],
+    month: &[u8],
+    weekday: &[u8],
+) -> Option<CronSpec>
+    ensures { IsSpec (schedule_of_fields (minute.now ∷ hour.now ∷ day.now ∷ month.now ∷ weekday.now ∷ [])) result }
+{
+    Some(CronSpec {
+        minutes: field(Field::Minute, minute)?,
+        hours: field(Field::Hour, hour)?,
+        days: field(Field::Day, day)?,
+        months: field(Field::Month, month)?,
+        weekdays: field(Field::Weekday, weekday)?,
+        any_day: day == b"*".as_slice(),
+        any_weekday: weekday == b"*".as_slice(),
+    })
+}

@@ -1,0 +1,36 @@
+//! Schedules, and why a text is none.
+ghost use Rattle.std.specs.Prelude.{◌≡◌};
+ghost use Rattle.bf_cron.specs.declared.spec.CronFault.TheVariants.{OutOfMemory as NoMemory};
+
+use std::alloc::AllocError;
+use thiserror::Error;
+
+/// A schedule. The bits of a word are the numbers that its field has: bit 5 of `hours` is set where the schedule has
+/// the hour 5. `any_day` and `any_weekday` say that the text of the field is exactly `*`.
+#[derive(Clone, Copy, Debug, PartialEq, Eq)]
+pub struct CronSpec {
+    pub minutes: u64,
+    pub hours: u64,
+    pub days: u64,
+    pub months: u64,
+    pub weekdays: u64,
+    pub any_day: bool,
+    pub any_weekday: bool,
+}
+
+/// Why a text was not read as a schedule.
+#[derive(Clone, Copy, Debug, PartialEq, Eq, Error)]
+pub enum CronFault {
+    #[error("bad cron")]
+    Bad,
+    #[error("out of memory")]
+    OutOfMemory,
+}
+
+impl From<AllocError> for CronFault {
+    ghost from_gives = { λ _ e. e ≡ NoMemory };
+
+    fn from(_e: AllocError) -> CronFault {
+        CronFault::OutOfMemory
+    }
+}

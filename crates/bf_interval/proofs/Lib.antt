@@ -1,0 +1,10 @@
+mod Placing
+mod Collecting
+mod Skipping
+mod Margins
+mod Settling
+mod Pairing
+pub mod OneListing
+mod Places
+mod Meeting
+mod OneAnswer

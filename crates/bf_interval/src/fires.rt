@@ -1,0 +1,165 @@
+//! The search for fires. They are kept as seconds since 1970-01-01T00:00:00Z.
+ghost use Rattle.std.specs.Prelude.{◌≡◌, ℕ, ◌+◌, ◌*◌, ◌<◌, ◌≤◌, pos, ◌<ℤ◌, MatchOption, OnOk, IfSome, IfOk};
+ghost use Rattle.std.specs.List.Sorted.{IsStrictlyIncreasing};
+ghost use Rattle.jiff.specs.Words.{picked_instant, plain_zone};
+ghost use Rattle.bf_cron.specs.Minutes.{IsMinute, IsCivilMinute, minutes};
+ghost use Rattle.bf_interval.specs.Search.{seconds, Collects, IsSettled, AreFirst, AreEnough};
+
+use crate::listing::MOST_RUNS;
+use crate::rising::{place_above, put};
+use bf_cron::{CronSpec, date_of, minute_of};
+use jiff::civil::DateTime;
+use jiff::tz::TimeZone;
+use std::alloc::{AllocError, Global};
+
+/// The number of the dates 1969-12-30 to 2208-12-31.
+const DATES: u64 = 87_295;
+
+/// A day, in seconds.
+const DAY: u64 = 86_400;
+
+/// 1969-12-30 begins two days before 1970.
+const DAYS_BEFORE_1970: u64 = 2;
+
+/// No clock is further from UTC than 25:59:59, the greatest offset that `jiff` has.
+const GREATEST_OFFSET: u64 = 93_599;
+
+/// The civil time of a minute, by its number after 1969-12-30T00:00.
+fn civil_minute(minute: u64) -> DateTime
+    requires { minute < minutes }
+    ensures { IsMinute minute result }
+{
+    minute_of(date_of(minute / 1_440), (minute % 1_440) as u16)
+}
+
+/// The second since 1970 to which the zone puts a civil minute, if it isn't before 1970.
+fn second_of(zone: &TimeZone<'_>, at: DateTime) -> Option<u64>
+    requires { IsCivilMinute at }
+    ensures { MatchOption result (picked_instant (plain_zone zone.now) at <ℤ pos 0)
+        (λ k. picked_instant (plain_zone zone.now) at ≡ seconds k) }
+{
+    let Ok(instant) = zone.to_timestamp(at) else {
+        unreachable!();
+    };
+    let second = instant.as_second();
+    if second < 0 {
+        None
+    } else {
+        Some(second as u64)
+    }
+}
+
+/// Adds the fire of a minute, if it has one and that isn't before `from`.
+fn add_minute(
+    found: &mut Vec<u64>,
+    spec: &CronSpec,
+    zone: &TimeZone<'_>,
+    minute: u64,
+    from: u64,
+) -> Result<(), AllocError>
+    requires minute { minute < minutes }
+    requires rising { IsStrictlyIncreasing found.old.items }
+    ensures rising { IsStrictlyIncreasing found.new.items }
+    ensures ok { OnOk result ((low : ℕ) → low ≤ minute
+        → Collects spec.now (plain_zone zone.now) low minute from found.old.items
+        → Collects spec.now (plain_zone zone.now) low (minute + 1) from found.new.items) }
+{
+    // Most minutes are left here, before their date is worked out.
+    if !spec.has_minute((minute % 60) as u8) {
+        return Ok(());
+    }
+    let at = civil_minute(minute);
+    if !spec.matches(at) {
+        return Ok(());
+    }
+    match second_of(zone, at) {
+        Some(second) if second >= from => put(found, second),
+        _ => Ok(()),
+    }
+}
+
+/// Adds the fires of an hour, by its number after 1969-12-30T00.
+fn add_hour(
+    found: &mut Vec<u64>,
+    spec: &CronSpec,
+    zone: &TimeZone<'_>,
+    hour: u64,
+    from: u64,
+) -> Result<(), AllocError>
+    requires hour { hour * 60 + 60 ≤ minutes }
+    requires rising { IsStrictlyIncreasing found.old.items }
+    ensures rising { IsStrictlyIncreasing found.new.items }
+    ensures ok { OnOk result ((low : ℕ) → low ≤ hour * 60
+        → Collects spec.now (plain_zone zone.now) low (hour * 60) from found.old.items
+        → Collects spec.now (plain_zone zone.now) low (hour * 60 + 60) from found.new.items) }
+{
+    for minute in hour * 60..hour * 60 + 60 {
+        add_minute(found, spec, zone, minute, from)?;
+    }
+    Ok(())
+}
+
+/// Adds the fires of a date, by its number after 1969-12-30.
+fn add_day(
+    found: &mut Vec<u64>,
+    spec: &CronSpec,
+    zone: &TimeZone<'_>,
+    day: u64,
+    from: u64,
+) -> Result<(), AllocError>
+    requires day { day * 1_440 + 1_440 ≤ minutes }
+    requires rising { IsStrictlyIncreasing found.old.items }
+    ensures rising { IsStrictlyIncreasing found.new.items }
+    ensures ok { OnOk result ((low : ℕ) → low ≤ day * 1_440
+        → Collects spec.now (plain_zone zone.now) low (day * 1_440) from found.old.items
+        → Collects spec.now (plain_zone zone.now) low (day * 1_440 + 1_440) from found.new.items) }
+{
+    for hour in day * 24..day * 24 + 24 {
+        if spec.has_hour((hour % 24) as u8) {
+            add_hour(found, spec, zone, hour, from)?;
+        }
+    }
+    Ok(())
+}
+
+/// How many of the fires of the dates before `day` come before all that later dates can give, where these
+/// are enough: the last of them lies after `to`, or they are two more than `MOST_RUNS`.
+fn settled(found: &[u64], to: u64, day: u64) -> Option<usize>
+    requires rising { IsStrictlyIncreasing found.now }
+    requires day { day < 87_295 }
+    ensures { IfSome result (IsSettled found.now to day) }
+{
+    let earliest = (day * DAY).checked_sub(DAYS_BEFORE_1970 * DAY + GREATEST_OFFSET)?;
+    let last = place_above(found, to).min(MOST_RUNS + 1);
+    if last < found.len() && found[last] < earliest {
+        return Some(last + 1);
+    }
+    None
+}
+
+/// The first fires that aren't before `from`: up to one after `to`, or up to two more than `MOST_RUNS`, or
+/// all.
+pub fn first_fires(
+    alloc: Global,
+    spec: &CronSpec,
+    zone: &TimeZone<'_>,
+    from: u64,
+    to: u64,
+) -> Result<Vec<u64>, AllocError>
+    requires { from < 87_295 * 86_400 }
+    ensures first { IfOk result (λ v. AreFirst spec.now (plain_zone zone.now) from v.items) }
+    ensures enough { IfOk result (λ v. AreEnough spec.now (plain_zone zone.now) from to v.items) }
+{
+    let mut found = Vec::new(alloc);
+    // This begins two dates before that of `from`, and no clock is two days behind UTC.
+    for day in from / DAY..DATES {
+        if let Some(count) = settled(&found, to, day) {
+            found.truncate(count);
+            return Ok(found);
+        }
+        if spec.has_date(date_of(day)) {
+            add_day(&mut found, spec, zone, day, from)?;
+        }
+    }
+    Ok(found)
+}

@@ -1,0 +1,103 @@
+//! The data intervals of a range.
+ghost use Rattle.std.specs.Prelude.{◌≡◌, ℕ, ◌≤◌, ◌↔◌, ◌≤ℤ◌, All};
+ghost use Rattle.std.specs.Result.{result_map_both};
+ghost use Rattle.jiff.specs.Words.{plain_zone};
+ghost use Rattle.bf_interval.specs.Search.{seconds, IsPaired};
+ghost use Rattle.bf_interval.specs.Intervals.{IsAnswer};
+ghost use Rattle.bf_interval.specs.Years.{IsInYears};
+
+use crate::fault::IntervalFault;
+use crate::fires::first_fires;
+use crate::interval::Interval;
+use crate::years::is_in_years;
+use bf_cron::CronSpec;
+use jiff::Timestamp;
+use jiff::tz::TimeZone;
+use std::alloc::Global;
+
+/// The greatest number of runs of a backfill (our own choice).
+pub const MOST_RUNS: usize = 4_096;
+
+/// A second, in nanoseconds.
+const SECOND: u64 = 1_000_000_000;
+
+/// The first whole second that isn't before the moment.
+fn second_from(moment: Timestamp) -> u64
+    requires { IsInYears moment.nanosecond }
+    ensures rounded { (k : ℕ) → (result ≤ k) ↔ (moment.nanosecond ≤ℤ seconds k) }
+    ensures small { result ≤ 7_258_118_399 }
+{
+    (moment.as_nanosecond() as u64).div_ceil(SECOND)
+}
+
+/// The last whole second that isn't after the moment.
+fn second_to(moment: Timestamp) -> u64
+    requires { IsInYears moment.nanosecond }
+    ensures { (k : ℕ) → (k ≤ result) ↔ (seconds k ≤ℤ moment.nanosecond) }
+{
+    moment.as_nanosecond() as u64 / SECOND
+}
+
+/// The moment of a second since 1970.
+fn moment(second: u64) -> Timestamp
+    requires { second ≤ 253_402_207_200 }
+    ensures { result.nanosecond ≡ seconds second }
+{
+    let Ok(moment) = Timestamp::from_second(second as i64) else {
+        unreachable!();
+    };
+    moment
+}
+
+/// Each fire with the next one, as long as the first isn't after `to`.
+fn paired(alloc: Global, fires: &[u64], to: u64) -> Result<Vec<Interval>, IntervalFault>
+    requires { All (λ k. k ≤ 253_402_207_200) fires.now }
+    ensures { IsPaired fires.now to (result_map_both (λ v. v.items) (λ e. e) result) }
+{
+    let mut found = Vec::new(alloc);
+    let [first, later @ ..] = fires else {
+        return Ok(found);
+    };
+    let mut start = *first;
+    for end in later {
+        if start > to {
+            break;
+        }
+        if found.len() == MOST_RUNS {
+            return Err(IntervalFault::TooManyRuns);
+        }
+        found.push(Interval {
+            start: moment(start),
+            end: moment(*end),
+        })?;
+        start = *end;
+    }
+    Ok(found)
+}
+
+/// The data intervals whose start isn't before `from` nor after `to`, in order; none where the schedule
+/// never fires. Refused is, in this order: a moment outside the years, `from` after `to`, and a range of
+/// more than `MOST_RUNS` data intervals.
+///
+/// Source: Airflow's "Data Interval" and crontab(5). What becomes of minutes that the clock jumps over or
+/// shows twice is our own choice, and so is the greatest number.
+pub fn intervals(
+    alloc: Global,
+    spec: &CronSpec,
+    zone: &TimeZone<'_>,
+    from: Timestamp,
+    to: Timestamp,
+) -> Result<Vec<Interval>, IntervalFault>
+    ensures { IsAnswer spec.now (plain_zone zone.now) from.nanosecond to.nanosecond
+        (result_map_both (λ v. v.items) (λ e. e) result) }
+{
+    if !is_in_years(from) || !is_in_years(to) {
+        return Err(IntervalFault::OutsideYears);
+    }
+    if to < from {
+        return Err(IntervalFault::RangeReversed);
+    }
+    let (first, last) = (second_from(from), second_to(to));
+    let fires = first_fires(alloc, spec, zone, first, last)?;
+    paired(alloc, &fires, last)
+}

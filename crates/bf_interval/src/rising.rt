@@ -1,0 +1,33 @@
+//! Numbers that rise.
+ghost use Rattle.std.specs.Prelude.{◌≡◌, ◌<◌, OnOk, OnErr, length, slice_index};
+ghost use Rattle.std.specs.List.Sorted.{IsStrictlyIncreasing};
+ghost use Rattle.bf_interval.specs.Search.{Adds};
+
+use std::alloc::AllocError;
+
+/// Puts a number into its place, if it isn't there.
+pub fn put(numbers: &mut Vec<u64>, number: u64) -> Result<(), AllocError>
+    requires { IsStrictlyIncreasing numbers.old.items }
+    ensures rising { IsStrictlyIncreasing numbers.new.items }
+    ensures ok { OnOk result (Adds number numbers.old.items numbers.new.items) }
+    ensures err { OnErr result (numbers.new.items ≡ numbers.old.items) }
+{
+    match numbers.binary_search(&number) {
+        Ok(_) => Ok(()),
+        Err(place) => {
+            numbers.insert(place, number)?;
+            Ok(())
+        }
+    }
+}
+
+/// The place of the first number above `limit`, which is the length where none is.
+pub fn place_above(numbers: &[u64], limit: u64) -> usize
+    requires { IsStrictlyIncreasing numbers.now }
+    ensures { result < length numbers.now → limit < slice_index numbers.now result }
+{
+    match numbers.binary_search(&limit) {
+        Ok(place) => place + 1,
+        Err(place) => place,
+    }
+}

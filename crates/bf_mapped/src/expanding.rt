@@ -1,0 +1,46 @@
+//! Items of an expansion.
+ghost use Rattle.std.specs.Prelude.{◌≡◌, IfOk};
+ghost use Rattle.std.specs.List.{filter_map};
+ghost use Rattle.bf_value.specs.Views.{xvals_of};
+ghost use Rattle.bf_mapped.specs.Items.{items_of};
+
+use crate::source::{Items, SourceValues};
+use bf_value::{OutOfMemory, Sequence, Values, Xval};
+use std::alloc::Global;
+
+fn listed_items(alloc: Global, values: &Values) -> Result<Vec<Xval>, OutOfMemory>
+    ensures { IfOk result (λ items. items.items ≡ xvals_of values.now) }
+{
+    Ok(values.copy(alloc)?.into_vec())
+}
+
+fn pushed_items(alloc: Global, pushed: &[Option<Xval>]) -> Result<Vec<Xval>, OutOfMemory>
+    ensures { IfOk result (λ items. items.items ≡ filter_map (λ v. v) pushed.now) }
+{
+    let mut items = Vec::new(alloc);
+    for value in pushed {
+        if let Some(value) = value {
+            items.push(value.copy(alloc)?)?;
+        }
+    }
+    Ok(items)
+}
+
+/// The items that a source gives: of an unmapped one those of the list that it pushed, of an expanded one what its
+/// instances pushed, in index order, where those that pushed nothing are left out. A source that has nothing, or that
+/// pushed no list, gives none, not even an empty list.
+pub fn items(alloc: Global, source: &SourceValues) -> Result<Items, OutOfMemory>
+    ensures { IfOk result (λ items. items ≡ items_of source.now) }
+{
+    match source {
+        SourceValues::Pushed(Some(Xval::List(values))) => {
+            let items = listed_items(alloc, values)?;
+            Ok(Items::List(Sequence::from_vec(items)))
+        }
+        SourceValues::Each(pushed) => {
+            let items = pushed_items(alloc, pushed.as_slice())?;
+            Ok(Items::List(Sequence::from_vec(items)))
+        }
+        SourceValues::Pushed(_) | SourceValues::Absent => Ok(Items::Missing),
+    }
+}

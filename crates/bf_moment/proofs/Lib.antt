@@ -1,0 +1,5 @@
+mod CalendarFacts
+mod MomentFacts
+mod Spelling
+mod ClockFacts
+mod LongFacts

@@ -1,0 +1,103 @@
+//! Moments as texts.
+ghost use Rattle.std.specs.Prelude.{◌≡◌, ◌<◌, ◌+◌};
+ghost use Rattle.std.specs.Str.{IsAscii};
+ghost use Rattle.bf_moment.specs.Moment.{IsShown, moment_text};
+ghost use Rattle.bf_moment.specs.Clock.{IsShownDate, clock_text, fields};
+
+use jiff::Timestamp;
+use jiff::civil::DateTime;
+use jiff::tz::Offset;
+use std::fmt;
+
+fn shown(at: DateTime) -> (u16, u8, u8, u8, u8, u8)
+    requires { IsShownDate at.date }
+    ensures value { result ≡ fields at }
+    ensures bounds { (result.0 < 10_000) × (result.1 < 100) × (result.2 < 100)
+        × (result.3 < 100) × (result.4 < 100) × (result.5 < 100) }
+{
+    (
+        at.year() as u16,
+        at.month() as u8,
+        at.day() as u8,
+        at.hour() as u8,
+        at.minute() as u8,
+        at.second() as u8,
+    )
+}
+
+fn digit(n: u16) -> u8
+    requires { n < 10 }
+    ensures { result ≡ 48 + n }
+{
+    b'0' + n as u8
+}
+
+fn clock_bytes(at: DateTime) -> [u8; 20]
+    requires { IsShownDate at.date }
+    ensures text { result ≡ clock_text at }
+    ensures ascii { IsAscii result }
+{
+    let (year, month, day, hour, minute, second) = shown(at);
+    [
+        digit(year / 1000),
+        digit(year / 100 % 10),
+        digit(year / 10 % 10),
+        digit(year % 10),
+        b'-',
+        digit(u16::from(month) / 10),
+        digit(u16::from(month) % 10),
+        b'-',
+        digit(u16::from(day) / 10),
+        digit(u16::from(day) % 10),
+        b'T',
+        digit(u16::from(hour) / 10),
+        digit(u16::from(hour) % 10),
+        b':',
+        digit(u16::from(minute) / 10),
+        digit(u16::from(minute) % 10),
+        b':',
+        digit(u16::from(second) / 10),
+        digit(u16::from(second) % 10),
+        b'Z',
+    ]
+}
+
+/// The text of a moment, as `2024-01-31T06:05:09Z`. What is less than a second is left out.
+pub fn moment_bytes(at: Timestamp) -> [u8; 20]
+    requires { IsShown at.nanosecond }
+    ensures text { result ≡ moment_text at.nanosecond }
+    ensures ascii { IsAscii result }
+{
+    clock_bytes(Offset::UTC.to_datetime(at))
+}
+
+/// A moment of a year of four digits. It is displayed as `moment_bytes` spells it.
+#[derive(Clone, Copy, Debug)]
+pub struct Moment {
+    pub at: Timestamp,
+    pub ghost shown: { IsShown at.nanosecond },
+}
+
+impl Moment {
+    /// The moment of a timestamp.
+    pub fn new(at: Timestamp) -> Moment
+        requires { IsShown at.nanosecond }
+        ensures { result.at ≡ at }
+    {
+        Moment { at }
+    }
+}
+
+impl fmt::Display for Moment {
+    ghost use Rattle.std.specs.Prelude.{Some};
+
+    ghost output = { λ m. Some (moment_text m.at.nanosecond) };
+
+    fn fmt<W: fmt::Write>(&self, f: &mut fmt::Formatter<W>) -> fmt::Result {
+        let bytes = moment_bytes(self.at);
+        let Ok(text) = std::str::from_utf8(&bytes) else {
+            unreachable!();
+        };
+        f.write_str(text)
+    }
+}

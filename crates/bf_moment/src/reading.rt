@@ -1,0 +1,111 @@
+//! Moments from texts.
+ghost use Rattle.std.specs.Prelude.{◌≡◌, ℕ, ℤ, ◌<◌, [], ◌∷◌, IfSome, IfNone};
+ghost use Rattle.jiff.specs.Types.{Date as PlainDate, Time as PlainTime, DateTime as PlainDateTime};
+ghost use Rattle.jiff.specs.Words.{civil_nanos};
+ghost use Rattle.bf_moment.specs.Moment.{two, four, Spells, nearest};
+ghost use Rattle.bf_moment.specs.Long.{is_long};
+ghost use Rattle.bf_moment.specs.Clock.{IsShownDate, SpellsClock, clock_date_text, clock_time_text};
+
+use jiff::Timestamp;
+use jiff::civil::{Date, DateTime, Time};
+use jiff::tz::Offset;
+
+fn two_digits(tens: u8, ones: u8) -> Option<u8>
+    ensures found { IfSome result (λ n. (n < 100) × (two n ≡ tens ∷ ones ∷ [])) }
+    ensures none { IfNone result ((n : ℕ) → n < 100 → two n ≡ tens ∷ ones ∷ [] → ⊥) }
+{
+    if !tens.is_ascii_digit() || !ones.is_ascii_digit() {
+        return None;
+    }
+    Some(10 * (tens - b'0') + (ones - b'0'))
+}
+
+fn four_digits(a: u8, b: u8, c: u8, d: u8) -> Option<u16>
+    ensures found { IfSome result (λ n. (n < 10_000) × (four n ≡ a ∷ b ∷ c ∷ d ∷ [])) }
+    ensures none { IfNone result ((n : ℕ) → n < 10_000 → four n ≡ a ∷ b ∷ c ∷ d ∷ [] → ⊥) }
+{
+    let (high, low) = (two_digits(a, b)?, two_digits(c, d)?);
+    Some(100 * u16::from(high) + u16::from(low))
+}
+
+fn date_in(text: &[u8]) -> Option<Date>
+    ensures found { IfSome result (λ d. IsShownDate d × (text.now ≡ clock_date_text d)) }
+    ensures none { IfNone result ((d : PlainDate) → IsShownDate d → text.now ≡ clock_date_text d → ⊥) }
+{
+    let [y, e, a, r, b'-', m, o, b'-', d, i] = text else {
+        return None;
+    };
+    let (year, month, day) = (
+        four_digits(*y, *e, *a, *r)?,
+        two_digits(*m, *o)?,
+        two_digits(*d, *i)?,
+    );
+    match Date::new(year as i16, month as i8, day as i8) {
+        Ok(date) => Some(date),
+        Err(_) => None,
+    }
+}
+
+fn time_in(text: &[u8]) -> Option<Time>
+    ensures found { IfSome result (λ t. (t.subsec_nanosecond ≡ 0) × (text.now ≡ clock_time_text t)) }
+    ensures none { IfNone result ((t : PlainTime) → text.now ≡ clock_time_text t → ⊥) }
+{
+    let [h, o, b':', m, i, b':', s, e] = text else {
+        return None;
+    };
+    let (hour, minute, second) = (
+        two_digits(*h, *o)?,
+        two_digits(*m, *i)?,
+        two_digits(*s, *e)?,
+    );
+    match Time::new(hour as i8, minute as i8, second as i8, 0) {
+        Ok(time) => Some(time),
+        Err(_) => None,
+    }
+}
+
+fn clock_in(text: &[u8]) -> Option<DateTime>
+    ensures found { IfSome result (SpellsClock text.now) }
+    ensures none { IfNone result ((at : PlainDateTime) → SpellsClock text.now at → ⊥) }
+{
+    if text.len() == 10 {
+        let date = date_in(text)?;
+        return Some(date.at(0, 0, 0, 0));
+    }
+    if text.len() != 20 || text[10] != b'T' || text[19] != b'Z' {
+        return None;
+    }
+    let (date, time) = (date_in(&text[..10])?, time_in(&text[11..19])?);
+    Some(date.to_datetime(time))
+}
+
+fn moment_of(at: DateTime) -> Timestamp
+    requires { IsShownDate at.date }
+    ensures { result.nanosecond ≡ nearest (civil_nanos at) }
+{
+    match Offset::UTC.to_timestamp(at) {
+        Ok(moment) => moment,
+        Err(_) => Timestamp::MAX,
+    }
+}
+
+/// The moment that a text spells, as `2024-01-31T06:05:09Z` or, for midnight in UTC, `2024-01-31`. There is no
+/// hour 24 and no second 60. A moment in the last 26 hours of the year 9999, which are past the last `Timestamp`,
+/// counts as that one.
+pub fn moment_in(text: &str) -> Option<Timestamp>
+    ensures found { IfSome result (λ t. (n : ℤ) × (Spells text.now n × (t.nanosecond ≡ nearest n))) }
+    ensures none { IfNone result ((n : ℤ) → Spells text.now n → ⊥) }
+{
+    let at = clock_in(text.as_bytes())?;
+    Some(moment_of(at))
+}
+
+/// Whether a text is the long form of a moment that exists, as `2024-01-31T06:05:09Z`.
+pub fn is_long_moment(text: &str) -> bool
+    ensures { result ≡ is_long text.now }
+{
+    if text.len() != 20 {
+        return false;
+    }
+    clock_in(text.as_bytes()).is_some()
+}

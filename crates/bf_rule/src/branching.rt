@@ -1,0 +1,124 @@
+//! Branches.
+ghost use Rattle.std.specs.Prelude.{◌≡◌, ◌⊎◌, ◌↔◌, ◌<◌, length, IsTrue, Some, option_map};
+ghost use Rattle.bf_graph.specs.Reach.{Reaches};
+ghost use Rattle.bf_rule.specs.Branches.{is_direct_downstream as direct, is_downstream_name as downstream_name, name_in, names_downstreams as downstreams, followed as followed_at, followed_by_name};
+ghost use Rattle.std.specs.List.{list_all, list_any};
+
+use bf_graph::Graph;
+use bf_value::Xval;
+
+fn is_direct_downstream(graph: &Graph, branch: u32, task: u32) -> bool
+    requires { task < length graph.now.upstreams }
+    ensures { result ≡ direct graph.now branch task }
+{
+    graph
+        .upstreams(task)
+        .iter()
+        .any(|upstream| *upstream == branch)
+}
+
+fn is_downstream_name(graph: &Graph, branch: u32, name: &str) -> bool
+    ensures { result ≡ downstream_name graph.now branch (Some name.now) }
+{
+    let _tasks = graph.len();
+    match graph.number_of(name) {
+        Some(task) => is_direct_downstream(graph, branch, task),
+        None => false,
+    }
+}
+
+fn is_downstream_value(graph: &Graph, branch: u32, value: &Xval) -> bool
+    ensures { result ≡ downstream_name graph.now branch (name_in value.now) }
+{
+    match value {
+        Xval::Text(name) => is_downstream_name(graph, branch, name.as_str()),
+        _ => false,
+    }
+}
+
+fn are_downstream_values(graph: &Graph, branch: u32, values: &[Xval]) -> bool
+    ensures { result ≡ list_all (λ v. downstream_name graph.now branch (name_in v)) values.now }
+{
+    values
+        .iter()
+        .all(|value| is_downstream_value(graph, branch, value))
+}
+
+/// Whether a branch may push this: nothing, the id of one of its direct downstreams, or a list of such ids (Airflow's
+/// "Branching"; that any other value is refused is this project's own).
+pub fn names_downstreams(graph: &Graph, branch: u32, value: Option<&Xval>) -> bool
+    ensures { result ≡ downstreams graph.now branch (option_map (λ v. v.now) value.entry) }
+{
+    match value {
+        None => true,
+        Some(Xval::List(values)) => are_downstream_values(graph, branch, values.as_slice()),
+        Some(value) => is_downstream_value(graph, branch, value),
+    }
+}
+
+fn is_or_reaches(graph: &Graph, from: u32, to: u32) -> bool
+    requires from { from < length graph.now.upstreams }
+    requires to { to < length graph.now.upstreams }
+    ensures { IsTrue result ↔ ((from ≡ to) ⊎ Reaches graph.now.upstreams from to) }
+{
+    from == to || graph.reaches(from, to)
+}
+
+fn follows_by_name(graph: &Graph, branch: u32, name: &str, task: u32) -> bool
+    requires { task < length graph.now.upstreams }
+    ensures { result ≡ followed_by_name graph.now branch task (Some name.now) }
+{
+    let _tasks = graph.len();
+    graph.ranks();
+    graph.distinct();
+    match graph.number_of(name) {
+        Some(named) => {
+            is_direct_downstream(graph, branch, named) && is_or_reaches(graph, named, task)
+        }
+        None => false,
+    }
+}
+
+fn follows_by_value(graph: &Graph, branch: u32, value: &Xval, task: u32) -> bool
+    requires { task < length graph.now.upstreams }
+    ensures { result ≡ followed_by_name graph.now branch task (name_in value.now) }
+{
+    match value {
+        Xval::Text(name) => follows_by_name(graph, branch, name.as_str(), task),
+        _ => false,
+    }
+}
+
+fn follows_by_values(graph: &Graph, branch: u32, values: &[Xval], task: u32) -> bool
+    requires { task < length graph.now.upstreams }
+    ensures { result ≡ list_any (λ v. followed_by_name graph.now branch task (name_in v)) values.now }
+{
+    values
+        .iter()
+        .any(|value| follows_by_value(graph, branch, value, task))
+}
+
+fn follows(graph: &Graph, branch: u32, value: &Xval, task: u32) -> bool
+    requires { task < length graph.now.upstreams }
+    ensures { result ≡ followed_at graph.now branch (Some value.now) task }
+{
+    let _tasks = graph.len();
+    graph.ranks();
+    match value {
+        Xval::Text(name) => follows_by_name(graph, branch, name.as_str(), task),
+        Xval::List(values) => follows_by_values(graph, branch, values.as_slice(), task),
+        Xval::Flag(_) | Xval::Int(_) | Xval::Nil => false,
+    }
+}
+
+/// Whether a branch that pushed this follows a task: it names the task, or another of its direct downstreams that
+/// reaches the task (Airflow's "Branching": a join of a followed path is not skipped).
+pub fn followed(graph: &Graph, branch: u32, value: Option<&Xval>, task: u32) -> bool
+    requires { task < length graph.now.upstreams }
+    ensures { result ≡ followed_at graph.now branch (option_map (λ v. v.now) value.entry) task }
+{
+    match value {
+        Some(value) => follows(graph, branch, value, task),
+        None => false,
+    }
+}

@@ -1,0 +1,54 @@
+//! Pulls (Airflow's "XComs").
+ghost use Rattle.std.specs.Prelude.{◌≡◌, IfOk, option_copied};
+ghost use Rattle.bf_xcom.specs.Pulls.{all_pushed as all_of, pull as pulled_from, pushed as pushed_of, pushed_alone as alone_of};
+
+use crate::values::{TaskResult, TaskValue};
+use bf_check::Task;
+use bf_value::{OutOfMemory, Values, Xval};
+use std::alloc::Global;
+
+fn pushed(instance: &TaskResult) -> Option<&Xval>
+    ensures { option_copied result ≡ pushed_of instance.now }
+{
+    instance.outcome.pushed()
+}
+
+fn pushed_alone(alloc: Global, instances: &[TaskResult]) -> Result<Option<Xval>, OutOfMemory>
+    ensures { IfOk result (λ value. value ≡ alone_of instances.now) }
+{
+    match instances {
+        [] => Ok(None),
+        [instance, ..] => match pushed(instance) {
+            Some(value) => Ok(Some(value.copy(alloc)?)),
+            None => Ok(None),
+        },
+    }
+}
+
+fn all_pushed(alloc: Global, instances: &[TaskResult]) -> Result<Vec<Xval>, OutOfMemory>
+    ensures { IfOk result (λ values. values.items ≡ all_of instances.now) }
+{
+    let mut values = Vec::new(alloc);
+    for instance in instances {
+        if let Some(value) = pushed(instance) {
+            values.push(value.copy(alloc)?)?;
+        }
+    }
+    Ok(values)
+}
+
+/// What a pull from a task gives, by the value that the task has in the run: of an unmapped task that ran, what it
+/// pushed; of an expanded one that ran, the list of what its instances pushed, in index order and perhaps empty; of
+/// any other, nothing.
+pub fn pull(alloc: Global, source: &Task, value: &TaskValue) -> Result<Option<Xval>, OutOfMemory>
+    ensures { IfOk result (λ pulled. pulled ≡ pulled_from source.now value.now) }
+{
+    let TaskValue::Ran(instances) = value else {
+        return Ok(None);
+    };
+    if source.expand.is_none() {
+        return pushed_alone(alloc, instances.as_slice());
+    }
+    let values = all_pushed(alloc, instances.as_slice())?;
+    Ok(Some(Xval::List(Values::new(values))))
+}

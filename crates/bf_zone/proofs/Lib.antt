@@ -1,0 +1,4 @@
+pub mod SameZone
+mod NoZone
+mod Texts
+mod Spelled

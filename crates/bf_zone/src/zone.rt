@@ -1,0 +1,94 @@
+//! Zones, and why a text is none.
+ghost use Rattle.std.specs.Prelude.{option_map, IfSome, IfNone, Some, Option, List, ℕ};
+ghost use Rattle.jiff.specs.Words.{plain_zone};
+ghost use Rattle.jiff.specs.Types.{TimeZone as PlainZone};
+ghost use Rattle.bf_zone.specs.Zones.{asked, file as file_asked, offset_or_rule, IsZone, IsZoneRead, IsZoneOf};
+ghost use Rattle.bf_zone.specs.Offsets.{offset_of};
+
+use crate::offset::offset_in;
+use jiff::Error as JiffError;
+use jiff::tz::{TimeZone, Tzif};
+use std::alloc::Global;
+use thiserror::Error;
+
+/// The greatest length of a zone file (our own choice).
+pub const MOST_FILE_BYTES: usize = 1_048_576;
+
+/// A time zone with what was read for it.
+#[derive(Drop)]
+pub enum Zone {
+    /// UTC, an offset or a POSIX rule.
+    Rule(TimeZone<'static>),
+    /// The table of a zone file.
+    Table(Tzif),
+}
+
+/// Why a text was not read as a zone.
+#[derive(Clone, Copy, Debug, PartialEq, Eq, Error)]
+pub enum ZoneFault {
+    #[error("bad zone")]
+    Bad,
+    #[error("out of memory")]
+    OutOfMemory,
+}
+
+/// The zone of a zone file.
+fn table_in(alloc: Global, bytes: &[u8]) -> Result<Zone, ZoneFault>
+    ensures { IsZoneRead file_asked (Some bytes.now) result }
+{
+    if bytes.len() > MOST_FILE_BYTES {
+        return Err(ZoneFault::Bad);
+    }
+    match Tzif::parse(alloc, None, bytes) {
+        Ok(table) => Ok(Zone::Table(table)),
+        Err(JiffError::OutOfMemory) => Err(ZoneFault::OutOfMemory),
+        Err(_) => Err(ZoneFault::Bad),
+    }
+}
+
+/// The zone of an offset or of a rule.
+fn rule_in(text: &str) -> Option<TimeZone<'static>>
+    ensures some { IfSome result (λ tz. (file : Option (List ℕ)) →
+        IsZone (offset_or_rule (offset_of text.now) text.now) file (plain_zone tz)) }
+    ensures none { IfNone result ((file : Option (List ℕ)) (z : PlainZone) →
+        IsZone (offset_or_rule (offset_of text.now) text.now) file z → ⊥) }
+{
+    if let Some(offset) = offset_in(text.as_bytes()) {
+        return Some(TimeZone::fixed(offset));
+    }
+    match TimeZone::posix(text) {
+        Ok(zone) => Some(zone),
+        Err(_) => None,
+    }
+}
+
+impl Zone {
+    /// The zone of a text, where `file` means the bytes of a zone file. For another text these aren't looked at.
+    /// `Bad` comes exactly where the text means no zone, as `file` does without bytes, and `OutOfMemory` only for a
+    /// zone file.
+    pub fn read(alloc: Global, text: &str, file: Option<&[u8]>) -> Result<Zone, ZoneFault>
+        ensures { IsZoneRead (asked text.now) (option_map (λ s. s.now) file.entry) result }
+    {
+        match text {
+            "UTC" => Ok(Zone::Rule(TimeZone::UTC)),
+            "file" => match file {
+                Some(bytes) => table_in(alloc, bytes),
+                None => Err(ZoneFault::Bad),
+            },
+            _ => match rule_in(text) {
+                Some(zone) => Ok(Zone::Rule(zone)),
+                None => Err(ZoneFault::Bad),
+            },
+        }
+    }
+
+    /// The zone as jiff's calls take it, for as long as this value is lent.
+    pub fn as_time_zone(&self) -> TimeZone<'_>
+        ensures { IsZoneOf self.now (plain_zone result) }
+    {
+        match self {
+            Zone::Rule(zone) => *zone,
+            Zone::Table(table) => TimeZone::tzif(table),
+        }
+    }
+}
