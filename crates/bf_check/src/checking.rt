@@ -87,11 +87,7 @@ struct Timing {
     zone: Zone,
 }
 
-fn timing_of(
-    alloc: Global,
-    draft: &Draft,
-    zone_file: Option<&[u8]>,
-) -> Result<Timing, CheckFault>
+fn timing_of(alloc: Global, draft: &Draft, zone_file: Option<&[u8]>) -> Result<Timing, CheckFault>
     requires { HasNoneBelow draft.now 14 }
     ensures schedule { IfOk result (λ timing. Fires draft.now.schedule timing.schedule) }
     ensures zone { IfOk result (λ timing. IsZoneFor draft.now.zone (option_map (λ s. s.now) zone_file.entry) timing.zone) }

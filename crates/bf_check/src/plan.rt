@@ -83,6 +83,7 @@ impl Model for Plan {
     ghost Value = { Checked };
 
     ghost use Rattle.bf_cron.specs.contracts.spec.CronSpec as s;
+
     ghost coded = { Prim.hlevel (codes, d.the_row.coded, l.the_row.coded, s.the_row.coded) };
 
     ghost use Rattle.bf_check.specs.Sound.{IsChecked};

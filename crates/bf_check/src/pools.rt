@@ -104,7 +104,10 @@ fn refuse_unknown_pools(alloc: Global, draft: &Draft) -> Result<(), CheckFault>
     refuse(alloc, TaskFault::UnknownPool, found)
 }
 
-fn first_that_takes_too_much<'a>(pools: &[PoolDraft], tasks: &'a [TaskDraft]) -> Option<&'a TaskDraft>
+fn first_that_takes_too_much<'a>(
+    pools: &[PoolDraft],
+    tasks: &'a [TaskDraft],
+) -> Option<&'a TaskDraft>
     requires by_name { StandByName pools.now }
     requires few { length pools.now < 4294967295 }
     ensures { option_map (λ task. task.now) result ≡ find (too_much (pools_in pools.now)) tasks.entry.now }

@@ -72,11 +72,7 @@ fn single_asked(alloc: Global, matches: &ArgMatches<'_>) -> Result<SingleAsked, 
 }
 
 #[tactic(auto, using(crate::proofs::Rows::first_rows))]
-fn optional(
-    alloc: Global,
-    matches: &ArgMatches<'_>,
-    id: &str,
-) -> Result<Option<String>, AllocError>
+fn optional(alloc: Global, matches: &ArgMatches<'_>, id: &str) -> Result<Option<String>, AllocError>
     ensures { IfOk result (λ t. first_of id.now (rows_of (found_of matches.now)) ≡ option_map string_bytes t) }
 {
     match matches.get_str(id) {

@@ -3,8 +3,8 @@ ghost use Rattle.std.specs.Prelude.{◌≡◌, ◌++◌, ◌∷◌, [], IfOk, On
 ghost use Rattle.bf_report.specs.Report.{line, state_word as state, value_word as value, instance_line, untried_line, mapped_lines, task_text, tasks_text, run_state_word as run_state, run_line, run_text, report_text};
 ghost use Rattle.std.specs.List.{flat_map};
 
-use bf_moment::Moment;
 use crate::report::{Report, RunReport, TaskReport};
+use bf_moment::Moment;
 use bf_value::{OutOfMemory, Text, text_of};
 use bf_xcom::{Outcome, RunState, TaskResult};
 use std::alloc::Global;

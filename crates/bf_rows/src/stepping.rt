@@ -39,11 +39,7 @@ pub fn begun_and(alloc: Global, tasks: u32, behind: Vec<Event>) -> Result<Vec<Ev
 }
 
 /// The core after these events, each of which it has to take.
-pub fn core_after<'a>(
-    alloc: Global,
-    plan: &'a Plan,
-    events: Vec<Event>,
-) -> Result<Core<'a>, Fail>
+pub fn core_after<'a>(alloc: Global, plan: &'a Plan, events: Vec<Event>) -> Result<Core<'a>, Fail>
     requires served { IsServed plan.now.dag }
 {
     let mut core = Core::new(alloc, plan, &[EPOCH])?;

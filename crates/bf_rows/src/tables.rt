@@ -5,8 +5,7 @@ use std::process::Abort;
 use std::test::Fail;
 
 /// One task that is retried twice.
-const RETRIED: &str =
-    r#"{"dag_id":"d","schedule":"@daily","tasks":[{"id":"a","retries":2}]}"#;
+const RETRIED: &str = r#"{"dag_id":"d","schedule":"@daily","tasks":[{"id":"a","retries":2}]}"#;
 
 /// A graph, a table, the state of the task, and what stands behind it in its line.
 const ANSWERS: [(&str, &str, &str, &str); 24] = [
@@ -18,13 +17,43 @@ const ANSWERS: [(&str, &str, &str, &str); 24] = [
     (ONE, r#"[{"index":-1,"status":1}]"#, "failed", "1 -"),
     (ONE, r#"[{"index":0,"status":1}]"#, "success", "1 -"),
     // A run is known by its logical date; one that isn't there is no fault.
-    (ONE, r#"[{"run":"2024-01-01T00:00:00Z","status":1}]"#, "failed", "1 -"),
-    (ONE, r#"[{"run":"2024-01-01T00:00:01Z","status":1}]"#, "success", "1 -"),
-    (ONE, r#"[{"run":"9999-12-31T23:59:59Z","status":1}]"#, "success", "1 -"),
-    (RETRIED, r#"[{"task":"a","try":3},{"task":"a","status":1}]"#, "success", "3 -"),
+    (
+        ONE,
+        r#"[{"run":"2024-01-01T00:00:00Z","status":1}]"#,
+        "failed",
+        "1 -",
+    ),
+    (
+        ONE,
+        r#"[{"run":"2024-01-01T00:00:01Z","status":1}]"#,
+        "success",
+        "1 -",
+    ),
+    (
+        ONE,
+        r#"[{"run":"9999-12-31T23:59:59Z","status":1}]"#,
+        "success",
+        "1 -",
+    ),
+    (
+        RETRIED,
+        r#"[{"task":"a","try":3},{"task":"a","status":1}]"#,
+        "success",
+        "3 -",
+    ),
     (RETRIED, r#"[{"try":2},{"status":1}]"#, "success", "2 -"),
-    (RETRIED, r#"[{"try":-9223372036854775808},{"try":4},{"status":1}]"#, "failed", "3 -"),
-    (RETRIED, r#"[{"try":1,"status":1},{"try":2,"status":99}]"#, "skipped", "2 -"),
+    (
+        RETRIED,
+        r#"[{"try":-9223372036854775808},{"try":4},{"status":1}]"#,
+        "failed",
+        "3 -",
+    ),
+    (
+        RETRIED,
+        r#"[{"try":1,"status":1},{"try":2,"status":99}]"#,
+        "skipped",
+        "2 -",
+    ),
     // All keys at once.
     (
         RETRIED,
@@ -41,10 +70,25 @@ const ANSWERS: [(&str, &str, &str, &str); 24] = [
     // What a line pushes.
     (ONE, r#"[{"out":"1.5"}]"#, "success", "1 \"1.5\""),
     (ONE, r#"[{"out":"  7"}]"#, "success", "1 7"),
-    (ONE, r#"[{"out":"{\"a\":1}"}]"#, "success", r#"1 "{\"a\":1}""#),
+    (
+        ONE,
+        r#"[{"out":"{\"a\":1}"}]"#,
+        "success",
+        r#"1 "{\"a\":1}""#,
+    ),
     (ONE, r#"[{"out":"null"}]"#, "success", "1 -"),
-    (ONE, r#"[{"out":"9223372036854775808"}]"#, "success", "1 \"9223372036854775808\""),
-    (ONE, r#"[{"out":"[null,true]"}]"#, "success", "1 [null,true]"),
+    (
+        ONE,
+        r#"[{"out":"9223372036854775808"}]"#,
+        "success",
+        "1 \"9223372036854775808\"",
+    ),
+    (
+        ONE,
+        r#"[{"out":"[null,true]"}]"#,
+        "success",
+        "1 [null,true]",
+    ),
 ];
 
 fn ends_so(
@@ -55,7 +99,11 @@ fn ends_so(
     state: &str,
     rest: &str,
 ) -> Result<(), Fail> {
-    let run = if state == "failed" { "failed" } else { "success" };
+    let run = if state == "failed" {
+        "failed"
+    } else {
+        "success"
+    };
     let report = format!(in alloc;
         "@backfill 1 d\n@run 2024-01-01T00:00:00Z 2024-01-01T00:00:00Z {run}\na -1 {state} {rest}\n@end 1\n"
     )?;

@@ -26,29 +26,120 @@ const IN_UTC: &str = r#"{"dag_id":"d","schedule":"30 2 * * *","tasks":[{"id":"a"
 /// which is none; how they end, and what they print.
 const LINES: [(&[&str], u8, &str, &str); 12] = [
     (
-        &["backfill", "list", "g", "--from", "2024-03-30", "--to", "2024-03-31T23:59:59Z", "--zone-file", "z"],
+        &[
+            "backfill",
+            "list",
+            "g",
+            "--from",
+            "2024-03-30",
+            "--to",
+            "2024-03-31T23:59:59Z",
+            "--zone-file",
+            "z",
+        ],
         0,
         "2024-03-30T01:30:00Z 2024-03-31T01:30:00Z\n2024-03-31T01:30:00Z 2024-04-01T00:30:00Z\n",
         "",
     ),
     (
-        &["backfill", "list", "g", "--from", "2024-10-26", "--to", "2024-10-27T23:59:59Z", "--zone-file", "z"],
+        &[
+            "backfill",
+            "list",
+            "g",
+            "--from",
+            "2024-10-26",
+            "--to",
+            "2024-10-27T23:59:59Z",
+            "--zone-file",
+            "z",
+        ],
         0,
         "2024-10-26T00:30:00Z 2024-10-27T00:30:00Z\n2024-10-27T00:30:00Z 2024-10-28T01:30:00Z\n",
         "",
     ),
-    (&["backfill", "check", "g", "--zone-file", "z"], 0, "ok 1 tasks, 0 edges\n", ""),
-    (&["backfill", "single", "g", "t", "--at", "2024-01-01", "--zone-file", "z"], 0, ONE_REPORT, ""),
+    (
+        &["backfill", "check", "g", "--zone-file", "z"],
+        0,
+        "ok 1 tasks, 0 edges\n",
+        "",
+    ),
+    (
+        &[
+            "backfill",
+            "single",
+            "g",
+            "t",
+            "--at",
+            "2024-01-01",
+            "--zone-file",
+            "z",
+        ],
+        0,
+        ONE_REPORT,
+        "",
+    ),
     (&["backfill", "check", "g"], 2, "", "refused 13 bad zone\n"),
-    (&["backfill", "single", "g", "t", "--at", "2024-01-01"], 2, "", "refused 13 bad zone\n"),
-    (&["backfill", "check", "g", "--zone-file", "b"], 2, "", "refused 13 bad zone\n"),
+    (
+        &["backfill", "single", "g", "t", "--at", "2024-01-01"],
+        2,
+        "",
+        "refused 13 bad zone\n",
+    ),
+    (
+        &["backfill", "check", "g", "--zone-file", "b"],
+        2,
+        "",
+        "refused 13 bad zone\n",
+    ),
     // For another zone the file is read and not looked at.
-    (&["backfill", "check", "u", "--zone-file", "b"], 0, "ok 1 tasks, 0 edges\n", ""),
-    (&["backfill", "check", "u", "--zone-file", "n"], 3, "", "fault: cannot read n\n"),
+    (
+        &["backfill", "check", "u", "--zone-file", "b"],
+        0,
+        "ok 1 tasks, 0 edges\n",
+        "",
+    ),
+    (
+        &["backfill", "check", "u", "--zone-file", "n"],
+        3,
+        "",
+        "fault: cannot read n\n",
+    ),
     // Moments come first; then the graph file, the zone file and the table; then what they hold.
-    (&["backfill", "list", "n", "--from", "2024-02-30", "--to", "2024-01-01"], 2, "", "refused 28 bad moment\n"),
-    (&["backfill", "check", "m", "--zone-file", "n"], 3, "", "fault: cannot read m\n"),
-    (&["backfill", "single", "b", "m", "--at", "2024-01-01", "--zone-file", "n"], 3, "", "fault: cannot read n\n"),
+    (
+        &[
+            "backfill",
+            "list",
+            "n",
+            "--from",
+            "2024-02-30",
+            "--to",
+            "2024-01-01",
+        ],
+        2,
+        "",
+        "refused 28 bad moment\n",
+    ),
+    (
+        &["backfill", "check", "m", "--zone-file", "n"],
+        3,
+        "",
+        "fault: cannot read m\n",
+    ),
+    (
+        &[
+            "backfill",
+            "single",
+            "b",
+            "m",
+            "--at",
+            "2024-01-01",
+            "--zone-file",
+            "n",
+        ],
+        3,
+        "",
+        "fault: cannot read n\n",
+    ),
 ];
 
 fn files_of(alloc: Global) -> Result<StoredFiles, Fail> {
@@ -61,11 +152,7 @@ fn files_of(alloc: Global) -> Result<StoredFiles, Fail> {
     Ok(files)
 }
 
-fn is_answered(
-    rt: &impl Abort,
-    alloc: Global,
-    row: (&[&str], u8, &str, &str),
-) -> Result<(), Fail> {
+fn is_answered(rt: &impl Abort, alloc: Global, row: (&[&str], u8, &str, &str)) -> Result<(), Fail> {
     let ending = answered(alloc, row.0, &mut files_of(alloc)?)?;
     expect(rt, &ending, row.1, row.2, row.3);
     Ok(())
