@@ -1,37 +1,64 @@
--- When an event is enabled, and when it is refused, where no task is expanded.
-use Rattle.std.proofs.Common.{◌≡◌, ◌≢◌, ◌<◌, ◌≤◌, ◌+◌, ◌&&◌, ℕ, true, false, length, pred, Option, None, Some, Result, Ok, Err, IfErr, IsSome, is_some, nat_le, refl, sym, ap, ◌∙◌, subst, arith}
+-- When an event is enabled, and when it is refused.
+use Rattle.std.proofs.Common.{◌≡◌, ◌≢◌, ◌<◌, ◌≤◌, ◌+◌, ◌&&◌, ℕ, Bool, true, false, length, pred, Option, None, Some, Result, Ok, Err, IfErr, IsSome, is_some, nat_le, refl, sym, ap, ap₂, ◌∙◌, subst, arith}
 use Rattle.std.proofs.lemmas.Bool.Decides.{nat_tests}
-use Rattle.bf_check.specs.Served.{IsServed}
-use Rattle.bf_core.specs.Terms.{Dag, Limits, State, Event, JobName, Phase, Instance, demand_of, pool_size}
-use Rattle.bf_core.specs.Deciding.{Decision, gate}
-use Rattle.bf_core.specs.Events.{cell_at, decision_in, goes_on, is_run, seen_in, before_in, entry_in, place_in, occupied, has_room, row_of, IsDecidable, IsPresent, IsEnabled}
-use Rattle.bf_core.specs.Cores.{Backfill, IsReplay, IsThere, IsKnown, IsDue, Refuses, SpeaksOfThese}
+use Rattle.bf_core.specs.Terms.{Dag, Limits, State, Event, JobName, Phase, Instance, Verdict, demand_of, pool_size, task_of}
+use Rattle.bf_core.specs.Deciding.{Decision, after_verdict, decision, gate}
+use Rattle.bf_core.specs.Events.{after, before_in, cell_at, cell_of, decision_in, put, goes_on, is_run, seen_in, entry_in, place_in, occupied, has_room, row_of, IsDecidable, IsPresent, IsEnabled}
+use Rattle.bf_core.specs.Cores.{Backfill, IsReplay, IsThere, IsKnown, IsDue, Refuses, SpeaksOfThese, deciding}
 use Rattle.bf_core.proofs.Invariant.{ended_of}
 use Rattle.bf_core.proofs.Kept.{replay-rows, replay-invariant}
-use Rattle.bf_core.specs.Checks.{HasRows, IsUndecidedNow}
+use Rattle.bf_core.specs.Checks.{HasRows, IsUndecidedNow, RefusedFor}
 use Rattle.bf_core.specs.declared.event.Illegal.{Illegal}
 use Rattle.bf_core.proofs.Shape.{open-run}
 use Rattle.bf_core.proofs.Known.{decided-there, has-instance}
 
--- no task goes on to its expansion
-pub goes_on-not : (dag : Dag) → IsServed dag → (s : State) (k t : ℕ) → goes_on dag s k t ≡ false
+-- what is decided and does not wait may be settled or expanded, as it goes on
+pub decide-able : (dag : Dag) (limits : Limits) (s : State) (k t : ℕ) (expands : Bool) (d : Decision) → IsThere dag s k t × IsUndecidedNow s k t → goes_on dag s k t ≡ expands →
+    d ≡ decision_in dag s k t → (d ≡ Decision.Wait → ⊥) → IsEnabled dag limits s (deciding expands k t)
+decide-able dag limits s k t true d now on is decides = (record { run_is_open = now.1.0; is_task = now.0.1; undecided = now.1.1; decides = λ e. decides (is ∙ e) }, on)
+decide-able dag limits s k t false d now on is decides = (record { run_is_open = now.1.0; is_task = now.0.1; undecided = now.1.1; decides = λ e. decides (is ∙ e) }, on)
+
+-- the verdict that is found says whether the task goes on
+pub goes_on-by : (dag d : Dag) (s : State) (k t : ℕ) (v : Verdict) (g : Bool) → d ≡ dag → v ≡ gate dag k (λ u. seen_in (cell_at s k u)) (before_in s k t) t →
+    g ≡ (is_some (task_of d t).expand && is_run v) → g ≡ goes_on dag s k t
 unfolding goes_on
-goes_on-not dag served s k t = ap (λ o. is_some o && is_run (gate dag k (λ u. seen_in (cell_at s k u)) (before_in s k t) t)) (served.unmapped t)
+goes_on-by dag d s k t v g same is e = e ∙ ap₂ (λ (x : Dag) w. is_some (task_of x t).expand && is_run w) same is
 
-pub settle-able : (dag : Dag) → IsServed dag → (limits : Limits) (s : State) (k t : ℕ) (d : Decision) → IsThere dag s k t × IsUndecidedNow s k t → d ≡ decision_in dag s k t → (d ≡ Decision.Wait → ⊥) →
-    IsEnabled dag limits s (Event.Settle k t)
-settle-able dag served limits s k t d now is decides = (
-  record { run_is_open = now.1.0; is_task = now.0.1; undecided = now.1.1; decides = λ e. decides (is ∙ e) },
-  goes_on-not dag served s k t,
-)
+-- what follows from it is what is decided
+pub decision-by : (dag d : Dag) (s : State) (k t : ℕ) (v : Verdict) (found : Decision) → d ≡ dag → v ≡ gate dag k (λ u. seen_in (cell_at s k u)) (before_in s k t) t →
+    found ≡ after_verdict d (λ u. seen_in (cell_at s k u)) t v → found ≡ decision_in dag s k t
+unfolding decision decision_in
+decision-by dag d s k t v found same is e = e ∙ ap₂ (λ (x : Dag) w. after_verdict x (λ u. seen_in (cell_at s k u)) t w) same is
 
--- what is to be settled is there, and undecided
-pub settle-refused : (dag : Dag) (limits : Limits) (s : State) (k t : ℕ) (fault : Illegal) → (fault ≢ Illegal.NoRoom) → (fault ≡ Illegal.Stranger → ¬ (IsThere dag s k t)) →
-    (fault ≡ Illegal.NotEnabled → IsThere dag s k t × ¬ (IsEnabled dag limits s (Event.Settle k t))) → Refuses dag limits s (Event.Settle k t) fault
-settle-refused dag limits s k t Illegal.Stranger room stranger able = stranger refl
-settle-refused dag limits s k t Illegal.NotEnabled room stranger able = able refl
-settle-refused dag limits s k t Illegal.NoRoom room stranger able = absurd (room refl)
-settle-refused dag limits s k t Illegal.OutOfMemory room stranger able = tt
+-- what may be decided is decidable, and goes on as is asked
+pub able-decidable : (dag : Dag) (limits : Limits) (s : State) (k t : ℕ) (expands : Bool) → IsEnabled dag limits s (deciding expands k t) → IsDecidable dag s k t × (goes_on dag s k t ≡ expands)
+able-decidable dag limits s k t true able = able
+able-decidable dag limits s k t false able = able
+
+-- either way the task gets the cell that is decided
+pub after-deciding : (dag : Dag) (s : State) (k t : ℕ) (expands : Bool) → after dag s (deciding expands k t) ≡ put s k t (cell_of (decision_in dag s k t))
+unfolding after
+after-deciding dag s k t true = refl
+after-deciding dag s k t false = refl
+
+pub not-decided : (dag : Dag) (limits : Limits) (s : State) (k t : ℕ) (expands : Bool) → IsThere dag s k t → (IsDecidable dag s k t → goes_on dag s k t ≡ expands → ⊥) →
+    Refuses dag limits s (deciding expands k t) Illegal.NotEnabled
+not-decided dag limits s k t true there never = (there, λ able. never able.0 able.1)
+not-decided dag limits s k t false there never = (there, λ able. never able.0 able.1)
+
+-- what is not there, or not undecided in an open run, is refused for that
+pub undecided-refused : (dag : Dag) (limits : Limits) (s : State) (k t : ℕ) (expands : Bool) (fault : Illegal) → RefusedFor (IsThere dag s k t) (IsUndecidedNow s k t) fault →
+    Refuses dag limits s (deciding expands k t) fault
+undecided-refused dag limits s k t true Illegal.Stranger refused = refused
+undecided-refused dag limits s k t false Illegal.Stranger refused = refused
+undecided-refused dag limits s k t expands Illegal.NotEnabled refused = not-decided dag limits s k t expands refused.0 (λ able on. refused.1 (able.run_is_open, able.undecided))
+undecided-refused dag limits s k t expands Illegal.NoRoom refused = absurd refused
+undecided-refused dag limits s k t true Illegal.OutOfMemory refused = tt
+undecided-refused dag limits s k t false Illegal.OutOfMemory refused = tt
+
+pub memory-refused : (dag : Dag) (limits : Limits) (s : State) (k t : ℕ) (expands : Bool) → Refuses dag limits s (deciding expands k t) Illegal.OutOfMemory
+memory-refused dag limits s k t true = tt
+memory-refused dag limits s k t false = tt
 
 pub decidable-run : (dag : Dag) (s : State) (k t : ℕ) → IsDecidable dag s k t → k < length s.runs
 decidable-run dag s k t able = open-run s k able.run_is_open

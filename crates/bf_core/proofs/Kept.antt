@@ -1,17 +1,12 @@
 -- What a core keeps when an event comes.
 use Rattle.std.proofs.Common.{◌≡◌, ℕ, suc, zero, ◌++◌, List, [], ◌∷◌, length, Option, refl, sym, ap, ◌∙◌, subst, inl, inr, arith}
-use Rattle.bf_check.specs.Served.{IsServed}
 use Rattle.bf_pool.specs.Slots.{Slots, occupied_of}
 use Rattle.bf_core.specs.Terms.{Dag, Limits, State, Cell, Instance, Event, Verdict, RunPhase, Xval, task_of}
-use Rattle.bf_core.specs.Deciding.{Seen, Decision, decision, gate, pulled}
 use Rattle.bf_core.specs.Events.{cell_at, cell_of, change_at, change_instance, begun, ended, put, with_phase, next_run, decision_in, place_in, after, occupied, IsEnabled, IsLegal, HasEnded, replay, seen_in, before_in}
 use Rattle.bf_core.specs.Agreement.{IsOutcome}
-use Rattle.bf_core.specs.Few.{IsFew, AreFew}
-use Rattle.bf_core.specs.Words.{unmapped_after}
 use Rattle.bf_core.specs.Cores.{Backfill, moved, IsReplay, IsCore}
 use Rattle.bf_core.specs.Checks.{HasRows}
-use Rattle.bf_core.proofs.Reading.{put-cases, with_phase-cell}
-use Rattle.bf_core.proofs.Rulings.{decision-is}
+use Rattle.bf_core.proofs.Fitting.{few-after, fitting-after}
 use Rattle.bf_core.proofs.Invariant.{Invariant}
 use Rattle.bf_core.proofs.Steps.{legal-keeps, start-keeps}
 use Rattle.bf_core.proofs.Outcomes.{ended-is}
@@ -50,49 +45,6 @@ replay-rows b is k l = let shaped = replay-shaped b is in shaped.rows k (rw (←
 pub replay-outcome : (b : Backfill) → IsReplay b → HasEnded b.state → IsOutcome b.dag b.runs b.state
 replay-outcome b is over = ended-is b.dag is.sound b.runs b.state (replay-invariant b is) (replay-shaped b is) over
 
--- ---- few instances
-
-few-unmapped : (pulled : List (Option Xval)) (v : Verdict) → IsFew (cell_of (unmapped_after pulled v))
-few-unmapped pulled Verdict.Wait = tt
-few-unmapped pulled Verdict.Blocked = tt
-few-unmapped pulled Verdict.Skip = tt
-few-unmapped pulled Verdict.UpstreamFailed = tt
-few-unmapped pulled Verdict.Run = omega arith
-
-few-decided : (dag : Dag) → IsServed dag → (s : State) (k t : ℕ) → IsFew (cell_of (decision_in dag s k t))
-unfolding decision_in decision
-few-decided dag served s k t =
-    let seen : ℕ → Seen = λ u. seen_in (cell_at s k u) in
-    let v : Verdict = gate dag k seen (before_in s k t) t in
-    subst (λ (d : Decision). IsFew (cell_of d)) (sym (decision-is dag t (served.unmapped t) seen v)) (few-unmapped (pulled dag seen t) v)
-
-length-change : (f : Instance → Instance) (xs : List Instance) (i : ℕ) → length (change_at f xs i) ≡ length xs
-length-change f [] i = refl
-length-change f (x ∷ xs) zero = refl
-length-change f (x ∷ xs) (suc i) = let e : _ = length-change f xs i in omega arith
-
-few-change : (f : Instance → Instance) (c : Cell) (i : ℕ) → IsFew c → IsFew (change_instance f c i)
-few-change f (Cell.Ran xs) i few = rw (length-change f xs i) few
-few-change f Cell.Undecided i few = tt
-few-change f Cell.Blocked i few = tt
-few-change f Cell.Skipped i few = tt
-few-change f Cell.UpstreamFailed i few = tt
-
-few-put : (s : State) (k t : ℕ) (c : Cell) → AreFew s → IsFew c → AreFew (put s k t c)
-few-put s k t c few new j u = elim (put-cases s k t c j u) [ inl p ↦ subst IsFew (sym p.2) new | inr e ↦ subst IsFew (sym e) (few j u) ]
-
-few-phase : (s : State) (k : ℕ) (p : RunPhase) → AreFew s → AreFew (with_phase s k p)
-few-phase s k p few j u = subst IsFew (sym (with_phase-cell s k p j u)) (few j u)
-
-pub few-after : (dag : Dag) → IsServed dag → (s : State) (e : Event) → AreFew s → AreFew (after dag s e)
-unfolding after
-few-after dag served s Event.Open few = few-phase s (next_run s) RunPhase.Open few
-few-after dag served s (Event.Settle k t) few = few-put s k t _ few (few-decided dag served s k t)
-few-after dag served s (Event.Expand k t) few = few-put s k t _ few (few-decided dag served s k t)
-few-after dag served s (Event.Begin n) few = few-put s n.run n.task _ few (few-change begun _ (place_in dag n) (few n.run n.task))
-few-after dag served s (Event.End n o) few = few-put s n.run n.task _ few (few-change (ended (task_of dag n.task).retries o) _ (place_in dag n) (few n.run n.task))
-few-after dag served s (Event.Close k) few = few-phase s k RunPhase.Closed few
-
 -- ---- a core after an event
 
 -- an enabled event keeps the core, where the pools are kept in step
@@ -102,9 +54,9 @@ pub core-moved : (b : Backfill) (pools : Slots) (e : Event) (s : State) (journal
 core-moved b pools e s journal after_pools rooms is able to longer sizes held = rw (to, longer) (record {
   replayed = replay-event b e is.replayed able;
   limits_fit = is.limits_fit;
-  served = is.served;
   few_runs = is.few_runs;
-  few = few-after b.dag is.served b.state e is.few;
+  few = few-after b.dag b.state e is.few is.fitting;
+  fitting = fitting-after b.dag b.limits b.state e able is.fitting;
   rooms_fit = is.rooms_fit;
   sizes = sizes ∙ is.sizes;
   held = held;

@@ -1,8 +1,7 @@
--- The instance that a name speaks of, where no task is expanded.
-use Rattle.std.proofs.Common.{◌≡◌, ◌≢◌, ◌<◌, ℕ, zero, suc, pos, negsuc, nat_abs, Bool, true, false, ◌&&◌, if◌then◌else◌, List, [], ◌∷◌, length, None, Some, is_some, slice_get, slice_index_or, refl, sym, ap, ◌∙◌, arith}
+-- The instance that a name speaks of, and the runs that may be closed.
+use Rattle.std.proofs.Common.{◌≡◌, ◌≢◌, ◌<◌, ℕ, zero, suc, Bool, true, false, ◌&&◌, List, [], ◌∷◌, length, None, Some, is_some, slice_get, slice_index_or, refl, sym, ap, ◌∙◌, arith}
 use Rattle.std.specs.List.{list_all}
-use Rattle.bf_check.specs.Served.{IsServed}
-use Rattle.bf_core.specs.Terms.{Dag, State, Run, RunPhase, Cell, Instance, Phase, JobName, task_of, map_index}
+use Rattle.bf_core.specs.Terms.{Dag, State, Run, RunPhase, Cell, Instance, Phase, JobName}
 use Rattle.bf_core.specs.Events.{cell_in, cell_at, row_of, phase_in, phase_of, no_run, instance_of, place_in, value_in, is_open, IsPresent, AllSettled}
 use Rattle.bf_core.specs.Cores.{IsThere, IsKnown}
 use Rattle.bf_core.specs.Checks.{HasRows, IsKnownAs}
@@ -29,43 +28,26 @@ has-instance c i x e f = let g : None ≡ Some x = sym (ap (λ d. instance_of d 
 
 -- ---- names
 
-pub place-zero : (dag : Dag) → IsServed dag → (n : JobName) → place_in dag n ≡ 0
-place-zero dag served n = ap (λ o. if is_some o then nat_abs n.index else 0) (served.unmapped n.task)
+pub present-from : (dag : Dag) (s : State) (n : JobName) (x : Instance) (p : Phase) → IsKnownAs dag s n x → x.attempt ≡ n.attempt → x.phase ≡ p → IsPresent dag s n p
+present-from dag s n x p known same phase = record { held = x; is_held = known.is_held; is_named = known.is_named; is_present = same; in_phase = phase }
 
-index-alone : (dag : Dag) → IsServed dag → (t i : ℕ) → map_index (task_of dag t) i ≡ negsuc 0
-index-alone dag served t i = ap (λ o. if is_some o then pos i else negsuc 0) (served.unmapped t)
-
-pub present-from : (dag : Dag) → IsServed dag → (s : State) (n : JobName) (x : Instance) (p : Phase) → IsKnownAs s n x → x.attempt ≡ n.attempt → x.phase ≡ p → IsPresent dag s n p
-present-from dag served s n x p known same phase = record {
+pub known-from : (dag : Dag) (s : State) → HasRows dag s → (n : JobName) (x : Instance) → IsKnownAs dag s n x → IsKnown dag s n
+known-from dag s rows n x known = record {
+  there = decided-there dag s rows n.run n.task (has-instance _ (place_in dag n) x known.is_held);
   held = x;
-  is_held = rw (place-zero dag served n) known.is_held;
-  is_named = index-alone dag served n.task (place_in dag n) ∙ sym known.alone;
-  is_present = same;
-  in_phase = phase;
-}
-
-pub known-from : (dag : Dag) → IsServed dag → (s : State) → HasRows dag s → (n : JobName) (x : Instance) → IsKnownAs s n x → IsKnown dag s n
-known-from dag served s rows n x known = record {
-  there = decided-there dag s rows n.run n.task (has-instance _ 0 x known.is_held);
-  held = x;
-  is_held = rw (place-zero dag served n) known.is_held;
-  is_named = index-alone dag served n.task (place_in dag n) ∙ sym known.alone;
+  is_held = known.is_held;
+  is_named = known.is_named;
   from = known.from;
   to = known.to;
 }
 
-pub known-back : (dag : Dag) → IsServed dag → (s : State) (n : JobName) → (k : IsKnown dag s n) → IsKnownAs s n k.held
-known-back dag served s n k = record {
-  is_held = rw (place-zero dag served n) at k.is_held;
-  alone = sym k.is_named ∙ index-alone dag served n.task (place_in dag n);
-  from = k.from;
-  to = k.to;
-}
+pub known-back : (dag : Dag) (s : State) (n : JobName) → (k : IsKnown dag s n) → IsKnownAs dag s n k.held
+known-back dag s n k = record { is_held = k.is_held; is_named = k.is_named; from = k.from; to = k.to }
 
 -- what is present is what is held
-pub present-back : (dag : Dag) → IsServed dag → (s : State) (n : JobName) (x : Instance) (p : Phase) → IsKnownAs s n x → IsPresent dag s n p → (x.attempt ≡ n.attempt) × (x.phase ≡ p)
-present-back dag served s n x p known present =
-    let held : Some x ≡ Some present.held = sym known.is_held ∙ (rw (place-zero dag served n) at present.is_held) in
+pub present-back : (dag : Dag) (s : State) (n : JobName) (x : Instance) (p : Phase) → IsKnownAs dag s n x → IsPresent dag s n p → (x.attempt ≡ n.attempt) × (x.phase ≡ p)
+present-back dag s n x p known present =
+    let held : Some x ≡ Some present.held = sym known.is_held ∙ present.is_held in
     let same : x ≡ present.held = cc in
     (ap (λ (y : Instance). y.attempt) same ∙ present.is_present, ap (λ (y : Instance). y.phase) same ∙ present.in_phase)
 

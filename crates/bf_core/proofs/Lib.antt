@@ -14,7 +14,6 @@ pub mod Stuck
 pub mod Placing
 pub mod Taken
 pub mod Sums
-pub mod Rulings
 pub mod Known
 pub mod Kept
 pub mod NextRun
@@ -24,3 +23,5 @@ pub mod Closing
 pub mod Starting
 pub mod Pulled
 pub mod Branching
+pub mod Expanded
+pub mod Fitting

@@ -16,7 +16,7 @@ first-cons a (Phase.Finished o) None rs e = cc
 first-cons a Phase.Waiting o rs e = cc
 first-cons a Phase.Running o rs e = cc
 
-first-pushed : (xs : List Instance) (rs : List TaskResult) → results xs ≡ Some rs → pushed_alone rs ≡ pushed_by_first xs
+pub first-pushed : (xs : List Instance) (rs : List TaskResult) → results xs ≡ Some rs → pushed_alone rs ≡ pushed_by_first xs
 first-pushed [] [] e = refl
 first-pushed [] (r ∷ rs) e = cc
 first-pushed (x ∷ xs) rs e = first-cons x.attempt x.phase (results xs) rs e

@@ -85,6 +85,23 @@ place-index dag t i alone = go (task_of dag t).expand alone
     go None h = sym (h refl)
     go (Some s) h = refl
 
+-- the place of an instance is that of its index
+pub placed-in : (dag : Dag) (s : State) → Invariant dag s → (k t i : ℕ) (c : Cell) → cell_at s k t ≡ c → (x : Instance) → instance_of c i ≡ Some x → place_of (task_of dag t) (map_index (task_of dag t) i) ≡ i
+placed-in dag s inv k t i (Cell.Ran xs) c x e = place-index dag t i alone
+  where
+    agreed : CellAgrees (decided dag (entry_in s.ledger) k t) (result_of dag (entry_in s.ledger) k t) (Cell.Ran xs)
+    agreed = rw c at (inv.agrees (entry_in s.ledger) (λ n e h. h) k t)
+
+    alone : (task_of dag t).expand ≡ None → i ≡ 0
+    alone n =
+        let one : length (givens_of xs) ≡ 1 = single-decided dag (entry_in s.ledger) k t (givens_of xs) n agreed.0 in
+        let l : i < length (givens_of xs) = below-length xs i x e in
+        omega arith
+placed-in dag s inv k t i Cell.Undecided c x e = cc
+placed-in dag s inv k t i Cell.Blocked c x e = cc
+placed-in dag s inv k t i Cell.Skipped c x e = cc
+placed-in dag s inv k t i Cell.UpstreamFailed c x e = cc
+
 -- what holds of each member holds of all
 pub all-in : (P : ℕ → Type 0) (us : List ℕ) → ((u : ℕ) → IsOneOf us u → P u) → AllByRecursion P us
 all-in P [] h = tt
@@ -121,7 +138,7 @@ none-open-in (r ∷ rs) none =
     one RunPhase.Open n = absurd (n refl)
     one RunPhase.Closed n = refl
 
-none-open : (s : State) → ((k : ℕ) → k < length s.runs → phase_of s k ≡ RunPhase.Open → ⊥) → open_now s ≡ 0
+pub none-open : (s : State) → ((k : ℕ) → k < length s.runs → phase_of s k ≡ RunPhase.Open → ⊥) → open_now s ≡ 0
 unfolding phase_in
 none-open s none = none-open-in s.runs none
 
@@ -155,17 +172,8 @@ module _ (dag : Dag) (sound : IsSound dag) (limits : Limits) (runs : ℕ) (s : S
     (record { held = x; is_held = rw (c, place) e; is_named = rw place; is_present = refl; in_phase = w }, room t),
   )
     where
-      agreed : CellAgrees (decided dag (entry_in s.ledger) k t) (result_of dag (entry_in s.ledger) k t) (Cell.Ran xs)
-      agreed = rw c at (inv.agrees (entry_in s.ledger) (λ n e h. h) k t)
-
-      alone : (task_of dag t).expand ≡ None → i ≡ 0
-      alone n =
-          let one : length (givens_of xs) ≡ 1 = single-decided dag (entry_in s.ledger) k t (givens_of xs) n agreed.0 in
-          let l : i < length (givens_of xs) = below-length xs i x e in
-          omega arith
-
       place : place_of (task_of dag t) (map_index (task_of dag t) i) ≡ i
-      place = place-index dag t i alone
+      place = placed-in dag s inv k t i (cell_at s k t) refl x (rw c e)
 
   -- a task whose upstreams and past are settled, and that isn't settled, moves
   task-moves : (k t : ℕ) → phase_of s k ≡ RunPhase.Open → t < length dag.tasks → is_some (value_in (cell_at s k t)) ≡ false →

@@ -1,9 +1,9 @@
 -- What the checks of an event look at.
-use Rattle.std.specs.Prelude.{◌≡◌, ◌<◌, ◌≤◌, ℕ, negsuc, List, length, Some, slice_get, slice_index_or}
-use Rattle.bf_core.specs.Terms.{Dag, State, Cell, Run, RunPhase, RunState, JobName, Instance, TaskValue}
+use Rattle.std.specs.Prelude.{◌≡◌, ◌<◌, ◌≤◌, ℕ, List, length, Some, slice_get, slice_index_or}
+use Rattle.bf_core.specs.Terms.{Dag, State, Cell, Run, RunPhase, RunState, JobName, Instance, TaskValue, task_of, map_index}
 use Rattle.bf_core.specs.declared.event.Illegal.{Illegal}
 use Rattle.bf_core.specs.Recursion.{run_state_of}
-use Rattle.bf_core.specs.Events.{value_in, value_or_blocked, row_of, cell_at, phase_of, instance_of}
+use Rattle.bf_core.specs.Events.{value_in, value_or_blocked, row_of, cell_at, phase_of, instance_of, place_in}
 
 -- each run has a cell for each task
 abbrev pub HasRows : Dag → State → Type 0
@@ -19,10 +19,10 @@ RefusedFor There Due Illegal.NotEnabled = There × ¬ Due
 RefusedFor There Due Illegal.NoRoom = ⊥
 RefusedFor There Due Illegal.OutOfMemory = Unit {0}
 
--- the unmapped instance of that name is there, and has come to that try
-pub record IsKnownAs (s : State) (n : JobName) (x : Instance) : Type 0 where
-  pub is_held : instance_of (cell_at s n.run n.task) 0 ≡ Some x
-  pub alone : n.index ≡ negsuc 0
+-- the instance of that name is there, and has come to that try
+pub record IsKnownAs (dag : Dag) (s : State) (n : JobName) (x : Instance) : Type 0 where
+  pub is_held : instance_of (cell_at s n.run n.task) (place_in dag n) ≡ Some x
+  pub is_named : map_index (task_of dag n.task) (place_in dag n) ≡ n.index
   pub from : 1 ≤ n.attempt
   pub to : n.attempt ≤ x.attempt
 

@@ -1,12 +1,11 @@
 -- What callers see of a core, what an event does to it, and which events are refused.
-use Rattle.std.specs.Prelude.{◌≡◌, ◌<◌, ◌≤◌, ◌++◌, ◌∷◌, [], ℕ, List, length, Some}
+use Rattle.std.specs.Prelude.{◌≡◌, ◌<◌, ◌≤◌, ◌++◌, ◌∷◌, [], Bool, true, false, ℕ, List, length, Some}
 use Rattle.bf_check.specs.Sound.{AreLimits}
-use Rattle.bf_check.specs.Served.{IsServed}
 use Rattle.bf_pool.specs.Slots.{Slots, occupied_of}
 use Rattle.bf_core.specs.Terms.{Dag, Limits, JobName, State, Event, Instance, Phase, IsSound, task_of, map_index}
 use Rattle.bf_core.specs.declared.event.Illegal.{Illegal}
 use Rattle.bf_core.specs.Events.{IsLegal, replay, start, after, occupied, IsEnabled, IsPresent, cell_at, instance_of, place_in}
-use Rattle.bf_core.specs.Few.{AreFew}
+use Rattle.bf_core.specs.Few.{AreFew, AreFitting}
 
 -- the plan, how many runs there are, the state, and the events that led to it
 pub record Backfill : Type 0 where
@@ -29,6 +28,11 @@ pub record IsReplay (b : Backfill) : Type 0 where
   pub sound : IsSound b.dag
   pub legal : IsLegal b.dag b.limits (start b.dag b.runs) b.journal
   pub led_to : replay b.dag (start b.dag b.runs) b.journal ≡ b.state
+
+-- the event that the task is decided: by its expansion, or without
+abbrev pub deciding : Bool → ℕ → ℕ → Event
+deciding true k t = Event.Expand k t
+deciding false k t = Event.Settle k t
 
 -- ---- refusals
 
@@ -71,9 +75,9 @@ Refuses dag limits s e Illegal.OutOfMemory = Unit {0}
 pub record IsCore (b : Backfill) (pools : Slots) (rooms : ℕ) : Type 0 where
   pub replayed : IsReplay b
   pub limits_fit : AreLimits b.dag b.limits
-  pub served : IsServed b.dag
   pub few_runs : b.runs ≤ 4_096
   pub few : AreFew b.state
+  pub fitting : AreFitting b.dag b.state
   pub rooms_fit : rooms ≡ b.runs
   pub sizes : pools.sizes ≡ b.limits.pools
   pub held : (pool : ℕ) → occupied_of pools pool ≡ occupied b.limits b.state pool

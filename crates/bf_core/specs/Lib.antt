@@ -8,3 +8,4 @@ pub mod Words
 pub mod Cores
 pub mod Checks
 pub mod Endings
+pub mod Answered

@@ -16,12 +16,13 @@ unfoldable pub use Rattle.bf_check.specs.Plans.{task_of}
 pub use Rattle.bf_check.specs.Plans.{is_branch, shape_of}
 pub use Rattle.bf_check.specs.Sound.{IsOneOf, IsSettledAncestor, Direct, Above, IsSound, demand_of, pool_size}
 pub use Rattle.bf_mapped.specs.declared.source.Items.{Items}
+pub use Rattle.bf_mapped.specs.declared.source.SourceValues.{SourceValues}
 pub use Rattle.bf_xcom.specs.declared.values.Given.{Given}
 pub use Rattle.bf_xcom.specs.declared.values.Outcome.{Outcome}
 pub use Rattle.bf_xcom.specs.declared.values.RunState.{RunState}
 pub use Rattle.bf_xcom.specs.declared.values.TaskResult.{TaskResult}
 pub use Rattle.bf_xcom.specs.declared.values.TaskValue.{TaskValue}
-pub use Rattle.bf_xcom.specs.Pulls.{pushed, pull, items}
+pub use Rattle.bf_xcom.specs.Pulls.{pushed, pull, items, source_values}
 pub use Rattle.bf_try.specs.declared.ledger.Entry.{Entry}
 pub use Rattle.bf_try.specs.Tries.{Look as Ledger, map_index, place_of, is_failed, outcome_of, outcome_at, last_try, AreAlike}
 unfoldable pub use Rattle.bf_try.specs.Tries.{name_of, result_of}

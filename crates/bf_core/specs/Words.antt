@@ -1,10 +1,9 @@
 -- Small words about phases, and about what instances pushed.
-use Rattle.std.specs.Prelude.{ℕ, Bool, true, false, not, ◌&&◌, ◌||◌, if◌then◌else◌, List, [], ◌∷◌, Option, None, Some, is_none}
+use Rattle.std.specs.Prelude.{ℕ, Bool, true, false, not, ◌&&◌, ◌||◌, if◌then◌else◌, List, [], ◌∷◌, map, Option, None, Some, is_none}
 use Rattle.std.specs.List.{list_all, list_any, filter_map}
 use Rattle.bf_value.specs.Views.{list_of}
 use Rattle.bf_xcom.specs.Pulls.{pushed_by}
-use Rattle.bf_core.specs.Deciding.{Decision}
-use Rattle.bf_core.specs.Terms.{Dag, Instance, Outcome, Phase, Task, TaskValue, Verdict, Xval, followed, is_failed, shape_of}
+use Rattle.bf_core.specs.Terms.{Dag, Instance, Outcome, Phase, SourceValues, Task, TaskValue, Verdict, Xval, followed, is_failed, shape_of}
 
 abbrev pub is_finished : Phase → Bool
 is_finished (Phase.Finished o) = true
@@ -19,14 +18,6 @@ abbrev pub ran_ruling : List Instance → Verdict
 ran_ruling xs =
     if not (list_all (λ x. is_finished x.phase) xs) then Verdict.Wait
     else (if list_all (λ x. passed x.phase) xs then Verdict.Run else Verdict.Blocked)
-
--- what comes of a verdict on a task that isn't expanded
-abbrev pub unmapped_after : List (Option Xval) → Verdict → Decision
-unmapped_after pulled Verdict.Wait = Decision.Wait
-unmapped_after pulled Verdict.Blocked = Decision.Blocked
-unmapped_after pulled Verdict.Skip = Decision.Skipped
-unmapped_after pulled Verdict.UpstreamFailed = Decision.UpstreamFailed
-unmapped_after pulled Verdict.Run = Decision.Instances (record { item = None; pulled = pulled } ∷ [])
 
 -- the value is known, and has this property
 abbrev pub known_to_be : (TaskValue → Bool) → Option TaskValue → Bool
@@ -59,6 +50,12 @@ abbrev pub pulled_from : Task → List Instance → Option Xval
 pulled_from source xs =
     if not (list_all (λ x. is_finished x.phase) xs) then None
     else (if is_none source.expand then pushed_by_first xs else Some (list_of (filter_map pushed_by_one xs)))
+
+-- what a source has for an expansion by its instances, where all have finished
+abbrev pub sourced_from : Task → List Instance → Option SourceValues
+sourced_from source xs =
+    if not (list_all (λ x. is_finished x.phase) xs) then None
+    else (if is_none source.expand then Some (SourceValues.Pushed (pushed_by_first xs)) else Some (SourceValues.Each (map pushed_by_one xs)))
 
 abbrev pub is_failed_phase : Phase → Bool
 is_failed_phase (Phase.Finished o) = is_failed o

@@ -2,13 +2,15 @@
 ghost use Rattle.std.specs.Prelude.{◌≡◌, ℕ, ◌≤◌, ◌<◌, ◌↔◌, length, vec_len, IsTrue, IsSome, IfSome, IfOk, IfErr, OnOk};
 ghost use Rattle.std.specs.List.{list_all};
 ghost use Rattle.bf_core.specs.Terms.{Ledger as Look, Dag as DagTerm, pool_size};
-ghost use Rattle.bf_core.specs.Events.{cell_at, row_of, entry_in, occupied, HasEnded, is_closed};
+ghost use Rattle.bf_core.specs.Events.{cell_at, row_of, entry_in, goes_on as goes_on_now, occupied, HasEnded, is_closed};
 ghost use Rattle.bf_core.specs.Agreement.{Holds, Agrees, IsOutcome, AreRunStates};
-ghost use Rattle.bf_core.specs.Cores.{IsThere, IsReplay, Refuses};
+ghost use Rattle.bf_core.specs.Cores.{IsThere, IsReplay, deciding};
+ghost use Rattle.bf_core.specs.Few.{AreFew};
 ghost use Rattle.bf_core.specs.Checks.{AreStatesOf};
 
+use crate::deciding::{gate, goes_on};
 use crate::ended::{Ended, run_state};
-use crate::event::{Event, Illegal};
+use crate::event::Event;
 use crate::machine::Core;
 use crate::state::{Cell, Run};
 use bf_check::Dag;
@@ -35,24 +37,24 @@ fn write_states(dag: &Dag, runs: &[Run], states: &mut Vec<RunState>)
 }
 
 impl<'a> Core<'a> {
-    /// Expands a task: no task of the plans that are served is expanded, so this is always refused.
-    pub(crate) fn expand(&self, run: u32, task: u32) -> Illegal
-        ensures { Refuses self.now.dag self.now.limits self.now.state (Event.Expand run task) result }
-    {
-        match self.state.cell(run, task) {
-            Some(_) => Illegal::NotEnabled,
-            None => Illegal::Stranger,
-        }
-    }
-
     /// The task in the run, where both are there. Whatever is decided of it, and whatever came of its instances so
-    /// far, is the recursion's over every ledger that holds the entries so far.
+    /// far, is the recursion's over every ledger that holds the entries so far. No task has more than 1,024 instances.
     pub fn cell(&self, run: u32, task: u32) -> Option<&Cell>
         ensures there { IsSome result ↔ IsThere self.now.dag self.now.state run task }
         ensures cell { IfSome result (λ c. c.now ≡ cell_at self.now.state run task) }
+        ensures few { AreFew self.now.state }
         ensures agrees { (ledger : Look) → Holds ledger (entry_in self.now.state.ledger) → Agrees self.now.dag self.now.state ledger }
     {
         self.state.cell(run, task)
+    }
+
+    /// The event that decides a task, where it may be decided now: by its expansion, or without.
+    pub fn deciding(&self, run: u32, task: u32) -> Event
+        requires { task < length self.now.dag.tasks }
+        ensures { result ≡ deciding (goes_on_now self.now.dag self.now.state run task) run task }
+    {
+        let verdict = gate(self.plan, &self.state, run, task);
+        Event::deciding(goes_on(self.plan.dag(), task, verdict), run, task)
     }
 
     /// The tries that have ended.

@@ -1,20 +1,17 @@
 //! Which events may come now.
 ghost use Rattle.std.specs.Prelude.{◌≡◌, ◌<◌, ◌≤◌, ◌↔◌, ◌&&◌, ℕ, length, map, is_some, IsTrue, OnOk, IfOk, IfErr, IfSome, IfNone, Some, position, option_copied};
 ghost use Rattle.std.specs.List.{count_by, list_all};
-ghost use Rattle.bf_check.specs.Served.{IsServed};
 ghost use Rattle.bf_core.specs.Terms.{task_of};
 ghost use Rattle.bf_core.specs.Events.{next_run, open_now, is_open, is_unopened, first_unopened, cell_at, phase_of, row_of, instance_of, place_in, value_in, AllSettled, IsPresent, cell_of, fresh};
 ghost use Rattle.bf_core.specs.Cores.{IsThere, IsKnown};
 ghost use Rattle.bf_core.specs.Checks.{HasRows, RefusedFor, IsUndecidedNow, IsKnownAs};
 ghost use Rattle.bf_core.specs.declared.state.Instance.{Instance as InstanceTerm};
 
-use crate::deciding::Decision;
 use crate::event::Illegal;
+use crate::places::{has_index_of_task, place_of};
 use crate::state::{Cell, Instance, Phase, Run, RunPhase, State};
 use bf_check::Dag;
-use bf_value::{JobName, OutOfMemory, Sequence};
-use bf_xcom::Given;
-use std::alloc::Global;
+use bf_value::JobName;
 
 /// The first run that is not opened.
 pub(crate) fn first_unopened_run(runs: &[Run]) -> Option<usize>
@@ -62,12 +59,12 @@ fn instance_at(state: &State, run: u32, task: u32, place: usize) -> Option<&Inst
 }
 
 /// The instance of a name, where the task has it now and it has come to that try.
-fn known<'a>(state: &'a State, name: JobName) -> Option<&'a Instance>
-    ensures some { IfSome result (λ x. IsKnownAs state.entry.now name x.now) }
-    ensures none { IfNone result ((x : InstanceTerm) → IsKnownAs state.entry.now name x → ⊥) }
+fn known<'a>(dag: &Dag, state: &'a State, name: JobName) -> Option<&'a Instance>
+    ensures some { IfSome result (λ x. IsKnownAs dag.now state.entry.now name x.now) }
+    ensures none { IfNone result ((x : InstanceTerm) → IsKnownAs dag.now state.entry.now name x → ⊥) }
 {
-    let instance = instance_at(state, name.run, name.task, 0)?;
-    if name.index == -1 && 1 <= name.attempt && name.attempt <= instance.attempt {
+    let instance = instance_at(state, name.run, name.task, place_of(dag, name))?;
+    if has_index_of_task(dag, name) && 1 <= name.attempt && name.attempt <= instance.attempt {
         Some(instance)
     } else {
         None
@@ -88,12 +85,11 @@ fn runs(instance: &Instance, attempt: u32) -> bool
 
 /// Refuses a try that does not wait.
 pub(crate) fn waiting(dag: &Dag, state: &State, name: JobName) -> Result<(), Illegal>
-    requires served { IsServed dag.now }
-    requires rows { HasRows dag.now state.now }
+    requires { HasRows dag.now state.now }
     ensures ok { OnOk result (IsPresent dag.now state.now name Phase.Waiting) }
     ensures err { IfErr result (RefusedFor (IsKnown dag.now state.now name) (IsPresent dag.now state.now name Phase.Waiting)) }
 {
-    match known(state, name) {
+    match known(dag, state, name) {
         None => Err(Illegal::Stranger),
         Some(instance) => {
             if waits(instance, name.attempt) {
@@ -111,13 +107,12 @@ pub(crate) fn running<'a>(
     state: &'a State,
     name: JobName,
 ) -> Result<&'a Instance, Illegal>
-    requires served { IsServed dag.now }
-    requires rows { HasRows dag.now state.now }
+    requires { HasRows dag.now state.now }
     ensures ok { OnOk result (IsPresent dag.now state.entry.now name Phase.Running) }
-    ensures held { IfOk result (λ x. instance_of (cell_at state.entry.now name.run name.task) 0 ≡ Some x.now) }
+    ensures held { IfOk result (λ x. instance_of (cell_at state.entry.now name.run name.task) (place_in dag.now name) ≡ Some x.now) }
     ensures err { IfErr result (RefusedFor (IsKnown dag.now state.entry.now name) (IsPresent dag.now state.entry.now name Phase.Running)) }
 {
-    match known(state, name) {
+    match known(dag, state, name) {
         None => Err(Illegal::Stranger),
         Some(instance) => {
             if runs(instance, name.attempt) {

@@ -1,18 +1,17 @@
 //! Decisions.
-ghost use Rattle.std.specs.Prelude.{◌≡◌, ◌<◌, ◌≤◌, ◌↔◌, [], ◌∷◌, length, map, IsTrue, IfOk, None};
-ghost use Rattle.bf_check.specs.Served.{IsServed};
-ghost use Rattle.bf_core.specs.Events.{cell_at, seen_in, before_in, value_in, decision_in, fresh, cell_of};
-ghost use Rattle.bf_core.specs.Deciding.{gate as gate_of, past_ruling, past_after, pull_seen};
+ghost use Rattle.std.specs.Prelude.{◌≡◌, ◌<◌, ◌↔◌, ◌&&◌, length, map, is_some, IsTrue, IfOk};
+ghost use Rattle.bf_core.specs.Terms.{task_of};
+ghost use Rattle.bf_core.specs.Events.{cell_at, seen_in, before_in, value_in, is_run, fresh, cell_of};
+ghost use Rattle.bf_core.specs.Deciding.{after_verdict, gate as gate_of, past_ruling, past_after};
 ghost use Rattle.bf_core.specs.Few.{AreFew};
 ghost use Rattle.bf_core.specs.Checks.{HasRows};
-ghost use Rattle.bf_core.specs.Words.{unmapped_after};
 
-use crate::pulling::pull_all;
+use crate::expanding::instances;
 use crate::ruling::ruling;
 use crate::state::{Cell, Instance, Phase, State};
-use bf_check::{Dag, Plan, Task};
+use bf_check::{Dag, Plan};
 use bf_rule::Verdict;
-use bf_value::{OutOfMemory, Sequence, Xval};
+use bf_value::{OutOfMemory, Sequence};
 use bf_xcom::Given;
 use std::alloc::Global;
 
@@ -51,7 +50,7 @@ fn with_past(state: &State, run: u32, task: u32, depends_on_past: bool, verdict:
 
 /// What the upstreams and the past say of a task.
 #[tactic(auto, unfolding(crate::specs::Deciding::gate))]
-fn gate(plan: &Plan, state: &State, run: u32, task: u32) -> Verdict
+pub(crate) fn gate(plan: &Plan, state: &State, run: u32, task: u32) -> Verdict
     requires task { task < length plan.now.dag.tasks }
     requires few { AreFew state.now }
     ensures { result ≡ gate_of plan.now.dag run (λ u. seen_in (cell_at state.now run u)) (before_in state.now run task) task }
@@ -61,56 +60,33 @@ fn gate(plan: &Plan, state: &State, run: u32, task: u32) -> Verdict
     with_past(state, run, task, depends_on_past, verdict)
 }
 
-/// One instance, which is given what was pulled.
-fn unmapped(alloc: Global, pulled: Vec<Option<Xval>>) -> Result<Decision, OutOfMemory>
-    ensures { IfOk result (λ d. d ≡ Decision.Instances (record { item = None; pulled = pulled.items } ∷ [])) }
+/// Whether a task goes on to its expansion by this verdict.
+pub(crate) fn goes_on(dag: &Dag, task: u32, verdict: Verdict) -> bool
+    requires { task < length dag.now.tasks }
+    ensures { result ≡ (is_some (task_of dag.now task).expand && is_run verdict) }
 {
-    let mut givens = Sequence::new(alloc);
-    givens.push(Given {
-        item: None,
-        pulled: Sequence::from_vec(pulled),
-    })?;
-    Ok(Decision::Instances(givens))
+    dag.task(task).expand.is_some() && verdict == Verdict::Run
 }
 
-/// The one instance of a task that isn't expanded, which is given what the task pulls.
-fn instance(
+/// What is decided of a task by this verdict of upstreams and past.
+pub(crate) fn decide(
     alloc: Global,
     dag: &Dag,
     state: &State,
     run: u32,
-    task: &Task,
-) -> Result<Decision, OutOfMemory>
-    requires { HasRows dag.now state.now }
-    ensures { IfOk result (λ d. d ≡ unmapped_after (map (pull_seen dag.now (λ u. seen_in (cell_at state.now run u))) task.now.pulls) Verdict.Run) }
-{
-    let pulled = pull_all(alloc, dag, state, run, task.pulls.as_slice())?;
-    unmapped(alloc, pulled)
-}
-
-/// What is decided of a task now.
-pub(crate) fn decide(
-    alloc: Global,
-    plan: &Plan,
-    state: &State,
-    run: u32,
     task: u32,
+    verdict: Verdict,
 ) -> Result<Decision, OutOfMemory>
-    requires served { IsServed plan.now.dag }
-    requires task { task < length plan.now.dag.tasks }
-    requires few { AreFew state.now }
-    requires rows { HasRows plan.now.dag state.now }
-    ensures { IfOk result (λ d. d ≡ decision_in plan.now.dag state.now run task) }
+    requires task { task < length dag.now.tasks }
+    requires rows { HasRows dag.now state.now }
+    ensures { IfOk result (λ d. d ≡ after_verdict dag.now (λ u. seen_in (cell_at state.now run u)) task verdict) }
 {
-    match gate(plan, state, run, task) {
+    match verdict {
         Verdict::Wait => Ok(Decision::Wait),
         Verdict::Blocked => Ok(Decision::Blocked),
         Verdict::Skip => Ok(Decision::Skipped),
         Verdict::UpstreamFailed => Ok(Decision::UpstreamFailed),
-        Verdict::Run => {
-            let dag = plan.dag();
-            instance(alloc, dag, state, run, dag.task(task))
-        }
+        Verdict::Run => instances(alloc, dag, state, run, dag.task(task)),
     }
 }
 

@@ -8,6 +8,7 @@ ghost use Rattle.bf_core.specs.Endings.{IsEnding};
 use crate::checks::running;
 use crate::event::{Event, Illegal};
 use crate::machine::Core;
+use crate::places::place_of;
 use bf_check::Demand;
 use bf_try::{Entry, NoteFault, Outcome, fits};
 use bf_value::JobName;
@@ -18,12 +19,13 @@ struct Ending {
     kept: Outcome,
     demand: Demand,
     retries: u32,
+    place: usize,
 }
 
 impl<'a> Core<'a> {
     /// What the end of a try notes, keeps and gives back; refused where the try does not run or could not end so.
     fn ending(&self, name: JobName, outcome: &Outcome) -> Result<Ending, Illegal>
-        ensures ok { IfOk result (λ e. IsEnding self.now name outcome.now e.entry e.kept e.demand e.retries) }
+        ensures ok { IfOk result (λ e. IsEnding self.now name outcome.now e.entry e.kept e.demand e.retries e.place) }
         ensures err { IfErr result (Refuses self.now.dag self.now.limits self.now.state (Event.End name outcome.now)) }
     {
         let instance = running(self.plan.dag(), &self.state, name)?;
@@ -38,6 +40,7 @@ impl<'a> Core<'a> {
             kept: outcome.copy(self.alloc)?,
             demand: self.plan.demand(name.task),
             retries: self.plan.dag().task(name.task).retries,
+            place: place_of(self.plan.dag(), name),
         })
     }
 
@@ -52,6 +55,7 @@ impl<'a> Core<'a> {
             kept,
             demand,
             retries,
+            place,
         } = self.ending(name, &outcome)?;
         self.pools.known();
         self.journal.reserve(1)?;
@@ -59,7 +63,7 @@ impl<'a> Core<'a> {
             Err((_, NoteFault::OutOfMemory)) => Err(Illegal::OutOfMemory),
             Err((_, NoteFault::AlreadyRecorded)) => unreachable!(),
             Ok(()) => {
-                self.state.end(name.run, name.task, 0, retries, kept);
+                self.state.end(name.run, name.task, place, retries, kept);
                 self.pools.give_back(demand.pool, demand.slots);
                 self.journal.push_reserved(Event::End(name, outcome));
                 Ok(())
@@ -79,8 +83,8 @@ impl<'a> Core<'a> {
         let _replayed = self.journal();
         match event {
             Event::Open => self.open(),
-            Event::Settle { run, task } => self.settle(run, task),
-            Event::Expand { run, task } => Err(self.expand(run, task)),
+            Event::Settle { run, task } => self.decide(run, task, false),
+            Event::Expand { run, task } => self.decide(run, task, true),
             Event::Begin(name) => self.begin(name),
             Event::End(name, outcome) => self.end(name, outcome),
             Event::Close { run } => self.close(run),

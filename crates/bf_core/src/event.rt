@@ -1,4 +1,7 @@
 //! Events.
+ghost use Rattle.std.specs.Prelude.{◌≡◌};
+ghost use Rattle.bf_core.specs.Cores.{deciding};
+
 use bf_try::Outcome;
 use bf_value::{JobName, OutOfMemory};
 use std::alloc::AllocError;
@@ -19,6 +22,19 @@ pub enum Event {
     End(JobName, Outcome),
     /// A run is closed.
     Close { run: u32 },
+}
+
+impl Event {
+    /// The event that a task is decided: by its expansion, or without.
+    pub(crate) fn deciding(expands: bool, run: u32, task: u32) -> Event
+        ensures { result ≡ deciding expands run task }
+    {
+        if expands {
+            Event::Expand { run, task }
+        } else {
+            Event::Settle { run, task }
+        }
+    }
 }
 
 /// Why an event is refused. The first of these that holds is answered, but for memory.

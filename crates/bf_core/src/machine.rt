@@ -1,14 +1,14 @@
 //! The core: the state of a backfill, the events that led to it, and what one more event does.
 ghost use Rattle.std.specs.Prelude.{◌≡◌, ◌≤◌, ◌<◌, [], length, OnOk, OnErr, IfOk, IfErr};
-ghost use Rattle.bf_check.specs.Served.{IsServed};
 ghost use Rattle.bf_core.specs.Terms.{demand_of, Phase};
 ghost use Rattle.bf_core.specs.Events.{IsEnabled, start, next_run, decision_in, IsPresent};
-ghost use Rattle.bf_core.specs.Cores.{moved, opening, Refuses};
+ghost use Rattle.bf_core.specs.Cores.{deciding, moved, opening, Refuses};
 
 use crate::checks::{closable, first_unopened_run, open_runs, undecided, waiting};
-use crate::deciding::{Decision, decide};
+use crate::deciding::{Decision, decide, gate, goes_on};
 use crate::event::{Event, Illegal};
 use crate::opening::unopened_runs;
+use crate::places::place_of;
 use crate::state::{RunPhase, State};
 use bf_check::{Demand, Plan};
 use bf_interval::Interval;
@@ -58,8 +58,7 @@ impl<'a> Core<'a> {
         plan: &'a Plan,
         intervals: &[Interval],
     ) -> Result<Core<'a>, OutOfMemory>
-        requires served { IsServed plan.now.dag }
-        requires few { length intervals.now ≤ 4_096 }
+        requires { length intervals.now ≤ 4_096 }
         ensures { IfOk result (λ core. core ≡ opening plan.entry.now.dag plan.entry.now.limits (length intervals.now)) }
     {
         let runs = unopened_runs(alloc, plan.dag().tasks.len(), intervals.len())?;
@@ -113,31 +112,36 @@ impl<'a> Core<'a> {
 }
 
 impl<'a> Core<'a> {
-    /// What is decided of a task now, refused where it may not be settled.
-    fn decided(&self, run: u32, task: u32) -> Result<Decision, Illegal>
-        ensures ok { IfOk result (λ d. IsEnabled self.now.dag self.now.limits self.now.state (Event.Settle run task) × (d ≡ decision_in self.now.dag self.now.state run task)) }
-        ensures err { IfErr result (Refuses self.now.dag self.now.limits self.now.state (Event.Settle run task)) }
+    /// What is decided of a task now, which goes on to its expansion or does not, as is asked.
+    fn decided(&self, run: u32, task: u32, expands: bool) -> Result<Decision, Illegal>
+        ensures ok { IfOk result (λ d. IsEnabled self.now.dag self.now.limits self.now.state (deciding expands run task) × (d ≡ decision_in self.now.dag self.now.state run task)) }
+        ensures err { IfErr result (Refuses self.now.dag self.now.limits self.now.state (deciding expands run task)) }
     {
         let dag = self.plan.dag();
         undecided(dag, &self.state, run, task)?;
-        let decision = decide(self.alloc, self.plan, &self.state, run, task)?;
+        let verdict = gate(self.plan, &self.state, run, task);
+        if goes_on(dag, task, verdict) != expands {
+            return Err(Illegal::NotEnabled);
+        }
+        let decision = decide(self.alloc, dag, &self.state, run, task, verdict)?;
         if decision.waits() {
             return Err(Illegal::NotEnabled);
         }
         Ok(decision)
     }
 
-    /// Decides a task.
-    pub(crate) fn settle(&mut self, run: u32, task: u32) -> Result<(), Illegal>
-        ensures ok { OnOk result (IsEnabled self.old.dag self.old.limits self.old.state (Event.Settle run task) × (self.new ≡ moved self.old (Event.Settle run task))) }
-        ensures err { IfErr result (Refuses self.old.dag self.old.limits self.old.state (Event.Settle run task)) }
+    /// Decides a task: by its expansion, or without.
+    pub(crate) fn decide(&mut self, run: u32, task: u32, expands: bool) -> Result<(), Illegal>
+        ensures ok { OnOk result (IsEnabled self.old.dag self.old.limits self.old.state (deciding expands run task) × (self.new ≡ moved self.old (deciding expands run task))) }
+        ensures err { IfErr result (Refuses self.old.dag self.old.limits self.old.state (deciding expands run task)) }
         ensures same { OnErr result (self.new ≡ self.old) }
     {
-        let decision = self.decided(run, task)?;
+        let decision = self.decided(run, task, expands)?;
         let cell = decision.into_cell(self.alloc)?;
         self.journal.reserve(1)?;
         let _ = self.state.put(run, task, cell);
-        self.journal.push_reserved(Event::Settle { run, task });
+        self.journal
+            .push_reserved(Event::deciding(expands, run, task));
         Ok(())
     }
 
@@ -153,7 +157,8 @@ impl<'a> Core<'a> {
         match self.pools.take(demand.pool, demand.slots) {
             Err(NoRoom) => Err(Illegal::NoRoom),
             Ok(()) => {
-                self.state.begin(name.run, name.task, 0);
+                self.state
+                    .begin(name.run, name.task, place_of(self.plan.dag(), name));
                 self.journal.push_reserved(Event::Begin(name));
                 Ok(())
             }

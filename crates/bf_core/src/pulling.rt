@@ -23,17 +23,26 @@ impl Instance {
             Phase::Waiting | Phase::Running => None,
         }
     }
+
+    pub(crate) fn copy_of_pushed(&self, alloc: Global) -> Result<Option<Xval>, OutOfMemory>
+        ensures { IfOk result (λ value. value ≡ pushed_by_one self.now) }
+    {
+        match self.pushed() {
+            Some(value) => Ok(Some(value.copy(alloc)?)),
+            None => Ok(None),
+        }
+    }
 }
 
-fn pushed_by_first_of(alloc: Global, instances: &[Instance]) -> Result<Option<Xval>, OutOfMemory>
+pub(crate) fn pushed_by_first_of(
+    alloc: Global,
+    instances: &[Instance],
+) -> Result<Option<Xval>, OutOfMemory>
     ensures { IfOk result (λ value. value ≡ pushed_by_first instances.now) }
 {
     match instances {
         [] => Ok(None),
-        [instance, ..] => match instance.pushed() {
-            Some(value) => Ok(Some(value.copy(alloc)?)),
-            None => Ok(None),
-        },
+        [instance, ..] => instance.copy_of_pushed(alloc),
     }
 }
 

@@ -8,19 +8,23 @@ use crate::source::{Items, SourceValues};
 use bf_value::{OutOfMemory, Sequence, Values, Xval};
 use std::alloc::Global;
 
-fn listed_items(alloc: Global, values: &Values) -> Result<Vec<Xval>, OutOfMemory>
-    ensures { IfOk result (λ items. items.items ≡ xvals_of values.now) }
+fn listed_items(values: Values) -> Vec<Xval>
+    ensures { result.items ≡ xvals_of values }
 {
-    Ok(values.copy(alloc)?.into_vec())
+    values.into_vec()
 }
 
-fn pushed_items(alloc: Global, pushed: &[Option<Xval>]) -> Result<Vec<Xval>, OutOfMemory>
-    ensures { IfOk result (λ items. items.items ≡ filter_map (λ v. v) pushed.now) }
+/// Leaves out those that pushed nothing.
+fn pushed_items(
+    alloc: Global,
+    pushed: Sequence<Option<Xval>>,
+) -> Result<Vec<Xval>, OutOfMemory>
+    ensures { IfOk result (λ items. items.items ≡ filter_map (λ v. v) pushed) }
 {
     let mut items = Vec::new(alloc);
-    for value in pushed {
+    for value in pushed.into_vec() {
         if let Some(value) = value {
-            items.push(value.copy(alloc)?)?;
+            items.push(value)?;
         }
     }
     Ok(items)
@@ -29,16 +33,15 @@ fn pushed_items(alloc: Global, pushed: &[Option<Xval>]) -> Result<Vec<Xval>, Out
 /// The items that a source gives: of an unmapped one those of the list that it pushed, of an expanded one what its
 /// instances pushed, in index order, where those that pushed nothing are left out. A source that has nothing, or that
 /// pushed no list, gives none, not even an empty list.
-pub fn items(alloc: Global, source: &SourceValues) -> Result<Items, OutOfMemory>
-    ensures { IfOk result (λ items. items ≡ items_of source.now) }
+pub fn items(alloc: Global, source: SourceValues) -> Result<Items, OutOfMemory>
+    ensures { IfOk result (λ items. items ≡ items_of source) }
 {
     match source {
         SourceValues::Pushed(Some(Xval::List(values))) => {
-            let items = listed_items(alloc, values)?;
-            Ok(Items::List(Sequence::from_vec(items)))
+            Ok(Items::List(Sequence::from_vec(listed_items(values))))
         }
         SourceValues::Each(pushed) => {
-            let items = pushed_items(alloc, pushed.as_slice())?;
+            let items = pushed_items(alloc, pushed)?;
             Ok(Items::List(Sequence::from_vec(items)))
         }
         SourceValues::Pushed(_) | SourceValues::Absent => Ok(Items::Missing),

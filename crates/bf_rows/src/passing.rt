@@ -27,7 +27,7 @@ fn shown(alloc: Global, value: &Option<Xval>) -> Result<String, Fail> {
     }
 }
 
-fn gives(rt: &impl Abort, alloc: Global, source: &SourceValues, text: &str) -> Result<(), Fail> {
+fn gives(rt: &impl Abort, alloc: Global, source: SourceValues, text: &str) -> Result<(), Fail> {
     let found = match items(alloc, source)? {
         Items::Missing => None,
         Items::List(found) => Some(Xval::List(Values::new(found.into_vec()))),
@@ -46,17 +46,17 @@ fn sources_give_items(rt: HostRuntime) -> Result<(), Fail> {
         Some(list(alloc)?),
     ]?;
     let each = SourceValues::Each(Sequence::from_vec(each));
-    gives(&rt, alloc, &each, "[3,null,[3,null,true]]")?;
-    gives(&rt, alloc, &SourceValues::Each(Sequence::new(alloc)), "[]")?;
+    gives(&rt, alloc, each, "[3,null,[3,null,true]]")?;
+    gives(&rt, alloc, SourceValues::Each(Sequence::new(alloc)), "[]")?;
     gives(
         &rt,
         alloc,
-        &SourceValues::Pushed(Some(list(alloc)?)),
+        SourceValues::Pushed(Some(list(alloc)?)),
         "[3,null,true]",
     )?;
-    gives(&rt, alloc, &SourceValues::Pushed(Some(Xval::Int(3))), "-")?;
-    gives(&rt, alloc, &SourceValues::Pushed(None), "-")?;
-    gives(&rt, alloc, &SourceValues::Absent, "-")
+    gives(&rt, alloc, SourceValues::Pushed(Some(Xval::Int(3))), "-")?;
+    gives(&rt, alloc, SourceValues::Pushed(None), "-")?;
+    gives(&rt, alloc, SourceValues::Absent, "-")
 }
 
 fn task(alloc: Global, expand: Option<u32>) -> Result<Task, Fail> {

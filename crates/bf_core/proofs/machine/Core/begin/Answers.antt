@@ -1,9 +1,8 @@
 use Rattle.std.proofs.Common.{◌≡◌, ◌<◌, ◌≤◌, ◌+◌, ℕ, length, List, refl, sym, ap, ◌∙◌, arith}
 use Rattle.bf_pool.specs.Slots.{Slots, occupied_of, size_of, with_occupied}
-use Rattle.bf_core.specs.Terms.{State, Limits, Event, Phase, Demand, demand_of}
+use Rattle.bf_core.specs.Terms.{Dag, State, Limits, Event, Phase, Demand, demand_of}
 use Rattle.bf_core.specs.Events.{after, put, change_instance, begun, cell_at, place_in}
 use Rattle.bf_core.proofs.Kept.{core-moved, moved-is, replay-rows, replay-shaped}
-use Rattle.bf_core.proofs.Known.{place-zero}
 use Rattle.bf_core.proofs.Pools.{occupied-begun}
 use Rattle.bf_core.proofs.Slotted.{taken, fits-room}
 use Rattle.bf_core.proofs.Enabling.{present-there, present-cell, has-room}
@@ -28,7 +27,7 @@ invariant_of-self-in-Ok c =
     let t : ℕ = c.args.name.task in
     let fits : occupied_of pools (demand_of limits t).pool + (demand_of limits t).slots ≤ size_of pools (demand_of limits t).pool = rw is.1 at (c.in-Ok.ensures.fits.0 refl) in
     let able : _ = (is.0, has-room limits c.self.inside.state t (fits-room limits pools c.self.inside.state t c.self.invariant.sizes c.self.invariant.held fits)) in
-    let to : _ = c.begin.ensures ∙ ap (λ i. put c.self.inside.state c.args.name.run t (change_instance begun (cell_at c.self.inside.state c.args.name.run t) i)) (sym (place-zero c.self.inside.plan.now.dag c.self.invariant.served c.args.name)) in
+    let to : _ = c.begin.ensures ∙ ap (λ i. put c.self.inside.state c.args.name.run t (change_instance begun (cell_at c.self.inside.state c.args.name.run t) i)) (c.place_of.ensures ∙ ap (λ (d : Dag). place_in d c.args.name) c.dag.ensures.dag) in
     let now : c.take.new.self ≡ with_occupied pools (demand_of limits t).pool (occupied_of pools (demand_of limits t).pool + (demand_of limits t).slots) =
     c.in-Ok.ensures.ok ∙ ap (λ (d : Demand). with_occupied pools d.pool (occupied_of pools d.pool + d.slots)) is.1 in
     let pool : (demand_of limits t).pool < length limits.pools = rw is.1 at is.2 in
@@ -50,5 +49,5 @@ returns-in-Ok-clause-ok c =
     let t : ℕ = c.args.name.task in
     let fits : occupied_of pools (demand_of limits t).pool + (demand_of limits t).slots ≤ size_of pools (demand_of limits t).pool = rw is.1 at (c.in-Ok.ensures.fits.0 refl) in
     let able : _ = (is.0, has-room limits c.self.inside.state t (fits-room limits pools c.self.inside.state t c.self.invariant.sizes c.self.invariant.held fits)) in
-    let to : _ = c.begin.ensures ∙ ap (λ i. put c.self.inside.state c.args.name.run t (change_instance begun (cell_at c.self.inside.state c.args.name.run t) i)) (sym (place-zero c.self.inside.plan.now.dag c.self.invariant.served c.args.name)) in
+    let to : _ = c.begin.ensures ∙ ap (λ i. put c.self.inside.state c.args.name.run t (change_instance begun (cell_at c.self.inside.state c.args.name.run t) i)) (c.place_of.ensures ∙ ap (λ (d : Dag). place_in d c.args.name) c.dag.ensures.dag) in
     rw (← c.self.view_is) (able, moved-is _ (Event.Begin c.args.name) _ _ to (c.push_reserved.ensures.items ∙ rw c.in_ok-reserve.ensures.items))

@@ -4,7 +4,6 @@ use Rattle.bf_pool.specs.Slots.{Slots, occupied_of, with_occupied}
 use Rattle.bf_core.specs.Terms.{Dag, Limits, Demand, State, Event, Phase, JobName, Outcome, Entry, task_of, demand_of}
 use Rattle.bf_core.specs.Events.{after, put_in, change_instance, ended, cell_at, given_in, place_in, occupied}
 use Rattle.bf_core.proofs.Kept.{core-moved, moved-is, replay-rows, replay-shaped}
-use Rattle.bf_core.proofs.Known.{place-zero}
 use Rattle.bf_core.proofs.Placing.{ended-state}
 use Rattle.bf_core.proofs.Pools.{takes, occupied-ended}
 use Rattle.bf_core.proofs.Slotted.{given_back, slots-held}
@@ -57,7 +56,7 @@ invariant_of-self-in-Ok c =
     λ q. occupied-ended dag limits c.self.inside.runs s (replay-shaped _ c.self.invariant.replayed) n o (map.insert s.ledger n entry) is.able.0 q in
     let noted : c.note.new.self ≡ map.insert s.ledger n entry = c.in-Ok.ensures.ok.1 ∙ ap (λ (x : Entry). map.insert s.ledger n x) is.entry_is in
     let to : c.end.new.self ≡ next =
-    c.end.ensures ∙ ended-state s n.run n.task c.note.new.self (map.insert s.ledger n entry) _ (task_of dag n.task).retries _ o 0 (place_in dag n) noted is.retries_are is.kept_is (sym (place-zero dag c.self.invariant.served n)) in
+    c.end.ensures ∙ ended-state s n.run n.task c.note.new.self (map.insert s.ledger n entry) _ (task_of dag n.task).retries _ o _ (place_in dag n) noted is.retries_are is.kept_is is.place_is in
     let now : c.give_back.new.self ≡ with_occupied pools (demand_of limits n.task).pool (occupied_of pools (demand_of limits n.task).pool - (demand_of limits n.task).slots) =
     c.give_back.ensures ∙ ap (λ (d : Demand). with_occupied pools d.pool (occupied_of pools d.pool - d.slots)) is.demand_is in
     let pool : (demand_of limits n.task).pool < length limits.pools = rw is.demand_is at is.pool_there in
@@ -82,5 +81,5 @@ returns-in-Ok-clause-ok c =
     let next : State = record { runs = put_in s.runs n.run n.task (change_instance (ended (task_of dag n.task).retries o) (cell_at s n.run n.task) (place_in dag n)); ledger = map.insert s.ledger n entry } in
     let noted : c.note.new.self ≡ map.insert s.ledger n entry = c.in-Ok.ensures.ok.1 ∙ ap (λ (x : Entry). map.insert s.ledger n x) is.entry_is in
     let to : c.end.new.self ≡ next =
-    c.end.ensures ∙ ended-state s n.run n.task c.note.new.self (map.insert s.ledger n entry) _ (task_of dag n.task).retries _ o 0 (place_in dag n) noted is.retries_are is.kept_is (sym (place-zero dag c.self.invariant.served n)) in
+    c.end.ensures ∙ ended-state s n.run n.task c.note.new.self (map.insert s.ledger n entry) _ (task_of dag n.task).retries _ o _ (place_in dag n) noted is.retries_are is.kept_is is.place_is in
     rw (← c.self.view_is) (is.able, moved-is _ (Event.End n o) _ _ to (c.push_reserved.ensures.items ∙ rw c.in_ok-reserve.ensures.items))

@@ -3,11 +3,8 @@ use Rattle.bf_core.proofs.Kept.{replay-rows}
 use Rattle.bf_core.proofs.Enabling.{present-there}
 use Rattle.bf_core.proofs.machine.Core.waiting_demand.Goals as goal
 
-pub waiting-requires-clause-served : goal.waiting-requires-clause-served
-waiting-requires-clause-served c = rw c.dag.ensures.dag c.self.invariant.served
-
-pub waiting-requires-clause-rows : goal.waiting-requires-clause-rows
-waiting-requires-clause-rows c = rw c.dag.ensures.dag (replay-rows _ c.self.invariant.replayed)
+pub waiting-requires : goal.waiting-requires
+waiting-requires c = rw c.dag.ensures.dag (replay-rows _ c.self.invariant.replayed)
 
 pub demand-requires : goal.demand-requires
 demand-requires c =
