@@ -1,8 +1,13 @@
 -- A task whose turn has come is decided.
 use Rattle.std.proofs.Common.{◌≡◌, ◌≢◌, ◌<◌, ◌≤◌, ◌++◌, ℕ, zero, suc, Bool, true, false, List, [], ◌∷◌, length, Some, is_some, refl, sym, ap, ◌∙◌, subst, inl, inr, arith}
-use Rattle.bf_core.specs.Terms.{Cell, Event, Instance, RunPhase, State, task_of}
-use Rattle.bf_core.specs.Cores.{Backfill, IsReplay, deciding, moved}
-use Rattle.bf_core.specs.Deciding.{Decision}
+use Rattle.bf_core.specs.Terms.{Dag, task_of}
+use Rattle.bf_core.specs.declared.state.Cell.{Cell}
+use Rattle.bf_core.specs.declared.event.Event.{Event}
+use Rattle.bf_core.specs.declared.state.Instance.{Instance}
+use Rattle.bf_core.specs.declared.state.RunPhase.{RunPhase}
+use Rattle.bf_core.specs.declared.state.State.{State}
+use Rattle.bf_core.specs.Cores.{Backfill, IsReplay, IsThere, deciding, moved}
+use Rattle.bf_core.specs.declared.deciding.Decision.{Decision}
 use Rattle.bf_core.specs.Events.{IsDecidable, IsEnabled, after, before_in, cell_at, cell_of, decision_in, goes_on, instance_of, occupied, phase_of, put, seen_in, value_in}
 use Rattle.bf_core.proofs.Enabling.{after-deciding, able-decidable, decide-able}
 use Rattle.bf_core.proofs.Instances.{new-fresh}
@@ -12,7 +17,7 @@ use Rattle.bf_core.proofs.Reading.{put-cases, put-there}
 use Rattle.bf_core.proofs.Shape.{open-run, put-phase, row_in}
 use Rattle.bf_core.proofs.Stuck.{all-in, proper-cell}
 use Rattle.bf_core.proofs.Taken.{decision-taken}
-use Rattle.bf_plain.specs.Driving.{AtInstance, IsFresh, IsKeptBut, IsNext, count_in}
+use Rattle.bf_plain.specs.Driving.{AtInstance, IsFresh, IsIdle, IsKeptBut, IsNext, count_in}
 
 -- the past of a task is known where the run before is closed
 past-known : (b : Backfill) → IsReplay b → (k t : ℕ) → t < length b.dag.tasks → ((j : ℕ) → k ≡ suc j → phase_of b.state j ≡ RunPhase.Closed) → k ≢ 0 → is_some (before_in b.state k t) ≡ true
@@ -29,10 +34,6 @@ pub next-may : (b : Backfill) → IsReplay b → (k t : ℕ) → IsNext b k t �
 next-may b is k t n =
     decide-able b.dag b.limits b.state k t (goes_on b.dag b.state k t) (decision_in b.dag b.state k t)
     ((open-run b.state k n.idle.run_is_open, n.is_task), (n.idle.run_is_open, n.undecided)) refl refl (decides b is k t n)
-
--- the same, of a graph of tasks that is the backfill's
-pub next-task : (b : Backfill) (k t : ℕ) → IsNext b k t → t < length b.dag.tasks
-next-task b k t n = n.is_task
 
 cell-decided : (d : Decision) → d ≢ Decision.Wait → cell_of d ≢ Cell.Undecided
 cell-decided Decision.Wait n e = n refl
@@ -86,3 +87,17 @@ decided-at b is k t n = record {
 
     here : cell_at (moved b (deciding (goes_on b.dag b.state k t) k t)).state k t ≡ new
     here = ap (λ s. cell_at s k t) to ∙ put-in-range b is k t n.idle.run_is_open n.is_task new
+
+-- ---- the same, where the calls say what the event and the backfill are
+
+pub next-as : (b : Backfill) (e : Event) → IsReplay b → (k t : ℕ) → IsNext b k t → e ≡ deciding (goes_on b.dag b.state k t) k t → IsEnabled b.dag b.limits b.state e
+next-as b e is k t n same = subst (λ (x : Event). IsEnabled b.dag b.limits b.state x) (sym same) (next-may b is k t n)
+
+pub decided-as : (b new : Backfill) (e : Event) → IsReplay b → (k t : ℕ) → IsNext b k t → e ≡ deciding (goes_on b.dag b.state k t) k t → new ≡ moved b e → AtInstance b new k t (count_in (cell_at new.state k t)) 0
+decided-as b new e is k t n same to = subst (λ (x : Backfill). AtInstance b x k t (count_in (cell_at x.state k t)) 0) (sym (to ∙ ap (λ x. moved b x) same)) (decided-at b is k t n)
+
+pub counted-as : (b new : Backfill) (k t m n i : ℕ) → n ≡ m → AtInstance b new k t m i → AtInstance b new k t n i
+counted-as b new k t m n i same at = subst (λ (x : ℕ). AtInstance b new k t x i) (sym same) at
+
+pub there-at : (b : Backfill) (planned : Dag) (k t : ℕ) → b.dag ≡ planned → IsIdle k b → t < length planned.tasks → IsThere b.dag b.state k t
+there-at b planned k t same idle below = (open-run b.state k idle.run_is_open, rw same below)

@@ -1,7 +1,9 @@
 -- One instance of a task after the other.
 use Rattle.std.proofs.Common.{◌≡◌, ◌≢◌, ◌⊎◌, ◌<◌, ◌≤◌, ◌+◌, ◌&&◌, ℕ, zero, suc, Bool, true, false, List, [], ◌∷◌, length, Option, None, Some, is_some, option_map, slice_get, refl, sym, ap, ◌∙◌, subst, inl, inr, arith}
 use Rattle.std.specs.List.{list_all}
-use Rattle.bf_core.specs.Terms.{Cell, Instance, TaskValue}
+use Rattle.bf_core.specs.Terms.{TaskValue}
+use Rattle.bf_core.specs.declared.state.Cell.{Cell}
+use Rattle.bf_core.specs.declared.state.Instance.{Instance}
 use Rattle.bf_core.specs.Cores.{Backfill}
 use Rattle.bf_core.specs.Events.{cell_at, instance_of, results, value_in}
 use Rattle.bf_core.specs.Words.{is_finished}

@@ -1,7 +1,12 @@
 -- One run after the other.
 use Rattle.std.proofs.Common.{◌≡◌, ◌⊎◌, ◌<◌, ◌≤◌, ◌+◌, ℕ, zero, suc, if◌then◌else◌, List, [], ◌∷◌, length, Result, Ok, Err, OnOk, slice_get, slice_index_or, refl, sym, ap, ◌∙◌, subst, inl, inr, arith}
 use Rattle.bf_check.specs.Sound.{AreLimits}
-use Rattle.bf_core.specs.Terms.{Cell, Dag, Event, Limits, Run, RunPhase, State}
+use Rattle.bf_core.specs.Terms.{Dag, Limits}
+use Rattle.bf_core.specs.declared.state.Cell.{Cell}
+use Rattle.bf_core.specs.declared.event.Event.{Event}
+use Rattle.bf_core.specs.declared.state.Run.{Run}
+use Rattle.bf_core.specs.declared.state.RunPhase.{RunPhase}
+use Rattle.bf_core.specs.declared.state.State.{State}
 use Rattle.bf_core.specs.Cores.{Backfill, IsReplay, moved, opening}
 use Rattle.bf_core.specs.Events.{AllSettled, HasEnded, IsEnabled, after, cell_at, first_unopened, is_unopened, next_run, no_run, occupied, open_now, phase_in, phase_of, start, with_phase}
 use Rattle.bf_core.proofs.Kept.{replay-shaped}
@@ -93,9 +98,9 @@ closed-at k b order i at = record {
   closed = λ j low. elim (phase-cases b.state k RunPhase.Closed j) [
     | inl q ↦ q.1
     | inr e ↦ elim (decide-lt j k) [
-        | inl less ↦ e ∙ at.closed j less
-        | inr more ↦ (let same : j ≡ k = omega (arith, low, more) in ap (phase_of (with_phase b.state k RunPhase.Closed)) same ∙ phase-there b.state k RunPhase.Closed (open-run b.state k at.idle.run_is_open))
-      ]
+      | inl less ↦ e ∙ at.closed j less
+      | inr more ↦ (let same : j ≡ k = omega (arith, low, more) in ap (phase_of (with_phase b.state k RunPhase.Closed)) same ∙ phase-there b.state k RunPhase.Closed (open-run b.state k at.idle.run_is_open))
+    ]
   ];
   unopened = λ j above. elim (phase-cases b.state k RunPhase.Closed j) [
     | inl q ↦ absurd (let same = q.0 in omega (arith, same, above))
@@ -104,7 +109,15 @@ closed-at k b order i at = record {
   undecided = λ j t above. with_phase-cell b.state k RunPhase.Closed j t ∙ at.later j t (omega (arith, above));
 }
 
+-- ---- the same, where the calls say what the backfill is
+
+pub opened-as : (k : ℕ) (b new : Backfill) (order : List ℕ) → IsReplay b → k < b.runs → AtRun k b → new ≡ moved b Event.Open → AtTask order 0 k new
+opened-as k b new order is below at to = subst (λ (x : Backfill). AtTask order 0 k x) (sym to) (opened-at k b order is below at)
+
+pub closed-as : (k : ℕ) (b new : Backfill) (order : List ℕ) (i : ℕ) → AtTask order i k b → new ≡ moved b (Event.Close k) → AtRun (k + 1) new
+closed-as k b new order i at to = subst (λ (x : Backfill). AtRun (k + 1) x) (sym to) (closed-at k b order i at)
+
 -- ---- the end
 
-pub all-closed : (runs : ℕ) (b : Backfill) → IsReplay b → b.runs ≡ runs → AtRun runs b → HasEnded b.state
-all-closed runs b is same at k below = at.closed k (let count = (replay-shaped b is).count in omega (arith, below, count, same))
+pub all-closed : (runs r : ℕ) (b : Backfill) → IsReplay b → b.runs ≡ runs → runs ≤ r → AtRun r b → HasEnded b.state
+all-closed runs r b is same last at k below = at.closed k (let count = (replay-shaped b is).count in omega (arith, below, count, same, last))

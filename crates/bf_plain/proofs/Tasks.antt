@@ -5,7 +5,10 @@ use Rattle.std.proofs.lemmas.Option.{slice_get-get_or, slice_get_within}
 use Rattle.bf_graph.specs.Order.{IsByRank, StandBehind}
 use Rattle.bf_check.specs.Plans.{shape_of}
 use Rattle.bf_check.proofs.PlanLemmas.{is_upstream}
-use Rattle.bf_core.specs.Terms.{Cell, Dag, Event, RunPhase, Task, task_of}
+use Rattle.bf_core.specs.Terms.{Dag, Task, task_of}
+use Rattle.bf_core.specs.declared.state.Cell.{Cell}
+use Rattle.bf_core.specs.declared.event.Event.{Event}
+use Rattle.bf_core.specs.declared.state.RunPhase.{RunPhase}
 use Rattle.bf_core.specs.Cores.{Backfill}
 use Rattle.bf_core.specs.Events.{AllSettled, IsEnabled, cell_at, value_in}
 use Rattle.bf_plain.specs.Driving.{AtTask, HasPassed, IsNext, IsSettled}

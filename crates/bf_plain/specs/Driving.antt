@@ -2,17 +2,23 @@
 use Rattle.std.specs.Prelude.{◌≡◌, ◌≢◌, ◌⊎◌, ℕ, suc, ◌<◌, ◌≤◌, true, List, length, Option, None, Some, is_some, slice_get}
 use Rattle.bf_check.specs.Sound.{AreLimits, IsOneOf}
 use Rattle.bf_try.specs.declared.answers.Raw.{Raw}
-use Rattle.bf_core.specs.Terms.{Cell, Dag, Entry, Event, Given, Instance, JobName, Limits, Outcome, Phase, RunPhase, State, fits, task_of}
+use Rattle.bf_core.specs.Terms.{Dag, Entry, Given, JobName, Limits, Outcome, fits, task_of}
+use Rattle.bf_core.specs.declared.state.Cell.{Cell}
+use Rattle.bf_core.specs.declared.event.Event.{Event}
+use Rattle.bf_core.specs.declared.state.Instance.{Instance}
+use Rattle.bf_core.specs.declared.state.Phase.{Phase}
+use Rattle.bf_core.specs.declared.state.RunPhase.{RunPhase}
+use Rattle.bf_core.specs.declared.state.State.{State}
 use Rattle.bf_core.specs.Answered.{AreGraded}
 use Rattle.bf_core.specs.Cores.{Backfill, IsReplay, moved}
 use Rattle.bf_core.specs.Events.{IsPresent, cell_at, entry_in, given_in, instance_of, occupied, phase_of, place_in, value_in}
 use Rattle.bf_core.specs.Words.{is_finished}
 
 -- a backfill of the plan and of so many runs, whose tries so far have grades of answers that may be given
-pub record IsDriven (may_answer : JobName → Given → Raw → Type 0) (dag : Dag) (limits : Limits) (runs : ℕ) (b : Backfill) : Type 0 where
-  pub dag : b.dag ≡ dag
-  pub limits : b.limits ≡ limits
-  pub runs : b.runs ≡ runs
+pub record IsDriven (may_answer : JobName → Given → Raw → Type 0) (planned : Dag) (within : Limits) (many : ℕ) (b : Backfill) : Type 0 where
+  pub dag : b.dag ≡ planned
+  pub limits : b.limits ≡ within
+  pub runs : b.runs ≡ many
   pub replayed : IsReplay b
   pub limits_fit : AreLimits b.dag b.limits
   pub graded : AreGraded may_answer b.dag (entry_in b.state.ledger)
@@ -87,11 +93,11 @@ pub record IsFresh (x : Instance) : Type 0 where
   pub waits : x.phase ≡ Phase.Waiting
 
 -- the task is decided; its instances before i have finished, and the others are fresh; no try runs
-pub record AtInstance (before after : Backfill) (k t count i : ℕ) : Type 0 where
+pub record AtInstance (before after : Backfill) (k t n i : ℕ) : Type 0 where
   pub idle : IsIdle k after
   pub kept : IsKeptBut before after k t
   pub decided : cell_at after.state k t ≢ Cell.Undecided
-  pub count : count_in (cell_at after.state k t) ≡ count
+  pub count : count_in (cell_at after.state k t) ≡ n
   pub finished : (j : ℕ) (x : Instance) → j < i → instance_of (cell_at after.state k t) j ≡ Some x → is_finished x.phase ≡ true
   pub fresh : (j : ℕ) (x : Instance) → i ≤ j → instance_of (cell_at after.state k t) j ≡ Some x → IsFresh x
 

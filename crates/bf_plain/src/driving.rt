@@ -70,6 +70,7 @@ fn given_of_waiting(
     task: u32,
     place: usize,
 ) -> Result<Option<Given>, OutOfMemory>
+    requires { IsThere core.now.dag core.now.state run task }
     ensures { IfOk result (λ given. given ≡ given_waiting (instance_of (cell_at core.now.state run task) place)) }
 {
     let Some(Cell::Ran(instances)) = core.cell(run, task) else {
@@ -114,6 +115,7 @@ fn finish<R: TaskRunner>(
 
 /// How many instances a task has in a run.
 fn count_of_instances(core: &Core<'_>, run: u32, task: u32) -> usize
+    requires { IsThere core.now.dag core.now.state run task }
     ensures count { result ≡ count_in (cell_at core.now.state run task) }
     ensures few { result ≤ 1_024 }
 {
@@ -231,6 +233,8 @@ pub fn one_by_one<R: TaskRunner>(
     ensures journal { IfOk result (λ ended. IsJournal plan.now.dag plan.now.limits (length intervals.now) ended.journal ended.state) }
     ensures err { IfErr result (MayFault (R.may_give_up runner.now)) }
 {
+    let _sound = plan.dag();
+    let _fit = plan.limits();
     let mut core = Core::new(alloc, plan, intervals)?;
     drive(alloc, plan, runner, &mut core, intervals.len() as u32)?;
     match core.into_ended() {
