@@ -124,11 +124,24 @@ each() {
 
 cd "$root/examples"
 printf '{"dag_id":"d","schedule":"@daily","tasks":[{"id":"a","upstream":["b"]},{"id":"b","upstream":["a"]}]}' > "$work/cycle"
+printf '{"dag_id":"d","schedule":"30 2 * * *","zone":"file","tasks":[]}' > "$work/by_file"
+# A zone file of one kind of time, an hour ahead of UTC, and a rule for the times to come.
+{
+    for _ in 1 2; do
+        printf 'TZif2\0\0\0\0\0\0\0\0\0\0\0\0\0\0\0'
+        printf '\0\0\0\0\0\0\0\0\0\0\0\0\0\0\0\0\0\0\0\1\0\0\0\4'
+        printf '\0\0\016\020\0\0CET\0'
+    done
+    printf '\nCET-1CEST,M3.5.0,M10.5.0/3\n'
+} > "$work/zone_file"
 for call in memory open read write; do
     for example in one_task diamond skip; do
         each "$call" single "$example/graph.json" "$example/table.json" --at 2024-01-01
     done
     each "$call" check every_key/graph.json
+    each "$call" list clock_change/graph.json --from 2024-03-01 --to 2024-03-31
+    each "$call" list "$work/by_file" --zone-file "$work/zone_file" --from 2024-03-01 --to 2024-03-31
+    each "$call" list clock_change/graph.json --from 2024-03-31 --to 2024-03-30
     each "$call" single every_key/graph.json one_task/table.json --at 2024-01-01
     each "$call" single "$work/cycle" one_task/table.json --at 2024-01-01
     each "$call" single one_task/graph.json one_task/table.json --at 2024-02-30

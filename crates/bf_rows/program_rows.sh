@@ -1,0 +1,281 @@
+#!/usr/bin/env bash
+# Runs the built program over small graphs, and compares its exit status and all that it prints with what stands here, which
+# was worked out by hand from docs/SPECIFICATION.md and docs/FORMATS.md. Ends with 1 where a row differs.
+set -euo pipefail
+
+source "$(dirname "$(readlink -f "${BASH_SOURCE[0]}")")/../../bench/program.sh"
+graph=$work/graph.json
+table=$work/table.json
+rows=0
+differing=0
+
+# Requires the exit status of a run. What it is to print stands in the files `wanted_out` and `wanted_err`.
+ends() {
+    local wanted=$1 status=0
+    shift
+    "$program" "$@" > "$work/out" 2> "$work/err" || status=$?
+    rows=$((rows + 1))
+    if [[ $status -ne $wanted ]] || ! cmp -s "$work/out" "$work/wanted_out" || ! cmp -s "$work/err" "$work/wanted_err"; then
+        differing=$((differing + 1))
+        echo "differs, with status $status for $wanted: $*"
+        cat "$graph"
+        diff "$work/wanted_out" "$work/out" || true
+        diff "$work/wanted_err" "$work/err" || true
+    fi
+}
+
+# An answer: the lines on standard input go to standard output, and nothing to standard error.
+answers() {
+    cat > "$work/wanted_out"
+    : > "$work/wanted_err"
+    ends "$@"
+}
+
+# A refusal or a fault, by its whole line.
+tells() {
+    local status=$1 line=$2
+    shift 2
+    : > "$work/wanted_out"
+    echo "$line" > "$work/wanted_err"
+    ends "$status" "$@"
+}
+
+# Writes a graph of these tasks.
+tasks() {
+    echo "{\"dag_id\":\"d\",\"schedule\":\"@daily\",\"tasks\":[$1]}" > "$graph"
+}
+
+# Writes a graph without tasks that has this schedule, and this zone.
+scheduled() {
+    echo "{\"dag_id\":\"d\",\"schedule\":\"$1\",\"zone\":\"${2:-UTC}\",\"tasks\":[]}" > "$graph"
+}
+
+# The graph that was written is refused, by each command alike.
+is_refused() {
+    echo '[]' > "$table"
+    tells 2 "refused $1" check "$graph"
+    tells 2 "refused $1" list "$graph" --from 2024-01-01 --to 2024-01-01
+    tells 2 "refused $1" single "$graph" "$table" --at 2024-01-01
+}
+
+# The graph that was written, run at 2024-01-01 by this table, ends in this state with the instances on standard input.
+runs() {
+    local state=$1 status=0
+    echo "$2" > "$table"
+    [[ $state == success ]] || status=1
+    answers "$status" single "$graph" "$table" --at 2024-01-01 < <(
+        echo '@backfill 1 d'
+        echo "@run 2024-01-01T00:00:00Z 2024-01-01T00:00:00Z $state"
+        cat
+        echo '@end 1'
+    )
+}
+
+# The data intervals of the graph that was written, from and to these moments, are those on standard input.
+lists() {
+    answers 0 list "$graph" --from "$1" --to "$2"
+}
+
+# Each interval of one minute that starts from 2024-01-01 to 2024-01-03T20:15:00Z.
+minutes() {
+    local second
+    for ((second = 1704067200; second <= 1704312900; second += 60)); do
+        TZ=UTC0 printf '%(%FT%TZ)T %(%FT%TZ)T\n' "$second" "$((second + 60))"
+    done
+}
+
+# Graphs that are whole.
+
+answers 0 check "$root/examples/every_key/graph.json" <<< 'ok 3 tasks, 2 edges'
+tasks '{"id":"a"},{"id":"b","upstream":["a","a"]}'
+answers 0 check "$graph" <<< 'ok 2 tasks, 1 edges'
+
+# Graph files that are refused, and by what.
+
+while IFS= read -r row; do
+    echo "${row%% => *}" > "$graph"
+    is_refused "${row##* => }"
+done <<'ROWS'
+{"dag_id":"d","schedule":"@daily","tasks":[] => 1 not json
+[] => 2 shape: top
+{"dag_id":"d","schedule":"@daily","tasks":[],"owner":"me"} => 2 shape: top
+{"dag_id":"d","tasks":[]} => 2 shape: schedule
+{"dag_id":"d","schedule":"@daily","pools":{"p":"2"},"tasks":[]} => 2 shape: pools
+{"dag_id":"","schedule":"@daily","tasks":[]} => 3 bad name: dag_id
+{"dag_id":"d","schedule":"@daily","max_active_runs":4097,"tasks":[]} => 5 limit passed: max_active_runs
+{"dag_id":"d","schedule":"@daily","pools":{"p":0},"tasks":[]} => 5 limit passed: pools
+{"dag_id":"d","schedule":"@daily","pools":{"p":2},"tasks":[{"id":"a","pool":"p","pool_slots":3}]} => 9 slots beyond pool: a
+ROWS
+
+# Tasks that are refused, and by what.
+
+while IFS= read -r row; do
+    tasks "${row%% => *}"
+    is_refused "${row##* => }"
+done <<'ROWS'
+{"id":"a"},{"id":"b","retries":1.5} => 2 shape: tasks[1].retries
+{"id":"a"},{"id":"b","sla":1} => 2 shape: tasks[1]
+{"id":"a","command":[{"context":"ds"}]} => 2 shape: tasks[0].command
+{"id":"a","command":[{"item":true}]} => 2 shape: tasks[0].command
+{"id":"a b"} => 3 bad name: tasks[0].id
+{"id":"a"},{"id":"b"},{"id":"a"} => 4 duplicate task: a
+{"id":"a","retries":101} => 5 limit passed: tasks[0].retries
+{"id":"a"},{"id":"b","upstream":["a","c"]} => 6 unknown upstream: b
+{"id":"a","upstream":["b"]},{"id":"b","upstream":["a"]} => 7 cycle: a b
+{"id":"a","upstream":["a"]} => 7 cycle: a
+{"id":"a","pool":"p"} => 8 unknown pool: a
+{"id":"a","pool_slots":129} => 9 slots beyond pool: a
+{"id":"a","rule":"all_succeeded"} => 10 bad rule: a
+{"id":"slow"},{"id":"fast"},{"id":"t","upstream":["slow","fast"],"rule":"one_success","command":[{"pull":"fast"}]} => 14 pull not settled: t
+{"id":"a"},{"id":"b","command":[{"pull":"a"}]} => 14 pull not settled: b
+{"id":"a"},{"id":"b","upstream":["a"]},{"id":"c","upstream":["b"],"expand":"a"} => 15 expand source: c
+{"id":"a"},{"id":"b","upstream":["a"],"expand":"a","rule":"always"} => 16 expand rule: b
+{"id":"a"},{"id":"b","upstream":["a"],"expand":"a","kind":"branch"} => 17 branch misuse: b
+ROWS
+
+# Schedules, and zones of @daily, that are refused.
+
+for schedule in '60 * * * *' '0 0 * * sat-sun' '@once'; do
+    scheduled "$schedule"
+    is_refused '11 bad cron'
+done
+scheduled '0 0 30 2 *'
+is_refused '12 never fires'
+for zone in file Europe/Paris +1:00 CET-1CEST; do
+    scheduled @daily "$zone"
+    is_refused '13 bad zone'
+done
+scheduled @daily file
+tells 2 'refused 13 bad zone' check "$graph" --zone-file "$graph"
+
+# A run: each task, map index, state, number of tries, and value.
+
+tasks '{"id":"a"}'
+runs success '[]' <<< 'a -1 success 1 -'
+tasks ''
+runs success '[]' < /dev/null
+
+tasks '{"id":"a","retries":2},{"id":"b","upstream":["a"]}'
+runs success '[{"task":"a","try":3},{"task":"a","status":1}]' <<'LINES'
+a -1 success 3 -
+b -1 success 1 -
+LINES
+runs success '[{"task":"a","status":99}]' <<'LINES'
+a -1 skipped 1 -
+b -1 skipped 0 -
+LINES
+tasks '{"id":"a","retries":1},{"id":"b","upstream":["a"]}'
+runs failed '[{"task":"a","try":3},{"task":"a","status":1}]' <<'LINES'
+a -1 failed 2 -
+b -1 upstream_failed 0 -
+LINES
+
+tasks '{"id":"x"},{"id":"y"},{"id":"z","upstream":["x","y"]}'
+runs failed '[{"task":"x","status":99},{"task":"y","status":1}]' <<'LINES'
+x -1 skipped 1 -
+y -1 failed 1 -
+z -1 upstream_failed 0 -
+LINES
+tasks '{"id":"x"},{"id":"y"},{"id":"z","upstream":["x","y"],"rule":"one_success"}'
+runs success '[{"task":"x","status":99},{"task":"y","status":99}]' <<'LINES'
+x -1 skipped 1 -
+y -1 skipped 1 -
+z -1 skipped 0 -
+LINES
+runs failed '[{"task":"x","status":99},{"task":"y","status":1}]' <<'LINES'
+x -1 skipped 1 -
+y -1 failed 1 -
+z -1 upstream_failed 0 -
+LINES
+
+tasks '{"id":"b","kind":"branch"},{"id":"p","upstream":["b"]},{"id":"join","upstream":["b","p"],"rule":"none_failed_min_one_success"}'
+runs success '[{"task":"b","out":"\"p\""}]' <<'LINES'
+b -1 success 1 "p"
+p -1 success 1 -
+join -1 success 1 -
+LINES
+runs success '[{"task":"b","out":"[]"}]' <<'LINES'
+b -1 success 1 []
+p -1 skipped 0 -
+join -1 skipped 0 -
+LINES
+tasks '{"id":"b","kind":"branch"},{"id":"m","upstream":["b"]},{"id":"e","upstream":["m"]}'
+runs failed '[{"task":"b","out":"e"}]' <<'LINES'
+b -1 failed 1 -
+m -1 upstream_failed 0 -
+e -1 upstream_failed 0 -
+LINES
+
+# The last line of a task's output, and the value that the task pushes.
+
+tasks '{"id":"a"}'
+while IFS= read -r row; do
+    line=${row%% => *}
+    runs success "[{\"out\":\"first\\n${line//\"/\\\"}\\n\"}]" <<< "a -1 success 1 ${row##* => }"
+done <<'ROWS'
+1.5 => "1.5"
+  7 => 7
+{"a":1} => "{\"a\":1}"
+null => -
+9223372036854775808 => "9223372036854775808"
+[null,true] => [null,true]
+ROWS
+
+# Tables that are refused, by their first bad entry.
+
+while IFS= read -r row; do
+    echo "${row%% => *}" > "$table"
+    tells 2 "refused 19 bad table: ${row##* => }" single "$graph" "$table" --at 2024-01-01
+done <<'ROWS'
+{} => file
+[{},{"status":256},{"exit":1}] => 1
+[{},{},{"exit":1}] => 2
+[{"run":"2024-01-01"}] => 0
+ROWS
+echo '[]' > "$table"
+tells 2 'refused 90 not yet: m' single "$root/examples/every_key/graph.json" "$table" --at 2024-01-01
+
+# Data intervals where the clock goes on and back, by days and weekdays, and at the ends of the years.
+
+europe=CET-1CEST,M3.5.0,M10.5.0/3
+scheduled '30 2 * * *' "$europe"
+lists 2024-03-30 2024-03-31T23:59:59Z <<'LINES'
+2024-03-30T01:30:00Z 2024-03-31T01:30:00Z
+2024-03-31T01:30:00Z 2024-04-01T00:30:00Z
+LINES
+lists 2024-10-26 2024-10-27T23:59:59Z <<'LINES'
+2024-10-26T00:30:00Z 2024-10-27T00:30:00Z
+2024-10-27T00:30:00Z 2024-10-28T01:30:00Z
+LINES
+scheduled '30 2,3 * * *' "$europe"
+lists 2024-03-31T01:30:00Z 2024-03-31T01:30:00Z <<< '2024-03-31T01:30:00Z 2024-04-01T00:30:00Z'
+scheduled '0 0 13 * fri'
+lists 2024-01-10 2024-01-15 <<'LINES'
+2024-01-12T00:00:00Z 2024-01-13T00:00:00Z
+2024-01-13T00:00:00Z 2024-01-19T00:00:00Z
+LINES
+scheduled '0 0 29 2 *'
+lists 2196-01-01 2199-12-31 <<< '2196-02-29T00:00:00Z 2204-02-29T00:00:00Z'
+scheduled @yearly
+lists 1970-01-01 1970-12-31 <<< '1970-01-01T00:00:00Z 1971-01-01T00:00:00Z'
+scheduled @weekly
+lists 2024-01-01 2024-01-06 < /dev/null
+
+# Moments and ranges.
+
+scheduled '* * * * *'
+lists 2024-01-01 2024-01-03T20:15:00Z < <(minutes)
+tells 2 'refused 27 too many runs' list "$graph" --from 2024-01-01 --to 2024-01-03T20:16:00Z
+tells 2 'refused 26 range reversed' list "$graph" --from 2024-01-02 --to 2024-01-01
+tells 2 'refused 25 outside years' list "$graph" --from 1969-12-31 --to 2024-01-01
+tells 2 'refused 25 outside years' single "$graph" "$table" --at 2200-01-01
+tells 2 'refused 28 bad moment' single "$graph" "$table" --at 2024-02-30
+
+# Files that aren't there.
+
+tells 3 "fault: cannot read $work/none" check "$work/none"
+tells 3 "fault: cannot read $work/none" list "$graph" --zone-file "$work/none" --from 2024-01-01 --to 2024-01-01
+tells 3 "fault: cannot read $work/none" single "$graph" "$work/none" --at 2024-01-01
+
+echo "$rows rows, $differing differ"
+[[ $differing -eq 0 ]]
