@@ -3,3 +3,4 @@ mod MomentFacts
 mod Spelling
 mod ClockFacts
 mod LongFacts
+pub mod OneText

@@ -41,6 +41,10 @@ moment_text n = date_text n ++ 84 ∷ time_text n ++ 90 ∷ []
 abbrev pub IsShown : ℤ → Type 0
 IsShown n = IsBetween (neg_ℤ (pos 62_167_219_200_000_000_000)) (pos 253_402_300_799_999_999_999) n
 
+-- the moment is one of whole seconds
+abbrev pub IsWhole : ℤ → Type 0
+IsWhole n = int_rem_euclid n (pos 1_000_000_000) ≡ pos 0
+
 -- the text spells the moment, which is one of whole seconds, or at midnight its date alone
 pub record Spells (spelled : List ℕ) (n : ℤ) : Type 0 where
   pub shown : IsShown n

@@ -3,8 +3,10 @@
 //! `moment_bytes` writes a moment, and `moment_in` reads one, which may also be a date alone.
 #![tactic(auto)]
 
+mod laws;
 mod moment;
 mod reading;
 
+pub use laws::moments_differ_in_text;
 pub use moment::{Moment, moment_bytes};
 pub use reading::{is_long_moment, moment_in};

@@ -1,6 +1,9 @@
-//! Pools: how many slots of each are occupied (Airflow's "Pools").
+//! Pools: how many slots of each are occupied, and what a task weighs among those that wait for room (Airflow's "Pools"
+//! and "Priority Weights").
 #![tactic(auto)]
 
 mod pools;
+mod weights;
 
 pub use pools::{NoRoom, Pools};
+pub use weights::total_weight;

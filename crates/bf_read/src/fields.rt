@@ -154,7 +154,8 @@ fn are_id_bytes(bytes: &[u8]) -> bool
     bytes.iter().all(|b| is_id_byte(*b))
 }
 
-fn is_id(text: &str) -> bool
+/// Whether a text may be the id of a graph, a task or a pool: 1 to 250 ASCII letters, digits, `-`, `.` and `_`.
+pub fn is_id(text: &str) -> bool
     ensures { result ≡ id_text text.now }
 {
     1 <= text.len() && text.len() <= LONGEST_ID && are_id_bytes(text.as_bytes())

@@ -33,6 +33,7 @@ pub use draft::{
     MOST_SLOTS, MOST_TASKS, MOST_WORDS, PoolDraft, TaskDraft, WordDraft,
 };
 pub use fault::ReadFault;
+pub use fields::is_id;
 pub use keys::{GraphKey, TaskKey};
 pub use kinds::{ContextVariable, TaskKind, WeightRule};
 pub use path::Path;

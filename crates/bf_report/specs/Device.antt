@@ -1,4 +1,4 @@
--- What a device was given.
+-- What a device was given, and what it gave.
 use Rattle.std.specs.Prelude.{◌≡◌, ℕ, zero, suc, ◌+◌, ◌%◌, ◌^◌, ◌⊎◌, List, [], ◌∷◌, ◌++◌, Option, option_map, Result, Ok, Err}
 use Rattle.bf_report.specs.declared.device.Halt.{Halt}
 use Rattle.bf_report.specs.declared.device.Halt.TheVariants.{Again, Failed}
@@ -11,7 +11,7 @@ sent told bytes = option_map (λ before. before ++ bytes) told
 abbrev pub WentOn : ℕ → ℕ → ℕ → Type 0
 WentOn n old new = new % 2 ^ 64 ≡ (old + n) % 2 ^ 64
 
--- how many bytes a write took
+-- how many bytes a call took
 abbrev pub taken : Result ℕ Halt → ℕ
 taken (Ok n) = n
 taken (Err halt) = 0
@@ -30,7 +30,13 @@ write_failed (b ∷ bs) (Ok (suc n)) = 0
 write_failed bs (Err Again) = 0
 write_failed bs (Err Failed) = 1
 
--- one write failed, or there were more interruptions than a call goes on after
+-- 1 for a read that failed
+abbrev pub read_failed : Result ℕ Halt → ℕ
+read_failed (Ok n) = 0
+read_failed (Err Again) = 0
+read_failed (Err Failed) = 1
+
+-- one call failed, or there were more interruptions than a call goes on after
 abbrev pub HasHalted : ℕ → ℕ → ℕ → ℕ → Type 0
 HasHalted failures_old failures_new interruptions_old interruptions_new =
     WentOn 1 failures_old failures_new ⊎ WentOn 1_001 interruptions_old interruptions_new

@@ -1,5 +1,7 @@
 pub mod Device
 pub mod Memory
 pub mod Output
+pub mod Bytes
+pub mod Input
 pub mod Report
 pub mod Dated

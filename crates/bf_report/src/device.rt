@@ -1,8 +1,9 @@
-//! Devices: what bytes are written to.
+//! Devices: what bytes are written to and read from.
 ghost use Rattle.std.specs.Prelude.{◌≡◌, ℕ, ◌≤◌, List, length, take, Option, IfOk};
-ghost use Rattle.bf_report.specs.Device.{sent, taken, interrupted, write_failed, WentOn};
+ghost use Rattle.std.specs.Io.KnownBytes.{ReadConsumes};
+ghost use Rattle.bf_report.specs.Device.{sent, taken, interrupted, write_failed, read_failed, WentOn};
 
-/// Why a device took nothing.
+/// Why a device took or gave nothing.
 #[derive(Clone, Copy, Debug, PartialEq, Eq)]
 pub enum Halt {
     /// The call was interrupted, and may be made again.
@@ -25,4 +26,21 @@ pub trait Write {
         ensures written { written self.new ≡ sent (written self.old) (take (taken result) bytes.now) }
         ensures interruptions { WentOn (interrupted result) (interruptions self.old) (interruptions self.new) }
         ensures failures { WentOn (write_failed bytes.now result) (failures self.old) (failures self.new) };
+}
+
+/// What bytes can be read from. Contracts see the bytes that are left, where the device tells them, and how often it
+/// was interrupted and how often it failed, as counters of 64 bits count. To give none for some room is the end.
+pub trait Read {
+    ghost left: { Self → Option (List ℕ) };
+
+    ghost interruptions: { Self → ℕ };
+
+    ghost failures: { Self → ℕ };
+
+    /// Reads the next bytes into the front of the room, and says how many.
+    fn read(&mut self, room: &mut [u8]) -> Result<usize, Halt>
+        ensures bound { IfOk result (λ n. n ≤ length room.new) }
+        ensures bytes { ReadConsumes (left self.old) (left self.new) result room.new }
+        ensures interruptions { WentOn (interrupted result) (interruptions self.old) (interruptions self.new) }
+        ensures failures { WentOn (read_failed result) (failures self.old) (failures self.new) };
 }

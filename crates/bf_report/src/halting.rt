@@ -1,13 +1,14 @@
 //! The device that halts, for tests.
-ghost use Rattle.std.specs.Prelude.{◌≡◌, ◌+◌};
+ghost use Rattle.std.specs.Prelude.{◌≡◌, ◌+◌, Err};
+ghost use Rattle.bf_report.specs.Device.{interrupted, read_failed, WentOn};
 
-use crate::device::{Halt, Write};
+use crate::device::{Halt, Read, Write};
 
 /// A device for tests, also those of other crates. It passes on one byte a call, but the `times` calls from the call
 /// `first` on, counted from 0, give `halt`.
 #[derive(Drop)]
-pub struct Halting<W: Drop> {
-    pub inner: W,
+pub struct Halting<D: Drop> {
+    pub inner: D,
     pub halt: Halt,
     pub first: u64,
     pub times: u64,
@@ -17,9 +18,9 @@ pub struct Halting<W: Drop> {
     pub failed: u64,
 }
 
-impl<W: Write + Drop> Halting<W> {
+impl<D: Drop> Halting<D> {
     /// A device that halts at some calls, and passes on to another at the others.
-    pub fn new(inner: W, halt: Halt, first: u64, times: u64) -> Self
+    pub fn new(inner: D, halt: Halt, first: u64, times: u64) -> Self
         ensures { result ≡ record {
           inner = inner;
           halt = halt;
@@ -41,8 +42,22 @@ impl<W: Write + Drop> Halting<W> {
         }
     }
 
+    /// Counts a call that halts, and says how.
+    fn halted(&mut self) -> Halt
+        ensures halt { result ≡ self.old.halt }
+        ensures inner { self.new.inner ≡ self.old.inner }
+        ensures interrupted { WentOn (interrupted (Err result)) self.old.interrupted self.new.interrupted }
+        ensures failed { WentOn (read_failed (Err result)) self.old.failed self.new.failed }
+    {
+        match self.halt {
+            Halt::Again => self.interrupted = self.interrupted.wrapping_add(1),
+            Halt::Failed => self.failed = self.failed.wrapping_add(1),
+        }
+        self.halt
+    }
+
     /// Gives the device back that was passed on to.
-    pub fn into_inner(self) -> W
+    pub fn into_inner(self) -> D
         ensures { result ≡ self.inner }
     {
         let Halting {
@@ -71,10 +86,24 @@ impl<W: Write + Drop> Write for Halting<W> {
         if call < self.first || call - self.first >= self.times {
             return self.inner.write(&bytes[..bytes.len().min(1)]);
         }
-        match self.halt {
-            Halt::Again => self.interrupted = self.interrupted.wrapping_add(1),
-            Halt::Failed => self.failed = self.failed.wrapping_add(1),
+        Err(self.halted())
+    }
+}
+
+impl<R: Read + Drop> Read for Halting<R> {
+    ghost left = { λ h. R.left h.inner };
+
+    ghost interruptions = { λ h. R.interruptions h.inner + h.interrupted };
+
+    ghost failures = { λ h. R.failures h.inner + h.failed };
+
+    fn read(&mut self, room: &mut [u8]) -> Result<usize, Halt> {
+        let call = self.calls;
+        self.calls = self.calls.wrapping_add(1);
+        if call < self.first || call - self.first >= self.times {
+            let most = room.len().min(1);
+            return self.inner.read(&mut room[..most]);
         }
-        Err(self.halt)
+        Err(self.halted())
     }
 }

@@ -1,4 +1,4 @@
-//! Reports of a backfill, and the devices that they are written to.
+//! Reports of a backfill, and the devices that they are written to and read from.
 //!
 //! A report is the list of runs by date, and in each run what came of each task in file order. Its text has a
 //! head line, a line for each run with the lines of its tasks behind it, and an end line:
@@ -13,9 +13,11 @@
 //! `write_report` makes the whole text in memory and then sends it to a device, a `Write`.
 #![tactic(auto)]
 
+mod bytes;
 mod dated;
 mod device;
 mod halting;
+mod input;
 mod lines;
 mod memory;
 mod output;
@@ -24,9 +26,11 @@ mod sending;
 mod writing;
 
 pub use bf_moment::{Moment, moment_bytes, moment_in};
+pub use bytes::Bytes;
 pub use dated::report_of;
-pub use device::{Halt, Write};
+pub use device::{Halt, Read, Write};
 pub use halting::Halting;
+pub use input::Input;
 pub use memory::Memory;
 pub use output::Output;
 pub use report::{Report, RunReport, TaskReport};

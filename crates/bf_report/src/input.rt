@@ -1,0 +1,61 @@
+//! The device over a reader of std.
+ghost use Rattle.std.specs.Prelude.{◌≡◌};
+ghost use Rattle.bf_report.specs.Input.{interrupted_reads, failed_reads};
+
+use crate::device::{Halt, Read};
+use std::io;
+
+/// A reader of std, as a file. It tells what that reader tells.
+#[derive(Drop)]
+pub struct Input<R: io::Read + Drop> {
+    pub inner: R,
+    interrupted: u64,
+    failed: u64,
+}
+
+impl<R: io::Read + Drop> Input<R> {
+    /// A device that passes on what a reader gives.
+    pub fn new(inner: R) -> Self
+        ensures { result.inner ≡ inner }
+    {
+        Input {
+            inner,
+            interrupted: 0,
+            failed: 0,
+        }
+    }
+
+    /// Gives the reader back.
+    pub fn into_inner(self) -> R
+        ensures { result ≡ self.inner }
+    {
+        let Input {
+            inner,
+            interrupted: _,
+            failed: _,
+        } = self;
+        inner
+    }
+}
+
+impl<R: io::Read + Drop> Read for Input<R> {
+    ghost left = { λ i. R.remaining i.inner };
+
+    ghost interruptions = { λ i. interrupted_reads i };
+
+    ghost failures = { λ i. failed_reads i };
+
+    fn read(&mut self, room: &mut [u8]) -> Result<usize, Halt> {
+        match self.inner.read(room) {
+            Ok(count) => Ok(count),
+            Err(error) if error.kind() == io::ErrorKind::Interrupted => {
+                self.interrupted = self.interrupted.wrapping_add(1);
+                Err(Halt::Again)
+            }
+            Err(_) => {
+                self.failed = self.failed.wrapping_add(1);
+                Err(Halt::Failed)
+            }
+        }
+    }
+}
