@@ -56,19 +56,26 @@ is_refused() {
     tells 2 "refused $1" check "$graph"
     tells 2 "refused $1" list "$graph" --from 2024-01-01 --to 2024-01-01
     tells 2 "refused $1" single "$graph" "$table" --at 2024-01-01
+    tells 2 "refused $1" dry "$graph" "$table" --from 2024-01-01 --to 2024-01-01
 }
 
-# The graph that was written, run at 2024-01-01 by this table, ends in this state with the instances on standard input.
+# The report of one run that starts at 2024-01-01 and ends then, in this state, with the instances on standard input.
+one_run() {
+    echo '@backfill 1 d'
+    echo "@run 2024-01-01T00:00:00Z $1 $2"
+    cat
+    echo '@end 1'
+}
+
+# The graph that was written, run at 2024-01-01 by this table and for that day, ends in this state with the instances on
+# standard input.
 runs() {
-    local state=$1 status=0
+    local state=$1 status=0 instances
     echo "$2" > "$table"
     [[ $state == success ]] || status=1
-    answers "$status" single "$graph" "$table" --at 2024-01-01 < <(
-        echo '@backfill 1 d'
-        echo "@run 2024-01-01T00:00:00Z 2024-01-01T00:00:00Z $state"
-        cat
-        echo '@end 1'
-    )
+    instances=$(cat)
+    answers "$status" single "$graph" "$table" --at 2024-01-01 < <(one_run 2024-01-01T00:00:00Z "$state" <<< "$instances")
+    answers "$status" dry "$graph" "$table" --from 2024-01-01 --to 2024-01-01 < <(one_run 2024-01-02T00:00:00Z "$state" <<< "$instances")
 }
 
 # The data intervals of the graph that was written, from and to these moments, are those on standard input.
@@ -206,6 +213,85 @@ m -1 upstream_failed 0 -
 e -1 upstream_failed 0 -
 LINES
 
+# Expanded tasks.
+
+tasks '{"id":"src"},{"id":"m","upstream":["src"],"expand":"src"}'
+runs success '[{"task":"src","out":"[]"}]' <<'LINES'
+src -1 success 1 []
+m -1 skipped 0 -
+LINES
+runs failed '[{"task":"src","out":"5"}]' <<'LINES'
+src -1 failed 1 -
+m -1 upstream_failed 0 -
+LINES
+list=$(printf '0,%.0s' {1..1023})0
+runs success "[{\"task\":\"src\",\"out\":\"[$list]\"}]" < <(
+    echo "src -1 success 1 [$list]"
+    printf 'm %d success 1 -\n' {0..1023}
+)
+runs failed "[{\"task\":\"src\",\"out\":\"[0,$list]\"}]" <<'LINES'
+src -1 failed 1 -
+m -1 upstream_failed 0 -
+LINES
+tasks '{"id":"src"},{"id":"m","upstream":["src"],"expand":"src"},{"id":"n","upstream":["m"],"expand":"m","rule":"all_done"}'
+runs success '[{"task":"src","out":"[1,2,3]"},{"task":"m","index":0,"out":"1"},{"task":"m","index":1,"status":1},{"task":"m","index":2,"out":"3"}]' <<'LINES'
+src -1 success 1 [1,2,3]
+m 0 success 1 1
+m 1 failed 1 -
+m 2 success 1 3
+n 0 success 1 -
+n 1 success 1 -
+LINES
+tasks '{"id":"src"},{"id":"m","upstream":["src"],"expand":"src"},{"id":"sum","upstream":["m"],"command":["echo",{"pull":"m"}]}'
+runs success '[{"task":"src","out":"[3,1,2]"},{"task":"m","index":0,"out":"3"},{"task":"m","index":2,"out":"2"},{"task":"sum","out":"[3,2]"}]' <<'LINES'
+src -1 success 1 [3,1,2]
+m 0 success 1 3
+m 1 success 1 -
+m 2 success 1 2
+sum -1 success 1 [3,2]
+LINES
+
+# Several runs, and the past.
+
+echo '[]' > "$table"
+tasks ''
+answers 0 dry "$graph" "$table" --from 2024-01-01 --to 2024-01-02 <<'LINES'
+@backfill 1 d
+@run 2024-01-01T00:00:00Z 2024-01-02T00:00:00Z success
+@run 2024-01-02T00:00:00Z 2024-01-03T00:00:00Z success
+@end 2
+LINES
+echo '{"dag_id":"d","schedule":"@weekly","tasks":[{"id":"a"}]}' > "$graph"
+answers 0 dry "$graph" "$table" --from 2024-01-01 --to 2024-01-06 <<'LINES'
+@backfill 1 d
+@end 0
+LINES
+for limit in '' '"max_active_runs":1,'; do
+    echo "{\"dag_id\":\"d\",\"schedule\":\"@daily\",$limit\"tasks\":[{\"id\":\"a\",\"depends_on_past\":true}]}" > "$graph"
+    echo '[{"run":"2024-01-01T00:00:00Z","status":1}]' > "$table"
+    answers 1 dry "$graph" "$table" --from 2024-01-01 --to 2024-01-03 <<'LINES'
+@backfill 1 d
+@run 2024-01-01T00:00:00Z 2024-01-02T00:00:00Z failed
+a -1 failed 1 -
+@run 2024-01-02T00:00:00Z 2024-01-03T00:00:00Z failed
+a -1 no_status 0 -
+@run 2024-01-03T00:00:00Z 2024-01-04T00:00:00Z failed
+a -1 no_status 0 -
+@end 3
+LINES
+    echo '[{"run":"2024-01-01T00:00:00Z","status":99}]' > "$table"
+    answers 0 dry "$graph" "$table" --from 2024-01-01 --to 2024-01-03 <<'LINES'
+@backfill 1 d
+@run 2024-01-01T00:00:00Z 2024-01-02T00:00:00Z success
+a -1 skipped 1 -
+@run 2024-01-02T00:00:00Z 2024-01-03T00:00:00Z success
+a -1 success 1 -
+@run 2024-01-03T00:00:00Z 2024-01-04T00:00:00Z success
+a -1 success 1 -
+@end 3
+LINES
+done
+
 # The last line of a task's output, and the value that the task pushes.
 
 tasks '{"id":"a"}'
@@ -232,9 +318,6 @@ done <<'ROWS'
 [{},{},{"exit":1}] => 2
 [{"run":"2024-01-01"}] => 0
 ROWS
-echo '[]' > "$table"
-tells 2 'refused 90 not yet: m' single "$root/examples/every_key/graph.json" "$table" --at 2024-01-01
-
 # Data intervals where the clock goes on and back, by days and weekdays, and at the ends of the years.
 
 europe=CET-1CEST,M3.5.0,M10.5.0/3
@@ -269,6 +352,7 @@ tells 2 'refused 27 too many runs' list "$graph" --from 2024-01-01 --to 2024-01-
 tells 2 'refused 26 range reversed' list "$graph" --from 2024-01-02 --to 2024-01-01
 tells 2 'refused 25 outside years' list "$graph" --from 1969-12-31 --to 2024-01-01
 tells 2 'refused 25 outside years' single "$graph" "$table" --at 2200-01-01
+tells 2 'refused 26 range reversed' dry "$graph" "$table" --from 2024-01-02 --to 2024-01-01
 tells 2 'refused 28 bad moment' single "$graph" "$table" --at 2024-02-30
 
 # Files that aren't there.
@@ -276,6 +360,7 @@ tells 2 'refused 28 bad moment' single "$graph" "$table" --at 2024-02-30
 tells 3 "fault: cannot read $work/none" check "$work/none"
 tells 3 "fault: cannot read $work/none" list "$graph" --zone-file "$work/none" --from 2024-01-01 --to 2024-01-01
 tells 3 "fault: cannot read $work/none" single "$graph" "$work/none" --at 2024-01-01
+tells 3 "fault: cannot read $work/none" dry "$graph" "$work/none" --from 2024-01-01 --to 2024-01-01
 
 echo "$rows rows, $differing differ"
 [[ $differing -eq 0 ]]

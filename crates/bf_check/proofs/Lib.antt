@@ -2,5 +2,4 @@ pub mod ListLemmas
 pub mod FaultLemmas
 pub mod PullLemmas
 pub mod PlanLemmas
-pub mod ServedPlans
 pub mod PoolLemmas

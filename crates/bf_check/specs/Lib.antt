@@ -4,4 +4,3 @@ pub mod Checked
 pub mod Checking
 pub mod Schedules
 pub mod Refusals
-pub mod Served

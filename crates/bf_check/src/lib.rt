@@ -9,7 +9,6 @@ mod pools;
 mod pulls;
 mod refusing;
 mod schedules;
-mod served;
 mod tasks;
 
 pub use bf_cron::CronSpec;
@@ -18,4 +17,3 @@ pub use bf_zone::Zone;
 pub use checking::check;
 pub use fault::{CheckFault, TaskFault};
 pub use plan::{Dag, Demand, Limits, Plan, Task, Word};
-pub use served::first_unserved;

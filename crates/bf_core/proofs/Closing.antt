@@ -27,10 +27,16 @@ failed-results [] [] e = refl
 failed-results [] (r ∷ rs) e = cc
 failed-results (x ∷ xs) rs e = failed-cons x.attempt x.phase (results xs) _ (failed-results xs) rs e
 
+both-ways : (a b : Bool) → (a && b) ≡ (b && a)
+both-ways true true = refl
+both-ways true false = refl
+both-ways false true = refl
+both-ways false false = refl
+
 fails-of : (leaf : Bool) (o : Option (List TaskResult)) (f b : Bool) → is_some o ≡ f → ((rs : List TaskResult) → o ≡ Some rs → list_any (λ r. is_failed r.outcome) rs ≡ b) →
-    (not f || (leaf && b)) ≡ fails_run leaf (value_or_blocked (option_map TaskValue.Ran o))
+    (not f || (b && leaf)) ≡ fails_run leaf (value_or_blocked (option_map TaskValue.Ran o))
 fails-of leaf None f b e h = rw (← e)
-fails-of leaf (Some rs) f b e h = rw (← e, h rs refl)
+fails-of leaf (Some rs) f b e h = rw (← e, h rs refl) (both-ways b leaf)
 
 pub ran_fails : (leaf : Bool) (xs : List Instance) → instances_fail leaf xs ≡ fails_run leaf (value_or_blocked (option_map TaskValue.Ran (results xs)))
 ran_fails leaf xs = fails-of leaf (results xs) _ _ (some-results xs) (failed-results xs)

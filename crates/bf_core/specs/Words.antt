@@ -66,4 +66,4 @@ is_failed_instance x = is_failed_phase x.phase
 
 -- instances fail their run where one has not finished, or one of a leaf has failed
 abbrev pub instances_fail : Bool → List Instance → Bool
-instances_fail leaf xs = not (list_all (λ x. is_finished x.phase) xs) || (leaf && list_any is_failed_instance xs)
+instances_fail leaf xs = not (list_all (λ x. is_finished x.phase) xs) || (list_any is_failed_instance xs && leaf)

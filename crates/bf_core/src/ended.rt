@@ -56,23 +56,23 @@ fn any_failed(instances: &[Instance]) -> bool
     instances.iter().any(|instance| has_failed(instance))
 }
 
-/// Whether a task in a closed run fails that run.
+/// Whether a task in a closed run fails that run. Whether it is a leaf is looked at last, since that takes longest.
 #[tactic(auto, using(crate::proofs::Closing::ran_fails))]
-fn fails_its_run(cell: &Cell, is_leaf: bool) -> bool
-    ensures { result ≡ fails_run is_leaf (value_or_blocked (value_in cell.now)) }
+fn fails_its_run(dag: &Dag, task: u32, cell: &Cell) -> bool
+    ensures { result ≡ fails_run (leaf dag.now task) (value_or_blocked (value_in cell.now)) }
 {
     match cell {
         Cell::Undecided | Cell::Blocked => true,
         Cell::Skipped => false,
-        Cell::UpstreamFailed => is_leaf,
-        Cell::Ran(instances) => ran_fails(instances.as_slice(), is_leaf),
+        Cell::UpstreamFailed => is_leaf(dag, task),
+        Cell::Ran(instances) => ran_fails(dag, task, instances.as_slice()),
     }
 }
 
-fn ran_fails(instances: &[Instance], is_leaf: bool) -> bool
-    ensures { result ≡ instances_fail is_leaf instances.now }
+fn ran_fails(dag: &Dag, task: u32, instances: &[Instance]) -> bool
+    ensures { result ≡ instances_fail (leaf dag.now task) instances.now }
 {
-    !are_finished(instances) || (is_leaf && any_failed(instances))
+    !are_finished(instances) || (any_failed(instances) && is_leaf(dag, task))
 }
 
 fn run_fails(dag: &Dag, cells: &[Cell]) -> bool
@@ -81,7 +81,7 @@ fn run_fails(dag: &Dag, cells: &[Cell]) -> bool
     ensures { result ≡ fails dag.now (λ t. value_or_blocked (value_in (slice_index_or cells.now t CellTerm.Undecided))) }
 {
     for task in 0..cells.len() {
-        if fails_its_run(&cells[task], is_leaf(dag, task as u32)) {
+        if fails_its_run(dag, task as u32, &cells[task]) {
             return true;
         }
     }

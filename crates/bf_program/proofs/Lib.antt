@@ -1,8 +1,7 @@
 pub mod Rows
 pub mod FoundFiles
 pub mod Ends
-pub mod Driven
-pub mod Files
-pub mod Progress
+pub mod Over
+pub mod Faults
 pub mod OneList
 pub mod ListedIntervals

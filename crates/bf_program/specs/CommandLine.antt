@@ -39,6 +39,10 @@ list_app = with_rule (with_rule (with_rule (with_rule (new_app (codes "list")) g
 abbrev pub single_app : App
 single_app = with_rule (with_rule (with_rule (with_rule (new_app (codes "single")) graph_rule) zone_file_rule) table_rule) at_rule
 
+-- `dry GRAPH TABLE --from T --to T [--zone-file PATH]`
+abbrev pub dry_app : App
+dry_app = with_rule (with_rule (with_rule (with_rule (with_rule (new_app (codes "dry")) graph_rule) zone_file_rule) table_rule) from_rule) to_rule
+
 -- `backfill`, which wants a subcommand and without a word shows its help
 abbrev pub bare_app : App
 bare_app = record {
@@ -50,5 +54,8 @@ bare_app = record {
 abbrev pub looking_app : App
 looking_app = with_subcommand (with_subcommand bare_app check_app.top) list_app.top
 
+abbrev pub running_app : App
+running_app = with_subcommand looking_app single_app.top
+
 abbrev pub backfill_app : App
-backfill_app = with_subcommand looking_app single_app.top
+backfill_app = with_subcommand running_app dry_app.top

@@ -4,7 +4,8 @@ pub mod Source
 pub mod Stored
 pub mod Refusal
 pub mod Status
+pub mod OverTable
 pub mod OneRun
-pub mod Driving
+pub mod DatedRuns
 pub mod Graphs
 pub mod Lists

@@ -9,13 +9,13 @@ use Rattle.bf_try.specs.declared.table.TableFault.{TableFault}
 use Rattle.bf_try.specs.declared.table.TableFault.TheVariants as table
 use Rattle.bf_program.specs.declared.graphs.PlanFault.{PlanFault}
 use Rattle.bf_program.specs.declared.graphs.PlanFault.TheVariants as plan
-use Rattle.bf_program.specs.declared.one_run.SingleFault.{SingleFault}
-use Rattle.bf_program.specs.declared.one_run.SingleFault.TheVariants as single
+use Rattle.bf_program.specs.declared.over_table.RunFault.{RunFault}
+use Rattle.bf_program.specs.declared.over_table.RunFault.TheVariants as run
 use Rattle.bf_interval.specs.Intervals.{fault_number}
 use Rattle.bf_program.specs.declared.listing.ListFault.{ListFault}
 use Rattle.bf_program.specs.declared.listing.ListFault.TheVariants as list
 use Rattle.bf_program.specs.declared.refusal.CommandFault.{CommandFault}
-use Rattle.bf_program.specs.declared.refusal.CommandFault.TheVariants.{Plan, Single, List, BadMoment, OutOfMemory, CannotRead, CannotWrite}
+use Rattle.bf_program.specs.declared.refusal.CommandFault.TheVariants.{Plan, Run, List, BadMoment, OutOfMemory, CannotRead, CannotWrite}
 
 -- ---- refusals have numbers, and faults have none
 
@@ -35,13 +35,12 @@ abbrev pub table_number : TableFault → Option ℕ
 table_number (table.BadTable n) = Some 19
 table_number table.OutOfMemory = None
 
-abbrev pub single_number : SingleFault → Option ℕ
-single_number (single.Plan fault) = plan_number fault
-single_number (single.NotYet id) = Some 90
-single_number (single.Table fault) = table_number fault
-single_number single.OutsideYears = Some 25
-single_number single.OutOfMemory = None
-single_number (single.Write fault) = None
+abbrev pub run_number : RunFault → Option ℕ
+run_number (run.Plan fault) = plan_number fault
+run_number (run.Table fault) = table_number fault
+run_number (run.Range fault) = fault_number fault
+run_number run.OutOfMemory = None
+run_number (run.Write fault) = None
 
 abbrev pub list_number : ListFault → Option ℕ
 list_number (list.Plan fault) = plan_number fault
@@ -51,7 +50,7 @@ list_number (list.Write fault) = None
 
 abbrev pub number_of : CommandFault → Option ℕ
 number_of (Plan fault) = plan_number fault
-number_of (Single fault) = single_number fault
+number_of (Run fault) = run_number fault
 number_of (List fault) = list_number fault
 number_of BadMoment = Some 28
 number_of OutOfMemory = None

@@ -1,10 +1,15 @@
 -- Exit statuses.
-use Rattle.std.specs.Prelude.{◌≡◌, ◌⊎◌, ℕ, [], ◌∷◌}
+use Rattle.std.specs.Prelude.{◌≡◌, ◌⊎◌, ℕ, Bool, true, false, [], ◌∷◌}
 use Rattle.clap.specs.Words.{Kinds}
 use Rattle.clap.specs.declared.error.kind.ErrorKind.{ErrorKind}
 use Rattle.clap.specs.declared.error.kind.ErrorKind.TheVariants.{DisplayHelp, DisplayVersion}
 use Rattle.bf_program.specs.declared.status.Status.{Status}
 use Rattle.bf_program.specs.declared.status.Status.TheVariants.{Success, Failed, Refused, Fault}
+
+-- where every run is a success, and where some run is not
+abbrev pub of_runs : Bool → Status
+of_runs true = Success
+of_runs false = Failed
 
 abbrev pub code_of : Status → ℕ
 code_of Success = 0

@@ -2,7 +2,7 @@
 ghost use Rattle.std.specs.Prelude.{◌≡◌, IfOk, false};
 ghost use Rattle.clap.specs.Words.{app_of, rule_of};
 ghost use Rattle.clap.specs.declared.builder.command.Command.TheViews.{out-Command};
-ghost use Rattle.bf_program.specs.CommandLine.{backfill_app, looking_app, check_app, list_app, single_app, graph_rule, zone_file_rule, table_rule, at_rule, from_rule, to_rule};
+ghost use Rattle.bf_program.specs.CommandLine.{backfill_app, looking_app, check_app, dry_app, list_app, running_app, single_app, graph_rule, zone_file_rule, table_rule, at_rule, from_rule, to_rule};
 
 use clap::{Arg, Command};
 use std::alloc::{AllocError, Global};
@@ -104,6 +104,21 @@ fn single<'a>(alloc: Global) -> Result<Command<'a>, AllocError>
         .arg(at(alloc))
 }
 
+fn dry<'a>(alloc: Global) -> Result<Command<'a>, AllocError>
+    ensures app { IfOk result (λ c. app_of c ≡ dry_app) }
+    ensures local { IfOk result (λ c. (out-Command c).has_globals ≡ false) }
+{
+    Command::new(alloc, "dry")
+        .about(
+            "Runs the graph for each data interval that starts in a range, answering each task from a table",
+        )
+        .arg(graph(alloc))?
+        .arg(zone_file(alloc))?
+        .arg(table(alloc))?
+        .arg(from(alloc))?
+        .arg(to(alloc))
+}
+
 /// The line with the commands that look at a graph alone.
 fn looking<'a>(alloc: Global) -> Result<Command<'a>, AllocError>
     ensures { IfOk result (λ c. app_of c ≡ looking_app) }
@@ -116,9 +131,16 @@ fn looking<'a>(alloc: Global) -> Result<Command<'a>, AllocError>
         .subcommand(list(alloc)?)
 }
 
+/// The line with `single` too.
+fn running<'a>(alloc: Global) -> Result<Command<'a>, AllocError>
+    ensures { IfOk result (λ c. app_of c ≡ running_app) }
+{
+    looking(alloc)?.subcommand(single(alloc)?)
+}
+
 /// The whole command line.
 pub fn backfill<'a>(alloc: Global) -> Result<Command<'a>, AllocError>
     ensures { IfOk result (λ c. app_of c ≡ backfill_app) }
 {
-    looking(alloc)?.subcommand(single(alloc)?)
+    running(alloc)?.subcommand(dry(alloc)?)
 }

@@ -6,12 +6,18 @@ pub struct GraphAsked {
     pub zone_file: Option<String>,
 }
 
+/// `--from T --to T`: the first and the last moment at which a data interval may start.
+#[derive(Debug, Drop)]
+pub struct RangeAsked {
+    pub from: String,
+    pub to: String,
+}
+
 /// `list GRAPH --from T --to T`: the data intervals of a range.
 #[derive(Debug, Drop)]
 pub struct ListAsked {
     pub graph: GraphAsked,
-    pub from: String,
-    pub to: String,
+    pub range: RangeAsked,
 }
 
 /// `single GRAPH TABLE --at T`: one run whose interval starts and ends at `T`, its tasks answered from a table.
@@ -22,6 +28,14 @@ pub struct SingleAsked {
     pub at: String,
 }
 
+/// `dry GRAPH TABLE --from T --to T`: a run for each data interval of a range, its tasks answered from a table.
+#[derive(Debug, Drop)]
+pub struct DryAsked {
+    pub graph: GraphAsked,
+    pub table: String,
+    pub range: RangeAsked,
+}
+
 /// A subcommand with its paths and options.
 #[derive(Debug, Drop)]
 pub enum Asked {
@@ -29,4 +43,5 @@ pub enum Asked {
     Check(GraphAsked),
     List(ListAsked),
     Single(SingleAsked),
+    Dry(DryAsked),
 }

@@ -3,8 +3,9 @@
 
 mod checked;
 mod command;
+mod dated_runs;
 mod disk;
-mod driving;
+mod dry;
 pub mod forms;
 mod graphs;
 mod input;
@@ -12,6 +13,7 @@ mod laws;
 mod listed;
 mod listing;
 mod one_run;
+mod over_table;
 mod program;
 mod reading;
 mod refusal;
@@ -20,11 +22,13 @@ mod source;
 mod status;
 mod stored;
 
+pub use dated_runs::run_dry;
 pub use disk::Disk;
 pub use graphs::{GraphSize, PlanFault, check_graph};
 pub use laws::one_list;
 pub use listing::{ListFault, run_list};
-pub use one_run::{SingleFault, run_single};
+pub use one_run::run_single;
+pub use over_table::RunFault;
 pub use program::answer;
 pub use reading::asked;
 pub use refusal::CommandFault;

@@ -21,8 +21,8 @@ pub fn list_answered<S: Source, W: Write>(
     ensures ok { IfOk result (λ s. s ≡ Status.Success) }
     ensures refused { IfErr result (λ f. IsSome (number_of f) → W.written out.new ≡ W.written out.old) }
 {
-    let from = moment_of(asked.from.as_str())?;
-    let to = moment_of(asked.to.as_str())?;
+    let from = moment_of(asked.range.from.as_str())?;
+    let to = moment_of(asked.range.to.as_str())?;
     let files = graph_files(alloc, asked.graph, files)?;
     run_list(alloc, &files.graph, files.zone_file(), from, to, out)?;
     Ok(Status::Success)

@@ -6,6 +6,7 @@ ghost use Rattle.bf_program.specs.Refusal.{number_of};
 ghost use Rattle.bf_program.specs.Status.{code_of, shown_as, EndsAs};
 
 use crate::checked::check_answered;
+use crate::dry::dry_answered;
 use crate::forms::Asked;
 use crate::listed::list_answered;
 use crate::reading::asked;
@@ -61,6 +62,7 @@ fn line_answered<S: Source, W: Write, E: Write>(
         Ok(Asked::Check(check)) => check_answered(alloc, check, files, out),
         Ok(Asked::List(list)) => list_answered(alloc, list, files, out),
         Ok(Asked::Single(single)) => single_answered(alloc, single, files, out),
+        Ok(Asked::Dry(dry)) => dry_answered(alloc, dry, files, out),
         Err(error) => shown(alloc, &error, out, err),
     }
 }

@@ -2,10 +2,10 @@
 ghost use Rattle.std.specs.Prelude.{◌≡◌, IfOk, map, option_map, string_bytes, Some, codes};
 ghost use Rattle.clap.specs.Words.{fault_of, FailsBy, subcommand_of, first_of, found_of, rows_of, subcommand_rows_of};
 ghost use Rattle.bf_program.specs.CommandLine.{backfill_app};
-ghost use Rattle.bf_program.specs.Asked.{IsAskedBy, IsGraphBy};
+ghost use Rattle.bf_program.specs.Asked.{IsAskedBy, IsGraphBy, IsRangeBy};
 
 use crate::command::backfill;
-use crate::forms::{Asked, GraphAsked, ListAsked, SingleAsked};
+use crate::forms::{Asked, DryAsked, GraphAsked, ListAsked, RangeAsked, SingleAsked};
 use clap::{ArgMatches, Error};
 use std::alloc::{AllocError, Global};
 
@@ -38,6 +38,7 @@ fn subcommand_asked(alloc: Global, matches: &ArgMatches<'_>) -> Result<Asked, Al
         Some(("check", inner)) => Ok(Asked::Check(graph_asked(alloc, inner)?)),
         Some(("list", inner)) => Ok(Asked::List(list_asked(alloc, inner)?)),
         Some(("single", inner)) => Ok(Asked::Single(single_asked(alloc, inner)?)),
+        Some(("dry", inner)) => Ok(Asked::Dry(dry_asked(alloc, inner)?)),
         _ => Err(AllocError),
     }
 }
@@ -51,13 +52,27 @@ fn graph_asked(alloc: Global, matches: &ArgMatches<'_>) -> Result<GraphAsked, Al
     })
 }
 
+fn range_asked(alloc: Global, matches: &ArgMatches<'_>) -> Result<RangeAsked, AllocError>
+    ensures { IfOk result (IsRangeBy (rows_of (found_of matches.now))) }
+{
+    Ok(RangeAsked {
+        from: required(alloc, matches, "from")?,
+        to: required(alloc, matches, "to")?,
+    })
+}
+
+fn table_asked(alloc: Global, matches: &ArgMatches<'_>) -> Result<String, AllocError>
+    ensures { IfOk result (λ t. first_of (codes "table") (rows_of (found_of matches.now)) ≡ Some (string_bytes t)) }
+{
+    required(alloc, matches, "table")
+}
+
 fn list_asked(alloc: Global, matches: &ArgMatches<'_>) -> Result<ListAsked, AllocError>
     ensures { IfOk result (λ l. IsAskedBy (Some (codes "list", rows_of (found_of matches.now))) (Asked.List l)) }
 {
     Ok(ListAsked {
         graph: graph_asked(alloc, matches)?,
-        from: required(alloc, matches, "from")?,
-        to: required(alloc, matches, "to")?,
+        range: range_asked(alloc, matches)?,
     })
 }
 
@@ -66,8 +81,18 @@ fn single_asked(alloc: Global, matches: &ArgMatches<'_>) -> Result<SingleAsked, 
 {
     Ok(SingleAsked {
         graph: graph_asked(alloc, matches)?,
-        table: required(alloc, matches, "table")?,
+        table: table_asked(alloc, matches)?,
         at: required(alloc, matches, "at")?,
+    })
+}
+
+fn dry_asked(alloc: Global, matches: &ArgMatches<'_>) -> Result<DryAsked, AllocError>
+    ensures { IfOk result (λ d. IsAskedBy (Some (codes "dry", rows_of (found_of matches.now))) (Asked.Dry d)) }
+{
+    Ok(DryAsked {
+        graph: graph_asked(alloc, matches)?,
+        table: table_asked(alloc, matches)?,
+        range: range_asked(alloc, matches)?,
     })
 }
 

@@ -4,7 +4,7 @@ ghost use Rattle.bf_program.specs.Refusal.{number_of};
 
 use crate::graphs::PlanFault;
 use crate::listing::ListFault;
-use crate::one_run::SingleFault;
+use crate::over_table::RunFault;
 use crate::status::Status;
 use bf_report::{Cause, WriteFault};
 use bf_value::{OutOfMemory, Text};
@@ -17,7 +17,7 @@ pub enum CommandFault {
     #[error("{0}")]
     Plan(PlanFault),
     #[error("{0}")]
-    Single(SingleFault),
+    Run(RunFault),
     #[error("{0}")]
     List(ListFault),
     /// A text that is no moment, or one of a date that doesn't exist.
@@ -39,7 +39,7 @@ impl CommandFault {
     {
         match self {
             CommandFault::Plan(fault) => fault.number(),
-            CommandFault::Single(fault) => fault.number(),
+            CommandFault::Run(fault) => fault.number(),
             CommandFault::List(fault) => fault.number(),
             CommandFault::BadMoment => Some(28),
             CommandFault::OutOfMemory | CommandFault::CannotRead(_) | CommandFault::CannotWrite =>
@@ -102,14 +102,14 @@ impl From<WriteFault> for CommandFault {
     }
 }
 
-impl From<SingleFault> for CommandFault {
+impl From<RunFault> for CommandFault {
     ghost use Rattle.std.specs.Prelude.{◌≡◌};
-    ghost use Rattle.bf_program.specs.declared.refusal.CommandFault.TheVariants.{Single};
+    ghost use Rattle.bf_program.specs.declared.refusal.CommandFault.TheVariants.{Run};
 
-    ghost from_gives = { λ fault e. e ≡ Single fault };
+    ghost from_gives = { λ fault e. e ≡ Run fault };
 
-    fn from(fault: SingleFault) -> CommandFault {
-        CommandFault::Single(fault)
+    fn from(fault: RunFault) -> CommandFault {
+        CommandFault::Run(fault)
     }
 }
 

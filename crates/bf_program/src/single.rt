@@ -24,10 +24,6 @@ pub fn single_answered<S: Source, W: Write>(
     let at = moment_of(asked.at.as_str())?;
     let graph = graph_files(alloc, asked.graph, files)?;
     let table = file_bytes(alloc, asked.table, LONGEST_FILE, files)?;
-    let is_success = run_single(alloc, &graph.graph, graph.zone_file(), &table, at, out)?;
-    Ok(if is_success {
-        Status::Success
-    } else {
-        Status::Failed
-    })
+    let succeeded = run_single(alloc, &graph.graph, graph.zone_file(), &table, at, out)?;
+    Ok(Status::of_runs(succeeded))
 }

@@ -1,6 +1,6 @@
 //! Exit statuses.
 ghost use Rattle.std.specs.Prelude.{◌≡◌};
-ghost use Rattle.bf_program.specs.Status.{code_of};
+ghost use Rattle.bf_program.specs.Status.{code_of, of_runs};
 
 /// How the program ends.
 #[derive(Clone, Copy, Debug, PartialEq, Eq)]
@@ -15,6 +15,17 @@ pub enum Status {
 }
 
 impl Status {
+    /// How it ends where it is known whether every run is a success.
+    pub fn of_runs(succeeded: bool) -> Status
+        ensures { result ≡ of_runs succeeded }
+    {
+        if succeeded {
+            Status::Success
+        } else {
+            Status::Failed
+        }
+    }
+
     /// The exit status as the system has it.
     pub fn code(self) -> u8
         ensures { result ≡ code_of self }

@@ -1,6 +1,4 @@
 //! A join over the core, in either order of the ends of its upstreams.
-ghost use Rattle.bf_check.specs.Served.{IsServed};
-
 use crate::plans::{first_try, plan_of};
 use crate::stepping::{begun_and, core_after, settle};
 use bf_check::Plan;
@@ -23,9 +21,7 @@ fn end_of_y() -> Event {
 }
 
 /// What the join comes to where the tries end in this order.
-fn told(alloc: Global, plan: &Plan, first: Event, second: Event) -> Result<String, Fail>
-    requires served { IsServed plan.now.dag }
-{
+fn told(alloc: Global, plan: &Plan, first: Event, second: Event) -> Result<String, Fail> {
     let events = begun_and(alloc, 2, vec![in alloc; first, second, settle(2), CLOSE]?)?;
     let core = core_after(alloc, plan, events)?;
     let Ok(ended) = core.into_ended() else {

@@ -9,6 +9,8 @@ mod calls;
 #[cfg(test)]
 mod checks;
 #[cfg(test)]
+mod dated;
+#[cfg(test)]
 mod devices;
 #[cfg(test)]
 mod grades;
@@ -20,6 +22,8 @@ mod limits;
 mod lines;
 #[cfg(test)]
 mod lists;
+#[cfg(test)]
+mod mapped;
 #[cfg(test)]
 mod moments;
 #[cfg(test)]

@@ -13,6 +13,7 @@ const HELP: &str = "Runs a graph of tasks once for each data interval of a range
     \x20 check   Checks the graph, and tells how many tasks and edges it has\n\
     \x20 list    Lists the data intervals of the graph's schedule that start in a range\n\
     \x20 single  Runs the graph once, answering each task from a table\n\
+    \x20 dry     Runs the graph for each data interval that starts in a range, answering each task from a table\n\
     \x20 help    Print this message or the help of the given subcommand(s)\n\
     \n\
     Options:\n\
@@ -74,8 +75,8 @@ const WRONG: [(&[&str], &str); 17] = [
         "error: a value is required for '--zone-file <PATH>' but none was supplied\n",
     ),
     (
-        &["backfill", "dry"],
-        "error: unrecognized subcommand 'dry'\n",
+        &["backfill", "clear"],
+        "error: unrecognized subcommand 'clear'\n",
     ),
     (
         &["backfill", "run", "g", "--from", "2024-01-01"],

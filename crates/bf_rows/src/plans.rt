@@ -1,8 +1,7 @@
 //! Plans of graph files.
-ghost use Rattle.std.specs.Prelude.{◌≡◌, IfOk, IsTrue, length};
-ghost use Rattle.bf_check.specs.Served.{IsServed};
+ghost use Rattle.std.specs.Prelude.{◌≡◌, IfOk, length};
 
-use bf_check::{Plan, check, first_unserved};
+use bf_check::{Plan, check};
 use bf_read::read_graph;
 use bf_value::JobName;
 use std::alloc::Global;
@@ -14,26 +13,13 @@ fn checked(alloc: Global, graph: &str) -> Result<Plan, Fail> {
     Ok(plan)
 }
 
-fn is_served(plan: &Plan) -> bool
-    ensures { IsTrue result → IsServed plan.now.dag }
-{
-    match first_unserved(plan.dag()) {
-        Some(_) => false,
-        None => true,
-    }
-}
-
-/// The plan of a graph file that has one pool and uses no part which isn't built yet.
+/// The plan of a graph file that has one pool.
 pub fn plan_of(alloc: Global, graph: &str) -> Result<Plan, Fail>
-    ensures served { IfOk result (λ plan. IsServed plan.dag) }
-    ensures pools { IfOk result (λ plan. length plan.limits.pools ≡ 1) }
+    ensures { IfOk result (λ plan. length plan.limits.pools ≡ 1) }
 {
     let plan = checked(alloc, graph)?;
     if plan.limits().pools.len() != 1 {
         return Err(Fail::from("it has other pools"));
-    }
-    if !is_served(&plan) {
-        return Err(Fail::from("it isn't served"));
     }
     Ok(plan)
 }

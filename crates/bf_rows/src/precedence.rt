@@ -20,26 +20,7 @@ const CYCLE: &str = r#"{"dag_id":"d","schedule":"@daily","tasks":[{"id":"a","ups
 const CYCLE_AND_UNKNOWN: &str =
     r#"{"dag_id":"d","schedule":"@daily","tasks":[{"id":"a","upstream":["a"]},{"id":"b","upstream":["c"]}]}"#;
 
-/// Its first task that uses a part which isn't built yet is `m`.
-const NOT_YET: &str =
-    r#"{"dag_id":"d","schedule":"@daily","tasks":[{"id":"a"},{"id":"m","upstream":["a"],"expand":"a"},
-    {"id":"s","upstream":["m"],"command":[{"pull":"m"}]},{"id":"b","kind":"branch"}]}"#;
-
-const FAULTS: [Faults<'static>; 19] = [
-    Faults {
-        graph: Some(NOT_YET),
-        table: Some("{"),
-        at: "2200-01-01",
-        status: 2,
-        err: "refused 90 not yet: m\n",
-    },
-    Faults {
-        graph: Some(NOT_YET),
-        table: None,
-        at: DAY,
-        status: 3,
-        err: "fault: cannot read t\n",
-    },
+const FAULTS: [Faults<'static>; 16] = [
     Faults {
         graph: Some(
             r#"{"dag_id":"d","schedule":"@daily","tasks":[{"id":"b","kind":"branch"},{"id":"t","kind":"branch","upstream":["b"],"expand":"b"}]}"#,
@@ -48,15 +29,6 @@ const FAULTS: [Faults<'static>; 19] = [
         at: DAY,
         status: 2,
         err: "refused 17 branch misuse: t\n",
-    },
-    Faults {
-        graph: Some(
-            r#"{"dag_id":"d","schedule":"@daily","tasks":[{"id":"a"},{"id":"b","kind":"branch"},{"id":"s","upstream":["a"],"command":["echo",{"pull":"a"}]},{"id":"e","upstream":["a"],"expand":"a"}]}"#,
-        ),
-        table: Some("[]"),
-        at: DAY,
-        status: 2,
-        err: "refused 90 not yet: e\n",
     },
     Faults {
         graph: None,

@@ -69,6 +69,22 @@ pub fn single(alloc: Global, graph: &[u8], table: &[u8], at: &str) -> Result<End
     )
 }
 
+/// Answers `dry g t --from --to` over a graph and a table.
+pub fn dry(
+    alloc: Global,
+    graph: &[u8],
+    table: &[u8],
+    from: &str,
+    to: &str,
+) -> Result<Ending, Fail> {
+    let mut files = stored(alloc, graph, table)?;
+    answered(
+        alloc,
+        &["backfill", "dry", "g", "t", "--from", from, "--to", to],
+        &mut files,
+    )
+}
+
 /// Requires how a call ended.
 pub fn expect(rt: &impl Abort, ending: &Ending, status: u8, out: &str, err: &str) {
     assert_eq!(rt; ending.err.as_str(), err);

@@ -1,6 +1,4 @@
 //! What a try is given of what other tasks pushed.
-ghost use Rattle.bf_check.specs.Served.{IsServed};
-
 use crate::plans::{first_try, plan_of};
 use crate::program::{DAY, expect, single};
 use crate::stepping::{begun_and, core_after, settle};
@@ -37,9 +35,7 @@ fn given_to(alloc: Global, core: &Core<'_>, task: u32) -> Result<Vec<String>, Fa
 }
 
 /// What `sum` is given where its upstreams end so.
-fn given_after(alloc: Global, plan: &Plan, x: Outcome, y: Outcome) -> Result<Vec<String>, Fail>
-    requires served { IsServed plan.now.dag }
-{
+fn given_after(alloc: Global, plan: &Plan, x: Outcome, y: Outcome) -> Result<Vec<String>, Fail> {
     let ends = vec![in alloc;
         Event::End(first_try(0), x),
         Event::End(first_try(1), y),

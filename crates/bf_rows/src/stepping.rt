@@ -1,6 +1,4 @@
 //! Cores, driven by hand over one run.
-ghost use Rattle.bf_check.specs.Served.{IsServed};
-
 use crate::plans::first_try;
 use bf_check::Plan;
 use bf_core::{Core, Event};
@@ -39,9 +37,7 @@ pub fn begun_and(alloc: Global, tasks: u32, behind: Vec<Event>) -> Result<Vec<Ev
 }
 
 /// The core after these events, each of which it has to take.
-pub fn core_after<'a>(alloc: Global, plan: &'a Plan, events: Vec<Event>) -> Result<Core<'a>, Fail>
-    requires served { IsServed plan.now.dag }
-{
+pub fn core_after<'a>(alloc: Global, plan: &'a Plan, events: Vec<Event>) -> Result<Core<'a>, Fail> {
     let mut core = Core::new(alloc, plan, &[EPOCH])?;
     for event in events {
         core.apply(event)?;

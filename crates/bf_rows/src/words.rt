@@ -1,5 +1,5 @@
 //! The lines of faults that no file shows.
-use bf_program::{CommandFault, SingleFault};
+use bf_program::{CommandFault, RunFault};
 use bf_try::TableFault;
 use bf_value::Text;
 use std::alloc::Global;
@@ -35,11 +35,11 @@ fn an_unreadable_path_has_a_line(rt: HostRuntime) -> Result<(), Fail> {
 
 #[test]
 fn the_last_entry_of_a_table_has_a_line(rt: HostRuntime) -> Result<(), Fail> {
-    let fault = SingleFault::Table(TableFault::BadTable(Some(u32::MAX)));
+    let fault = RunFault::Table(TableFault::BadTable(Some(u32::MAX)));
     is_told(
         &rt,
         rt.alloc(),
-        CommandFault::Single(fault),
+        CommandFault::Run(fault),
         "refused 19 bad table: 4294967295\n",
     )
 }

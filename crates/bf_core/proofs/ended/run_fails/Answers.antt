@@ -1,4 +1,4 @@
-use Rattle.std.proofs.Common.{◌≡◌, ◌<◌, ℕ, Bool, true, length, slice_index_or, sym, ap₂, ◌∙◌, arith}
+use Rattle.std.proofs.Common.{◌≡◌, ◌<◌, ℕ, Bool, true, length, slice_index_or, sym, ap, ◌∙◌, arith}
 use Rattle.bf_core.specs.Terms.{Cell}
 use Rattle.bf_core.specs.Recursion.{fails_run, is_leaf}
 use Rattle.bf_core.specs.Events.{value_or_blocked, value_in}
@@ -12,5 +12,5 @@ returns-then-fails_its_run c =
     let within : t < length c.args.cells.now = c.loop-task-test.true in
     let cell : c.index-cells-task.result ≡ slice_index_or c.args.cells.now t Cell.Undecided = c.index-cells-task.is ∙ any-default c.args.cells.now t _ Cell.Undecided within in
     let p : ℕ → Bool = λ i. fails_run (is_leaf c.args.dag.now i) (value_or_blocked (value_in (slice_index_or c.args.cells.now i Cell.Undecided))) in
-    let is : p t ≡ true = sym (ap₂ (λ l x. fails_run l (value_or_blocked (value_in x))) c.is_leaf.ensures cell) ∙ sym c.fails_its_run.ensures ∙ c.if-fails_its_run.true in
+    let is : p t ≡ true = sym (ap (λ x. fails_run (is_leaf c.args.dag.now t) (value_or_blocked (value_in x))) cell) ∙ sym c.fails_its_run.ensures ∙ c.if-fails_its_run.true in
     sym (any-at (length c.args.dag.now.tasks) t p (omega (arith, within, c.requires.one_each)) is)

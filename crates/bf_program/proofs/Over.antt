@@ -1,0 +1,67 @@
+-- Backfills over a table.
+use Rattle.std.proofs.Common.{◌≡◌, ◌<◌, ℕ, zero, suc, Bool, List, [], ◌∷◌, length, map, Option, Some, All, sym, ap, ◌∙◌, arith, get_or}
+use Rattle.std.specs.List.{list_all}
+use Rattle.std.proofs.lemmas.List.{length-map}
+use Rattle.jiff_core.proofs.SignedLemmas.{signed_arith}
+use Rattle.jiff.specs.declared.timestamp.Timestamp.{Timestamp}
+use Rattle.bf_value.specs.declared.name.JobName.{JobName}
+use Rattle.bf_check.specs.declared.plan.Dag.{Dag}
+use Rattle.bf_interval.specs.declared.interval.Interval.{Interval}
+use Rattle.bf_interval.specs.Years.{IsInYears}
+use Rattle.bf_xcom.specs.declared.values.Given.{Given}
+use Rattle.bf_try.specs.declared.answers.Raw.{Raw}
+use Rattle.bf_try.specs.declared.ledger.Entry.{Entry}
+use Rattle.bf_try.specs.declared.table.TableEntry.{TableEntry}
+use Rattle.bf_try.specs.Grades.{grade_of}
+use Rattle.bf_try.specs.Tables.{Answering, answer_of}
+use Rattle.bf_core.specs.Agreement.{AreRunStates, IsOutcome}
+use Rattle.bf_core.specs.Answered.{AreGraded}
+use Rattle.bf_core.specs.Events.{entry_in}
+use Rattle.bf_core.specs.declared.ended.Ended.{Ended}
+use Rattle.bf_moment.specs.Moment.{IsShown}
+use Rattle.bf_report.specs.declared.report.Report.{Report}
+use Rattle.bf_report.specs.Dated.{IsDated, IsShownInterval}
+use Rattle.bf_report.specs.Device.{sent}
+use Rattle.bf_report.specs.Report.{report_text}
+use Rattle.bf_program.specs.Lists.{IsSince1970}
+use Rattle.bf_program.specs.OneRun.{intervals_at}
+use Rattle.bf_program.specs.OverTable.{AreAnswered, IsOver, IsReportedOver, answering, is_success}
+
+-- a grade of what the table may answer is the grade of its answer
+answered : (over : Answering) (ended : Ended) → AreGraded (λ n g raw. raw ≡ answer_of over n) over.dag (entry_in ended.state.ledger) → AreAnswered over (entry_in ended.state.ledger)
+answered over ended graded n e is = let found = graded n e is in found.2 ∙ ap (grade_of over.dag n.task) found.1
+
+pub over : (over : Answering) (dag : Dag) (runs : ℕ) (ended : Ended) → over.dag ≡ dag → IsOutcome dag runs ended.state → AreRunStates dag (entry_in ended.state.ledger) runs ended.run_states
+    → AreGraded (λ n g raw. raw ≡ answer_of over n) dag (entry_in ended.state.ledger) → IsOver over runs ended
+over table dag runs ended same outcome states graded = record {
+  outcome = rw same outcome;
+  run_states = rw same states;
+  answered = answered table ended (rw same graded);
+}
+
+-- the report of a backfill that has ended
+pub reported_over : (dag : Dag) (table : List TableEntry) (intervals : List Interval) (before after : Option (List ℕ)) (success : Bool) (ended : Ended) (report : Report)
+    → IsOver (answering dag table intervals) (length intervals) ended → IsDated dag intervals (entry_in ended.state.ledger) report
+    → after ≡ sent before (report_text report) → success ≡ list_all (λ run. is_success run.state) report.runs
+    → IsReportedOver dag table intervals before after success
+reported_over dag table intervals before after success ended report is dated text state = record {
+  ledger = ended.state.ledger;
+  report = report;
+  over_table = record { defined = is.outcome.defined; asked = is.outcome.asked; answered = is.answered };
+  dated = dated;
+  text = text;
+  state = state;
+}
+
+-- ---- moments
+
+-- the starts of intervals whose moments have years of four digits
+pub starts_shown : (intervals : List Interval) → All IsShownInterval intervals → All (λ (start : Timestamp). IsShown start.nanosecond) (map (λ i. i.start) intervals)
+starts_shown [] shown k d below = let none : ⊥ = omega arith in absurd none
+starts_shown (i ∷ is) shown zero d below = (shown zero i (omega arith)).0
+starts_shown (i ∷ is) shown (suc k) d below = starts_shown is (λ j e l. shown (suc j) e (omega arith)) k d (omega arith)
+
+-- a run at a moment of the years neither begins nor ends before 1970
+pub since_years : (at : Timestamp) → IsInYears at.nanosecond → All IsSince1970 (intervals_at at)
+since_years at years zero d below = (years.0, years.0)
+since_years at years (suc k) d below = let none : ⊥ = omega arith in absurd none

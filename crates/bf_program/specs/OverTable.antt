@@ -1,0 +1,82 @@
+-- What is reported of a backfill over a table: the recursion over dates, over what the table answers.
+use Rattle.std.specs.Prelude.{◌≡◌, ◌≢◌, ◌<◌, ℕ, Bool, true, false, List, [], ◌∷◌, length, map, Option, Some, None, Ok, Err}
+use Rattle.std.specs.List.{list_all}
+use Rattle.std.specs.FinMap as finite
+use Rattle.bf_value.specs.declared.name.JobName.{JobName}
+use Rattle.bf_value.specs.Names.{name_cmp}
+use Rattle.bf_check.specs.declared.plan.Dag.{Dag}
+use Rattle.bf_interval.specs.declared.interval.Interval.{Interval}
+use Rattle.bf_xcom.specs.declared.values.RunState.{RunState}
+use Rattle.bf_try.specs.declared.ledger.Entry.{Entry}
+use Rattle.bf_try.specs.declared.table.TableEntry.{TableEntry}
+use Rattle.bf_try.specs.declared.table.TableFault.{TableFault}
+use Rattle.bf_try.specs.Grades.{grade_of}
+use Rattle.bf_try.specs.Tables.{Answering, table_of, answer_of, dates_of}
+use Rattle.bf_try.specs.Tries.{Look, name_of}
+use Rattle.bf_core.specs.Agreement.{AreRunStates, IsOutcome}
+use Rattle.bf_core.specs.Recursion.{IsDefined, Asks}
+use Rattle.bf_core.specs.Events.{entry_in, place_in}
+use Rattle.bf_core.specs.declared.ended.Ended.{Ended}
+use Rattle.bf_report.specs.declared.report.Report.{Report}
+use Rattle.bf_report.specs.Dated.{IsDated}
+use Rattle.bf_report.specs.Device.{sent}
+use Rattle.bf_report.specs.Report.{report_text}
+use Rattle.bf_program.specs.declared.over_table.RunFault.{RunFault}
+use Rattle.bf_program.specs.declared.over_table.RunFault.TheVariants.{Plan, Table, Range, OutOfMemory, Write}
+
+-- each outcome is the grade of what the table answers
+abbrev pub AreAnswered : Answering → Look → Type 0
+AreAnswered over ledger = (n : JobName) (e : Entry) → ledger n ≡ Some e → e.outcome ≡ grade_of over.dag n.task (answer_of over n)
+
+-- each try is one that the recursion asks for, in these runs
+abbrev pub AreAsked : Dag → ℕ → Look → Type 0
+AreAsked dag runs ledger = (n : JobName) (e : Entry) → ledger n ≡ Some e →
+    (n.run < runs) × (n.task < length dag.tasks) × (n ≡ name_of dag n.run n.task (place_in dag n) n.attempt) × Asks dag ledger n.run n.task (place_in dag n) n.attempt e.given
+
+-- the ledger of a backfill over a table: it holds the tries that the recursion asks for and no other, each with its answer
+pub record IsLedgerOver (over : Answering) (runs : ℕ) (ledger : Look) : Type 0 where
+  pub defined : IsDefined over.dag runs ledger
+  pub asked : AreAsked over.dag runs ledger
+  pub answered : AreAnswered over ledger
+
+-- a table's answers to runs over these data intervals
+abbrev pub answering : Dag → List TableEntry → List Interval → Answering
+answering dag table intervals = record { dag = dag; dates = dates_of (map (λ i. i.start) intervals); entries = table }
+
+abbrev pub is_success : RunState → Bool
+is_success RunState.Success = true
+is_success RunState.Failed = false
+
+-- what went out, behind what had gone out before, is the text of the recursion's report over the ledger of a backfill over the table; and whether
+-- every run of it is a success
+pub record IsReportedOver (dag : Dag) (table : List TableEntry) (intervals : List Interval) (before after : Option (List ℕ)) (success : Bool) : Type 0 where
+  pub ledger : finite.FinMap name_cmp Entry
+  pub report : Report
+  pub over_table : IsLedgerOver (answering dag table intervals) (length intervals) (finite.get ledger)
+  pub dated : IsDated dag intervals (finite.get ledger) report
+  pub text : after ≡ sent before (report_text report)
+  pub state : success ≡ list_all (λ run. is_success run.state) report.runs
+
+-- the table's bytes say a table
+pub record IsTable (table : List ℕ) : Type 0 where
+  pub entries : List TableEntry
+  pub says : table_of table ≡ Ok entries
+
+-- the fault is the table's
+abbrev pub IsTableFault : List ℕ → RunFault → Type 0
+IsTableFault bytes (Table fault) = fault ≢ TableFault.OutOfMemory → table_of bytes ≡ Err fault
+IsTableFault bytes _ = ⊥
+
+-- the fault comes after all that is read was found right
+abbrev pub comes_late : RunFault → Bool
+comes_late OutOfMemory = true
+comes_late (Write fault) = true
+comes_late _ = false
+
+-- ---- for private clauses
+
+-- a backfill that has ended, whose tries have the table's answers
+pub record IsOver (over : Answering) (runs : ℕ) (ended : Ended) : Type 0 where
+  pub outcome : IsOutcome over.dag runs ended.state
+  pub run_states : AreRunStates over.dag (entry_in ended.state.ledger) runs ended.run_states
+  pub answered : AreAnswered over (entry_in ended.state.ledger)
