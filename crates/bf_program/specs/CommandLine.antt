@@ -40,8 +40,11 @@ abbrev pub single_app : App
 single_app = with_rule (with_rule (with_rule (with_rule (new_app (codes "single")) graph_rule) zone_file_rule) table_rule) at_rule
 
 -- `dry GRAPH TABLE --from T --to T [--zone-file PATH]`
+abbrev pub dry_table_app : App
+dry_table_app = with_rule (with_rule (with_rule (new_app (codes "dry")) graph_rule) zone_file_rule) table_rule
+
 abbrev pub dry_app : App
-dry_app = with_rule (with_rule (with_rule (with_rule (with_rule (new_app (codes "dry")) graph_rule) zone_file_rule) table_rule) from_rule) to_rule
+dry_app = with_rule (with_rule dry_table_app from_rule) to_rule
 
 -- `backfill`, which wants a subcommand and without a word shows its help
 abbrev pub bare_app : App

@@ -2,7 +2,7 @@
 ghost use Rattle.std.specs.Prelude.{◌≡◌, IfOk, false};
 ghost use Rattle.clap.specs.Words.{app_of, rule_of};
 ghost use Rattle.clap.specs.declared.builder.command.Command.TheViews.{out-Command};
-ghost use Rattle.bf_program.specs.CommandLine.{backfill_app, looking_app, check_app, dry_app, list_app, running_app, single_app, graph_rule, zone_file_rule, table_rule, at_rule, from_rule, to_rule};
+ghost use Rattle.bf_program.specs.CommandLine.{backfill_app, looking_app, check_app, dry_app, dry_table_app, list_app, running_app, single_app, graph_rule, zone_file_rule, table_rule, at_rule, from_rule, to_rule};
 
 use clap::{Arg, Command};
 use std::alloc::{AllocError, Global};
@@ -104,19 +104,23 @@ fn single<'a>(alloc: Global) -> Result<Command<'a>, AllocError>
         .arg(at(alloc))
 }
 
+/// `dry` without its range.
+fn dry_over_table<'a>(alloc: Global) -> Result<Command<'a>, AllocError>
+    ensures app { IfOk result (λ c. app_of c ≡ dry_table_app) }
+    ensures local { IfOk result (λ c. (out-Command c).has_globals ≡ false) }
+{
+    Command::new(alloc, "dry")
+        .about("Runs the graph for each data interval that starts in a range, answering each task from a table")
+        .arg(graph(alloc))?
+        .arg(zone_file(alloc))?
+        .arg(table(alloc))
+}
+
 fn dry<'a>(alloc: Global) -> Result<Command<'a>, AllocError>
     ensures app { IfOk result (λ c. app_of c ≡ dry_app) }
     ensures local { IfOk result (λ c. (out-Command c).has_globals ≡ false) }
 {
-    Command::new(alloc, "dry")
-        .about(
-            "Runs the graph for each data interval that starts in a range, answering each task from a table",
-        )
-        .arg(graph(alloc))?
-        .arg(zone_file(alloc))?
-        .arg(table(alloc))?
-        .arg(from(alloc))?
-        .arg(to(alloc))
+    dry_over_table(alloc)?.arg(from(alloc))?.arg(to(alloc))
 }
 
 /// The line with the commands that look at a graph alone.
