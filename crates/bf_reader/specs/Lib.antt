@@ -1,0 +1,5 @@
+pub mod Reads
+pub mod Held
+pub mod Entries
+pub mod Runs
+pub mod Beginning

@@ -1,0 +1,153 @@
+//! Reports from devices.
+use crate::beginning::Beginning;
+use crate::entry::entry_in;
+use crate::fault::ReportFault;
+use crate::field::{number_in, split_field};
+use crate::held::Held;
+use crate::interval::run_in;
+use crate::line::{LineEnd, next_line};
+use bf_read::is_id;
+use bf_report::{Read, Report, RunReport};
+use bf_value::{OutOfMemory, Sequence, Text};
+use std::alloc::Global;
+
+/// The bytes of a device, the line that was read last, and its number.
+#[derive(Drop)]
+struct Lines {
+    held: Held,
+    line: Vec<u8>,
+    number: u64,
+}
+
+impl Lines {
+    fn new(alloc: Global) -> Result<Lines, OutOfMemory>
+    {
+        Ok(Lines {
+            held: Held::new(alloc)?,
+            line: Vec::new(alloc),
+            number: 0,
+        })
+    }
+
+    /// Reads the next line.
+    fn read<R: Read>(&mut self, device: &mut R) -> Result<(), ReportFault>
+    {
+        self.number += 1;
+        match next_line(&mut self.held, device, &mut self.line)? {
+            LineEnd::LineFeed => Ok(()),
+            LineEnd::Nothing => Err(ReportFault::Truncated),
+            LineEnd::TooMuch => Err(ReportFault::TooLong(self.number)),
+        }
+    }
+}
+
+/// The dag id that the first line says.
+fn head_in(alloc: Global, line: &[u8]) -> Result<Option<Text>, OutOfMemory>
+{
+    let Some((b"@backfill", rest)) = split_field(line) else {
+        return Ok(None);
+    };
+    let Some((b"1", id)) = split_field(rest) else {
+        return Ok(None);
+    };
+    match std::str::from_utf8(id) {
+        Ok(id) if is_id(id) => Ok(Some(Text::copied(alloc, id)?)),
+        _ => Ok(None),
+    }
+}
+
+/// What a line behind the head is.
+#[derive(Clone, Copy, Debug, PartialEq, Eq)]
+enum Step {
+    Taken,
+    End,
+    /// It may not stand in its place.
+    Refused,
+}
+
+fn step_of(taken: bool) -> Step {
+    if taken { Step::Taken } else { Step::Refused }
+}
+
+fn read_run(alloc: Global, beginning: &mut Beginning, text: &[u8]) -> Result<Step, OutOfMemory>
+{
+    let Some((interval, state)) = run_in(text) else {
+        return Ok(Step::Refused);
+    };
+    let run = RunReport {
+        interval,
+        state,
+        tasks: Sequence::new(alloc),
+    };
+    Ok(step_of(beginning.add_run(alloc, run)?))
+}
+
+fn read_task(
+    alloc: Global,
+    beginning: &mut Beginning,
+    id: &[u8],
+    text: &[u8],
+) -> Result<Step, OutOfMemory>
+{
+    let Ok(id) = std::str::from_utf8(id) else {
+        return Ok(Step::Refused);
+    };
+    match entry_in(alloc, text)? {
+        Some(entry) => Ok(step_of(beginning.add_entry(alloc, id, entry)?)),
+        None => Ok(Step::Refused),
+    }
+}
+
+/// Whether the report may end here, with this number of runs.
+fn read_end(beginning: &Beginning, text: &[u8]) -> Step
+{
+    match number_in(text) {
+        Some(count) if beginning.is_whole() && count as usize == beginning.run_count() => Step::End,
+        _ => Step::Refused,
+    }
+}
+
+/// Adds what a line says to the report, where it may stand next.
+fn read_line(alloc: Global, beginning: &mut Beginning, line: &[u8]) -> Result<Step, OutOfMemory>
+{
+    match split_field(line) {
+        Some((b"@run", text)) => read_run(alloc, beginning, text),
+        Some((b"@end", text)) => Ok(read_end(beginning, text)),
+        Some((id, text)) => read_task(alloc, beginning, id, text),
+        None => Ok(Step::Refused),
+    }
+}
+
+/// Reads the lines behind the head, up to the end.
+fn read_lines<R: Read>(
+    alloc: Global,
+    lines: &mut Lines,
+    device: &mut R,
+    beginning: &mut Beginning,
+) -> Result<(), ReportFault>
+{
+    loop {
+        lines.read(device)?;
+        match read_line(alloc, beginning, lines.line.as_slice())? {
+            Step::Taken => {}
+            Step::End => return Ok(()),
+            Step::Refused => return Err(ReportFault::BadLine(lines.number)),
+        }
+    }
+}
+
+/// Reads a report from a device, up to its last byte. After a fault what was read is lost.
+pub fn read_report<R: Read>(alloc: Global, device: &mut R) -> Result<Report, ReportFault>
+{
+    let mut lines = Lines::new(alloc)?;
+    lines.read(device)?;
+    let Some(dag_id) = head_in(alloc, lines.line.as_slice())? else {
+        return Err(ReportFault::BadLine(1));
+    };
+    let mut beginning = Beginning::new(alloc, dag_id);
+    read_lines(alloc, &mut lines, device, &mut beginning)?;
+    if lines.held.next_byte(device)?.is_some() {
+        return Err(ReportFault::BadLine(lines.number + 1));
+    }
+    Ok(beginning.into_report(alloc)?)
+}
