@@ -25,10 +25,9 @@ IsShownOutcome (Success pushed) = IsShownValue pushed
 IsShownOutcome Failed = Unit {0}
 IsShownOutcome Skipped = Unit {0}
 
--- what is found is the one outcome with this state and this value
-pub record ReadsOutcome (state value : List ℕ) (found : Option Outcome) : Type 0 where
-  pub right : (o : Outcome) → found ≡ Some o → IsShownOutcome o × (state ≡ state_word o) × (value ≡ value_word o)
-  pub only : (o : Outcome) → IsShownOutcome o → state ≡ state_word o → value ≡ value_word o → found ≡ Some o
+-- the outcome has this state and this value
+abbrev pub SaysOutcome : List ℕ → List ℕ → Outcome → Type 0
+SaysOutcome state value o = IsShownOutcome o × (state ≡ state_word o) × (value ≡ value_word o)
 
 abbrev pub IsTries : ℕ → Type 0
 IsTries tries = (1 ≤ tries) × (tries ≤ 101)
@@ -38,10 +37,9 @@ pub record IsShownResult (r : TaskResult) : Type 0 where
   pub tries : IsTries r.tries
   pub outcome : IsShownOutcome r.outcome
 
--- what is found is the one instance with this state, these tries and this value
-pub record ReadsResult (state tries value : List ℕ) (found : Option TaskResult) : Type 0 where
-  pub right : (r : TaskResult) → found ≡ Some r → IsShownResult r × (state ≡ state_word r.outcome) × (tries ≡ decimal r.tries) × (value ≡ value_word r.outcome)
-  pub only : (r : TaskResult) → IsShownResult r → state ≡ state_word r.outcome → tries ≡ decimal r.tries → value ≡ value_word r.outcome → found ≡ Some r
+-- the instance has this state, these tries and this value
+abbrev pub SaysResult : List ℕ → List ℕ → List ℕ → TaskResult → Type 0
+SaysResult state tries value r = IsShownResult r × (state ≡ state_word r.outcome) × (tries ≡ decimal r.tries) × (value ≡ value_word r.outcome)
 
 -- the map index: -1 of a task that isn't expanded
 abbrev pub index_text : Option ℕ → List ℕ
@@ -58,10 +56,9 @@ never_word Untried.NoStatus = codes "no_status"
 never_word Untried.Skipped = codes "skipped"
 never_word Untried.UpstreamFailed = codes "upstream_failed"
 
--- what is found is the one state of a task without a try that these fields say
-pub record ReadsNever (index state tries value : List ℕ) (found : Option Untried) : Type 0 where
-  pub right : (u : Untried) → found ≡ Some u → (index ≡ codes "-1") × (state ≡ never_word u) × (tries ≡ codes "0") × (value ≡ codes "-")
-  pub only : (u : Untried) → index ≡ codes "-1" → state ≡ never_word u → tries ≡ codes "0" → value ≡ codes "-" → found ≡ Some u
+-- a task without a try has these fields
+abbrev pub SaysNever : List ℕ → List ℕ → List ℕ → List ℕ → Untried → Type 0
+SaysNever index state tries value u = (index ≡ codes "-1") × (state ≡ never_word u) × (tries ≡ codes "0") × (value ≡ codes "-")
 
 -- index, state, tries and value, separated by one space
 abbrev pub entry_text : Entry → List ℕ

@@ -1,6 +1,8 @@
 //! A report as far as it was read.
-ghost use Rattle.std.specs.Prelude.{◌≡◌, ◌↔◌, length, IsTrue, IfOk, Some, None, if◌then◌else◌};
-ghost use Rattle.bf_reader.specs.Beginning.{count, closed, open_task, runs_of, so_far, whole, may_begin, with_run, is_next, ids_with, with_entry};
+ghost use Rattle.std.specs.Prelude.{◌≡◌, ◌∷◌, ◌++◌, [], if◌then◌else◌, length, IfOk, OnOk, Some, None};
+ghost use Rattle.std.specs.List.{list_any};
+ghost use Rattle.std.specs.Str.{bytes_eq};
+ghost use Rattle.bf_reader.specs.Beginning.{count as counted, closed, so_far, run_count as counted_runs, is_whole_in, may_begin as begins, with_run, is_next as is_next_by, ids_with, with_task, with_expanded, goes_on as continues, with_instance, with_entry};
 
 use crate::entry::{Entry, Untried};
 use bf_interval::Interval;
@@ -27,6 +29,7 @@ pub(crate) struct OpenRun {
 impl OpenRun {
     /// How many tasks were read.
     fn count(&self) -> usize
+        ensures { result ≡ counted self.now }
     {
         if self.instances.is_empty() {
             self.run.tasks.len()
@@ -37,6 +40,7 @@ impl OpenRun {
 
     /// Puts an expanded task that may have had more instances behind the others.
     fn close_task(&mut self, alloc: Global) -> Result<(), OutOfMemory>
+        ensures { OnOk result (self.new ≡ record { run = closed self.old; instances = [] }) }
     {
         if self.instances.is_empty() {
             return Ok(());
@@ -47,6 +51,7 @@ impl OpenRun {
 
     /// Gives the run up.
     fn into_run(self, alloc: Global) -> Result<RunReport, OutOfMemory>
+        ensures { IfOk result (λ run. run ≡ closed self) }
     {
         let mut open = self;
         open.close_task(alloc)?;
@@ -68,6 +73,7 @@ pub(crate) struct Beginning {
 impl Beginning {
     /// A report of which the head was read.
     pub fn new(alloc: Global, dag_id: Text) -> Beginning
+        ensures { result ≡ record { dag_id = dag_id; tasks = []; runs = []; run = None } }
     {
         Beginning {
             dag_id,
@@ -79,6 +85,7 @@ impl Beginning {
 
     /// How many runs were read.
     pub fn run_count(&self) -> usize
+        ensures { result ≡ counted_runs self.now }
     {
         match self.run {
             Some(_) => self.runs.len() + 1,
@@ -88,6 +95,7 @@ impl Beginning {
 
     /// Whether each run has all tasks.
     pub fn is_whole(&self) -> bool
+        ensures { result ≡ is_whole_in self.now.run self.now.tasks }
     {
         match &self.run {
             Some(open) => open.count() == self.tasks.len(),
@@ -97,6 +105,7 @@ impl Beginning {
 
     /// Whether a run with this data interval may stand next.
     fn may_begin(&self, interval: Interval) -> bool
+        ensures { result ≡ begins self.now interval }
     {
         if !self.is_whole() || self.run_count() >= MOST_RUNS {
             return false;
@@ -109,6 +118,7 @@ impl Beginning {
 
     /// Adds a run without its tasks, where it may stand next.
     pub fn add_run(&mut self, alloc: Global, run: RunReport) -> Result<bool, OutOfMemory>
+        ensures { IfOk result (λ taken. with_run self.old run ≡ (if taken then Some self.new else None)) }
     {
         if !self.may_begin(run.interval) {
             return Ok(false);
@@ -122,6 +132,7 @@ impl Beginning {
 
     /// Whether a task with this id may stand next: in the first run any that isn't there yet, in the others the next one.
     fn is_next(&self, id: &str) -> bool
+        ensures { result ≡ is_next_by self.now id.now }
     {
         let Some(open) = &self.run else {
             return false;
@@ -136,11 +147,13 @@ impl Beginning {
     }
 
     fn has_task(&self, id: &str) -> bool
+        ensures { result ≡ list_any (λ task. bytes_eq task id.now) self.now.tasks }
     {
         self.tasks.as_slice().iter().any(|task| task.as_str() == id)
     }
 
     fn add_id(&mut self, alloc: Global, id: &str) -> Result<(), OutOfMemory>
+        ensures { OnOk result (self.new ≡ record self.old { tasks = ids_with self.old.runs self.old.tasks id.now }) }
     {
         if self.runs.is_empty() {
             self.tasks.push(Text::copied(alloc, id)?)?;
@@ -150,6 +163,7 @@ impl Beginning {
 
     /// Adds a task of one line, where it may stand next.
     fn add_task(&mut self, alloc: Global, id: &str, task: TaskReport) -> Result<bool, OutOfMemory>
+        ensures { IfOk result (λ taken. with_task self.old id.now task ≡ (if taken then Some self.new else None)) }
     {
         if !self.is_next(id) {
             return Ok(false);
@@ -169,6 +183,7 @@ impl Beginning {
         id: &str,
         first: TaskResult,
     ) -> Result<bool, OutOfMemory>
+        ensures { IfOk result (λ taken. with_expanded self.old id.now first ≡ (if taken then Some self.new else None)) }
     {
         if !self.is_next(id) {
             return Ok(false);
@@ -183,6 +198,7 @@ impl Beginning {
 
     /// Whether an instance with this index is the next of the task that stands last.
     fn goes_on(&self, id: &str, index: u32) -> bool
+        ensures { result ≡ continues self.now id.now index }
     {
         let Some(open) = &self.run else {
             return false;
@@ -203,6 +219,7 @@ impl Beginning {
         index: u32,
         instance: TaskResult,
     ) -> Result<bool, OutOfMemory>
+        ensures { IfOk result (λ taken. with_instance self.old id.now index instance ≡ (if taken then Some self.new else None)) }
     {
         if !self.goes_on(id, index) {
             return Ok(false);
@@ -214,12 +231,14 @@ impl Beginning {
     }
 
     /// Adds what a line says of a task, where it may stand next.
+    #[tactic(auto, unfolding(crate::specs::Beginning::with_entry))]
     pub fn add_entry(
         &mut self,
         alloc: Global,
         id: &str,
         entry: Entry,
     ) -> Result<bool, OutOfMemory>
+        ensures { IfOk result (λ taken. with_entry self.old id.now entry ≡ (if taken then Some self.new else None)) }
     {
         match entry {
             Entry::Never(Untried::NoStatus) => self.add_task(alloc, id, TaskReport::NoStatus),
@@ -235,6 +254,7 @@ impl Beginning {
 
     /// The report, of which the end was read.
     pub fn into_report(self, alloc: Global) -> Result<Report, OutOfMemory>
+        ensures { IfOk result (λ report. report ≡ so_far self) }
     {
         let Beginning {
             dag_id,

@@ -1,7 +1,7 @@
 //! What a line says of a task, behind the task's id.
-ghost use Rattle.std.specs.Prelude.{◌≡◌, ◌++◌, ◌∷◌, ℕ, List, IfOk, IfSome, IsSomeAnd, decimal};
-ghost use Rattle.bf_reader.specs.Reads.{IsWord, ReadsAs};
-ghost use Rattle.bf_reader.specs.Entries.{IsIndex, index_text, IsEntry, entry_text, ReadsNever, IsTries, ReadsResult};
+ghost use Rattle.std.specs.Prelude.{◌≡◌, ◌++◌, ◌∷◌, IfOk, IfSome, decimal};
+ghost use Rattle.bf_reader.specs.Reads.{Spells};
+ghost use Rattle.bf_reader.specs.Entries.{IsIndex, index_text, IsEntry, entry_text, SaysNever, IsTries, SaysResult};
 
 use crate::field::{number_in, split_field};
 use crate::value::outcome_in;
@@ -36,9 +36,7 @@ type Fields<'a> = (&'a [u8], &'a [u8], &'a [u8], &'a [u8]);
 
 /// The four fields of a text.
 fn fields_of(text: &[u8]) -> Option<Fields<'_>>
-    ensures found { IfSome result (λ f. text.now ≡ f.0.now ++ 32 ∷ (f.1.now ++ 32 ∷ (f.2.now ++ 32 ∷ f.3.now))) }
-    ensures only { (i s t v : List ℕ) → IsWord i → IsWord s → IsWord t → text.now ≡ i ++ 32 ∷ (s ++ 32 ∷ (t ++ 32 ∷ v))
-        → IsSomeAnd result (λ f. (f.0.now ≡ i) × (f.1.now ≡ s) × (f.2.now ≡ t) × (f.3.now ≡ v)) }
+    ensures { IfSome result (λ f. text.now ≡ f.0.now ++ 32 ∷ (f.1.now ++ 32 ∷ (f.2.now ++ 32 ∷ f.3.now))) }
 {
     let (index, rest) = split_field(text)?;
     let (state, rest) = split_field(rest)?;
@@ -48,7 +46,7 @@ fn fields_of(text: &[u8]) -> Option<Fields<'_>>
 
 /// A map index, or `-1` for none.
 fn index_in(text: &[u8]) -> Option<Option<u32>>
-    ensures { ReadsAs IsIndex index_text text.now result }
+    ensures { IfSome result (Spells IsIndex index_text text.now) }
 {
     if text == b"-1".as_slice() {
         return Some(None);
@@ -62,7 +60,7 @@ fn index_in(text: &[u8]) -> Option<Option<u32>>
 
 /// The state of a task without a try.
 fn untried_in(index: &[u8], state: &[u8], tries: &[u8], value: &[u8]) -> Option<Untried>
-    ensures { ReadsNever index.now state.now tries.now value.now result }
+    ensures { IfSome result (SaysNever index.now state.now tries.now value.now) }
 {
     if index != b"-1".as_slice() || tries != b"0".as_slice() || value != b"-".as_slice() {
         return None;
@@ -77,7 +75,7 @@ fn untried_in(index: &[u8], state: &[u8], tries: &[u8], value: &[u8]) -> Option<
 
 /// The number of an instance's last try.
 fn tries_in(text: &[u8]) -> Option<u32>
-    ensures { ReadsAs IsTries decimal text.now result }
+    ensures { IfSome result (Spells IsTries decimal text.now) }
 {
     let tries = number_in(text)?;
     if tries == 0 || tries > MOST_TRIES {
@@ -93,7 +91,7 @@ fn result_in(
     tries: &[u8],
     value: &[u8],
 ) -> Result<Option<TaskResult>, OutOfMemory>
-    ensures { IfOk result (ReadsResult state.now tries.now value.now) }
+    ensures { IfOk result (λ o. IfSome o (SaysResult state.now tries.now value.now)) }
 {
     let Some(tries) = tries_in(tries) else {
         return Ok(None);
@@ -106,7 +104,7 @@ fn result_in(
 
 /// What a text says of a task.
 pub(crate) fn entry_in(alloc: Global, text: &[u8]) -> Result<Option<Entry>, OutOfMemory>
-    ensures { IfOk result (ReadsAs IsEntry entry_text text.now) }
+    ensures { IfOk result (λ o. IfSome o (Spells IsEntry entry_text text.now)) }
 {
     let Some((index, state, tries, value)) = fields_of(text) else {
         return Ok(None);

@@ -1,4 +1,6 @@
 //! Why a report was not read.
+ghost use Rattle.std.specs.Prelude.{◌≡◌};
+
 use bf_value::OutOfMemory;
 use thiserror::Error;
 

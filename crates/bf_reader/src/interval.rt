@@ -1,10 +1,12 @@
 //! What the line of a run says.
-ghost use Rattle.bf_reader.specs.Reads.{ReadsAs};
+ghost use Rattle.std.specs.Prelude.{◌≡◌, IfSome};
+ghost use Rattle.bf_report.specs.Report.{run_state_word};
+ghost use Rattle.bf_reader.specs.Reads.{Spells};
 ghost use Rattle.bf_reader.specs.Runs.{IsReportMoment, spelled_moment, IsRunWords, run_words};
 
 use crate::field::split_field;
 use bf_interval::{Interval, is_in_years};
-use bf_moment::{is_long_moment, moment_in, moments_differ_in_text};
+use bf_moment::{is_long_moment, moment_in};
 use bf_xcom::RunState;
 use jiff::Timestamp;
 
@@ -13,9 +15,8 @@ pub const LAST_NANOSECOND: i128 = 7_542_115_199_000_000_000;
 
 /// The moment that a text spells.
 fn report_moment_in(text: &[u8]) -> Option<Timestamp>
-    ensures { ReadsAs IsReportMoment spelled_moment text.now result }
+    ensures { IfSome result (Spells IsReportMoment spelled_moment text.now) }
 {
-    moments_differ_in_text();
     let Ok(text) = std::str::from_utf8(text) else {
         return None;
     };
@@ -30,6 +31,7 @@ fn report_moment_in(text: &[u8]) -> Option<Timestamp>
 }
 
 fn run_state_in(text: &[u8]) -> Option<RunState>
+    ensures { IfSome result (λ state. text.now ≡ run_state_word state) }
 {
     match text {
         b"success" => Some(RunState::Success),
@@ -40,7 +42,7 @@ fn run_state_in(text: &[u8]) -> Option<RunState>
 
 /// The data interval and the state of a run.
 pub(crate) fn run_in(text: &[u8]) -> Option<(Interval, RunState)>
-    ensures { ReadsAs IsRunWords run_words text.now result }
+    ensures { IfSome result (Spells IsRunWords run_words text.now) }
 {
     let (start, rest) = split_field(text)?;
     let (end, state) = split_field(rest)?;

@@ -1,7 +1,7 @@
 //! What a line says of how an instance ended.
-ghost use Rattle.std.specs.Prelude.{IfOk};
-ghost use Rattle.bf_reader.specs.Reads.{ReadsAs};
-ghost use Rattle.bf_reader.specs.Entries.{IsShownValue, value_text, ReadsOutcome};
+ghost use Rattle.std.specs.Prelude.{IfOk, IfSome};
+ghost use Rattle.bf_reader.specs.Reads.{Spells};
+ghost use Rattle.bf_reader.specs.Entries.{IsShownValue, value_text, SaysOutcome};
 
 use bf_value::{LineFault, OutOfMemory, Xval, read_line, text_of};
 use bf_xcom::Outcome;
@@ -12,7 +12,7 @@ pub(crate) const LONGEST_VALUE: usize = 65_536;
 
 /// What an instance pushed: nothing for `-`, else the value that has this compact JSON text.
 fn pushed_in(alloc: Global, text: &[u8]) -> Result<Option<Option<Xval>>, OutOfMemory>
-    ensures { IfOk result (ReadsAs IsShownValue value_text text.now) }
+    ensures { IfOk result (λ o. IfSome o (Spells IsShownValue value_text text.now)) }
 {
     if text == b"-".as_slice() {
         return Ok(Some(None));
@@ -39,7 +39,7 @@ pub(crate) fn outcome_in(
     state: &[u8],
     value: &[u8],
 ) -> Result<Option<Outcome>, OutOfMemory>
-    ensures { IfOk result (ReadsOutcome state.now value.now) }
+    ensures { IfOk result (λ o. IfSome o (SaysOutcome state.now value.now)) }
 {
     match state {
         b"success" => match pushed_in(alloc, value)? {

@@ -3,10 +3,10 @@ use Rattle.std.specs.Io.KnownBytes.{Consumes}
 use Rattle.bf_reader.specs.Held.{IsTallied}
 use Rattle.bf_reader.proofs.held.Held.fill.Given as goal
 
-abbrev pub invariant-loop : goal.invariant-loop
-invariant-loop g l = (l.self.start ≡ l.self.end)
+abbrev pub invariant-loop-count : goal.invariant-loop-count
+invariant-loop-count g l = (l.self.start ≡ l.self.end)
     × Consumes (g.R.Read.left l.fn.device) (g.R.Read.left l.device) []
     × ((base failed : ℕ) → IsTallied base failed l.fn.self.interruptions (g.R.Read.interruptions l.fn.device) (g.R.Read.failures l.fn.device) → IsTallied base failed l.self.interruptions (g.R.Read.interruptions l.device) (g.R.Read.failures l.device))
 
-abbrev pub decreases-loop : goal.decreases-loop
-decreases-loop g l = 1_000 - l.self.interruptions
+abbrev pub decreases-loop-count : goal.decreases-loop-count
+decreases-loop-count g l = 1_000 - l.self.interruptions
