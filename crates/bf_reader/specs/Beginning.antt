@@ -1,5 +1,5 @@
 -- A report as far as it was read, and what may stand next.
-use Rattle.std.specs.Prelude.{◌≡◌, ◌≤◌, ℕ, zero, suc, ◌+◌, ◌==◌, ◌&&◌, nat_lt, not, if◌then◌else◌, Bool, true, false, List, [], ◌∷◌, ◌++◌, length, Option, Some, None, slice_get, int_lt, codes}
+use Rattle.std.specs.Prelude.{◌≡◌, ◌≤◌, ℕ, zero, suc, ◌+◌, ◌-◌, ◌*◌, ◌==◌, ◌&&◌, nat_lt, not, if◌then◌else◌, Bool, true, false, List, [], ◌∷◌, ◌++◌, length, Option, Some, None, slice_get, int_lt, codes}
 use Rattle.std.specs.List.{list_any, flat_map}
 use Rattle.std.specs.Str.{bytes_eq}
 use Rattle.bf_read.specs.Fields.{is_id}
@@ -152,3 +152,14 @@ entry_line id e = (id ++ 32 ∷ entry_text e) ++ 10 ∷ []
 pub record GrowsBy (old : Beginning) (text : List ℕ) (new : Beginning) : Type 0 where
   pub counted : IsCounted new
   pub read : opening_text (so_far new) ≡ opening_text (so_far old) ++ text
+
+-- how many lines may come at most, by a generous count
+abbrev pub open_room : Option OpenRun → ℕ
+open_room None = 0
+open_room (Some o) = (2_000 - count o) * 2_000 + (1_024 - length o.instances)
+
+abbrev pub room : Beginning → ℕ
+room b = (4_096 - run_count b) * 5_000_000 + open_room b.run
+
+abbrev pub IsSmall : Beginning → Type 0
+IsSmall b = length b.tasks ≤ 2_000

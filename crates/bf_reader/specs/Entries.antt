@@ -10,18 +10,15 @@ use Rattle.bf_reader.specs.declared.entry.Untried.{Untried}
 use Rattle.bf_reader.specs.declared.entry.Entry.{Entry}
 use Rattle.bf_reader.specs.declared.entry.Entry.TheVariants.{Never, Tried}
 
--- what was pushed
-abbrev pub value_text : Option Xval → List ℕ
-value_text None = codes "-"
-value_text (Some value) = text_of value
-
 -- a value is what a line of its own text pushes: it isn't null, and its lists are at most 64 deep
-abbrev pub IsShownValue : Option Xval → Type 0
-IsShownValue None = Unit {0}
-IsShownValue (Some value) = IsUtf8 (text_of value) × (value_of_line (text_of value) ≡ Some value) × (length (text_of value) ≤ 65_536)
+pub record IsShownValue (value : Xval) : Type 0 where
+  pub utf8 : IsUtf8 (text_of value)
+  pub pushed : value_of_line (text_of value) ≡ Some value
+  pub short : length (text_of value) ≤ 65_536
 
 abbrev pub IsShownOutcome : Outcome → Type 0
-IsShownOutcome (Success pushed) = IsShownValue pushed
+IsShownOutcome (Success None) = Unit {0}
+IsShownOutcome (Success (Some value)) = IsShownValue value
 IsShownOutcome Failed = Unit {0}
 IsShownOutcome Skipped = Unit {0}
 

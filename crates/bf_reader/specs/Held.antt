@@ -16,6 +16,16 @@ ahead h left = prepend_known (held_bytes h) left
 abbrev pub IsTallied : ℕ → ℕ → ℕ → ℕ → ℕ → Type 0
 IsTallied base failed count interruptions failures = WentOn count base interruptions × WentOn 0 failed failures
 
+-- what was tallied before is tallied still
+abbrev pub Tallies : ℕ → ℕ → ℕ → ℕ → ℕ → ℕ → Type 0
+Tallies count interruptions failures count' interruptions' failures' =
+    (base failed : ℕ) → IsTallied base failed count interruptions failures → IsTallied base failed count' interruptions' failures'
+
+-- what was tallied before has become too much
+abbrev pub Breaks : ℕ → ℕ → ℕ → ℕ → ℕ → Type 0
+Breaks count interruptions failures interruptions' failures' =
+    (base failed : ℕ) → IsTallied base failed count interruptions failures → HasHalted failed failures' base interruptions'
+
 -- a byte is the next of those to come, or there is none
 abbrev pub IsNextByte : Option (List ℕ) → Option (List ℕ) → Option ℕ → Type 0
 IsNextByte old new (Some byte) = Consumes old new (byte ∷ [])

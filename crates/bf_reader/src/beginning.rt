@@ -2,7 +2,7 @@
 ghost use Rattle.std.specs.Prelude.{◌≡◌, ◌∷◌, ◌++◌, [], if◌then◌else◌, length, IfOk, OnOk, Some, None};
 ghost use Rattle.std.specs.List.{list_any};
 ghost use Rattle.std.specs.Str.{bytes_eq};
-ghost use Rattle.bf_reader.specs.Beginning.{count as counted, closed, so_far, run_count as counted_runs, is_whole_in, may_begin as begins, with_run, is_next as is_next_by, ids_with, with_task, with_expanded, goes_on as continues, with_instance, with_entry};
+ghost use Rattle.bf_reader.specs.Beginning.{count as counted, closed, so_far, run_count as counted_runs, is_whole_in, may_begin as begins, with_run, is_next as is_next_by, ids_with, with_task, with_expanded, goes_on as continues, with_instance, with_entry, put_task, put_expanded};
 
 use crate::entry::{Entry, Untried};
 use bf_interval::Interval;
@@ -34,8 +34,16 @@ impl OpenRun {
         if self.instances.is_empty() {
             self.run.tasks.len()
         } else {
-            self.run.tasks.len() + 1
+            self.run.tasks.as_slice().len() + 1
         }
+    }
+
+    /// Puts a task behind the others.
+    fn push_task(&mut self, task: TaskReport) -> Result<(), OutOfMemory>
+        ensures { OnOk result (self.new ≡ record self.old { run = record self.old.run { tasks = self.old.run.tasks ++ task ∷ [] } }) }
+    {
+        self.run.tasks.push(task)?;
+        Ok(())
     }
 
     /// Puts an expanded task that may have had more instances behind the others.
@@ -46,7 +54,23 @@ impl OpenRun {
             return Ok(());
         }
         let instances = std::mem::replace(&mut self.instances, Sequence::new(alloc));
-        self.run.tasks.push(TaskReport::Mapped(instances))
+        self.push_task(TaskReport::Mapped(instances))
+    }
+
+    /// Puts a task of one line behind the others.
+    fn add_task(&mut self, alloc: Global, task: TaskReport) -> Result<(), OutOfMemory>
+        ensures { OnOk result (put_task (Some self.old) task ≡ Some self.new) }
+    {
+        self.close_task(alloc)?;
+        self.push_task(task)
+    }
+
+    /// Puts an expanded task behind the others, which may have more instances.
+    fn add_expanded(&mut self, alloc: Global, first: TaskResult) -> Result<(), OutOfMemory>
+        ensures { OnOk result (put_expanded (Some self.old) first ≡ Some self.new) }
+    {
+        self.close_task(alloc)?;
+        self.instances.push(first)
     }
 
     /// Gives the run up.
@@ -88,7 +112,7 @@ impl Beginning {
         ensures { result ≡ counted_runs self.now }
     {
         match self.run {
-            Some(_) => self.runs.len() + 1,
+            Some(_) => self.runs.as_slice().len() + 1,
             None => self.runs.len(),
         }
     }
@@ -170,8 +194,7 @@ impl Beginning {
         }
         self.add_id(alloc, id)?;
         if let Some(open) = &mut self.run {
-            open.close_task(alloc)?;
-            open.run.tasks.push(task)?;
+            open.add_task(alloc, task)?;
         }
         Ok(true)
     }
@@ -190,8 +213,7 @@ impl Beginning {
         }
         self.add_id(alloc, id)?;
         if let Some(open) = &mut self.run {
-            open.close_task(alloc)?;
-            open.instances.push(first)?;
+            open.add_expanded(alloc, first)?;
         }
         Ok(true)
     }

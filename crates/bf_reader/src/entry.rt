@@ -1,7 +1,7 @@
 //! What a line says of a task, behind the task's id.
 ghost use Rattle.std.specs.Prelude.{◌≡◌, ◌++◌, ◌∷◌, IfOk, IfSome, decimal};
 ghost use Rattle.bf_reader.specs.Reads.{Spells};
-ghost use Rattle.bf_reader.specs.Entries.{IsIndex, index_text, IsEntry, entry_text, SaysNever, IsTries, SaysResult};
+ghost use Rattle.bf_reader.specs.Entries.{IsIndex, index_text, IsEntry, entry_text, never_word, SaysNever, IsTries, SaysResult};
 
 use crate::field::{number_in, split_field};
 use crate::value::outcome_in;
@@ -59,18 +59,25 @@ fn index_in(text: &[u8]) -> Option<Option<u32>>
 }
 
 /// The state of a task without a try.
-fn untried_in(index: &[u8], state: &[u8], tries: &[u8], value: &[u8]) -> Option<Untried>
-    ensures { IfSome result (SaysNever index.now state.now tries.now value.now) }
+fn untried_state_in(state: &[u8]) -> Option<Untried>
+    ensures { IfSome result (λ u. state.now ≡ never_word u) }
 {
-    if index != b"-1".as_slice() || tries != b"0".as_slice() || value != b"-".as_slice() {
-        return None;
-    }
     match state {
         b"no_status" => Some(Untried::NoStatus),
         b"skipped" => Some(Untried::Skipped),
         b"upstream_failed" => Some(Untried::UpstreamFailed),
         _ => None,
     }
+}
+
+/// A task without a try.
+fn untried_in(index: &[u8], state: &[u8], tries: &[u8], value: &[u8]) -> Option<Untried>
+    ensures { IfSome result (SaysNever index.now state.now tries.now value.now) }
+{
+    if index == b"-1".as_slice() && tries == b"0".as_slice() && value == b"-".as_slice() {
+        return untried_state_in(state);
+    }
+    None
 }
 
 /// The number of an instance's last try.

@@ -1,7 +1,6 @@
 //! The bytes of a device, one by one.
-ghost use Rattle.std.specs.Prelude.{◌≡◌, [], ◌≤◌, ◌<◌, ◌↔◌, ℕ, length, false, IfOk, OnOk, OnErr, IsTrue};
+ghost use Rattle.std.specs.Prelude.{◌≡◌, ◌∷◌, [], ◌≤◌, ◌<◌, ◌↔◌, length, false, IfOk, OnOk, OnErr, IsTrue};
 ghost use Rattle.std.specs.Io.KnownBytes.{Consumes, IsAtEnd};
-ghost use Rattle.bf_report.specs.Device.{HasHalted};
 
 use crate::fault::Halted;
 use bf_report::{Halt, Read};
@@ -28,7 +27,7 @@ pub(crate) struct Held {
 }
 
 impl Held {
-    ghost use Rattle.bf_reader.specs.Held.{held_bytes, ahead, IsTallied, IsNextByte};
+    ghost use Rattle.bf_reader.specs.Held.{held_bytes, ahead, Tallies, Breaks, IsNextByte};
 
     pub fn new(alloc: Global) -> Result<Held, OutOfMemory>
         ensures { IfOk result (λ held. (held_bytes held ≡ []) × (held.interruptions ≡ 0)) }
@@ -47,12 +46,10 @@ impl Held {
         ensures bytes { OnOk result (Consumes (R.left device.old) (R.left device.new) (held_bytes self.new)) }
         ensures more { IfOk result (λ more. IsTrue more ↔ (self.new.start < self.new.end)) }
         ensures end { IfOk result (λ more. more ≡ false → IsAtEnd (R.left device.new)) }
-        ensures tallied { OnOk result ((base failed : ℕ)
-            → IsTallied base failed self.old.interruptions (R.interruptions device.old) (R.failures device.old)
-            → IsTallied base failed self.new.interruptions (R.interruptions device.new) (R.failures device.new)) }
-        ensures halted { OnErr result ((base failed : ℕ)
-            → IsTallied base failed self.old.interruptions (R.interruptions device.old) (R.failures device.old)
-            → HasHalted failed (R.failures device.new) base (R.interruptions device.new)) }
+        ensures tallied { OnOk result (Tallies self.old.interruptions (R.interruptions device.old) (R.failures device.old)
+            self.new.interruptions (R.interruptions device.new) (R.failures device.new)) }
+        ensures halted { OnErr result (Breaks self.old.interruptions (R.interruptions device.old) (R.failures device.old)
+            (R.interruptions device.new) (R.failures device.new)) }
     {
         loop {
             match device.read(self.room.as_mut_slice()) {
@@ -73,21 +70,31 @@ impl Held {
         }
     }
 
+    /// Takes the first of the bytes that are held.
+    fn take_byte(&mut self) -> u8
+        requires { self.old.start < self.old.end }
+        ensures byte { held_bytes self.old ≡ result ∷ held_bytes self.new }
+        ensures same { self.new.interruptions ≡ self.old.interruptions }
+    {
+        let byte = self.room[self.start];
+        self.start += 1;
+        byte
+    }
+
     /// The next byte, if the device does not end.
     pub fn next_byte<R: Read>(&mut self, device: &mut R) -> Result<Option<u8>, Halted>
         ensures byte { IfOk result (IsNextByte (ahead self.old (R.left device.old)) (ahead self.new (R.left device.new))) }
-        ensures tallied { OnOk result ((base failed : ℕ)
-            → IsTallied base failed self.old.interruptions (R.interruptions device.old) (R.failures device.old)
-            → IsTallied base failed self.new.interruptions (R.interruptions device.new) (R.failures device.new)) }
-        ensures halted { OnErr result ((base failed : ℕ)
-            → IsTallied base failed self.old.interruptions (R.interruptions device.old) (R.failures device.old)
-            → HasHalted failed (R.failures device.new) base (R.interruptions device.new)) }
+        ensures tallied { OnOk result (Tallies self.old.interruptions (R.interruptions device.old) (R.failures device.old)
+            self.new.interruptions (R.interruptions device.new) (R.failures device.new)) }
+        ensures halted { OnErr result (Breaks self.old.interruptions (R.interruptions device.old) (R.failures device.old)
+            (R.interruptions device.new) (R.failures device.new)) }
     {
-        if self.start == self.end && !self.fill(device)? {
+        if self.start < self.end {
+            return Ok(Some(self.take_byte()));
+        }
+        if !self.fill(device)? {
             return Ok(None);
         }
-        let byte = self.room[self.start];
-        self.start += 1;
-        Ok(Some(byte))
+        Ok(Some(self.take_byte()))
     }
 }

@@ -6,12 +6,15 @@ ghost use Rattle.bf_reader.specs.Runs.{IsReportMoment, spelled_moment, IsRunWord
 
 use crate::field::split_field;
 use bf_interval::{Interval, is_in_years};
-use bf_moment::{is_long_moment, moment_in};
+use bf_moment::moment_in;
 use bf_xcom::RunState;
 use jiff::Timestamp;
 
 /// The last moment of a report: the end of the year 2208, where the last data interval ends at the latest.
 pub const LAST_NANOSECOND: i128 = 7_542_115_199_000_000_000;
+
+/// How many bytes a moment has.
+const MOMENT_LEN: usize = 20;
 
 /// The moment that a text spells.
 fn report_moment_in(text: &[u8]) -> Option<Timestamp>
@@ -20,7 +23,7 @@ fn report_moment_in(text: &[u8]) -> Option<Timestamp>
     let Ok(text) = std::str::from_utf8(text) else {
         return None;
     };
-    if !is_long_moment(text) {
+    if text.len() != MOMENT_LEN {
         return None;
     }
     let moment = moment_in(text)?;

@@ -1,7 +1,7 @@
 //! What a line says of how an instance ended.
-ghost use Rattle.std.specs.Prelude.{IfOk, IfSome};
-ghost use Rattle.bf_reader.specs.Reads.{Spells};
-ghost use Rattle.bf_reader.specs.Entries.{IsShownValue, value_text, SaysOutcome};
+ghost use Rattle.std.specs.Prelude.{◌≡◌, IfOk, IfSome, codes};
+ghost use Rattle.bf_value.specs.Json.{text_of as text_by};
+ghost use Rattle.bf_reader.specs.Entries.{IsShownValue, SaysOutcome};
 
 use bf_value::{LineFault, OutOfMemory, Xval, read_line, text_of};
 use bf_xcom::Outcome;
@@ -10,26 +10,45 @@ use std::alloc::Global;
 /// How many bytes the text of a value may have.
 pub(crate) const LONGEST_VALUE: usize = 65_536;
 
-/// What an instance pushed: nothing for `-`, else the value that has this compact JSON text.
-fn pushed_in(alloc: Global, text: &[u8]) -> Result<Option<Option<Xval>>, OutOfMemory>
-    ensures { IfOk result (λ o. IfSome o (Spells IsShownValue value_text text.now)) }
+/// The value that has this compact JSON text.
+fn value_in(alloc: Global, text: &[u8]) -> Result<Option<Xval>, OutOfMemory>
+    ensures { IfOk result (λ o. IfSome o (λ value. IsShownValue value × (text.now ≡ text_by value))) }
 {
-    if text == b"-".as_slice() {
-        return Ok(Some(None));
-    }
     if text.len() > LONGEST_VALUE {
         return Ok(None);
     }
     match read_line(alloc, text) {
         Ok(Some(value)) => {
             if text_of(alloc, &value)?.as_bytes() == text {
-                Ok(Some(Some(value)))
+                Ok(Some(value))
             } else {
                 Ok(None)
             }
         }
         Ok(None) | Err(LineFault::NotUtf8) => Ok(None),
         Err(LineFault::OutOfMemory) => Err(OutOfMemory),
+    }
+}
+
+/// How an instance ended that pushed nothing.
+fn bare_outcome_in(state: &[u8]) -> Option<Outcome>
+    ensures { IfSome result (SaysOutcome state.now (codes "-")) }
+{
+    match state {
+        b"success" => Some(Outcome::Success(None)),
+        b"failed" => Some(Outcome::Failed),
+        b"skipped" => Some(Outcome::Skipped),
+        _ => None,
+    }
+}
+
+/// How an instance ended that pushed a value.
+fn pushing_outcome_in(alloc: Global, value: &[u8]) -> Result<Option<Outcome>, OutOfMemory>
+    ensures { IfOk result (λ o. IfSome o (SaysOutcome (codes "success") value.now)) }
+{
+    match value_in(alloc, value)? {
+        Some(value) => Ok(Some(Outcome::Success(Some(value)))),
+        None => Ok(None),
     }
 }
 
@@ -41,13 +60,11 @@ pub(crate) fn outcome_in(
 ) -> Result<Option<Outcome>, OutOfMemory>
     ensures { IfOk result (λ o. IfSome o (SaysOutcome state.now value.now)) }
 {
-    match state {
-        b"success" => match pushed_in(alloc, value)? {
-            Some(pushed) => Ok(Some(Outcome::Success(pushed))),
-            None => Ok(None),
-        },
-        b"failed" if value == b"-".as_slice() => Ok(Some(Outcome::Failed)),
-        b"skipped" if value == b"-".as_slice() => Ok(Some(Outcome::Skipped)),
-        _ => Ok(None),
+    if value == b"-".as_slice() {
+        return Ok(bare_outcome_in(state));
     }
+    if state == b"success".as_slice() {
+        return pushing_outcome_in(alloc, value);
+    }
+    Ok(None)
 }
