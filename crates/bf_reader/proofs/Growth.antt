@@ -32,16 +32,16 @@ get_last [] id (suc n) e = absurd (omega arith)
 get_last (i ∷ is) id zero e = absurd (omega arith)
 get_last (i ∷ is) id (suc n) e = get_last is id n (omega arith)
 
-get_within : (ids : List (List ℕ)) (id : List ℕ) (n : ℕ) → slice_get ids n ≡ Some id → n < length ids
+pub get_within : (ids : List (List ℕ)) (id : List ℕ) (n : ℕ) → slice_get ids n ≡ Some id → n < length ids
 get_within [] id n e = absurd (cc)
 get_within (i ∷ is) id zero e = omega arith
 get_within (i ∷ is) id (suc n) e = omega (arith, get_within is id n e)
 
-if_some : {X : Type 0} (test : Bool) (x y : X) → cond test (Some x) None ≡ Some y → (test ≡ true) × (x ≡ y)
+pub if_some : {X : Type 0} (test : Bool) (x y : X) → cond test (Some x) None ≡ Some y → (test ≡ true) × (x ≡ y)
 if_some true x y e = (refl, ap (λ o. unwrap_or o x) e)
 if_some false x y e = absurd (cc)
 
-is_text_of : (o : Option (List ℕ)) (id : List ℕ) → is_text o id ≡ true → o ≡ Some id
+pub is_text_of : (o : Option (List ℕ)) (id : List ℕ) → is_text o id ≡ true → o ≡ Some id
 is_text_of None id e = absurd (true≢false (sym e))
 is_text_of (Some text) id e = ap Some ((bytes_decides text id).0 e)
 
@@ -68,7 +68,7 @@ open_long : (rs : List TaskResult) → length (open_task rs) ≡ open_count rs
 open_long [] = refl
 open_long (r ∷ rs) = refl
 
-count_is : (o : OpenRun) → length (tasks_in o) ≡ count o
+pub count_is : (o : OpenRun) → length (tasks_in o) ≡ count o
 count_is o = length-append o.run.tasks (open_task o.instances) ∙ ap (λ n. length o.run.tasks + n) (open_long o.instances)
 
 -- a run with one more task

@@ -1,3 +1,5 @@
 pub mod Growth
 pub mod HeldFacts
 pub mod RunFacts
+pub mod Rooms
+pub mod StepFacts

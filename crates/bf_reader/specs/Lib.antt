@@ -3,3 +3,4 @@ pub mod Held
 pub mod Entries
 pub mod Runs
 pub mod Beginning
+pub mod Steps

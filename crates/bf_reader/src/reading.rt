@@ -1,4 +1,12 @@
 //! Reports from devices.
+ghost use Rattle.std.specs.Prelude.{◌≡◌, ◌<◌, ◌+◌, ◌++◌, ◌∷◌, [], IfOk, OnOk, IfErr, IfSome, codes, if◌then◌else◌};
+ghost use Rattle.std.specs.Io.KnownBytes.{Consumes};
+ghost use Rattle.bf_report.specs.Device.{HasHalted};
+ghost use Rattle.bf_report.specs.Report.{report_text};
+ghost use Rattle.bf_reader.specs.Held.{held_bytes, ahead, Tallies, Breaks};
+ghost use Rattle.bf_reader.specs.Beginning.{IsCounted, IsSmall, so_far, opening_text};
+ghost use Rattle.bf_reader.specs.Steps.{Steps, EndsBy, ReadsOn};
+
 use crate::beginning::Beginning;
 use crate::entry::entry_in;
 use crate::fault::ReportFault;
@@ -21,6 +29,7 @@ struct Lines {
 
 impl Lines {
     fn new(alloc: Global) -> Result<Lines, OutOfMemory>
+        ensures { IfOk result (λ lines. (held_bytes lines.held ≡ []) × (lines.held.interruptions ≡ 0) × (lines.number ≡ 0)) }
     {
         Ok(Lines {
             held: Held::new(alloc)?,
@@ -31,6 +40,15 @@ impl Lines {
 
     /// Reads the next line.
     fn read<R: Read>(&mut self, device: &mut R) -> Result<(), ReportFault>
+        requires { self.old.number < 30_000_000_000 }
+        ensures line { OnOk result (Consumes (ahead self.old.held (R.left device.old)) (ahead self.new.held (R.left device.new))
+            (self.new.line.items ++ 10 ∷ [])) }
+        ensures number { OnOk result (self.new.number ≡ self.old.number + 1) }
+        ensures tallied { OnOk result (Tallies self.old.held.interruptions (R.interruptions device.old) (R.failures device.old)
+            self.new.held.interruptions (R.interruptions device.new) (R.failures device.new)) }
+        ensures halted { IfErr result (λ fault. fault ≡ ReportFault.Io
+            → Breaks self.old.held.interruptions (R.interruptions device.old) (R.failures device.old)
+            (R.interruptions device.new) (R.failures device.new)) }
     {
         self.number += 1;
         match next_line(&mut self.held, device, &mut self.line)? {
@@ -41,13 +59,22 @@ impl Lines {
     }
 }
 
+/// What stands behind a word and a space.
+fn after_word<'a>(text: &'a [u8], word: &[u8]) -> Option<&'a [u8]>
+    ensures { IfSome result (λ rest. text.now ≡ word.now ++ 32 ∷ rest.now) }
+{
+    let (first, rest) = split_field(text)?;
+    if first == word { Some(rest) } else { None }
+}
+
 /// The dag id that the first line says.
 fn head_in(alloc: Global, line: &[u8]) -> Result<Option<Text>, OutOfMemory>
+    ensures { IfOk result (λ o. IfSome o (λ id. line.now ≡ codes "@backfill" ++ 32 ∷ (codes "1" ++ 32 ∷ id))) }
 {
-    let Some((b"@backfill", rest)) = split_field(line) else {
+    let Some(rest) = after_word(line, b"@backfill".as_slice()) else {
         return Ok(None);
     };
-    let Some((b"1", id)) = split_field(rest) else {
+    let Some(id) = after_word(rest, b"1".as_slice()) else {
         return Ok(None);
     };
     match std::str::from_utf8(id) {
@@ -65,11 +92,16 @@ enum Step {
     Refused,
 }
 
-fn step_of(taken: bool) -> Step {
+fn step_of(taken: bool) -> Step
+    ensures { result ≡ (if taken then Step.Taken else Step.Refused) }
+{
     if taken { Step::Taken } else { Step::Refused }
 }
 
 fn read_run(alloc: Global, beginning: &mut Beginning, text: &[u8]) -> Result<Step, OutOfMemory>
+    requires counted { IsCounted beginning.old }
+    requires small { IsSmall beginning.old }
+    ensures { IfOk result (λ step. Steps step beginning.old (codes "@run" ++ 32 ∷ text.now) beginning.new) }
 {
     let Some((interval, state)) = run_in(text) else {
         return Ok(Step::Refused);
@@ -88,6 +120,9 @@ fn read_task(
     id: &[u8],
     text: &[u8],
 ) -> Result<Step, OutOfMemory>
+    requires counted { IsCounted beginning.old }
+    requires small { IsSmall beginning.old }
+    ensures { IfOk result (λ step. Steps step beginning.old (id.now ++ 32 ∷ text.now) beginning.new) }
 {
     let Ok(id) = std::str::from_utf8(id) else {
         return Ok(Step::Refused);
@@ -100,6 +135,7 @@ fn read_task(
 
 /// Whether the report may end here, with this number of runs.
 fn read_end(beginning: &Beginning, text: &[u8]) -> Step
+    ensures { EndsBy result beginning.now text.now }
 {
     match number_in(text) {
         Some(count) if beginning.is_whole() && count as usize == beginning.run_count() => Step::End,
@@ -109,6 +145,9 @@ fn read_end(beginning: &Beginning, text: &[u8]) -> Step
 
 /// Adds what a line says to the report, where it may stand next.
 fn read_line(alloc: Global, beginning: &mut Beginning, line: &[u8]) -> Result<Step, OutOfMemory>
+    requires counted { IsCounted beginning.old }
+    requires small { IsSmall beginning.old }
+    ensures { IfOk result (λ step. Steps step beginning.old line.now beginning.new) }
 {
     match split_field(line) {
         Some((b"@run", text)) => read_run(alloc, beginning, text),
@@ -125,6 +164,17 @@ fn read_lines<R: Read>(
     device: &mut R,
     beginning: &mut Beginning,
 ) -> Result<(), ReportFault>
+    requires counted { IsCounted beginning.old }
+    requires small { IsSmall beginning.old }
+    requires second { lines.old.number ≡ 1 }
+    ensures ok { OnOk result (ReadsOn (ahead lines.old.held (R.left device.old)) (ahead lines.new.held (R.left device.new))
+        (opening_text (so_far beginning.old)) (report_text (so_far beginning.new))) }
+    ensures number { OnOk result (lines.new.number < 30_000_000_000) }
+    ensures tallied { OnOk result (Tallies lines.old.held.interruptions (R.interruptions device.old) (R.failures device.old)
+        lines.new.held.interruptions (R.interruptions device.new) (R.failures device.new)) }
+    ensures halted { IfErr result (λ fault. fault ≡ ReportFault.Io
+        → Breaks lines.old.held.interruptions (R.interruptions device.old) (R.failures device.old)
+        (R.interruptions device.new) (R.failures device.new)) }
 {
     loop {
         lines.read(device)?;
@@ -138,6 +188,9 @@ fn read_lines<R: Read>(
 
 /// Reads a report from a device, up to its last byte. After a fault what was read is lost.
 pub fn read_report<R: Read>(alloc: Global, device: &mut R) -> Result<Report, ReportFault>
+    ensures ok { IfOk result (λ report. IfSome (R.left device.old) (λ bytes. bytes ≡ report_text report)) }
+    ensures io { IfErr result (λ fault. fault ≡ ReportFault.Io → HasHalted (R.failures device.old) (R.failures device.new)
+        (R.interruptions device.old) (R.interruptions device.new)) }
 {
     let mut lines = Lines::new(alloc)?;
     lines.read(device)?;
