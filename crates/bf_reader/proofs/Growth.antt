@@ -1,19 +1,17 @@
 -- The text of what was read grows by each line.
-use Rattle.std.proofs.Common.{◌≡◌, ◌≤◌, ◌<◌, ◌==◌, ◌&&◌, ℕ, zero, suc, ◌+◌, List, [], ◌∷◌, ◌++◌, length, Option, Some, None, unwrap_or, Bool, true, false, true≢false, eqb, not, cond, nat_lt, slice_get, decimal, codes, refl, sym, ap, ◌∙◌, subst, append_assoc, append-nil, arith, length-append}
-use Rattle.std.specs.List.{flat_map, zip, enumerate_from, list_any}
-use Rattle.std.specs.Str.{bytes_eq}
+use Rattle.std.proofs.Common.{◌≡◌, ◌≤◌, ◌<◌, ◌==◌, ◌&&◌, ℕ, zero, suc, ◌+◌, List, [], ◌∷◌, ◌++◌, length, Option, Some, None, unwrap_or, Bool, true, false, true≢false, cond, slice_get, decimal, codes, refl, sym, ap, ◌∙◌, subst, append_assoc, append-nil, arith, length-append}
+use Rattle.std.specs.List.{flat_map, enumerate_from}
 use Rattle.std.specs.Cmp.Lexicographic.{bytes_decides}
 use Rattle.std.proofs.lemmas.Bool.{and_parts, eqb-true}
-use Rattle.bf_read.specs.Fields.{is_id}
 use Rattle.bf_xcom.specs.declared.values.TaskResult.{TaskResult}
 use Rattle.bf_report.specs.declared.report.TaskReport.{TaskReport}
 use Rattle.bf_report.specs.declared.report.RunReport.{RunReport}
-use Rattle.bf_report.specs.Report.{line, run_line, run_text, task_text, tasks_text, mapped_lines, instance_line}
+use Rattle.bf_report.specs.Report.{line, run_line, run_text, task_text, tasks_text, instance_line}
 use Rattle.bf_reader.specs.declared.entry.Untried.{Untried}
 use Rattle.bf_reader.specs.declared.entry.Entry.{Entry}
 use Rattle.bf_reader.specs.declared.beginning.OpenRun.{OpenRun}
 use Rattle.bf_reader.specs.declared.beginning.Beginning.{Beginning}
-use Rattle.bf_reader.specs.Beginning.{open_task, tasks_in, open_count, count, closed, last_run, runs_of, so_far, opening_text, is_text, is_next_in, is_next, ids_with, goes_on_in, goes_on, put_task, put_expanded, put_instance, may_begin, with_run, with_task, with_expanded, with_instance, with_entry, IsCountedIn, IsCounted, GrowsBy, entry_line}
+use Rattle.bf_reader.specs.Beginning.{open_task, tasks_in, open_count, count, closed, last_run, runs_of, is_text, is_next_in, is_next, ids_with, goes_on_in, goes_on, put_task, put_expanded, put_instance, may_begin, with_run, with_task, with_expanded, with_instance, with_entry, IsCountedIn, IsCounted, GrowsBy, entry_line}
 
 -- ---- lists
 

@@ -1,6 +1,6 @@
 -- Bytes that come one after another.
 use Rattle.std.proofs.Common.{◌≡◌, ℕ, List, [], ◌∷◌, ◌++◌, Option, Some, None, refl, sym, ap, ◌∙◌, append_assoc}
-use Rattle.std.specs.Io.KnownBytes.{prepend_known, Consumes, Keeps, IsAtEnd}
+use Rattle.std.specs.Io.KnownBytes.{prepend_known, Consumes, Keeps}
 
 pub nothing_first : (left : Option (List ℕ)) → prepend_known [] left ≡ left
 nothing_first None = refl

@@ -1,5 +1,5 @@
 -- Each line leaves less room for more.
-use Rattle.std.proofs.Common.{◌≡◌, ◌≤◌, ◌<◌, ◌==◌, ◌&&◌, ℕ, zero, suc, ◌+◌, List, [], ◌∷◌, ◌++◌, length, Option, Some, None, Bool, true, false, true≢false, not, nat_lt, slice_get, refl, sym, ap, ◌∙◌, subst, arith, length-append}
+use Rattle.std.proofs.Common.{◌≡◌, ◌≤◌, ◌<◌, ◌==◌, ◌&&◌, ℕ, zero, suc, List, [], ◌∷◌, ◌++◌, length, Option, Some, None, true, true≢false, not, nat_lt, slice_get, refl, sym, subst, arith, length-append}
 use Rattle.std.specs.List.{list_any}
 use Rattle.std.specs.Str.{bytes_eq}
 use Rattle.std.proofs.lemmas.Bool.{and_parts, eqb-true}
@@ -13,10 +13,10 @@ use Rattle.bf_reader.specs.declared.entry.Entry.{Entry}
 use Rattle.bf_reader.specs.declared.beginning.OpenRun.{OpenRun}
 use Rattle.bf_reader.specs.declared.beginning.Beginning.{Beginning}
 use Rattle.bf_reader.specs.Entries.{IsEntry}
-use Rattle.bf_reader.specs.Beginning.{tasks_in, open_count, count, closed, last_run, runs_of, run_count, is_whole_in, starts_before, is_text, is_next_in, is_next, ids_with, goes_on_in, goes_on, put_task, put_expanded, put_instance, may_begin, with_run, with_task, with_expanded, with_instance, with_entry, IsCountedIn, IsCounted, open_room, room, IsSmall}
+use Rattle.bf_reader.specs.Beginning.{tasks_in, open_count, count, last_run, run_count, is_whole_in, starts_before, is_text, is_next_in, is_next, ids_with, goes_on_in, goes_on, put_task, put_expanded, put_instance, may_begin, with_run, with_task, with_expanded, with_instance, with_entry, IsCountedIn, IsCounted, open_room, room, IsSmall}
 use Rattle.bf_reader.proofs.Growth.{if_some, count_is, get_within, is_text_of}
 
-lt_true : (m n : ℕ) → nat_lt m n ≡ true → m < n
+pub lt_true : (m n : ℕ) → nat_lt m n ≡ true → m < n
 lt_true m n e = grind (arith, nat_tests)
 
 -- ---- a task

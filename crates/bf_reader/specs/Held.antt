@@ -1,5 +1,5 @@
 -- The bytes of a device, one by one.
-use Rattle.std.specs.Prelude.{◌≡◌, ◌-◌, ℕ, Bool, List, [], ◌∷◌, take, drop, Option, Some, None}
+use Rattle.std.specs.Prelude.{ℕ, List, [], ◌∷◌, take, drop, Option, Some, None}
 use Rattle.std.specs.Io.KnownBytes.{prepend_known, Consumes, IsAtEnd}
 use Rattle.bf_report.specs.Device.{WentOn, HasHalted}
 use Rattle.bf_reader.specs.declared.held.Held.{Held}

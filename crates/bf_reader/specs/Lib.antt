@@ -3,4 +3,5 @@ pub mod Held
 pub mod Entries
 pub mod Runs
 pub mod Beginning
+pub mod Rules
 pub mod Steps

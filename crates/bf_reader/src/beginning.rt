@@ -254,12 +254,7 @@ impl Beginning {
 
     /// Adds what a line says of a task, where it may stand next.
     #[tactic(auto, unfolding(crate::specs::Beginning::with_entry))]
-    pub fn add_entry(
-        &mut self,
-        alloc: Global,
-        id: &str,
-        entry: Entry,
-    ) -> Result<bool, OutOfMemory>
+    pub fn add_entry(&mut self, alloc: Global, id: &str, entry: Entry) -> Result<bool, OutOfMemory>
         ensures { IfOk result (λ taken. with_entry self.old id.now entry ≡ (if taken then Some self.new else None)) }
     {
         match entry {

@@ -1,10 +1,12 @@
 //! Reports from devices.
-ghost use Rattle.std.specs.Prelude.{◌≡◌, ◌<◌, ◌+◌, ◌++◌, ◌∷◌, [], IfOk, OnOk, IfErr, IfSome, codes, if◌then◌else◌};
+ghost use Rattle.std.specs.Prelude.{◌≡◌, ◌<◌, ◌+◌, ◌++◌, ◌∷◌, [], IfOk, OnOk, IfErr, IfSome, codes, true, if◌then◌else◌};
 ghost use Rattle.std.specs.Io.KnownBytes.{Consumes};
+ghost use Rattle.bf_read.specs.Fields.{is_id as id_text};
 ghost use Rattle.bf_report.specs.Device.{HasHalted};
 ghost use Rattle.bf_report.specs.Report.{report_text};
 ghost use Rattle.bf_reader.specs.Held.{held_bytes, ahead, Tallies, Breaks};
 ghost use Rattle.bf_reader.specs.Beginning.{IsCounted, IsSmall, so_far, opening_text};
+ghost use Rattle.bf_reader.specs.Rules.{IsRuled, IsShownReport};
 ghost use Rattle.bf_reader.specs.Steps.{Steps, EndsBy, ReadsOn};
 
 use crate::beginning::Beginning;
@@ -69,7 +71,8 @@ fn after_word<'a>(text: &'a [u8], word: &[u8]) -> Option<&'a [u8]>
 
 /// The dag id that the first line says.
 fn head_in(alloc: Global, line: &[u8]) -> Result<Option<Text>, OutOfMemory>
-    ensures { IfOk result (λ o. IfSome o (λ id. line.now ≡ codes "@backfill" ++ 32 ∷ (codes "1" ++ 32 ∷ id))) }
+    ensures id { IfOk result (λ o. IfSome o (λ id. id_text id ≡ true)) }
+    ensures text { IfOk result (λ o. IfSome o (λ id. line.now ≡ codes "@backfill" ++ 32 ∷ (codes "1" ++ 32 ∷ id))) }
 {
     let Some(rest) = after_word(line, b"@backfill".as_slice()) else {
         return Ok(None);
@@ -101,6 +104,7 @@ fn step_of(taken: bool) -> Step
 fn read_run(alloc: Global, beginning: &mut Beginning, text: &[u8]) -> Result<Step, OutOfMemory>
     requires counted { IsCounted beginning.old }
     requires small { IsSmall beginning.old }
+    requires ruled { IsRuled beginning.old }
     ensures { IfOk result (λ step. Steps step beginning.old (codes "@run" ++ 32 ∷ text.now) beginning.new) }
 {
     let Some((interval, state)) = run_in(text) else {
@@ -122,6 +126,7 @@ fn read_task(
 ) -> Result<Step, OutOfMemory>
     requires counted { IsCounted beginning.old }
     requires small { IsSmall beginning.old }
+    requires ruled { IsRuled beginning.old }
     ensures { IfOk result (λ step. Steps step beginning.old (id.now ++ 32 ∷ text.now) beginning.new) }
 {
     let Ok(id) = std::str::from_utf8(id) else {
@@ -147,6 +152,7 @@ fn read_end(beginning: &Beginning, text: &[u8]) -> Step
 fn read_line(alloc: Global, beginning: &mut Beginning, line: &[u8]) -> Result<Step, OutOfMemory>
     requires counted { IsCounted beginning.old }
     requires small { IsSmall beginning.old }
+    requires ruled { IsRuled beginning.old }
     ensures { IfOk result (λ step. Steps step beginning.old line.now beginning.new) }
 {
     match split_field(line) {
@@ -166,9 +172,11 @@ fn read_lines<R: Read>(
 ) -> Result<(), ReportFault>
     requires counted { IsCounted beginning.old }
     requires small { IsSmall beginning.old }
+    requires ruled { IsRuled beginning.old }
     requires second { lines.old.number ≡ 1 }
     ensures ok { OnOk result (ReadsOn (ahead lines.old.held (R.left device.old)) (ahead lines.new.held (R.left device.new))
         (opening_text (so_far beginning.old)) (report_text (so_far beginning.new))) }
+    ensures rules { OnOk result (IsShownReport (so_far beginning.new)) }
     ensures number { OnOk result (lines.new.number < 30_000_000_000) }
     ensures tallied { OnOk result (Tallies lines.old.held.interruptions (R.interruptions device.old) (R.failures device.old)
         lines.new.held.interruptions (R.interruptions device.new) (R.failures device.new)) }
@@ -189,6 +197,7 @@ fn read_lines<R: Read>(
 /// Reads a report from a device, up to its last byte. After a fault what was read is lost.
 pub fn read_report<R: Read>(alloc: Global, device: &mut R) -> Result<Report, ReportFault>
     ensures ok { IfOk result (λ report. IfSome (R.left device.old) (λ bytes. bytes ≡ report_text report)) }
+    ensures rules { IfOk result IsShownReport }
     ensures io { IfErr result (λ fault. fault ≡ ReportFault.Io → HasHalted (R.failures device.old) (R.failures device.new)
         (R.interruptions device.old) (R.interruptions device.new)) }
 {

@@ -85,17 +85,50 @@ const BAD: [(&str, u64); 61] = [
     ("@backfill 1 d\n@end 0\n\n", 3),
     ("@backfill 1 d\n@end 0\n@end 0\n", 3),
     ("@backfill 1 d\na -1 success 1 -\n", 2),
-    ("@backfill 1 d\n@run 2024-01-01 2024-01-02T00:00:00Z success\n", 2),
-    ("@backfill 1 d\n@run 2024-01-01T00:00:60Z 2024-01-02T00:00:00Z success\n", 2),
-    ("@backfill 1 d\n@run 2024-02-30T00:00:00Z 2024-03-02T00:00:00Z success\n", 2),
-    ("@backfill 1 d\n@run 2024-01-02T00:00:00Z 2024-01-01T00:00:00Z success\n", 2),
-    ("@backfill 1 d\n@run 1969-12-31T23:59:59Z 2024-01-01T00:00:00Z success\n", 2),
-    ("@backfill 1 d\n@run 2200-01-01T00:00:00Z 2200-01-01T00:00:00Z success\n", 2),
-    ("@backfill 1 d\n@run 2199-01-01T00:00:00Z 2209-01-01T00:00:00Z success\n", 2),
-    ("@backfill 1 d\n@run 2024-01-01T00:00:00Z 2024-01-02T00:00:00Z skipped\n", 2),
-    ("@backfill 1 d\n@run 2024-01-01T00:00:00Z 2024-01-02T00:00:00Z success \n", 2),
-    ("R\n@run 2024-01-01T00:00:00Z 2024-01-03T00:00:00Z success\n", 3),
-    ("R\n@run 2023-12-31T00:00:00Z 2024-01-03T00:00:00Z success\n", 3),
+    (
+        "@backfill 1 d\n@run 2024-01-01 2024-01-02T00:00:00Z success\n",
+        2,
+    ),
+    (
+        "@backfill 1 d\n@run 2024-01-01T00:00:60Z 2024-01-02T00:00:00Z success\n",
+        2,
+    ),
+    (
+        "@backfill 1 d\n@run 2024-02-30T00:00:00Z 2024-03-02T00:00:00Z success\n",
+        2,
+    ),
+    (
+        "@backfill 1 d\n@run 2024-01-02T00:00:00Z 2024-01-01T00:00:00Z success\n",
+        2,
+    ),
+    (
+        "@backfill 1 d\n@run 1969-12-31T23:59:59Z 2024-01-01T00:00:00Z success\n",
+        2,
+    ),
+    (
+        "@backfill 1 d\n@run 2200-01-01T00:00:00Z 2200-01-01T00:00:00Z success\n",
+        2,
+    ),
+    (
+        "@backfill 1 d\n@run 2199-01-01T00:00:00Z 2209-01-01T00:00:00Z success\n",
+        2,
+    ),
+    (
+        "@backfill 1 d\n@run 2024-01-01T00:00:00Z 2024-01-02T00:00:00Z skipped\n",
+        2,
+    ),
+    (
+        "@backfill 1 d\n@run 2024-01-01T00:00:00Z 2024-01-02T00:00:00Z success \n",
+        2,
+    ),
+    (
+        "R\n@run 2024-01-01T00:00:00Z 2024-01-03T00:00:00Z success\n",
+        3,
+    ),
+    (
+        "R\n@run 2023-12-31T00:00:00Z 2024-01-03T00:00:00Z success\n",
+        3,
+    ),
     ("R\na -1 success 1\n", 3),
     ("R\na -1 success 1 - \n", 3),
     ("R\na -1 success 01 -\n", 3),
@@ -127,7 +160,10 @@ const BAD: [(&str, u64); 61] = [
     ("R\na -1 success 1 -\na 1 success 1 -\n", 4),
     ("R\na -1 success 1 -\nS\n@end 2\n", 5),
     ("R\na -1 success 1 -\nS\nb -1 success 1 -\n", 5),
-    ("R\na 0 success 1 -\nS\na -1 success 1 -\nb -1 success 1 -\n", 6),
+    (
+        "R\na 0 success 1 -\nS\na -1 success 1 -\nb -1 success 1 -\n",
+        6,
+    ),
 ];
 
 /// A text in which `R` stands for a head and a run, and `S` for a later run.
@@ -150,7 +186,10 @@ fn the_first_bad_line_is_told(rt: HostRuntime) -> Result<(), Fail> {
     for (text, line) in BAD {
         let mut bytes = spelled_out(alloc, text)?;
         bytes.extend_from_slice(b"?\n")?;
-        assert_eq!(rt; fault_of(alloc, bytes.as_slice())?, ReportFault::BadLine(line));
+        assert_eq!(rt;
+            fault_of(alloc, bytes.as_slice())?,
+            ReportFault::BadLine(line)
+        );
     }
     Ok(())
 }
@@ -191,7 +230,10 @@ fn with_line(alloc: Global, len: usize, end: &[u8]) -> Result<Vec<u8>, Fail> {
 #[test]
 fn a_line_has_66000_bytes_at_most(rt: HostRuntime) -> Result<(), Fail> {
     let alloc = rt.alloc();
-    let (full, long) = (with_line(alloc, 66_000, b"\n")?, with_line(alloc, 66_001, b"")?);
+    let (full, long) = (
+        with_line(alloc, 66_000, b"\n")?,
+        with_line(alloc, 66_001, b"")?,
+    );
     assert_eq!(rt; fault_of(alloc, full.as_slice())?, ReportFault::BadLine(3));
     assert_eq!(rt; fault_of(alloc, long.as_slice())?, ReportFault::TooLong(3));
     let cut = with_line(alloc, 66_000, b"")?;
@@ -200,7 +242,13 @@ fn a_line_has_66000_bytes_at_most(rt: HostRuntime) -> Result<(), Fail> {
 }
 
 /// Reads a report from a device that gives one byte a call and halts at some.
-fn read_halting(alloc: Global, text: &str, halt: Halt, first: u64, times: u64) -> Result<Option<ReportFault>, Fail> {
+fn read_halting(
+    alloc: Global,
+    text: &str,
+    halt: Halt,
+    first: u64,
+    times: u64,
+) -> Result<Option<ReportFault>, Fail> {
     let bytes = Bytes::new(text.as_bytes().to_vec(alloc)?);
     let mut device = Halting::new(bytes, halt, first, times);
     match read_report(alloc, &mut device) {
@@ -213,19 +261,34 @@ fn read_halting(alloc: Global, text: &str, halt: Halt, first: u64, times: u64) -
 fn a_read_that_fails_is_a_fault(rt: HostRuntime) -> Result<(), Fail> {
     let alloc = rt.alloc();
     for call in 0..=FULL.len() as u64 {
-        assert_eq!(rt; read_halting(alloc, FULL, Halt::Failed, call, 1)?, Some(ReportFault::Io));
+        assert_eq!(rt;
+            read_halting(alloc, FULL, Halt::Failed, call, 1)?,
+            Some(ReportFault::Io)
+        );
         assert_eq!(rt; read_halting(alloc, FULL, Halt::Again, call, 1_000)?, None);
-        assert_eq!(rt; read_halting(alloc, FULL, Halt::Again, call, 1_001)?, Some(ReportFault::Io));
+        assert_eq!(rt;
+            read_halting(alloc, FULL, Halt::Again, call, 1_001)?,
+            Some(ReportFault::Io)
+        );
     }
-    assert_eq!(rt; read_halting(alloc, FULL, Halt::Failed, FULL.len() as u64 + 1, 1)?, None);
+    assert_eq!(rt;
+        read_halting(alloc, FULL, Halt::Failed, FULL.len() as u64 + 1, 1)?,
+        None
+    );
     Ok(())
 }
 
 #[test]
 fn an_earlier_bad_line_comes_before_a_read_that_fails(rt: HostRuntime) -> Result<(), Fail> {
     let alloc = rt.alloc();
-    assert_eq!(rt; read_halting(alloc, "@end 0\n", Halt::Failed, 6, 1)?, Some(ReportFault::Io));
-    assert_eq!(rt; read_halting(alloc, "@end 0\n", Halt::Failed, 7, 1)?, Some(ReportFault::BadLine(1)));
+    assert_eq!(rt;
+        read_halting(alloc, "@end 0\n", Halt::Failed, 6, 1)?,
+        Some(ReportFault::Io)
+    );
+    assert_eq!(rt;
+        read_halting(alloc, "@end 0\n", Halt::Failed, 7, 1)?,
+        Some(ReportFault::BadLine(1))
+    );
     Ok(())
 }
 
