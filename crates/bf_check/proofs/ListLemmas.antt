@@ -1,8 +1,8 @@
 -- Lists, looked at one after another.
 use Rattle.std.proofs.Common.{◌≡◌, inl, inr, ℕ, zero, suc, ◌<◌, ◌+◌, List, [], ◌∷◌, ◌++◌, length, get_or, slice_get, map, take, All, Contains, length-append, subst, Bool, true, false, cond, Option, Some, None, refl, sym, ap, ◌∙◌, arith, add-one}
-use Rattle.std.specs.List.{find}
+use Rattle.std.specs.List.{find, join_with_byte}
 use Rattle.std.proofs.lemmas.Bool.{cases_lt}
-use Rattle.std.proofs.lemmas.List.{map_push}
+use Rattle.std.proofs.lemmas.List.{append_assoc, map_push}
 use Rattle.std.proofs.lemmas.List.Elements.{All-get_or}
 use Rattle.std.proofs.lemmas.Option.{slice_get_read}
 use Rattle.std.proofs.Math.Seq.{take-suc, get_or-append_seam}
@@ -76,3 +76,8 @@ module _ {X : Type 0} (p : X → Bool) where
       go : (b : Bool) → p y ≡ b → cond b (Some y) (find p ys) ≡ Some x → (find p ys ≡ Some x → IsFirstPassing ys x) → IsFirstPassing (y ∷ ys) x
       go true f e later = record { at = zero; there = e; passes = cc; none_before = λ j z h there. absurd (omega (arith, h)) }
       go false f e later = let rest = later e in record { at = suc rest.at; there = rest.there; passes = rest.passes; none_before = earlier f rest.at rest.none_before }
+
+-- one text more, behind the byte
+pub join-more : (c : ℕ) (x : List ℕ) (xs : List (List ℕ)) (y : List ℕ) → join_with_byte c (x ∷ xs ++ y ∷ []) ≡ join_with_byte c (x ∷ xs) ++ c ∷ y
+join-more c x [] y = refl
+join-more c x (z ∷ zs) y = ap (λ r. x ++ c ∷ r) (join-more c z zs y) ∙ sym (append_assoc x (c ∷ join_with_byte c (z ∷ zs)) (c ∷ y))

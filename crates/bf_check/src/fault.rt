@@ -97,12 +97,18 @@ impl CheckFault {
 struct Spaced<'a>(&'a Sequence<Text>);
 
 impl fmt::Display for Spaced<'_> {
+    ghost use Rattle.std.specs.Prelude.{Some};
+    ghost use Rattle.std.specs.List.{join_with_byte};
+
+    ghost output = { λ texts. Some (join_with_byte 32 texts.0.now) };
+
     fn fmt<W: fmt::Write>(&self, f: &mut fmt::Formatter<W>) -> fmt::Result {
-        for (n, text) in self.0.as_slice().iter().enumerate() {
-            if n > 0 {
-                write!(f, " ")?;
-            }
-            write!(f, "{text}")?;
+        let [first, rest @ ..] = self.0.as_slice() else {
+            return Ok(());
+        };
+        write!(f, "{first}")?;
+        for text in rest {
+            write!(f, " {text}")?;
         }
         Ok(())
     }

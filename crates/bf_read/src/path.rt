@@ -16,6 +16,11 @@ pub enum Path {
 }
 
 impl fmt::Display for Path {
+    ghost use Rattle.std.specs.Prelude.{Some};
+    ghost use Rattle.bf_read.specs.Paths.{path_text};
+
+    ghost output = { λ path. Some (path_text path) };
+
     fn fmt<W: fmt::Write>(&self, f: &mut fmt::Formatter<W>) -> fmt::Result {
         match self {
             Path::Bytes => write!(f, "bytes"),

@@ -1,5 +1,5 @@
 -- What a table of answers says, and what it answers.
-use Rattle.std.specs.Prelude.{◌≡◌, ℕ, ◌+◌, ◌&&◌, ℤ, pos, negsuc, nat_le, Bool, true, false, if◌then◌else◌, List, [], ◌∷◌, length, map, codes, find, slice_index_or, Option, Some, None, option_map, option_and_then, Result, Ok, Err}
+use Rattle.std.specs.Prelude.{◌≡◌, ℕ, ◌+◌, ◌++◌, ◌&&◌, ℤ, pos, negsuc, nat_le, Bool, true, false, if◌then◌else◌, List, [], ◌∷◌, length, map, codes, decimal, find, slice_index_or, Option, Some, None, option_map, option_and_then, Result, Ok, Err}
 use Rattle.std.specs.Ordering.{int_eq}
 use Rattle.std.specs.List.{list_any}
 use Rattle.std.specs.Str.{is_utf8, bytes_eq}
@@ -114,6 +114,12 @@ table_with (Some ds) = entries_from 0 (entries_of ds)
 -- the entries of a file; or the number of the first that is bad, or none where the whole is no JSON list or is too long
 unfoldable pub table_of : List ℕ → Result (List TableEntry) TableFault
 table_of bytes = table_with (option_and_then as_array (json_of_file bytes))
+
+-- why a table is refused, as it is printed
+abbrev pub fault_text : TableFault → List ℕ
+fault_text (BadTable (Some number)) = codes "bad table: " ++ decimal number
+fault_text (BadTable None) = codes "bad table: file"
+fault_text OutOfMemory = codes "out of memory"
 
 -- ---- what is read, for private clauses
 

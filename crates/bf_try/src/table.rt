@@ -49,6 +49,11 @@ pub enum TableFault {
 }
 
 impl fmt::Display for TableFault {
+    ghost use Rattle.std.specs.Prelude.{Some};
+    ghost use Rattle.bf_try.specs.Tables.{fault_text};
+
+    ghost output = { λ fault. Some (fault_text fault) };
+
     fn fmt<W: fmt::Write>(&self, f: &mut fmt::Formatter<W>) -> fmt::Result {
         match self {
             TableFault::BadTable(Some(number)) => write!(f, "bad table: {number}"),
