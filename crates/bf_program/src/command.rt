@@ -110,7 +110,9 @@ fn dry_over_table<'a>(alloc: Global) -> Result<Command<'a>, AllocError>
     ensures local { IfOk result (λ c. (out-Command c).has_globals ≡ false) }
 {
     Command::new(alloc, "dry")
-        .about("Runs the graph for each data interval that starts in a range, answering each task from a table")
+        .about(
+            "Runs the graph for each data interval that starts in a range, answering each task from a table",
+        )
         .arg(graph(alloc))?
         .arg(zone_file(alloc))?
         .arg(table(alloc))
