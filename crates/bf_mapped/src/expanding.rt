@@ -15,10 +15,7 @@ fn listed_items(values: Values) -> Vec<Xval>
 }
 
 /// Leaves out those that pushed nothing.
-fn pushed_items(
-    alloc: Global,
-    pushed: Sequence<Option<Xval>>,
-) -> Result<Vec<Xval>, OutOfMemory>
+fn pushed_items(alloc: Global, pushed: Sequence<Option<Xval>>) -> Result<Vec<Xval>, OutOfMemory>
     ensures { IfOk result (λ items. items.items ≡ filter_map (λ v. v) pushed) }
 {
     let mut items = Vec::new(alloc);
