@@ -1,5 +1,5 @@
 -- What is listed of a graph's schedule.
-use Rattle.std.proofs.Common.{◌≡◌, ℕ, ℤ, pos, ◌≤ℤ◌, List, Option, All, Result, Ok, arith, get_or, subst}
+use Rattle.std.proofs.Common.{◌≡◌, ℕ, ℤ, List, Option, All, Result, Ok, arith, subst}
 use Rattle.std.proofs.lemmas.Int.{ints}
 use Rattle.jiff.specs.Types.{TimeZone}
 use Rattle.bf_cron.specs.declared.spec.CronSpec.{CronSpec}

@@ -1,5 +1,5 @@
 -- The files and the range leave one listing.
-use Rattle.std.proofs.Common.{◌≡◌, ◌↔◌, ◌<ℤ◌, ◌≤ℤ◌, ℕ, ℤ, List, Bool, Option, Some, None, Result, Ok, Err, true, All, Contains, map, get_or, length, ◌<◌, refl, sym, ap, ◌∙◌, subst}
+use Rattle.std.proofs.Common.{◌≡◌, ℕ, ℤ, List, Option, Some, None, Ok, get_or, sym, ap, ◌∙◌, subst}
 use Rattle.jiff.specs.Types.{DateTime, TimeZone}
 use Rattle.jiff.specs.Words.{picked_instant}
 use Rattle.bf_cron.specs.Cron.{Schedule, IsRead, spec_matches}
@@ -9,7 +9,7 @@ use Rattle.bf_zone.specs.Zones.{asked, IsZone}
 use Rattle.bf_zone.proofs.SameZone.{same_instants}
 use Rattle.bf_read.specs.Reading.{GraphFile, graph_file_of}
 use Rattle.bf_check.specs.Schedules.{IsScheduleOf}
-use Rattle.bf_interval.specs.Fires.{IsFire, IsInterval}
+use Rattle.bf_interval.specs.Fires.{IsFire}
 use Rattle.bf_interval.specs.Intervals.{AreIntervals, StartsIn, ends}
 use Rattle.bf_interval.specs.declared.interval.Interval.{Interval}
 use Rattle.bf_interval.proofs.OneListing as listings

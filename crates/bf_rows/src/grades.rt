@@ -4,7 +4,7 @@ ghost use Rattle.std.specs.Prelude.{◌≡◌, ◌<◌, length};
 use crate::plans::plan_of;
 use crate::program::ONE;
 use bf_check::Plan;
-use bf_try::{Exit, Line, Outcome, Raw, grade};
+use bf_try::{Exit, Line, Outcome, Raw, answer_for, grade};
 use bf_value::{Sequence, text_of};
 use std::alloc::Global;
 use std::process::Abort;
@@ -40,13 +40,28 @@ fn text_of_outcome(alloc: Global, outcome: &Outcome) -> Result<String, Fail> {
     }
 }
 
-fn is_worth(rt: &impl Abort, alloc: Global, plan: &Plan, raw: &Raw, text: &str) -> Result<(), Fail>
+fn graded(
+    rt: &impl Abort,
+    alloc: Global,
+    plan: &Plan,
+    raw: &Raw,
+    text: &str,
+) -> Result<Outcome, Fail>
     requires { 0 < length plan.now.dag.tasks }
 {
     let outcome = grade(alloc, plan, 0, raw)?;
     assert_eq!(rt; text_of_outcome(alloc, &outcome)?.as_str(), text);
+    Ok(outcome)
+}
+
+fn is_worth(rt: &impl Abort, alloc: Global, plan: &Plan, raw: &Raw, text: &str) -> Result<(), Fail>
+    requires { 0 < length plan.now.dag.tasks }
+{
+    let outcome = graded(rt, alloc, plan, raw, text)?;
     let copied = outcome.copy(alloc)?;
     assert_eq!(rt; text_of_outcome(alloc, &copied)?.as_str(), text);
+    let _copied = graded(rt, alloc, plan, &raw.copy(alloc)?, text)?;
+    let _same = graded(rt, alloc, plan, &answer_for(alloc, &outcome)?, text)?;
     Ok(())
 }
 
