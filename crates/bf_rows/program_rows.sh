@@ -70,12 +70,12 @@ one_run() {
 # The graph that was written, run at 2024-01-01 by this table and for that day, ends in this state with the instances on
 # standard input.
 runs() {
-    local state=$1 status=0 instances
+    local state=$1 status=0
     echo "$2" > "$table"
     [[ $state == success ]] || status=1
-    instances=$(cat)
-    answers "$status" single "$graph" "$table" --at 2024-01-01 < <(one_run 2024-01-01T00:00:00Z "$state" <<< "$instances")
-    answers "$status" dry "$graph" "$table" --from 2024-01-01 --to 2024-01-01 < <(one_run 2024-01-02T00:00:00Z "$state" <<< "$instances")
+    cat > "$work/instances"
+    answers "$status" single "$graph" "$table" --at 2024-01-01 < <(one_run 2024-01-01T00:00:00Z "$state" < "$work/instances")
+    answers "$status" dry "$graph" "$table" --from 2024-01-01 --to 2024-01-01 < <(one_run 2024-01-02T00:00:00Z "$state" < "$work/instances")
 }
 
 # The data intervals of the graph that was written, from and to these moments, are those on standard input.
@@ -318,6 +318,7 @@ done <<'ROWS'
 [{},{},{"exit":1}] => 2
 [{"run":"2024-01-01"}] => 0
 ROWS
+echo '[]' > "$table"
 # Data intervals where the clock goes on and back, by days and weekdays, and at the ends of the years.
 
 europe=CET-1CEST,M3.5.0,M10.5.0/3
