@@ -142,7 +142,9 @@ for call in memory open read write; do
     each "$call" list clock_change/graph.json --from 2024-03-01 --to 2024-03-31
     each "$call" list "$work/by_file" --zone-file "$work/zone_file" --from 2024-03-01 --to 2024-03-31
     each "$call" list clock_change/graph.json --from 2024-03-31 --to 2024-03-30
-    each "$call" single every_key/graph.json one_task/table.json --at 2024-01-01
+    each "$call" single every_key/graph.json every_key/table.json --at 2024-01-01
+    each "$call" dry every_key/graph.json every_key/table.json --from 2024-01-01 --to 2024-01-03
+    each "$call" dry every_key/graph.json every_key/table.json --from 2024-01-03 --to 2024-01-01
     each "$call" single "$work/cycle" one_task/table.json --at 2024-01-01
     each "$call" single one_task/graph.json one_task/table.json --at 2024-02-30
     each "$call" single --help
