@@ -133,10 +133,10 @@ module _ (p : ℕ → Bool) where
   none_first a n xs failed is = record {
     rising = is.rising;
     only = λ t has. let at = is.only t has in
-      elim (cases_lt a t) as (λ _. (a + 1 ≤ t) × (t < (a + 1) + n) × (p t ≡ true)) [
-        | inl lt ↦ (omega arith, omega (arith, at.1), at.2)
-        | inr ge ↦ let same : t ≡ a = omega (arith, at.0) in absurd (true≢false (sym at.2 ∙ ap p same ∙ failed))
-      ];
+        elim (cases_lt a t) as (λ _. (a + 1 ≤ t) × (t < (a + 1) + n) × (p t ≡ true)) [
+          | inl lt ↦ (omega arith, omega (arith, at.1), at.2)
+          | inr ge ↦ let same : t ≡ a = omega (arith, at.0) in absurd (true≢false (sym at.2 ∙ ap p same ∙ failed))
+        ];
     all = λ t low high passes. is.all t (omega arith) (omega arith) passes;
   }
 

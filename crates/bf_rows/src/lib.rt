@@ -35,6 +35,8 @@ mod pulls;
 #[cfg(test)]
 mod refusals;
 #[cfg(test)]
+mod reports;
+#[cfg(test)]
 mod rows;
 #[cfg(test)]
 mod schedules;
@@ -46,6 +48,8 @@ mod tables;
 mod values;
 #[cfg(test)]
 mod verdicts;
+#[cfg(test)]
+mod weights;
 #[cfg(test)]
 mod words;
 #[cfg(test)]

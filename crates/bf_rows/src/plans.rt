@@ -8,7 +8,8 @@ use bf_value::JobName;
 use std::alloc::Global;
 use std::test::Fail;
 
-fn checked(alloc: Global, graph: &str) -> Result<Plan, Fail> {
+/// The plan of a graph file.
+pub fn checked(alloc: Global, graph: &str) -> Result<Plan, Fail> {
     let draft = read_graph(alloc, graph.as_bytes())?;
     let (plan, _zone) = check(alloc, draft, None)?;
     Ok(plan)

@@ -1,0 +1,32 @@
+-- What the lines of runs say.
+use Rattle.std.specs.Prelude.{ℕ, List, ◌∷◌, ◌++◌, pos, ◌≤ℤ◌}
+use Rattle.jiff.specs.declared.timestamp.Timestamp.{Timestamp}
+use Rattle.bf_interval.specs.declared.interval.Interval.{Interval}
+use Rattle.bf_interval.specs.Years.{IsInYears}
+use Rattle.bf_moment.specs.Moment.{moment_text, IsShown, IsWhole}
+use Rattle.bf_xcom.specs.declared.values.RunState.{RunState}
+use Rattle.bf_report.specs.Report.{run_state_word}
+
+-- a moment of whole seconds from 1970 to 2208
+pub record IsReportMoment (t : Timestamp) : Type 0 where
+  pub shown : IsShown t.nanosecond
+  pub whole : IsWhole t.nanosecond
+  pub from_1970 : pos 0 ≤ℤ t.nanosecond
+  pub to_2208 : t.nanosecond ≤ℤ pos 7_542_115_199_000_000_000
+
+abbrev pub spelled_moment : Timestamp → List ℕ
+spelled_moment t = moment_text t.nanosecond
+
+-- a run starts from 1970 to 2199, and doesn't end before
+pub record IsRunInterval (i : Interval) : Type 0 where
+  pub start : IsReportMoment i.start
+  pub end : IsReportMoment i.end
+  pub in_years : IsInYears i.start.nanosecond
+  pub in_order : i.start.nanosecond ≤ℤ i.end.nanosecond
+
+-- start, end and state, separated by one space
+abbrev pub run_words : Interval × RunState → List ℕ
+run_words p = moment_text p.0.start.nanosecond ++ 32 ∷ (moment_text p.0.end.nanosecond ++ 32 ∷ run_state_word p.1)
+
+abbrev pub IsRunWords : Interval × RunState → Type 0
+IsRunWords p = IsRunInterval p.0

@@ -1,0 +1,28 @@
+//! The fields of a line.
+ghost use Rattle.std.specs.Prelude.{◌≡◌, ◌++◌, ◌∷◌, IfSome, decimal};
+
+use itoa::Buffer;
+
+/// The first field of a text, and what stands behind the space after it.
+pub(crate) fn split_field(text: &[u8]) -> Option<(&[u8], &[u8])>
+    ensures { IfSome result (λ p. text.now ≡ p.0.now ++ 32 ∷ p.1.now) }
+{
+    let at = text.iter().position(|byte| *byte == b' ')?;
+    Some((&text[..at], &text[at + 1..]))
+}
+
+/// The number that a text spells.
+pub(crate) fn number_in(text: &[u8]) -> Option<u32>
+    ensures { IfSome result (λ n. text.now ≡ decimal n) }
+{
+    let Ok(digits) = std::str::from_utf8(text) else {
+        return None;
+    };
+    let Ok(number) = digits.parse::<u32>() else {
+        return None;
+    };
+    if Buffer::new().format(number).as_bytes() != text {
+        return None;
+    }
+    Some(number)
+}

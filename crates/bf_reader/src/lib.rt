@@ -1,0 +1,23 @@
+//! Reports read back from a device.
+//!
+//! `read_report` takes exactly the texts that `write_report` of bf_report writes, one spelling a report. It looks at the
+//! lines in order, and answers the first that may not stand in its place:
+//!
+//! - `held` gives the bytes of a device one by one, over a room that is filled by few reads;
+//! - `line` takes a line off them;
+//! - `field`, `value`, `entry` and `interval` read what a line says;
+//! - `beginning` keeps the report as far as it was read, and says what may stand next.
+#![tactic(auto)]
+
+mod beginning;
+mod entry;
+mod fault;
+mod field;
+mod held;
+mod interval;
+mod line;
+mod reading;
+mod value;
+
+pub use fault::ReportFault;
+pub use reading::read_report;
