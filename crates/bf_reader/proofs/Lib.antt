@@ -4,3 +4,4 @@ pub mod RunFacts
 pub mod Rooms
 pub mod Ruled
 pub mod StepFacts
+pub mod LineFacts

@@ -50,3 +50,7 @@ whole None a b head text p q end = tt
 whole (Some xs) None b head text p q end = absurd p
 whole (Some xs) (Some xa) None head text p q end = absurd q
 whole (Some xs) (Some xa) (Some xb) head text p q end = p ∙ ap (λ l. head ++ l) (q ∙ ap (λ l. text ++ l) end ∙ append-nil text)
+
+pub head_opens : (b : Beginning) (id text : List ℕ) → b ≡ record { dag_id = id; tasks = []; runs = []; run = None } → text ≡ codes "@backfill" ++ 32 ∷ (codes "1" ++ 32 ∷ id)
+    → opening_text (so_far b) ≡ text ++ 10 ∷ []
+head_opens b id text is said = ap (λ (x : Beginning). opening_text (so_far x)) is ∙ append-nil ((codes "@backfill" ++ 32 ∷ (codes "1" ++ 32 ∷ id)) ++ 10 ∷ []) ∙ ap (λ l. l ++ 10 ∷ []) (sym said)

@@ -5,3 +5,4 @@ pub mod Runs
 pub mod Beginning
 pub mod Rules
 pub mod Steps
+pub mod Faults

@@ -7,6 +7,7 @@ ghost use Rattle.bf_report.specs.Report.{report_text};
 ghost use Rattle.bf_reader.specs.Held.{held_bytes, ahead, Tallies, Breaks};
 ghost use Rattle.bf_reader.specs.Beginning.{IsCounted, IsSmall, so_far, opening_text};
 ghost use Rattle.bf_reader.specs.Rules.{IsRuled, IsShownReport};
+ghost use Rattle.bf_reader.specs.Faults.{IsInLine, StopsAt, Tells, lines_in};
 ghost use Rattle.bf_reader.specs.Steps.{Steps, EndsBy, ReadsOn};
 
 use crate::beginning::Beginning;
@@ -45,6 +46,8 @@ impl Lines {
         requires { self.old.number < 30_000_000_000 }
         ensures line { OnOk result (Consumes (ahead self.old.held (R.left device.old)) (ahead self.new.held (R.left device.new))
             (self.new.line.items ++ 10 ∷ [])) }
+        ensures in_line { OnOk result (IsInLine self.new.line.items) }
+        ensures stops { IfErr result (λ fault. IfSome (ahead self.old.held (R.left device.old)) (StopsAt fault (self.old.number + 1))) }
         ensures number { OnOk result (self.new.number ≡ self.old.number + 1) }
         ensures tallied { OnOk result (Tallies self.old.held.interruptions (R.interruptions device.old) (R.failures device.old)
             self.new.held.interruptions (R.interruptions device.new) (R.failures device.new)) }
@@ -174,9 +177,13 @@ fn read_lines<R: Read>(
     requires small { IsSmall beginning.old }
     requires ruled { IsRuled beginning.old }
     requires second { lines.old.number ≡ 1 }
+    requires place { lines_in (opening_text (so_far beginning.old)) ≡ 1 }
     ensures ok { OnOk result (ReadsOn (ahead lines.old.held (R.left device.old)) (ahead lines.new.held (R.left device.new))
         (opening_text (so_far beginning.old)) (report_text (so_far beginning.new))) }
     ensures rules { OnOk result (IsShownReport (so_far beginning.new)) }
+    ensures tells { IfErr result (λ fault. IfSome (ahead lines.old.held (R.left device.old))
+        (λ bytes. Tells (opening_text (so_far beginning.old) ++ bytes) fault)) }
+    ensures place { OnOk result (lines.new.number ≡ lines_in (report_text (so_far beginning.new))) }
     ensures number { OnOk result (lines.new.number < 30_000_000_000) }
     ensures tallied { OnOk result (Tallies lines.old.held.interruptions (R.interruptions device.old) (R.failures device.old)
         lines.new.held.interruptions (R.interruptions device.new) (R.failures device.new)) }
@@ -198,6 +205,7 @@ fn read_lines<R: Read>(
 pub fn read_report<R: Read>(alloc: Global, device: &mut R) -> Result<Report, ReportFault>
     ensures ok { IfOk result (λ report. IfSome (R.left device.old) (λ bytes. bytes ≡ report_text report)) }
     ensures rules { IfOk result IsShownReport }
+    ensures err { IfErr result (λ fault. IfSome (R.left device.old) (λ bytes. Tells bytes fault)) }
     ensures io { IfErr result (λ fault. fault ≡ ReportFault.Io → HasHalted (R.failures device.old) (R.failures device.new)
         (R.interruptions device.old) (R.interruptions device.new)) }
 {

@@ -1,0 +1,130 @@
+-- Lines, and how many there are.
+use Rattle.std.proofs.Common.{◌≡◌, ◌⊎◌, ◌≤◌, ◌+◌, ◌==◌, ◌||◌, ℕ, List, [], ◌∷◌, ◌++◌, cond, true, false, true≢false, Option, Some, None, is_some, length, inl, inr, refl, sym, ap, ◌∙◌, subst, append_assoc, append-nil, arith}
+use Rattle.std.specs.Prelude.{IfSome}
+use Rattle.std.specs.List.{list_any}
+use Rattle.std.specs.Io.KnownBytes.{prepend_known, Consumes, IsAtEnd}
+use Rattle.std.proofs.lemmas.Bool.{cases_Bool}
+use Rattle.std.proofs.lemmas.List.Sums.{sum_by-append, sum_by-cons}
+use Rattle.bf_reader.specs.declared.fault.ReportFault.{ReportFault}
+use Rattle.bf_report.specs.declared.report.Report.{Report}
+use Rattle.bf_report.specs.Report.{report_text}
+use Rattle.bf_reader.specs.Rules.{IsShownReport}
+use Rattle.bf_reader.proofs.HeldFacts.{nothing_first, consumes_more}
+use Rattle.bf_reader.specs.Faults.{IsInLine, lines_in, IsOpening, Tells, StopsAt}
+use Rattle.bf_reader.specs.Held.{IsNextByte}
+use Rattle.bf_reader.specs.Steps.{ReadsOn}
+
+in_line_push : (text : List ℕ) (b : ℕ) → IsInLine text → (b == 10) ≡ false → IsInLine (text ++ b ∷ [])
+in_line_push [] b e other = rw other refl
+in_line_push (x ∷ xs) b e other = elim (cases_Bool (x == 10)) as (λ _. (x == 10 || list_any (λ b. b == 10) (xs ++ b ∷ [])) ≡ false) [
+  | inl is ↦ absurd (true≢false (rw is at e))
+  | inr not_is ↦ rw not_is (in_line_push xs b (rw not_is at e) other)
+]
+
+-- text within a line ends none
+no_lines : (text : List ℕ) → IsInLine text → lines_in text ≡ 0
+no_lines [] e = refl
+no_lines (x ∷ xs) e = elim (cases_Bool (x == 10)) as (λ _. lines_in (x ∷ xs) ≡ 0) [
+  | inl is ↦ absurd (true≢false (rw is at e))
+  | inr not_is ↦
+      let f : ℕ → ℕ = λ b. cond (b == 10) 1 0 in
+      let none : f x ≡ 0 = rw not_is refl in
+      omega (arith, sum_by-cons f x xs, none, no_lines xs (rw not_is at e))
+]
+
+pub one_line_more : (before text : List ℕ) → IsInLine text → lines_in (before ++ (text ++ 10 ∷ [])) ≡ lines_in before + 1
+one_line_more before text e =
+    let f : ℕ → ℕ = λ b. cond (b == 10) 1 0 in
+    let first = sum_by-append f before (text ++ 10 ∷ []) in
+    let second = sum_by-append f text (10 ∷ []) in
+    omega (arith, first, second, no_lines text e)
+
+pub ends_as : (a b : Option (List ℕ)) (text : List ℕ) → Consumes a b text → IsAtEnd b → IfSome a (λ bytes. bytes ≡ text)
+ends_as None b text c end = tt
+ends_as (Some xs) None text c end = absurd c
+ends_as (Some xs) (Some ys) text c end = c ∙ ap (λ l. text ++ l) end ∙ append-nil text
+
+-- what is told of the bytes to come is told of all
+pub tells_on : (a b : Option (List ℕ)) (before after : List ℕ) (fault : ReportFault) → ReadsOn a b before after → IfSome b (λ bytes. Tells (after ++ bytes) fault) → IfSome a (λ bytes. Tells (before ++ bytes) fault)
+tells_on None b before after fault on told = tt
+tells_on (Some xs) None before after fault (text, came, is) told = absurd came
+tells_on (Some xs) (Some ys) before after fault (text, came, is) told =
+    let same : after ++ ys ≡ before ++ xs = ap (λ l. l ++ ys) is ∙ append_assoc before text ys ∙ ap (λ l. before ++ l) (sym came) in
+    let P : List ℕ → Type 0 = λ l. Tells l fault in
+    subst P same told
+
+pub stops_tell : (opening : List ℕ) (number : ℕ) (fault : ReportFault) (bytes : List ℕ) → IsOpening opening → number ≡ lines_in opening + 1 → StopsAt fault number bytes → Tells (opening ++ bytes) fault
+stops_tell opening number (ReportFault.BadLine n) bytes opens place stops = absurd stops
+stops_tell opening number (ReportFault.TooLong n) bytes opens place (same, (piece, rest, is, in_line, long)) =
+    record { opening = opening; piece = piece; rest = rest; opens = opens; bytes_are = ap (λ l. opening ++ l) is; in_line = in_line; long = long; place = same ∙ place }
+stops_tell opening number ReportFault.Truncated bytes opens place stops =
+    record { opening = opening; piece = bytes; opens = opens; bytes_are = refl; in_line = stops.0; short = stops.1 }
+stops_tell opening number ReportFault.Io bytes opens place stops = tt
+stops_tell opening number ReportFault.OutOfMemory bytes opens place stops = tt
+
+pub stops_cut : (a : Option (List ℕ)) (text : List ℕ) (number : ℕ) → IfSome a (λ bytes. bytes ≡ text) → length text ≤ 66_000 → IsInLine text → IfSome a (StopsAt ReportFault.Truncated number)
+stops_cut None text number is short in_line = tt
+stops_cut (Some xs) text number is short in_line =
+    let P : List ℕ → Type 0 = λ l. StopsAt ReportFault.Truncated number l in
+    subst P (sym is) (in_line, short)
+
+pub stops_long : (a b : Option (List ℕ)) (text : List ℕ) (number : ℕ) → Consumes a b text → length text ≡ 66_001 → IsInLine text → IfSome a (StopsAt (ReportFault.TooLong number) number)
+stops_long None b text number came long in_line = tt
+stops_long (Some xs) None text number came long in_line = absurd came
+stops_long (Some xs) (Some ys) text number came long in_line = (refl, (text, ys, came, in_line, long))
+
+pub nothing_told : (a : Option (List ℕ)) → IfSome a (λ _. Unit {0})
+nothing_told None = tt
+nothing_told (Some xs) = tt
+
+-- a line did not come behind what was read
+pub read_stops : (a b : Option (List ℕ)) (before after : List ℕ) (number : ℕ) (fault : ReportFault) → ReadsOn a b before after → IsOpening after → number ≡ lines_in after → IfSome b (StopsAt fault (number + 1))
+    → IfSome a (λ bytes. Tells (before ++ bytes) fault)
+read_stops a b before after number fault on opens place stops = tells_on a b before after fault on (go b stops)
+  where
+    go : (o : Option (List ℕ)) → IfSome o (StopsAt fault (number + 1)) → IfSome o (λ bytes. Tells (after ++ bytes) fault)
+    go None stops = tt
+    go (Some bytes) stops = stops_tell after (number + 1) fault bytes opens (ap (λ n. n + 1) place) stops
+
+-- a line came behind what was read that may not stand there
+pub line_tells : (a b c : Option (List ℕ)) (before after text : List ℕ) (number : ℕ) → ReadsOn a b before after → IsOpening after → number ≡ lines_in after + 1 → Consumes b c (text ++ 10 ∷ []) → IsInLine text
+    → IfSome a (λ bytes. Tells (before ++ bytes) (ReportFault.BadLine number))
+line_tells a b c before after text number on opens place came in_line = tells_on a b before after (ReportFault.BadLine number) on (go b c came)
+  where
+    go : (o p : Option (List ℕ)) → Consumes o p (text ++ 10 ∷ []) → IfSome o (λ bytes. Tells (after ++ bytes) (ReportFault.BadLine number))
+    go None p came = tt
+    go (Some xs) None came = absurd came
+    go (Some xs) (Some ys) came = inl (record { opening = after; text = text; rest = ys; opens = opens; bytes_are = ap (λ l. after ++ l) came; in_line = in_line; place = place })
+
+-- a byte came behind a report
+pub more_tells : (a b c : Option (List ℕ)) (before : List ℕ) (report : Report) (first number : ℕ) → IsShownReport report → ReadsOn a b before (report_text report) → number ≡ lines_in (report_text report) + 1 → Consumes b c (first ∷ [])
+    → IfSome a (λ bytes. Tells (before ++ bytes) (ReportFault.BadLine number))
+more_tells a b c before report first number shown on place came = tells_on a b before (report_text report) (ReportFault.BadLine number) on (go b c came)
+  where
+    go : (o p : Option (List ℕ)) → Consumes o p (first ∷ []) → IfSome o (λ bytes. Tells (report_text report ++ bytes) (ReportFault.BadLine number))
+    go None p came = tt
+    go (Some xs) None came = absurd came
+    go (Some xs) (Some ys) came = inr (record { report = report; first = first; rest = ys; shown = shown; bytes_are = ap (λ l. report_text report ++ l) came; place = place })
+
+-- the first line is read behind nothing
+pub first_read : (left b : Option (List ℕ)) (bytes text after : List ℕ) → bytes ≡ [] → Consumes (prepend_known bytes left) b text → after ≡ text → ReadsOn left b [] after
+first_read left b bytes text after none came is =
+    let P : Option (List ℕ) → Type 0 = λ o. Consumes o b text in
+    (text, subst P (ap (λ l. prepend_known l left) none ∙ nothing_first left) came, is)
+
+pub reads_twice : (a b c : Option (List ℕ)) (x y z : List ℕ) → ReadsOn a b x y → ReadsOn b c y z → ReadsOn a c x z
+reads_twice a b c x y z (s, came, is) (t, next, then) = (s ++ t, consumes_more a b c s t came next, then ∙ ap (λ l. l ++ t) is ∙ append_assoc x s t)
+
+pub some_byte : (o : Option ℕ) (a b : Option (List ℕ)) → is_some o ≡ true → IsNextByte a b o → (x : ℕ) × Consumes a b (x ∷ [])
+some_byte None a b e next = absurd (true≢false (sym e))
+some_byte (Some x) a b e next = (x, next)
+
+-- a device that halts, or want of memory, says nothing of the bytes
+pub halts_stop : (a : Option (List ℕ)) (fault : ReportFault) (number : ℕ) → (fault ≡ ReportFault.Io) ⊎ (fault ≡ ReportFault.OutOfMemory) → IfSome a (StopsAt fault number)
+halts_stop None fault number why = tt
+halts_stop (Some xs) fault number (inl io) = let P : ReportFault → Type 0 = λ f. StopsAt f number xs in subst P (sym io) tt
+halts_stop (Some xs) fault number (inr memory) = let P : ReportFault → Type 0 = λ f. StopsAt f number xs in subst P (sym memory) tt
+
+pub memory_tells : (a : Option (List ℕ)) (before : List ℕ) (fault : ReportFault) → fault ≡ ReportFault.OutOfMemory → IfSome a (λ bytes. Tells (before ++ bytes) fault)
+memory_tells None before fault memory = tt
+memory_tells (Some xs) before fault memory = let P : ReportFault → Type 0 = λ f. Tells (before ++ xs) f in subst P (sym memory) tt
