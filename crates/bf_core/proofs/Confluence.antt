@@ -1,12 +1,12 @@
 -- Two outcomes whose ledgers are alike are equal.
 use Rattle.std.proofs.Common.{◌≡◌, ℕ, suc, zero, ◌+◌, ◌<◌, ◌≤◌, Bool, true, false, List, [], ◌∷◌, length, Option, None, Some, slice_get, refl, sym, ap, ap₂, ◌∙◌, arith, ext_get_or, slice_index_or}
 use Rattle.std.specs.FinMap as map
-use Rattle.bf_core.specs.Terms.{Verdict, Cell, Phase, RunPhase, Run, name_cmp_total, name_cmp-IsAntisymmetric, Dag, task_of, Given, Outcome, Entry, JobName, Ledger, TaskResult, result_of, name_of, outcome_at, outcome_of, last_try, TaskValue, IsOneOf, IsSettledAncestor, Direct, Above, IsSound, State, AreAlike}
+use Rattle.bf_core.specs.Terms.{Verdict, Cell, Phase, RunPhase, Run, name_cmp, name_cmp_total, name_cmp-IsAntisymmetric, Dag, task_of, Given, Outcome, Entry, JobName, Ledger, TaskResult, result_of, name_of, outcome_at, outcome_of, last_try, TaskValue, IsOneOf, IsSettledAncestor, Direct, Above, IsSound, State, AreAlike}
 use Rattle.bf_core.specs.Deciding.{Seen, settled, Decision, and_then_past, after_verdict, gate, decision}
 use Rattle.bf_core.specs.Recursion.{out, before, decided, value_of, results_from, Asks, IsDefined}
 use Rattle.bf_core.proofs.Shape.{IsShaped, row_in}
 use Rattle.bf_core.specs.Events.{HasEnded, no_run, phase_in, cell_in, entry_in, cell_at, place_in}
-use Rattle.bf_core.specs.Agreement.{results_of, final_cell, finished_from, IsOutcome}
+use Rattle.bf_core.specs.Agreement.{results_of, final_cell, finished_from, HoldsItsTries, IsOutcome}
 use Rattle.bf_core.proofs.Attempts.{last_try-same, last_try-from}
 use Rattle.bf_core.proofs.Depth.{decision-cong, out-is, pick, pull-below}
 
@@ -182,36 +182,39 @@ all-kept dag = record { up = λ k t u a b. tt; back = λ k t a b. tt }
 everywhere : (dag : Dag) (one two : Ledger) → AreAlike one two → (k t : ℕ) → Unit {0} → AreAlikeAt dag one two k t
 everywhere dag one two alike k t kept i a d e p q g = alike _ d e p q g
 
--- two states that are outcomes of one plan, and whose ledgers are alike, have equal ledgers
-pub ledgers-equal : (dag : Dag) → IsSound dag → (runs : ℕ) (s t : State) → IsOutcome dag runs s → IsOutcome dag runs t → AreAlike (entry_in s.ledger) (entry_in t.ledger) →
-    (n : JobName) → entry_in s.ledger n ≡ entry_in t.ledger n
-ledgers-equal dag sound runs s t one two alike n = go (entry_in s.ledger n) refl (entry_in t.ledger n) refl
+-- two ledgers that hold their tries, and are alike, have equal entries
+entries-same : (dag : Dag) → IsSound dag → (runs : ℕ) (one two : Ledger) → HoldsItsTries dag runs one → HoldsItsTries dag runs two → AreAlike one two → (n : JobName) → one n ≡ two n
+entries-same dag sound runs one two first second alike n = go (one n) refl (two n) refl
   where
-    go : (a : Option Entry) → entry_in s.ledger n ≡ a → (b : Option Entry) → entry_in t.ledger n ≡ b → entry_in s.ledger n ≡ entry_in t.ledger n
+    go : (a : Option Entry) → one n ≡ a → (b : Option Entry) → two n ≡ b → one n ≡ two n
     go None e None f = e ∙ sym f
     go (Some d) e b f =
-        let a : _ = one.asked n d e in
-        e ∙ sym (entry-alike dag sound runs (entry_in s.ledger) (entry_in t.ledger) (λ k t. Unit {0}) (all-kept dag) (everywhere dag _ _ alike) one.defined two.defined n d tt a.0 a.1 a.2 a.3 e)
+        let a : _ = first.asked n d e in
+        e ∙ sym (entry-alike dag sound runs one two (λ k t. Unit {0}) (all-kept dag) (everywhere dag _ _ alike) first.defined second.defined n d tt a.0 a.1 a.2 a.3 e)
     go None e (Some d) f =
-        let a : _ = two.asked n d f in
-        entry-alike dag sound runs (entry_in t.ledger) (entry_in s.ledger) (λ k t. Unit {0}) (all-kept dag) (everywhere dag _ _ (alike-back _ _ alike)) two.defined one.defined n d tt a.0 a.1 a.2 a.3 f ∙ sym f
+        let a : _ = second.asked n d f in
+        entry-alike dag sound runs two one (λ k t. Unit {0}) (all-kept dag) (everywhere dag _ _ (alike-back _ _ alike)) second.defined first.defined n d tt a.0 a.1 a.2 a.3 f ∙ sym f
 
--- and the ledgers are one
+-- and are one
+pub tries-same : (dag : Dag) → IsSound dag → (runs : ℕ) (one two : map.FinMap name_cmp Entry) → HoldsItsTries dag runs (map.get one) → HoldsItsTries dag runs (map.get two) → AreAlike (map.get one) (map.get two) → one ≡ two
+tries-same dag sound runs one two first second alike =
+    map.same_map name_cmp_total name_cmp-IsAntisymmetric one two (entries-same dag sound runs (map.get one) (map.get two) first second alike)
+
+-- two states that are outcomes of one plan, and whose ledgers are alike, have one ledger
 pub ledgers-same : (dag : Dag) → IsSound dag → (runs : ℕ) (s t : State) → IsOutcome dag runs s → IsOutcome dag runs t → AreAlike (entry_in s.ledger) (entry_in t.ledger) →
     s.ledger ≡ t.ledger
-ledgers-same dag sound runs s t one two alike =
-    map.same_map name_cmp_total name_cmp-IsAntisymmetric s.ledger t.ledger (ledgers-equal dag sound runs s t one two alike)
+ledgers-same dag sound runs s t one two alike = tries-same dag sound runs s.ledger t.ledger one.tries two.tries alike
 
 -- and equal cells
 pub cells-equal : (dag : Dag) → IsSound dag → (runs : ℕ) (s t : State) → IsOutcome dag runs s → IsOutcome dag runs t → AreAlike (entry_in s.ledger) (entry_in t.ledger) →
     (k u : ℕ) → k < runs → u < length dag.tasks → cell_at s k u ≡ cell_at t k u
 cells-equal dag sound runs s t one two alike k u l m =
     one.cells k u l m
-    ∙ (final-same (decided dag (entry_in s.ledger) k u) _ _ (made-same dag sound runs _ _ (λ k t. Unit {0}) (all-kept dag) (everywhere dag _ _ alike) one.defined two.defined k u tt l m same)
+    ∙ (final-same (decided dag (entry_in s.ledger) k u) _ _ (made-same dag sound runs _ _ (λ k t. Unit {0}) (all-kept dag) (everywhere dag _ _ alike) one.tries.defined two.tries.defined k u tt l m same)
     ∙ (ap (λ d. final_cell d (results_of dag (entry_in t.ledger) k u)) same ∙ sym (two.cells k u l m)))
   where
     same : decided dag (entry_in s.ledger) k u ≡ decided dag (entry_in t.ledger) k u
-    same = decided-alike dag sound runs _ _ (λ k t. Unit {0}) (all-kept dag) (everywhere dag _ _ alike) one.defined two.defined k u tt l m
+    same = decided-alike dag sound runs _ _ (λ k t. Unit {0}) (all-kept dag) (everywhere dag _ _ alike) one.tries.defined two.tries.defined k u tt l m
 
 same-phase : (a b : RunPhase) → a ≡ RunPhase.Closed → b ≡ RunPhase.Closed → a ≡ b
 same-phase a b p q = p ∙ sym q

@@ -26,17 +26,19 @@ pub replay-event : (b : Backfill) (e : Event) → IsReplay b → IsEnabled b.dag
     IsReplay (record { dag = b.dag; limits = b.limits; runs = b.runs; state = after b.dag b.state e; journal = b.journal ++ e ∷ [] })
 replay-event b e is able = record {
   sound = is.sound;
-  legal = legal-more b.dag b.limits _ b.journal e is.legal (rw is.led_to able);
-  led_to = replay-more b.dag _ b.journal e ∙ ap (λ s. after b.dag s e) is.led_to;
+  by_journal = record {
+    legal = legal-more b.dag b.limits _ b.journal e is.by_journal.legal (rw is.by_journal.led_to able);
+    led_to = replay-more b.dag _ b.journal e ∙ ap (λ s. after b.dag s e) is.by_journal.led_to;
+  };
 }
 
 -- ---- what the replay of a legal journal has
 
 pub replay-invariant : (b : Backfill) → IsReplay b → Invariant b.dag b.state
-replay-invariant b is = subst (λ (s : State). Invariant b.dag s) is.led_to (legal-keeps b.dag is.sound b.limits _ b.journal (start-keeps b.dag b.runs) is.legal)
+replay-invariant b is = subst (λ (s : State). Invariant b.dag s) is.by_journal.led_to (legal-keeps b.dag is.sound b.limits _ b.journal (start-keeps b.dag b.runs) is.by_journal.legal)
 
 pub replay-shaped : (b : Backfill) → IsReplay b → IsShaped b.dag b.runs b.state
-replay-shaped b is = subst (λ (s : State). IsShaped b.dag b.runs s) is.led_to (legal-shapes b.dag b.runs b.limits _ b.journal (start-shapes b.dag b.runs) is.legal)
+replay-shaped b is = subst (λ (s : State). IsShaped b.dag b.runs s) is.by_journal.led_to (legal-shapes b.dag b.runs b.limits _ b.journal (start-shapes b.dag b.runs) is.by_journal.legal)
 
 pub replay-rows : (b : Backfill) → IsReplay b → HasRows b.dag b.state
 unfolding row_in

@@ -19,6 +19,7 @@ pub mod Kept
 pub mod NextRun
 pub mod Enabling
 pub mod Slotted
+pub mod Leaves
 pub mod Closing
 pub mod Starting
 pub mod Pulled

@@ -36,7 +36,7 @@ pub core-opening : (dag : Dag) (limits : Limits) (runs : ℕ) (made : List Run) 
     pools.sizes ≡ limits.pools → ((pool : ℕ) → occupied_of pools pool ≡ 0) → rooms ≡ runs →
     IsCore (record { dag = dag; limits = limits; runs = runs; state = record { runs = made; ledger = ledger }; journal = journal }) pools rooms
 core-opening dag limits runs made ledger journal pools rooms sound fit few made-is ledger-is none sizes free room = rw (made-is, ledger-is, none) (record {
-  replayed = record { sound = sound; legal = tt; led_to = refl };
+  replayed = record { sound = sound; by_journal = record { legal = tt; led_to = refl } };
   limits_fit = fit;
   few_runs = few;
   few = start-few dag runs;

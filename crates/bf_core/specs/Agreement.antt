@@ -50,14 +50,22 @@ final_cell (Decision.Instances gs) result = Cell.Ran (finished_from result 0 gs)
 abbrev pub results_of : Dag → Ledger → ℕ → ℕ → ℕ → TaskResult
 results_of dag ledger k t = result_of dag ledger k t
 
--- the recursion over the state's own ledger is defined, the cells are its values, and the ledger holds what it asks for and nothing else
+-- each try is one that the recursion asks for, in so many runs
+abbrev pub AreAsked : Dag → ℕ → Ledger → Type 0
+AreAsked dag runs ledger = (n : JobName) (e : Entry) → ledger n ≡ Some e →
+    (n.run < runs) × (n.task < length dag.tasks) × (n ≡ name_of dag n.run n.task (place_in dag n) n.attempt) × Asks dag ledger n.run n.task (place_in dag n) n.attempt e.given
+
+-- the ledger holds the tries that the recursion over it asks for, and no other
+pub record HoldsItsTries (dag : Dag) (runs : ℕ) (ledger : Ledger) : Type 0 where
+  pub defined : IsDefined dag runs ledger
+  pub asked : AreAsked dag runs ledger
+
+-- the state's ledger holds its tries, and the cells are the values of the recursion over it
 pub record IsOutcome (dag : Dag) (runs : ℕ) (s : State) : Type 0 where
-  pub defined : IsDefined dag runs (entry_in s.ledger)
+  pub tries : HoldsItsTries dag runs (entry_in s.ledger)
   pub cells : (k t : ℕ) → k < runs → t < length dag.tasks → cell_at s k t ≡ final_cell (decided dag (entry_in s.ledger) k t) (results_of dag (entry_in s.ledger) k t)
   pub values : (k t : ℕ) → k < runs → t < length dag.tasks → value_in (cell_at s k t) ≡ Some (out dag (entry_in s.ledger) k t)
   pub run_states : (k : ℕ) → k < runs → has_failed dag s k ≡ run_fails dag (out dag (entry_in s.ledger) k)
-  pub asked : (n : JobName) (e : Entry) → entry_in s.ledger n ≡ Some e →
-      (n.run < runs) × (n.task < length dag.tasks) × (n ≡ name_of dag n.run n.task (place_in dag n) n.attempt) × Asks dag (entry_in s.ledger) n.run n.task (place_in dag n) n.attempt e.given
 
 -- the states of the runs are the recursion's
 abbrev pub AreRunStates : Dag → Ledger → ℕ → List RunState → Type 0

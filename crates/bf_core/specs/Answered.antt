@@ -1,19 +1,13 @@
 -- What runners answered to the tries of a backfill, and the faults that they may make.
-use Rattle.std.specs.Prelude.{◌≡◌, ℕ, List, Some}
+use Rattle.std.specs.Prelude.{◌≡◌, Some}
 use Rattle.bf_try.specs.declared.answers.Raw.{Raw}
 use Rattle.bf_try.specs.Grades.{grade_of}
-use Rattle.bf_core.specs.Terms.{Dag, Limits, JobName, Given, Entry, Ledger, Event, State}
-use Rattle.bf_core.specs.Events.{IsLegal, replay, start}
+use Rattle.bf_core.specs.Terms.{Dag, JobName, Given, Entry, Ledger}
 use Rattle.bf_core.specs.declared.fault.BackfillFault.{BackfillFault}
 
 -- each try that ended has the grade of an answer that may be given to it
 abbrev pub AreGraded : (JobName → Given → Raw → Type 0) → Dag → Ledger → Type 0
 AreGraded may_answer dag ledger = (n : JobName) (e : Entry) → ledger n ≡ Some e → (raw : Raw) × may_answer n e.given raw × (e.outcome ≡ grade_of dag n.task raw)
-
--- the events are legal, and lead from the start to the state
-pub record IsJournal (dag : Dag) (limits : Limits) (runs : ℕ) (journal : List Event) (s : State) : Type 0 where
-  pub legal : IsLegal dag limits (start dag runs) journal
-  pub led_to : replay dag (start dag runs) journal ≡ s
 
 -- the try that is named may be given up; and memory may be wanting
 abbrev pub MayFault : (JobName → Given → Type 0) → BackfillFault → Type 0

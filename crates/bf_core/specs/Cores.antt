@@ -23,11 +23,15 @@ opening dag limits runs = record { dag = dag; limits = limits; runs = runs; stat
 abbrev pub moved : Backfill → Event → Backfill
 moved b e = record b { state = after b.dag b.state e; journal = b.journal ++ e ∷ [] }
 
+-- the events are legal, and lead from the start to the state
+pub record IsJournal (dag : Dag) (limits : Limits) (runs : ℕ) (journal : List Event) (s : State) : Type 0 where
+  pub legal : IsLegal dag limits (start dag runs) journal
+  pub led_to : replay dag (start dag runs) journal ≡ s
+
 -- the journal is legal, and leads to the state
 pub record IsReplay (b : Backfill) : Type 0 where
   pub sound : IsSound b.dag
-  pub legal : IsLegal b.dag b.limits (start b.dag b.runs) b.journal
-  pub led_to : replay b.dag (start b.dag b.runs) b.journal ≡ b.state
+  pub by_journal : IsJournal b.dag b.limits b.runs b.journal b.state
 
 -- the event that the task is decided: by its expansion, or without
 abbrev pub deciding : Bool → ℕ → ℕ → Event

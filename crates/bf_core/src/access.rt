@@ -13,7 +13,7 @@ use crate::ended::{Ended, run_state};
 use crate::event::Event;
 use crate::machine::Core;
 use crate::state::{Cell, Run};
-use bf_check::Dag;
+use bf_check::Plan;
 use bf_try::Ledger;
 use bf_value::Sequence;
 use bf_xcom::RunState;
@@ -25,14 +25,14 @@ fn are_closed(runs: &[Run]) -> bool
 }
 
 /// Writes the state of each run into its place.
-fn write_states(dag: &Dag, runs: &[Run], states: &mut Vec<RunState>)
-    requires few { length dag.now.tasks ≤ 2_000 }
-    requires rows { (k : ℕ) → k < length runs.now → length (row_of runs.now k).cells ≡ length dag.now.tasks }
+fn write_states(plan: &Plan, runs: &[Run], states: &mut Vec<RunState>)
+    requires few { length plan.now.dag.tasks ≤ 2_000 }
+    requires rows { (k : ℕ) → k < length runs.now → length (row_of runs.now k).cells ≡ length plan.now.dag.tasks }
     requires room { vec_len states.old ≡ length runs.now }
-    ensures { AreStatesOf dag.now runs.now states.new.items }
+    ensures { AreStatesOf plan.now.dag runs.now states.new.items }
 {
     for run in 0..runs.len() {
-        states[run] = run_state(dag, runs[run].cells.as_slice());
+        states[run] = run_state(plan, runs[run].cells.as_slice());
     }
 }
 
@@ -108,7 +108,7 @@ impl<'a> Core<'a> {
             mut run_states,
             journal,
         } = self;
-        write_states(plan.dag(), state.runs.as_slice(), &mut run_states);
+        write_states(plan, state.runs.as_slice(), &mut run_states);
         Ok(Ended {
             state,
             run_states: Sequence::from_vec(run_states),

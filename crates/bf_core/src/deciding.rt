@@ -96,7 +96,7 @@ fn fresh_instances(
 ) -> Result<Sequence<Instance>, OutOfMemory>
     ensures { IfOk result (λ xs. xs ≡ map fresh givens) }
 {
-    let mut instances = Sequence::new(alloc);
+    let mut instances = Vec::with_capacity(alloc, givens.len())?;
     for given in givens.into_vec() {
         instances.push(Instance {
             given,
@@ -104,7 +104,7 @@ fn fresh_instances(
             phase: Phase::Waiting,
         })?;
     }
-    Ok(instances)
+    Ok(Sequence::from_vec(instances))
 }
 
 impl Decision {

@@ -1,5 +1,5 @@
 //! Backfills that have ended, and the states of their runs.
-ghost use Rattle.std.specs.Prelude.{◌≡◌, ◌≤◌, ◌==◌, ◌&&◌, not, length, map, slice_index_or};
+ghost use Rattle.std.specs.Prelude.{◌≡◌, ◌<◌, ◌≤◌, length, slice_index_or};
 ghost use Rattle.std.specs.List.{list_any};
 ghost use Rattle.bf_core.specs.Recursion.{is_leaf as leaf, fails_run, run_fails as fails, run_state_of};
 ghost use Rattle.bf_core.specs.Events.{value_in, value_or_blocked, cell_at};
@@ -9,7 +9,7 @@ ghost use Rattle.bf_core.specs.declared.state.Cell.{Cell as CellTerm};
 use crate::event::Event;
 use crate::seen::are_finished;
 use crate::state::{Cell, Instance, Phase, State};
-use bf_check::{Dag, Task};
+use bf_check::Plan;
 use bf_try::Outcome;
 use bf_value::Sequence;
 use bf_xcom::RunState;
@@ -23,22 +23,13 @@ pub struct Ended {
     pub journal: Sequence<Event>,
 }
 
-fn has_upstream(task: &Task, upstream: u32) -> bool
-    ensures { result ≡ list_any (λ u. u == upstream) task.now.upstreams }
+/// Whether no task has this one as an upstream.
+#[tactic(auto, using(crate::proofs::Leaves::no_downstreams, crate::proofs::Leaves::has_edges))]
+fn is_leaf(plan: &Plan, task: u32) -> bool
+    requires { task < length plan.now.dag.tasks }
+    ensures { result ≡ leaf plan.now.dag task }
 {
-    task.upstreams.as_slice().iter().any(|u| *u == upstream)
-}
-
-fn has_downstream(tasks: &[Task], task: u32) -> bool
-    ensures { result ≡ list_any (λ other. list_any (λ u. u == task) other.upstreams) tasks.now }
-{
-    tasks.iter().any(|other| has_upstream(other, task))
-}
-
-fn is_leaf(dag: &Dag, task: u32) -> bool
-    ensures { result ≡ leaf dag.now task }
-{
-    !has_downstream(dag.tasks.as_slice(), task)
+    plan.graph().downstreams(task).is_empty()
 }
 
 fn has_failed(instance: &Instance) -> bool
@@ -56,32 +47,34 @@ fn any_failed(instances: &[Instance]) -> bool
     instances.iter().any(|instance| has_failed(instance))
 }
 
-/// Whether a task in a closed run fails that run. Whether it is a leaf is looked at last, since that takes longest.
+/// Whether a task in a closed run fails that run.
 #[tactic(auto, using(crate::proofs::Closing::ran_fails))]
-fn fails_its_run(dag: &Dag, task: u32, cell: &Cell) -> bool
-    ensures { result ≡ fails_run (leaf dag.now task) (value_or_blocked (value_in cell.now)) }
+fn fails_its_run(plan: &Plan, task: u32, cell: &Cell) -> bool
+    requires { task < length plan.now.dag.tasks }
+    ensures { result ≡ fails_run (leaf plan.now.dag task) (value_or_blocked (value_in cell.now)) }
 {
     match cell {
         Cell::Undecided | Cell::Blocked => true,
         Cell::Skipped => false,
-        Cell::UpstreamFailed => is_leaf(dag, task),
-        Cell::Ran(instances) => ran_fails(dag, task, instances.as_slice()),
+        Cell::UpstreamFailed => is_leaf(plan, task),
+        Cell::Ran(instances) => ran_fails(plan, task, instances.as_slice()),
     }
 }
 
-fn ran_fails(dag: &Dag, task: u32, instances: &[Instance]) -> bool
-    ensures { result ≡ instances_fail (leaf dag.now task) instances.now }
+fn ran_fails(plan: &Plan, task: u32, instances: &[Instance]) -> bool
+    requires { task < length plan.now.dag.tasks }
+    ensures { result ≡ instances_fail (leaf plan.now.dag task) instances.now }
 {
-    !are_finished(instances) || (any_failed(instances) && is_leaf(dag, task))
+    !are_finished(instances) || (any_failed(instances) && is_leaf(plan, task))
 }
 
-fn run_fails(dag: &Dag, cells: &[Cell]) -> bool
-    requires few { length dag.now.tasks ≤ 2_000 }
-    requires one_each { length cells.now ≡ length dag.now.tasks }
-    ensures { result ≡ fails dag.now (λ t. value_or_blocked (value_in (slice_index_or cells.now t CellTerm.Undecided))) }
+fn run_fails(plan: &Plan, cells: &[Cell]) -> bool
+    requires few { length plan.now.dag.tasks ≤ 2_000 }
+    requires one_each { length cells.now ≡ length plan.now.dag.tasks }
+    ensures { result ≡ fails plan.now.dag (λ t. value_or_blocked (value_in (slice_index_or cells.now t CellTerm.Undecided))) }
 {
     for task in 0..cells.len() {
-        if fails_its_run(dag, task as u32, &cells[task]) {
+        if fails_its_run(plan, task as u32, &cells[task]) {
             return true;
         }
     }
@@ -89,12 +82,12 @@ fn run_fails(dag: &Dag, cells: &[Cell]) -> bool
 }
 
 /// The state of a closed run.
-pub(crate) fn run_state(dag: &Dag, cells: &[Cell]) -> RunState
-    requires few { length dag.now.tasks ≤ 2_000 }
-    requires one_each { length cells.now ≡ length dag.now.tasks }
-    ensures { result ≡ run_state_of dag.now (λ t. value_or_blocked (value_in (slice_index_or cells.now t CellTerm.Undecided))) }
+pub(crate) fn run_state(plan: &Plan, cells: &[Cell]) -> RunState
+    requires few { length plan.now.dag.tasks ≤ 2_000 }
+    requires one_each { length cells.now ≡ length plan.now.dag.tasks }
+    ensures { result ≡ run_state_of plan.now.dag (λ t. value_or_blocked (value_in (slice_index_or cells.now t CellTerm.Undecided))) }
 {
-    if run_fails(dag, cells) {
+    if run_fails(plan, cells) {
         RunState::Failed
     } else {
         RunState::Success

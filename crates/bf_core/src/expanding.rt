@@ -95,12 +95,12 @@ fn items_from(
 fn unmapped(alloc: Global, pulled: Vec<Option<Xval>>) -> Result<Decision, OutOfMemory>
     ensures { IfOk result (λ d. d ≡ Decision.Instances (record { item = None; pulled = pulled.items } ∷ [])) }
 {
-    let mut givens = Sequence::new(alloc);
+    let mut givens = Vec::with_capacity(alloc, 1)?;
     givens.push(Given {
         item: None,
         pulled: Sequence::from_vec(pulled),
     })?;
-    Ok(Decision::Instances(givens))
+    Ok(Decision::Instances(Sequence::from_vec(givens)))
 }
 
 /// An instance for each item, which is given the item and what was pulled.
@@ -115,13 +115,13 @@ fn givens_of(
         item: None,
         pulled: Sequence::from_vec(pulled),
     };
-    let mut givens = Sequence::new(alloc);
+    let mut givens = Vec::with_capacity(alloc, items.len())?;
     for item in items.into_vec() {
         let mut given = alike.copy(alloc)?;
         given.item = Some(item);
         givens.push(given)?;
     }
-    Ok(givens)
+    Ok(Sequence::from_vec(givens))
 }
 
 /// What the items of a source make of a task that goes on.

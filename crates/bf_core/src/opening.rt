@@ -10,11 +10,11 @@ use std::alloc::Global;
 fn undecided_cells(alloc: Global, tasks: usize) -> Result<Sequence<Cell>, OutOfMemory>
     ensures { IfOk result (λ cells. cells ≡ undecided tasks) }
 {
-    let mut cells = Sequence::new(alloc);
+    let mut cells = Vec::with_capacity(alloc, tasks)?;
     for _made in 0..tasks {
         cells.push(Cell::Undecided)?;
     }
-    Ok(cells)
+    Ok(Sequence::from_vec(cells))
 }
 
 /// Runs that are not opened, each with a cell for each task.
@@ -26,12 +26,12 @@ pub(crate) fn unopened_runs(
 ) -> Result<Sequence<Run>, OutOfMemory>
     ensures { IfOk result (λ made. made ≡ unopened tasks runs) }
 {
-    let mut made = Sequence::new(alloc);
+    let mut made = Vec::with_capacity(alloc, runs)?;
     for _made in 0..runs {
         made.push(Run {
             phase: RunPhase::Unopened,
             cells: undecided_cells(alloc, tasks)?,
         })?;
     }
-    Ok(made)
+    Ok(Sequence::from_vec(made))
 }

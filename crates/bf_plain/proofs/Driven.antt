@@ -7,8 +7,8 @@ use Rattle.bf_try.specs.Grades.{grade_of}
 use Rattle.bf_core.specs.Terms.{Dag, Entry, Given, JobName, Limits, Outcome, name_cmp}
 use Rattle.bf_core.specs.declared.event.Event.{Event}
 use Rattle.bf_core.specs.Agreement.{AreRunStates, IsOutcome}
-use Rattle.bf_core.specs.Answered.{AreGraded, IsJournal}
-use Rattle.bf_core.specs.Cores.{Backfill, deciding, moved, opening}
+use Rattle.bf_core.specs.Answered.{AreGraded}
+use Rattle.bf_core.specs.Cores.{Backfill, IsJournal, deciding, moved, opening}
 use Rattle.bf_core.specs.declared.ended.Ended.{Ended}
 use Rattle.bf_core.specs.Events.{IsEnabled, after, cell_at, entry_in, given_in, place_in}
 use Rattle.bf_core.proofs.Kept.{replay-event}
@@ -62,7 +62,7 @@ driven-opening may dag limits runs b sound fit is = rw is (record {
   dag = refl;
   limits = refl;
   runs = refl;
-  replayed = record { sound = sound; legal = tt; led_to = refl };
+  replayed = record { sound = sound; by_journal = record { legal = tt; led_to = refl } };
   limits_fit = fit;
   graded = λ n e held.
       let none : entry_in map.empty n ≡ None = map.get-empty name_cmp n in
@@ -98,6 +98,6 @@ over may dag limits runs b ended d same journal outcome states =
     let one : IsOutcome dag runs b.state = rw (d.dag, d.runs) at outcome in
     let two : AreRunStates dag (entry_in b.state.ledger) runs ended.run_states = rw (d.dag, d.runs) at states in
     let three : AreGraded may dag (entry_in b.state.ledger) = rw d.dag at d.graded in
-    let four : IsJournal b.dag b.limits b.runs b.journal b.state = record { legal = d.replayed.legal; led_to = d.replayed.led_to } in
+    let four : IsJournal b.dag b.limits b.runs b.journal b.state = d.replayed.by_journal in
     let five : IsJournal dag limits runs b.journal b.state = rw (d.dag, d.limits, d.runs) at four in
     record { outcome = rw same one; run_states = rw same two; graded = rw same three; journal = rw (same, journal) five }

@@ -3,9 +3,9 @@ ghost use Rattle.std.specs.Prelude.{◌≡◌, ◌<◌, ◌≤◌, ◌+◌, leng
 ghost use Rattle.bf_graph.specs.Order.{IsByRank, StandBehind};
 ghost use Rattle.bf_check.specs.Plans.{shape_of};
 ghost use Rattle.bf_core.specs.Agreement.{AreRunStates, IsOutcome};
-ghost use Rattle.bf_core.specs.Cores.{IsThere, moved, opening};
+ghost use Rattle.bf_core.specs.Cores.{IsJournal, IsThere, moved, opening};
 ghost use Rattle.bf_core.specs.Events.{HasEnded, IsEnabled, cell_at, entry_in, instance_of};
-ghost use Rattle.bf_core.specs.Answered.{AreGraded, IsJournal, MayFault};
+ghost use Rattle.bf_core.specs.Answered.{AreGraded, MayFault};
 ghost use Rattle.bf_plain.specs.Driving.{AtRun, AtTask, HasFinished, HasPassed, HasTried, IsDriven, IsNext, IsReady, IsTryReady, count_in, given_waiting};
 
 use bf_check::Plan;

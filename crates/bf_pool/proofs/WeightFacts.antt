@@ -25,7 +25,7 @@ use Rattle.bf_pool.specs.Weights.{leads_within, does_reach}
 pub tasks_there : (dag : Dag) → length (shape_of dag).upstreams ≡ length dag.tasks
 tasks_there dag = length-map dag.tasks (λ (task : Task). task.upstreams)
 
-upstreams_are : (dag : Dag) (t : ℕ) → (task_of dag t).upstreams ≡ upstreams_of (shape_of dag).upstreams t
+pub upstreams_are : (dag : Dag) (t : ℕ) → (task_of dag t).upstreams ≡ upstreams_of (shape_of dag).upstreams t
 unfolding task_of
 upstreams_are dag t = sym (get_or-map_default (λ (task : Task). task.upstreams) dag.tasks t no_task)
 
@@ -35,15 +35,15 @@ in_range dag sound t u up =
 
 -- ---- tests on lists
 
-any_later : (p : ℕ → Bool) (y : ℕ) (ys : List ℕ) → list_any p ys ≡ true → list_any p (y ∷ ys) ≡ true
+any_later : {X : Type 0} (p : X → Bool) (y : X) (ys : List X) → list_any p ys ≡ true → list_any p (y ∷ ys) ≡ true
 any_later p y ys rest = elim (cases_Bool (p y)) as (λ _. (p y || list_any p ys) ≡ true) [ inl e ↦ rw e refl | inr e ↦ rw e rest ]
 
-any_at : (p : ℕ → Bool) (xs : List ℕ) (x : ℕ) → Contains xs x → p x ≡ true → list_any p xs ≡ true
+pub any_at : {X : Type 0} (p : X → Bool) (xs : List X) (x : X) → Contains xs x → p x ≡ true → list_any p xs ≡ true
 any_at p [] x (k, h, e) t = absurd (omega arith)
 any_at p (y ∷ ys) x (zero, h, e) t = let first : p y ≡ true = ap p e ∙ t in rw first refl
 any_at p (y ∷ ys) x (suc k, h, e) t = any_later p y ys (any_at p ys x (k, omega arith, e) t)
 
-any_of : (p : ℕ → Bool) (xs : List ℕ) → list_any p xs ≡ true → (x : ℕ) × Contains xs x × (p x ≡ true)
+pub any_of : {X : Type 0} (p : X → Bool) (xs : List X) → list_any p xs ≡ true → (x : X) × Contains xs x × (p x ≡ true)
 any_of p [] e = absurd (true≢false (sym e))
 any_of p (y ∷ ys) e = elim (cases_Bool (p y)) [
   | inl passed ↦ (y, (0, omega arith, refl), passed)

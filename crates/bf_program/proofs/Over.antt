@@ -53,7 +53,7 @@ pub reported_over : (dag : Dag) (table : List TableEntry) (intervals : List Inte
 reported_over dag table intervals before after success ended report is dated text state = record {
   ledger = ended.state.ledger;
   report = report;
-  over_table = record { defined = is.outcome.defined; asked = is.outcome.asked; answered = is.answered };
+  over_table = record { tries = is.outcome.tries; answered = is.answered };
   dated = dated;
   text = text;
   state = state;

@@ -1,5 +1,5 @@
 -- What is reported of a backfill over a table: the recursion over dates, over what the table answers.
-use Rattle.std.specs.Prelude.{◌≡◌, ◌≢◌, ◌<◌, ℕ, Bool, true, false, List, [], ◌∷◌, length, map, Option, Some, None, Ok, Err}
+use Rattle.std.specs.Prelude.{◌≡◌, ◌≢◌, ℕ, Bool, true, false, List, length, map, Option, Some, None, Ok, Err}
 use Rattle.std.specs.List.{list_all}
 use Rattle.std.specs.FinMap as finite
 use Rattle.bf_value.specs.declared.name.JobName.{JobName}
@@ -12,10 +12,9 @@ use Rattle.bf_try.specs.declared.table.TableEntry.{TableEntry}
 use Rattle.bf_try.specs.declared.table.TableFault.{TableFault}
 use Rattle.bf_try.specs.Grades.{grade_of}
 use Rattle.bf_try.specs.Tables.{Answering, table_of, answer_of, dates_of}
-use Rattle.bf_try.specs.Tries.{Look, name_of}
-use Rattle.bf_core.specs.Agreement.{AreRunStates, IsOutcome}
-use Rattle.bf_core.specs.Recursion.{IsDefined, Asks}
-use Rattle.bf_core.specs.Events.{entry_in, place_in}
+use Rattle.bf_try.specs.Tries.{Look}
+use Rattle.bf_core.specs.Agreement.{AreRunStates, HoldsItsTries, IsOutcome}
+use Rattle.bf_core.specs.Events.{entry_in}
 use Rattle.bf_core.specs.declared.ended.Ended.{Ended}
 use Rattle.bf_report.specs.declared.report.Report.{Report}
 use Rattle.bf_report.specs.Dated.{IsDated}
@@ -28,15 +27,9 @@ use Rattle.bf_program.specs.declared.over_table.RunFault.TheVariants.{Plan, Tabl
 abbrev pub AreAnswered : Answering → Look → Type 0
 AreAnswered over ledger = (n : JobName) (e : Entry) → ledger n ≡ Some e → e.outcome ≡ grade_of over.dag n.task (answer_of over n)
 
--- each try is one that the recursion asks for, in these runs
-abbrev pub AreAsked : Dag → ℕ → Look → Type 0
-AreAsked dag runs ledger = (n : JobName) (e : Entry) → ledger n ≡ Some e →
-    (n.run < runs) × (n.task < length dag.tasks) × (n ≡ name_of dag n.run n.task (place_in dag n) n.attempt) × Asks dag ledger n.run n.task (place_in dag n) n.attempt e.given
-
--- the ledger of a backfill over a table: it holds the tries that the recursion asks for and no other, each with its answer
+-- the ledger of a backfill over a table: it holds its tries, each with the table's answer
 pub record IsLedgerOver (over : Answering) (runs : ℕ) (ledger : Look) : Type 0 where
-  pub defined : IsDefined over.dag runs ledger
-  pub asked : AreAsked over.dag runs ledger
+  pub tries : HoldsItsTries over.dag runs ledger
   pub answered : AreAnswered over ledger
 
 -- a table's answers to runs over these data intervals

@@ -13,7 +13,8 @@ use Rattle.bf_core.specs.Events.{cell_at, value_in, value_or_blocked, entry_in}
 use Rattle.bf_core.specs.Agreement.{IsOutcome}
 use Rattle.bf_report.specs.declared.report.TaskReport.{TaskReport}
 use Rattle.bf_report.specs.declared.report.RunReport.{RunReport}
-use Rattle.bf_report.specs.Dated.{reported, reports_from, AreDated}
+use Rattle.bf_report.specs.declared.report.Report.{Report}
+use Rattle.bf_report.specs.Dated.{reported, reports_from, AreDated, IsDated}
 
 -- one more task is reported
 pub one-reported : (value : ℕ → TaskValue) (tasks : List Task) (t : ℕ) (task : Task) (found : List TaskReport) (r : TaskReport) → t < length tasks → task ≡ get_or tasks t task → r ≡ reported task (value t) →
@@ -60,3 +61,23 @@ dated-next dag ledger intervals k interval runs run l e are a b c =
     let more : AreDated dag ledger 0 (take k intervals ++ interval ∷ []) (runs ++ run ∷ []) = dated-more dag ledger 0 (take k intervals) runs interval run are a (rw long b) (rw long c) in
     let grown : take (k + 1) intervals ≡ take k intervals ++ interval ∷ [] = take_more intervals k interval l ∙ ap (λ x. take k intervals ++ x ∷ []) (sym e) in
     rw grown more
+
+-- ---- one report
+
+runs-once : (dag : Dag) (ledger : Look) (k : ℕ) (intervals : List Interval) (runs others : List RunReport) → AreDated dag ledger k intervals runs → AreDated dag ledger k intervals others → runs ≡ others
+runs-once dag ledger k [] [] [] a b = refl
+runs-once dag ledger k [] (r ∷ rs) others a b = absurd a
+runs-once dag ledger k [] [] (r ∷ rs) a b = absurd b
+runs-once dag ledger k (i ∷ is) [] others a b = absurd a
+runs-once dag ledger k (i ∷ is) (r ∷ rs) [] a b = absurd b
+runs-once dag ledger k (i ∷ is) (r ∷ rs) (q ∷ qs) a b =
+    ap₂ (λ x xs. x ∷ xs) (run-once r q (a.0 ∙ sym b.0) (a.1 ∙ sym b.1) (a.2 ∙ sym b.2)) (runs-once dag ledger (suc k) is rs qs a.3 b.3)
+  where
+    run-once : (r q : RunReport) → r.interval ≡ q.interval → r.state ≡ q.state → r.tasks ≡ q.tasks → r ≡ q
+    run-once r q a b c = λ i. record { interval = a i; state = b i; tasks = c i }
+
+-- the recursion over a ledger has one report
+pub dated-once : (dag : Dag) (intervals : List Interval) (ledger : Look) (report other : Report) → IsDated dag intervals ledger report → IsDated dag intervals ledger other → report ≡ other
+dated-once dag intervals ledger report other a b =
+    let runs : report.runs ≡ other.runs = runs-once dag ledger 0 intervals report.runs other.runs a.runs b.runs in
+    λ i. record { dag_id = (a.dag_id ∙ sym b.dag_id) i; tasks = (a.tasks ∙ sym b.tasks) i; runs = runs i }

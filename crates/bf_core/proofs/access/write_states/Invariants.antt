@@ -6,5 +6,5 @@ use Rattle.bf_core.proofs.access.write_states.Given as goal
 abbrev pub invariant-loop-run : goal.invariant-loop-run
 invariant-loop-run l = record {
   room : length l.states.items ≡ length l.runs;
-  written : (k : ℕ) → k < l.run → slice_get l.states.items k ≡ Some (run_state_of l.dag (row_value l.runs k));
+  written : (k : ℕ) → k < l.run → slice_get l.states.items k ≡ Some (run_state_of l.plan.dag (row_value l.runs k));
 }

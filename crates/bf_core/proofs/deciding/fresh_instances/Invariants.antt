@@ -3,4 +3,4 @@ use Rattle.bf_core.specs.Events.{fresh}
 use Rattle.bf_core.proofs.deciding.fresh_instances.Given as goal
 
 abbrev pub invariant-loop-given : goal.invariant-loop-given
-invariant-loop-given l = l.instances ≡ map fresh l.yielded
+invariant-loop-given l = l.instances.items ≡ map fresh l.yielded

@@ -5,4 +5,4 @@ use Rattle.bf_core.specs.Events.{value_or_blocked, value_in}
 use Rattle.bf_core.proofs.ended.run_fails.Given as goal
 
 abbrev pub invariant-loop-task : goal.invariant-loop-task
-invariant-loop-task l = any_below l.task (λ t. fails_run (is_leaf l.dag t) (value_or_blocked (value_in (slice_index_or l.cells t Cell.Undecided)))) ≡ false
+invariant-loop-task l = any_below l.task (λ t. fails_run (is_leaf l.plan.dag t) (value_or_blocked (value_in (slice_index_or l.cells t Cell.Undecided)))) ≡ false

@@ -3,4 +3,4 @@ use Rattle.bf_core.specs.Events.{undecided_cells}
 use Rattle.bf_core.proofs.opening.undecided_cells.Given as goal
 
 abbrev pub invariant-loop-made : goal.invariant-loop-made
-invariant-loop-made l = l.cells ≡ undecided_cells l._made
+invariant-loop-made l = l.cells.items ≡ undecided_cells l._made

@@ -3,4 +3,4 @@ use Rattle.bf_core.specs.Events.{empty_runs}
 use Rattle.bf_core.proofs.opening.unopened_runs.Given as goal
 
 abbrev pub invariant-loop-made : goal.invariant-loop-made
-invariant-loop-made l = l.made ≡ empty_runs l.tasks l._made
+invariant-loop-made l = l.made.items ≡ empty_runs l.tasks l._made

@@ -5,7 +5,7 @@ use Rattle.bf_core.proofs.Closing.{states-are}
 use Rattle.bf_core.proofs.machine.Core.into_ended.Goals as goal
 
 pub write_states-requires-clause-rows : goal.write_states-requires-clause-rows
-write_states-requires-clause-rows c = rw (c.dag.ensures.dag, c.as_slice.ensures) (replay-rows _ c.self.invariant.replayed)
+write_states-requires-clause-rows c = rw c.as_slice.ensures (replay-rows _ c.self.invariant.replayed)
 
 pub write_states-requires-clause-room : goal.write_states-requires-clause-room
 write_states-requires-clause-room c =
@@ -22,5 +22,5 @@ returns-clause-run_states c =
     let over : _ = rw (← c.self.view_is) at (c.is_ended.ensures.0 c.if-not-is_ended.false) in
     let is : _ = replay-outcome _ c.self.invariant.replayed over in
     let count : _ = (replay-shaped _ c.self.invariant.replayed).count in
-    let are : _ = rw (c.dag.ensures.dag, c.as_slice.ensures) at c.write_states.ensures in
+    let are : _ = rw c.as_slice.ensures at c.write_states.ensures in
     rw (← c.self.view_is, c.from_vec.ensures) (states-are c.self.inside.plan.now.dag c.self.inside.runs c.self.inside.state _ count is are)
