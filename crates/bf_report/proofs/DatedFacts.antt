@@ -1,6 +1,8 @@
 -- Reports of tasks and of runs, one after another.
 use Rattle.std.proofs.Common.{◌≡◌, ◌<◌, ◌+◌, ℕ, suc, List, [], ◌∷◌, ◌++◌, length, take, drop, refl, sym, ap, ap₂, ◌∙◌, arith, append_assoc, get_or, length-take}
 use Rattle.std.proofs.lemmas.List.{take_more}
+use Rattle.std.proofs.Props.{props}
+use mathlib.Core.HLevel.{is_prop→PathP}
 use Rattle.bf_value.proofs.ReadLemmas.{drop-item}
 use Rattle.bf_interval.specs.declared.interval.Interval.{Interval}
 use Rattle.bf_check.specs.declared.plan.Task.{Task}
@@ -11,6 +13,7 @@ use Rattle.bf_core.specs.declared.state.State.{State}
 use Rattle.bf_core.specs.Recursion.{out, run_state_of}
 use Rattle.bf_core.specs.Events.{cell_at, value_in, value_or_blocked, entry_in}
 use Rattle.bf_core.specs.Agreement.{IsOutcome}
+use Rattle.bf_moment.specs.Moment.{IsShown}
 use Rattle.bf_report.specs.declared.report.TaskReport.{TaskReport}
 use Rattle.bf_report.specs.declared.report.RunReport.{RunReport}
 use Rattle.bf_report.specs.declared.report.Report.{Report}
@@ -74,7 +77,13 @@ runs-once dag ledger k (i ∷ is) (r ∷ rs) (q ∷ qs) a b =
     ap₂ (λ x xs. x ∷ xs) (run-once r q (a.0 ∙ sym b.0) (a.1 ∙ sym b.1) (a.2 ∙ sym b.2)) (runs-once dag ledger (suc k) is rs qs a.3 b.3)
   where
     run-once : (r q : RunReport) → r.interval ≡ q.interval → r.state ≡ q.state → r.tasks ≡ q.tasks → r ≡ q
-    run-once r q a b c = λ i. record { interval = a i; state = b i; tasks = c i }
+    run-once r q a b c = λ i. record {
+      interval = a i;
+      state = b i;
+      tasks = c i;
+      shown_start = is_prop→PathP (λ j. IsShown (a j).start.nanosecond) (λ j. hlevel props) r.shown_start q.shown_start i;
+      shown_end = is_prop→PathP (λ j. IsShown (a j).end.nanosecond) (λ j. hlevel props) r.shown_end q.shown_end i;
+    }
 
 -- the recursion over a ledger has one report
 pub dated-once : (dag : Dag) (intervals : List Interval) (ledger : Look) (report other : Report) → IsDated dag intervals ledger report → IsDated dag intervals ledger other → report ≡ other
