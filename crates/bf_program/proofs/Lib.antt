@@ -4,4 +4,5 @@ pub mod Ends
 pub mod Over
 pub mod Faults
 pub mod OneList
+pub mod OneReport
 pub mod ListedIntervals

@@ -1,10 +1,21 @@
 //! What holds of the definitions. These functions do nothing: their contracts are the laws.
-ghost use Rattle.std.specs.Prelude.{◌≡◌, ℕ, ℤ, List, Option, Ok};
+ghost use Rattle.std.specs.Prelude.{◌≡◌, ℕ, ℤ, Bool, List, Option, Ok};
+ghost use Rattle.bf_check.specs.declared.plan.Dag.{Dag as DagTerm};
+ghost use Rattle.bf_check.specs.Sound.{IsSound};
 ghost use Rattle.bf_interval.specs.declared.interval.Interval.{Interval as IntervalTerm};
+ghost use Rattle.bf_try.specs.declared.table.TableEntry.{TableEntry as TableEntryTerm};
 ghost use Rattle.bf_program.specs.Lists.{HasListing};
+ghost use Rattle.bf_program.specs.OverTable.{IsReportedOver};
 
 /// A graph file, a zone file and a range have one listing.
 pub fn one_list()
     ensures { (graph : List ℕ) (file : Option (List ℕ)) (from to : ℤ) (xs ys : List IntervalTerm)
         → HasListing graph file from to (Ok xs) → HasListing graph file from to (Ok ys) → xs ≡ ys }
+{}
+
+/// A plan, a table and data intervals have one report, whatever the order in which the tries ran.
+pub fn one_report()
+    ensures { (dag : DagTerm) → IsSound dag → (table : List TableEntryTerm) (intervals : List IntervalTerm) (before after others : Option (List ℕ)) (success other : Bool)
+        → IsReportedOver dag table intervals before after success → IsReportedOver dag table intervals before others other
+        → (after ≡ others) × (success ≡ other) }
 {}

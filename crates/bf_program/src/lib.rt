@@ -25,7 +25,7 @@ mod stored;
 pub use dated_runs::run_dry;
 pub use disk::Disk;
 pub use graphs::{GraphSize, PlanFault, check_graph};
-pub use laws::one_list;
+pub use laws::{one_list, one_report};
 pub use listing::{ListFault, run_list};
 pub use one_run::run_single;
 pub use over_table::RunFault;
