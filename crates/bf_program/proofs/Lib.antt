@@ -5,4 +5,5 @@ pub mod Over
 pub mod Faults
 pub mod OneList
 pub mod OneReport
+pub mod CommandFacts
 pub mod ListedIntervals

@@ -9,3 +9,4 @@ pub mod OneRun
 pub mod DatedRuns
 pub mod Graphs
 pub mod Lists
+pub mod Commands

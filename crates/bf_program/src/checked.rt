@@ -1,5 +1,6 @@
 //! The command `check`: whether a graph file has a fault.
-ghost use Rattle.std.specs.Prelude.{◌≡◌, IfOk, IfErr, IsSome};
+ghost use Rattle.std.specs.Prelude.{◌≡◌, IfOk, IfErr, IsSome, string_bytes};
+ghost use Rattle.bf_program.specs.Commands.{IsCheckAnswer, size_text};
 ghost use Rattle.bf_program.specs.Refusal.{number_of};
 
 use crate::forms::GraphAsked;
@@ -13,7 +14,9 @@ use bf_value::OutOfMemory;
 use std::alloc::Global;
 
 /// The line for standard output. There is no singular.
-fn size_line(alloc: Global, size: GraphSize) -> Result<String, OutOfMemory> {
+fn size_line(alloc: Global, size: GraphSize) -> Result<String, OutOfMemory>
+    ensures { IfOk result (λ line. string_bytes line ≡ size_text size) }
+{
     Ok(format!(in alloc; "ok {} tasks, {} edges\n", size.tasks, size.edges)?)
 }
 
@@ -24,7 +27,7 @@ pub fn check_answered<S: Source, W: Write>(
     files: &mut S,
     out: &mut W,
 ) -> Result<Status, CommandFault>
-    ensures ok { IfOk result (λ s. s ≡ Status.Success) }
+    ensures answer { IfOk result (IsCheckAnswer (S.file files.old) asked (W.written out.old) (W.written out.new)) }
     ensures refused { IfErr result (λ f. IsSome (number_of f) → W.written out.new ≡ W.written out.old) }
 {
     let files = graph_files(alloc, asked, files)?;

@@ -1,7 +1,8 @@
 //! The files that a command line names.
-ghost use Rattle.std.specs.Prelude.{◌≡◌, ◌<◌, ◌^◌, ◌⊎◌, ℕ, List, IfOk, IfErr, IfSome, IsSome, option_map, is_some, string_bytes};
+ghost use Rattle.std.specs.Prelude.{◌≡◌, ◌<◌, ◌^◌, ◌⊎◌, ℕ, ℤ, List, Option, IfOk, IfErr, IfSome, IsSome, option_map, string_bytes};
+ghost use Rattle.bf_moment.specs.Moment.{Spells};
+ghost use Rattle.bf_program.specs.Commands.{AreHeld, Means};
 ghost use Rattle.bf_program.specs.Source.{IsWholeUpTo};
-ghost use Rattle.bf_program.specs.declared.input.TheConstants.{LONGEST_FILE};
 
 use crate::forms::GraphAsked;
 use crate::refusal::CommandFault;
@@ -63,9 +64,9 @@ pub(crate) fn graph_files<S: Source>(
     asked: GraphAsked,
     files: &mut S,
 ) -> Result<GraphFiles, CommandFault>
-    ensures graph { IfOk result (λ f. IfSome (S.file files.old (string_bytes asked.graph)) (λ held.
-        IsWholeUpTo LONGEST_FILE held f.graph.items)) }
-    ensures named { IfOk result (λ f. is_some f.zone_file ≡ is_some asked.zone_file) }
+    ensures held { IfOk result (λ f. (graph : List ℕ) (zone : Option (List ℕ)) → AreHeld (S.file files.old) asked graph zone
+        → (f.graph.items ≡ graph) × (option_map (λ v. v.items) f.zone_file ≡ zone)) }
+    ensures stays { (p : List ℕ) → S.file files.new p ≡ S.file files.old p }
 {
     let graph = file_bytes(alloc, asked.graph, LONGEST_FILE, files)?;
     let zone_file = match asked.zone_file {
@@ -77,7 +78,8 @@ pub(crate) fn graph_files<S: Source>(
 
 /// The moment of a text.
 pub(crate) fn moment_of(text: &str) -> Result<Timestamp, CommandFault>
-    ensures { IfErr result (λ f. f ≡ CommandFault.BadMoment) }
+    ensures means { IfOk result (Means text.now) }
+    ensures bad { IfErr result (λ f. (f ≡ CommandFault.BadMoment) × ((n : ℤ) → Spells text.now n → ⊥)) }
 {
     match moment_in(text) {
         Some(moment) => Ok(moment),

@@ -1,7 +1,8 @@
 //! The whole program below `main`.
 ghost use Rattle.std.specs.Prelude.{◌≡◌, ◌≢◌, ◌≤◌, ◌⊎◌, [], None, IfOk, IfErr, IsErr, IsSome, map, string_bytes};
-ghost use Rattle.clap.specs.Words.{fault_of, kind_of};
+ghost use Rattle.clap.specs.Words.{fault_of, kind_of, subcommand_of};
 ghost use Rattle.bf_program.specs.CommandLine.{backfill_app};
+ghost use Rattle.bf_program.specs.Commands.{IsDone};
 ghost use Rattle.bf_program.specs.Refusal.{number_of};
 ghost use Rattle.bf_program.specs.Status.{code_of, shown_as, EndsAs};
 
@@ -35,6 +36,8 @@ pub fn answer<S: Source, W: Write, E: Write>(
     ensures refused { result ≡ 2 → W.written out.new ≡ W.written out.old }
     ensures line { fault_of backfill_app (map string_bytes words.now) ≢ []
         → EndsAs (fault_of backfill_app (map string_bytes words.now)) result }
+    ensures done { fault_of backfill_app (map string_bytes words.now) ≡ [] → result ≤ 1
+        → IsDone (S.file files.old) (subcommand_of backfill_app (map string_bytes words.now)) (W.written out.old) (W.written out.new) result }
 {
     match line_answered(alloc, words, files, out, err) {
         Ok(status) => status.code(),
@@ -57,6 +60,8 @@ fn line_answered<S: Source, W: Write, E: Write>(
         → IfOk result (λ s. EndsAs (fault_of backfill_app (map string_bytes words.now)) (code_of s)) }
     ensures fault { fault_of backfill_app (map string_bytes words.now) ≢ []
         → IfErr result (λ f. number_of f ≡ None) }
+    ensures done { fault_of backfill_app (map string_bytes words.now) ≡ []
+        → IfOk result (λ s. IsDone (S.file files.old) (subcommand_of backfill_app (map string_bytes words.now)) (W.written out.old) (W.written out.new) (code_of s)) }
 {
     match asked(alloc, words) {
         Ok(Asked::Check(check)) => check_answered(alloc, check, files, out),

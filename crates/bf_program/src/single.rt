@@ -1,5 +1,6 @@
 //! The command `single`: one run, answered from a table.
-ghost use Rattle.std.specs.Prelude.{◌≡◌, ◌⊎◌, IfOk, IfErr, IsSome};
+ghost use Rattle.std.specs.Prelude.{◌≡◌, IfOk, IfErr, IsSome};
+ghost use Rattle.bf_program.specs.Commands.{IsSingleAnswer};
 ghost use Rattle.bf_program.specs.Refusal.{number_of};
 
 use crate::forms::SingleAsked;
@@ -18,7 +19,7 @@ pub fn single_answered<S: Source, W: Write>(
     files: &mut S,
     out: &mut W,
 ) -> Result<Status, CommandFault>
-    ensures ok { IfOk result (λ s. (s ≡ Status.Success) ⊎ (s ≡ Status.Failed)) }
+    ensures answer { IfOk result (IsSingleAnswer (S.file files.old) asked (W.written out.old) (W.written out.new)) }
     ensures refused { IfErr result (λ f. IsSome (number_of f) → W.written out.new ≡ W.written out.old) }
 {
     let at = moment_of(asked.at.as_str())?;

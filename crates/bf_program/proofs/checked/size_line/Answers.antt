@@ -1,0 +1,5 @@
+use Rattle.std.proofs.Common.{◌≡◌, refl, sym, ap, ◌∙◌}
+use Rattle.bf_program.proofs.checked.size_line.Goals as goal
+
+pub returns : goal.returns
+returns c = c.in_ok-format.ensures.ok

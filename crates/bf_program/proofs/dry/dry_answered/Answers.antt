@@ -1,0 +1,19 @@
+use Rattle.std.proofs.Common.{◌≡◌, ℕ, List, option_map, ◌∙◌, subst}
+use Rattle.bf_program.specs.DatedRuns.{IsReportedIn}
+use Rattle.bf_program.proofs.CommandFacts.{means_lent, of_held, table_read}
+use Rattle.bf_program.proofs.dry.dry_answered.Goals as goal
+
+pub returns-clause-answer : goal.returns-clause-answer
+returns-clause-answer g c = record {
+  from = c.in_ok-from.from;
+  to = c.in_ok-to.to;
+  from_means = means_lent c.as_str.result.now _ c.in_ok-from.from c.as_str.ensures.value c.in_ok-from.ensures.means;
+  to_means = means_lent c.as_str-2.result.now _ c.in_ok-to.to c.as_str-2.ensures.value c.in_ok-to.ensures.means;
+  succeeded = c.in_ok-succeeded.succeeded;
+  status_is = c.of_runs.ensures;
+  written = λ graph table zone held table_held.
+      let are = c.in_ok-graph.ensures.held graph zone held in
+      let read = c.deref-2.ensures.value ∙ table_read _ _ _ c.in_ok-table.table.items table c.in_ok-graph.ensures.stays c.in_ok-table.ensures.ok table_held in
+      of_held (λ bytes file. IsReportedIn bytes file table c.in_ok-from.from.nanosecond c.in_ok-to.to.nanosecond (g.W.Write.written c.args.out.now) (g.W.Write.written c.run_dry.new.out) c.in_ok-succeeded.succeeded) c.deref.result.now graph _ zone (c.deref.ensures.value ∙ are.0) (c.zone_file.ensures ∙ are.1)
+      (subst (λ (bytes : List ℕ). IsReportedIn c.deref.result.now (option_map (λ s. s.now) c.zone_file.result) bytes c.in_ok-from.from.nanosecond c.in_ok-to.to.nanosecond (g.W.Write.written c.args.out.now) (g.W.Write.written c.run_dry.new.out) c.in_ok-succeeded.succeeded) read c.in_ok-succeeded.ensures.ok);
+}

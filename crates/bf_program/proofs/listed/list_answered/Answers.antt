@@ -1,0 +1,16 @@
+use Rattle.std.proofs.Common.{◌≡◌, refl, sym, ap, ◌∙◌}
+use Rattle.bf_program.specs.Lists.{IsListed}
+use Rattle.bf_program.proofs.CommandFacts.{means_lent, of_held}
+use Rattle.bf_program.proofs.listed.list_answered.Goals as goal
+
+pub returns-clause-answer : goal.returns-clause-answer
+returns-clause-answer g c = record {
+  success = refl;
+  from = c.in_ok-from.from;
+  to = c.in_ok-to.to;
+  from_means = means_lent c.as_str.result.now _ c.in_ok-from.from c.as_str.ensures.value c.in_ok-from.ensures.means;
+  to_means = means_lent c.as_str-2.result.now _ c.in_ok-to.to c.as_str-2.ensures.value c.in_ok-to.ensures.means;
+  written = λ graph zone held.
+      let are = c.in_ok-files.ensures.held graph zone held in
+      of_held (λ bytes file. IsListed bytes file c.in_ok-from.from.nanosecond c.in_ok-to.to.nanosecond (g.W.Write.written c.args.out.now) (g.W.Write.written c.run_list.new.out)) c.deref.result.now graph _ zone (c.deref.ensures.value ∙ are.0) (c.zone_file.ensures ∙ are.1) c.in_ok-run_list.ensures.ok;
+}
