@@ -13,7 +13,7 @@ use Rattle.bf_check.specs.declared.plan.Dag.{Dag}
 use Rattle.bf_check.specs.Plans.{no_task, task_of}
 use Rattle.bf_check.specs.Sound.{IsOneOf, IsSettledAncestor, Direct, Above}
 use Rattle.bf_check.specs.Checking.{ids_of, number_of, number_or_0, task_in, dag_of, shape_in}
-use Rattle.bf_check.specs.Refusals.{settling_upstreams, settling_edges, LeadsTo, MarksTask, MayPull, PullsUnsettled}
+use Rattle.bf_check.specs.Refusals.{settling_upstreams, settling_edges, HasTask, LeadsTo, MarksTask, MayPull, PullsUnsettled}
 
 -- ---- one of a list
 
@@ -26,6 +26,10 @@ pub one_contained : (us : List ℕ) (u : ℕ) → Contains us u → IsOneOf us u
 one_contained [] u (k, h, is) = absurd (omega (arith, h))
 one_contained (x ∷ us) u (zero, h, is) = inl (sym is)
 one_contained (x ∷ us) u (suc k, h, is) = inr (one_contained us u (k, omega (arith, h), is))
+
+-- the direct upstreams of t, as they are read, lead to it
+pub direct_leads : (ids ups : List (List ℕ)) (t : ℕ) (us : List ℕ) → us ≡ upstreams_of ups t → (id : List ℕ) → HasTask ids us id → LeadsTo ids ups t id
+direct_leads ids ups t us is id (a, at, one) = (a, at, (0, (a, subst (λ (xs : List ℕ). Contains xs a) is one, refl)))
 
 -- marks on the tasks that reach t, read by an id
 pub marked_leads : (ids ups : List (List ℕ)) (t n : ℕ) (marks : List Bool) → length ids ≡ n → IsRow ups n t marks → (id : List ℕ) → MarksTask ids marks id ↔ LeadsTo ids ups t id

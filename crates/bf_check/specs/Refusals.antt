@@ -177,3 +177,7 @@ LeadsTo ids edges t id = (a : ℕ) × (number_of ids id ≡ Some a) × Reaches e
 -- the task of an id is there, and marked
 abbrev pub MarksTask : List (List ℕ) → List Bool → List ℕ → Type 0
 MarksTask ids marks id = (a : ℕ) × (number_of ids id ≡ Some a) × (is_marked marks a ≡ true)
+
+-- the task of an id is there, and one of these
+abbrev pub HasTask : List (List ℕ) → List ℕ → List ℕ → Type 0
+HasTask ids tasks id = (a : ℕ) × (number_of ids id ≡ Some a) × Contains tasks a

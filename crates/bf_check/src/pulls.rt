@@ -2,7 +2,7 @@
 ghost use Rattle.std.specs.Prelude.{◌≡◌, ◌↔◌, ◌<◌, ℕ, List, false, length, map, Contains, IsTrue, IfOk, IfErr, OnOk};
 ghost use Rattle.bf_graph.specs.Edges.{lists, AreInRange};
 ghost use Rattle.bf_check.specs.Checking.{ids_of};
-ghost use Rattle.bf_check.specs.Refusals.{settling_upstreams as settling_in, settling_edges as edges_in, AllMayPull, HasNoneBelow, IsLateFaultOf, LeadsTo, MarksTask};
+ghost use Rattle.bf_check.specs.Refusals.{settling_upstreams as settling_in, settling_edges as edges_in, AllMayPull, HasNoneBelow, HasTask, IsLateFaultOf, LeadsTo, MarksTask};
 
 use crate::edges::numbers_of;
 use crate::fault::{CheckFault, TaskFault};
@@ -48,6 +48,27 @@ fn is_marked(ids: &Ids, marks: &[bool], id: &str) -> bool
     }
 }
 
+/// Whether the task of an id is there and one of these.
+fn is_one_of(ids: &Ids, tasks: &[u32], id: &str) -> bool
+    ensures { IsTrue result ↔ HasTask ids.now tasks.now id.now }
+{
+    match ids.number_of(id) {
+        Some(task) => tasks.contains(&task),
+        None => false,
+    }
+}
+
+fn are_some_of(ids: &Ids, tasks: &[u32], pulled: &[Text]) -> bool
+    ensures { IsTrue result → (id : List ℕ) → Contains pulled.now id → HasTask ids.now tasks.now id }
+{
+    for id in pulled {
+        if !is_one_of(ids, tasks, id.as_str()) {
+            return false;
+        }
+    }
+    true
+}
+
 /// Whether a task may pull from all of these, by the edges along which upstreams are settled.
 fn may_pull_all(
     alloc: Global,
@@ -64,7 +85,8 @@ fn may_pull_all(
     ensures not_all { IfOk result (λ may. may ≡ false → (id : List ℕ) × Contains pulled.now id
         × ¬ (LeadsTo ids.now (lists settling.now) task id)) }
 {
-    if pulled.is_empty() {
+    let direct = settling[task as usize].as_slice();
+    if are_some_of(ids, direct, pulled) {
         return Ok(true);
     }
     let settled = reaching(alloc, settling, task)?;

@@ -1,11 +1,18 @@
-use Rattle.std.proofs.Common.{ℕ, List, length, refl, sym, subst, arith, rules}
+use Rattle.std.proofs.Common.{ℕ, ◌<◌, List, length, refl, sym, subst, arith, rules}
 use Rattle.std.proofs.lemmas.Option.{slice_get_read}
 use Rattle.bf_graph.specs.Edges.{lists}
 use Rattle.bf_graph.specs.Reach.{IsRow}
 use Rattle.bf_check.specs.Refusals.{LeadsTo}
 use Rattle.bf_check.proofs.ListLemmas.{each_so_far, place_contained}
-use Rattle.bf_check.proofs.PullLemmas.{marked_leads}
+use Rattle.bf_graph.proofs.RankLemmas.{upstreams_read}
+use Rattle.bf_check.proofs.PullLemmas.{direct_leads, marked_leads}
 use Rattle.bf_check.proofs.pulls.may_pull_all.Goals as goal
+
+pub returns-then-are_some_of-clause-all : goal.returns-then-are_some_of-clause-all
+returns-then-are_some_of-clause-all c = λ _ id one.
+    let within : c.args.task < length c.args.settling.now = omega (arith, c.requires.within, c.requires.same) in
+    let read = upstreams_read _ _ _ _ within c.index-settling-task.is c.as_slice-direct.ensures.value in
+    direct_leads _ _ _ _ read id (c.are_some_of.ensures (search rules) id one)
 
 pub loop-id-preserved : goal.loop-id-preserved
 loop-id-preserved c =
