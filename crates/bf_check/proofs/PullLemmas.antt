@@ -1,8 +1,10 @@
 -- What is settled when a task is decided, by paths.
-use Rattle.std.proofs.Common.{◌≡◌, inl, inr, ℕ, zero, suc, List, [], ◌∷◌, ◌++◌, map, Contains, Bool, true, false, cond, refl, sym, subst, arith}
+use Rattle.std.proofs.Common.{◌≡◌, ◌↔◌, inl, inr, ℕ, zero, suc, ◌<◌, List, [], ◌∷◌, length, map, Contains, Bool, true, false, cond, Some, refl, sym, subst, arith}
+use Rattle.std.proofs.lemmas.List.Quantifiers.{position-Some}
+use Rattle.std.specs.Str.{bytes_eq}
 use Rattle.std.specs.List.{slice_index_or}
-use Rattle.bf_graph.specs.Edges.{upstreams_of, IsUpstream, IsChain, IsAcyclic}
-use Rattle.bf_graph.specs.Reach.{IsPath, Reaches}
+use Rattle.bf_graph.specs.Edges.{upstreams_of, IsUpstream}
+use Rattle.bf_graph.specs.Reach.{IsPath, Reaches, IsRow}
 use Rattle.bf_read.specs.declared.draft.Draft.{Draft}
 use Rattle.bf_read.specs.declared.draft.TaskDraft.{TaskDraft}
 use Rattle.bf_read.specs.Drafts.{pulled_in}
@@ -10,8 +12,8 @@ use Rattle.bf_rule.specs.Verdicts.{is_waiting}
 use Rattle.bf_check.specs.declared.plan.Dag.{Dag}
 use Rattle.bf_check.specs.Plans.{no_task, task_of}
 use Rattle.bf_check.specs.Sound.{IsOneOf, IsSettledAncestor, Direct, Above}
-use Rattle.bf_check.specs.Checking.{ids_of, number_or_0, task_in, dag_of, shape_in}
-use Rattle.bf_check.specs.Refusals.{settling_upstreams, settling_edges, LeadsTo, MayPull, PullsUnsettled}
+use Rattle.bf_check.specs.Checking.{ids_of, number_of, number_or_0, task_in, dag_of, shape_in}
+use Rattle.bf_check.specs.Refusals.{settling_upstreams, settling_edges, HasTask, LeadsTo, MarksTask, MayPull, PullsUnsettled}
 
 -- ---- one of a list
 
@@ -24,6 +26,20 @@ pub one_contained : (us : List ℕ) (u : ℕ) → Contains us u → IsOneOf us u
 one_contained [] u (k, h, is) = absurd (omega (arith, h))
 one_contained (x ∷ us) u (zero, h, is) = inl (sym is)
 one_contained (x ∷ us) u (suc k, h, is) = inr (one_contained us u (k, omega (arith, h), is))
+
+-- the direct upstreams of t, as they are read, lead to it
+pub direct_leads : (ids ups : List (List ℕ)) (t : ℕ) (us : List ℕ) → us ≡ upstreams_of ups t → (id : List ℕ) → HasTask ids us id → LeadsTo ids ups t id
+direct_leads ids ups t us is id (a, at, one) = (a, at, (0, (a, subst (λ (xs : List ℕ). Contains xs a) is one, refl)))
+
+-- marks on the tasks that reach t, read by an id
+pub marked_leads : (ids ups : List (List ℕ)) (t n : ℕ) (marks : List Bool) → length ids ≡ n → IsRow ups n t marks → (id : List ℕ) → MarksTask ids marks id ↔ LeadsTo ids ups t id
+marked_leads ids ups t n marks all row id = (
+  λ (a, is, mark). (a, is, (row.right a (within a is)).0 mark),
+  λ (a, is, path). (a, is, (row.right a (within a is)).1 path),
+)
+  where
+    within : (a : ℕ) → number_of ids id ≡ Some a → a < n
+    within a is = (let low = (position-Some (bytes_eq id) ids a [] is).0 in omega (arith, low, all))
 
 -- ---- the edges along which upstreams are settled
 
@@ -69,7 +85,7 @@ module _ (draft : Draft) where
   settled_reaches t a (Direct w one) = (0, (a, edge_settles t a w one, refl))
   settled_reaches t a (Above {u = u} w one above) = let rest = settled_reaches u a above in (suc rest.0, (u, edge_settles t u w one, rest.1))
 
-  -- ---- no cycle
+  -- ---- the edges of the graph
 
   pub shape_at : (t : ℕ) → upstreams_of (shape_in draft.tasks).upstreams t ≡ (task_of dag t).upstreams
   unfolding task_of
@@ -85,15 +101,6 @@ module _ (draft : Draft) where
 
   pub edge_there : (t u : ℕ) → IsUpstream edges u t → IsUpstream (shape_in draft.tasks).upstreams u t
   edge_there t u up = let edge = settling_edge t u up in subst (λ (us : List ℕ). Contains us u) (sym (shape_at t)) (contains_one _ u edge.1)
-
-  chain_there : (ts : List ℕ) → IsChain edges ts → IsChain (shape_in draft.tasks).upstreams ts
-  chain_there [] chain = tt
-  chain_there (t ∷ []) chain = tt
-  chain_there (t ∷ u ∷ ts) chain = (edge_there u t chain.0, chain_there (u ∷ ts) chain.1)
-
-  pub no_settling_cycle : IsAcyclic (shape_in draft.tasks).upstreams → IsAcyclic edges
-  no_settling_cycle acyclic [] cycle = absurd cycle
-  no_settling_cycle acyclic (t ∷ ts) cycle = acyclic (t ∷ ts) (chain_there (t ∷ ts ++ t ∷ []) cycle)
 
   -- ---- pulls
 

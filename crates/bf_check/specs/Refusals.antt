@@ -4,7 +4,7 @@ use Rattle.std.specs.List.{list_any, slice_index_or}
 use Rattle.std.specs.Str.{bytes_eq}
 use Rattle.bf_graph.specs.Edges.{IsAcyclic}
 use Rattle.bf_graph.specs.Cycles.{IsNamedCycle}
-use Rattle.bf_graph.specs.Reach.{Reaches}
+use Rattle.bf_graph.specs.Reach.{Reaches, is_marked}
 use Rattle.bf_graph.specs.Shape.{Shape}
 use Rattle.bf_read.specs.declared.draft.Draft.{Draft}
 use Rattle.bf_read.specs.declared.draft.PoolDraft.{PoolDraft}
@@ -173,3 +173,11 @@ settling_edges tasks = map (settling_upstreams (ids_of tasks)) tasks
 -- the task of an id is there, and a path along these edges leads from it to the task t
 abbrev pub LeadsTo : List (List ℕ) → List (List ℕ) → ℕ → List ℕ → Type 0
 LeadsTo ids edges t id = (a : ℕ) × (number_of ids id ≡ Some a) × Reaches edges a t
+
+-- the task of an id is there, and marked
+abbrev pub MarksTask : List (List ℕ) → List Bool → List ℕ → Type 0
+MarksTask ids marks id = (a : ℕ) × (number_of ids id ≡ Some a) × (is_marked marks a ≡ true)
+
+-- the task of an id is there, and one of these
+abbrev pub HasTask : List (List ℕ) → List ℕ → List ℕ → Type 0
+HasTask ids tasks id = (a : ℕ) × (number_of ids id ≡ Some a) × Contains tasks a

@@ -14,7 +14,7 @@ use bf_value::{OutOfMemory, Sequence, Text};
 use std::alloc::Global;
 
 /// The ids of the tasks as texts of their own.
-pub(crate) fn texts_of(alloc: Global, tasks: &[TaskDraft]) -> Result<Vec<String>, OutOfMemory>
+fn texts_of(alloc: Global, tasks: &[TaskDraft]) -> Result<Vec<String>, OutOfMemory>
     ensures { IfOk result (λ v. texts v.items ≡ ids_of tasks.now) }
 {
     let mut ids = Vec::new(alloc);

@@ -1,6 +1,6 @@
 //! Plans.
 ghost use Rattle.std.specs.Prelude.{◌≡◌, ◌<◌, length};
-ghost use Rattle.bf_check.specs.Plans.{shape_of, task_of};
+ghost use Rattle.bf_check.specs.Plans.{is_branch as branch, shape_of, task_of};
 ghost use Rattle.bf_check.specs.Sound.{IsSound, AreLimits, demand_of};
 
 use bf_cron::CronSpec;
@@ -101,6 +101,17 @@ impl Dag {
         ensures { result.now ≡ task_of self.now task }
     {
         &self.tasks.items[task as usize]
+    }
+
+    /// Whether there is a task of this number that is a branch.
+    #[tactic(auto, unfolding(crate::specs::Plans::task_of))]
+    pub fn is_branch(&self, task: u32) -> bool
+        ensures { result ≡ branch (task_of self.now task) }
+    {
+        match self.tasks.get(task as usize) {
+            Some(task) => task.kind == TaskKind::Branch,
+            None => false,
+        }
     }
 }
 

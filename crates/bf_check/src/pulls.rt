@@ -1,13 +1,13 @@
 //! Pulls: a task may pull only from what is settled whenever it is decided.
 ghost use Rattle.std.specs.Prelude.{◌≡◌, ◌↔◌, ◌<◌, ℕ, List, false, length, map, Contains, IsTrue, IfOk, IfErr, OnOk};
-ghost use Rattle.bf_graph.specs.Edges.{lists};
+ghost use Rattle.bf_graph.specs.Edges.{lists, AreInRange};
 ghost use Rattle.bf_check.specs.Checking.{ids_of};
-ghost use Rattle.bf_check.specs.Refusals.{settling_upstreams as settling_in, settling_edges as edges_in, AllMayPull, HasNoneBelow, IsLateFaultOf, LeadsTo};
+ghost use Rattle.bf_check.specs.Refusals.{settling_upstreams as settling_in, settling_edges as edges_in, AllMayPull, HasNoneBelow, HasTask, IsLateFaultOf, LeadsTo, MarksTask};
 
-use crate::edges::{numbers_of, texts_of};
+use crate::edges::numbers_of;
 use crate::fault::{CheckFault, TaskFault};
 use crate::refusing::rule_of;
-use bf_graph::{Graph, GraphFault, Ids};
+use bf_graph::{Ids, reaching};
 use bf_read::{Draft, TaskDraft, pulls_of};
 use bf_value::{OutOfMemory, Text};
 use std::alloc::Global;
@@ -37,52 +37,76 @@ fn settling_edges(
     Ok(edges)
 }
 
-/// The graph in which a path leads to a task from just what is settled when it is decided.
-fn settling_graph(alloc: Global, ids: &Ids, draft: &Draft) -> Result<Graph, OutOfMemory>
-    requires ids { ids.now ≡ ids_of draft.now.tasks }
-    requires below { HasNoneBelow draft.now 14 }
-    ensures { IfOk result (λ graph. graph.upstreams ≡ edges_in draft.now.tasks) }
-{
-    let tasks = draft.tasks.as_slice();
-    let edges = settling_edges(alloc, ids, tasks)?;
-    match Graph::build(alloc, texts_of(alloc, tasks)?, edges) {
-        Ok(graph) => Ok(graph),
-        Err(GraphFault::Cycle(_)) => unreachable!(),
-        Err(GraphFault::OutOfMemory) => Err(OutOfMemory),
-    }
-}
-
-/// Whether the task of an id is there and a path leads from it to a task.
-fn may_pull(ids: &Ids, settling: &Graph, task: u32, id: &str) -> bool
-    requires same { length settling.now.upstreams ≡ length ids.now }
-    requires within { task < length ids.now }
-    ensures { IsTrue result ↔ LeadsTo ids.now settling.now.upstreams task id.now }
+/// Whether the task of an id is there and marked.
+fn is_marked(ids: &Ids, marks: &[bool], id: &str) -> bool
+    requires { length marks.now ≡ length ids.now }
+    ensures { IsTrue result ↔ MarksTask ids.now marks.now id.now }
 {
     match ids.number_of(id) {
-        Some(source) => settling.reaches(source, task),
+        Some(task) => marks[task as usize],
         None => false,
     }
 }
 
-/// Whether a task may pull from all of these.
-fn may_pull_all(ids: &Ids, settling: &Graph, task: u32, pulled: &[Text]) -> bool
-    requires same { length settling.now.upstreams ≡ length ids.now }
-    requires within { task < length ids.now }
-    ensures all { IsTrue result → (id : List ℕ) → Contains pulled.now id → LeadsTo ids.now settling.now.upstreams task id }
-    ensures not_all { result ≡ false → (id : List ℕ) × Contains pulled.now id × ¬ (LeadsTo ids.now settling.now.upstreams task id) }
+/// Whether the task of an id is there and one of these.
+fn is_one_of(ids: &Ids, tasks: &[u32], id: &str) -> bool
+    ensures { IsTrue result ↔ HasTask ids.now tasks.now id.now }
+{
+    match ids.number_of(id) {
+        Some(task) => tasks.contains(&task),
+        None => false,
+    }
+}
+
+fn are_some_of(ids: &Ids, tasks: &[u32], pulled: &[Text]) -> bool
+    ensures { IsTrue result → (id : List ℕ) → Contains pulled.now id → HasTask ids.now tasks.now id }
 {
     for id in pulled {
-        if !may_pull(ids, settling, task, id.as_str()) {
+        if !is_one_of(ids, tasks, id.as_str()) {
             return false;
         }
     }
     true
 }
 
-/// Refuses a draft in which a task pulls from what needn't be settled when it is decided, by the paths that settle.
-fn refuse_pulls(alloc: Global, ids: &Ids, settling: &Graph, draft: &Draft) -> Result<(), CheckFault>
+/// Whether a task may pull from all of these, by the edges along which upstreams are settled.
+fn may_pull_all(
+    alloc: Global,
+    ids: &Ids,
+    settling: &[Vec<u32>],
+    task: u32,
+    pulled: &[Text],
+) -> Result<bool, OutOfMemory>
+    requires same { length settling.now ≡ length ids.now }
+    requires in_range { AreInRange (lists settling.now) }
+    requires within { task < length ids.now }
+    ensures all { IfOk result (λ may. IsTrue may → (id : List ℕ) → Contains pulled.now id
+        → LeadsTo ids.now (lists settling.now) task id) }
+    ensures not_all { IfOk result (λ may. may ≡ false → (id : List ℕ) × Contains pulled.now id
+        × ¬ (LeadsTo ids.now (lists settling.now) task id)) }
+{
+    let direct = settling[task as usize].as_slice();
+    if are_some_of(ids, direct, pulled) {
+        return Ok(true);
+    }
+    let settled = reaching(alloc, settling, task)?;
+    for id in pulled {
+        if !is_marked(ids, settled.as_slice(), id.as_str()) {
+            return Ok(false);
+        }
+    }
+    Ok(true)
+}
+
+/// Refuses a draft in which a task pulls from what needn't be settled when it is decided, by the edges that settle.
+fn refuse_pulls(
+    alloc: Global,
+    ids: &Ids,
+    settling: &[Vec<u32>],
+    draft: &Draft,
+) -> Result<(), CheckFault>
     requires ids { ids.now ≡ ids_of draft.now.tasks }
-    requires settling { settling.now.upstreams ≡ edges_in draft.now.tasks }
+    requires settling { lists settling.now ≡ edges_in draft.now.tasks }
     requires below { HasNoneBelow draft.now 14 }
     ensures settled { OnOk result (AllMayPull draft.now) }
     ensures ok { OnOk result (HasNoneBelow draft.now 15) }
@@ -90,7 +114,8 @@ fn refuse_pulls(alloc: Global, ids: &Ids, settling: &Graph, draft: &Draft) -> Re
 {
     for (t, task) in draft.tasks.as_slice().iter().enumerate() {
         let pulled = pulls_of(alloc, task.command.as_slice())?;
-        if !may_pull_all(ids, settling, t as u32, pulled.as_slice()) {
+        let may = may_pull_all(alloc, ids, settling, t as u32, pulled.as_slice())?;
+        if !may {
             return Err(CheckFault::Task(TaskFault::PullNotSettled, task.id.copy(alloc)?));
         }
     }
@@ -109,6 +134,6 @@ pub(crate) fn refuse_unsettled_pulls(
     ensures ok { OnOk result (HasNoneBelow draft.now 15) }
     ensures err { IfErr result (IsLateFaultOf draft.now) }
 {
-    let settling = settling_graph(alloc, ids, draft)?;
-    refuse_pulls(alloc, ids, &settling, draft)
+    let settling = settling_edges(alloc, ids, draft.tasks.as_slice())?;
+    refuse_pulls(alloc, ids, settling.as_slice(), draft)
 }

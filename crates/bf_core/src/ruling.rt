@@ -2,7 +2,6 @@
 ghost use Rattle.std.specs.Prelude.{◌≡◌, ◌<◌, ◌≤◌, ◌&&◌, length, is_some};
 ghost use Rattle.std.specs.List.{list_all, list_any};
 ghost use Rattle.bf_rule.specs.Verdicts.{total};
-ghost use Rattle.bf_core.specs.Terms.{task_of, is_branch as branches};
 ghost use Rattle.bf_core.specs.Deciding.{branch_is, branch_skips, is_blocked, counts_over, lets_decide as lets_be_decided, ruling as ruling_of};
 ghost use Rattle.bf_core.specs.Events.{cell_at, seen_in, counts_of_cell, value_in};
 ghost use Rattle.bf_core.specs.Few.{AreFew};
@@ -11,7 +10,6 @@ ghost use Rattle.bf_core.specs.Words.{known_to_be, phase_skips as skipped_at, in
 use crate::seen::are_finished;
 use crate::state::{Cell, Instance, Phase, State};
 use bf_check::{Dag, Plan, Task};
-use bf_read::TaskKind;
 use bf_rule::{Counts, Verdict, followed, verdict};
 use bf_try::Outcome;
 
@@ -43,16 +41,6 @@ fn counts_of_upstreams(state: &State, run: u32, upstreams: &[u32]) -> Counts
     counts
 }
 
-#[tactic(auto, unfolding(bf_check::specs::Plans::task_of))]
-fn is_branch(dag: &Dag, task: u32) -> bool
-    ensures { result ≡ branches (task_of dag.now task) }
-{
-    match dag.tasks.get(task as usize) {
-        Some(task) => task.kind == TaskKind::Branch,
-        None => false,
-    }
-}
-
 fn is_settled(state: &State, run: u32, task: u32) -> bool
     ensures { result ≡ is_some (value_in (cell_at state.now run task)) }
 {
@@ -66,7 +54,7 @@ fn is_settled(state: &State, run: u32, task: u32) -> bool
 fn lets_decide(dag: &Dag, state: &State, run: u32, task: &Task, upstream: u32) -> bool
     ensures { result ≡ lets_be_decided dag.now task.now (λ u. seen_in (cell_at state.now run u)) upstream }
 {
-    is_settled(state, run, upstream) || (!task.rule.waits() && !is_branch(dag, upstream))
+    is_settled(state, run, upstream) || (!task.rule.waits() && !dag.is_branch(upstream))
 }
 
 fn all_let_decide(dag: &Dag, state: &State, run: u32, task: &Task, upstreams: &[u32]) -> bool
@@ -132,7 +120,7 @@ fn branch_skips_task(plan: &Plan, state: &State, run: u32, upstream: u32, task: 
     ensures { result ≡ branch_is plan.now.dag (branch_skips plan.now.dag task upstream) upstream (value_in (cell_at state.now run upstream)) }
 {
     match state.cell(run, upstream) {
-        Some(cell) => is_branch(plan.dag(), upstream) && cell.skips(plan, upstream, task),
+        Some(cell) => plan.dag().is_branch(upstream) && cell.skips(plan, upstream, task),
         None => false,
     }
 }
@@ -142,7 +130,7 @@ fn branch_is_blocked(dag: &Dag, state: &State, run: u32, upstream: u32) -> bool
     ensures { result ≡ branch_is dag.now is_blocked upstream (value_in (cell_at state.now run upstream)) }
 {
     match state.cell(run, upstream) {
-        Some(cell) => is_branch(dag, upstream) && cell.is_blocked(),
+        Some(cell) => dag.is_branch(upstream) && cell.is_blocked(),
         None => false,
     }
 }

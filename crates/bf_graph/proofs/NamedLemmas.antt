@@ -1,11 +1,9 @@
 -- The first of the shortest cycles from a task, and why it is the one that is named.
-use Rattle.std.proofs.Common.{◌≡◌, inl, inr, ℕ, zero, suc, ◌<◌, ◌≤◌, ◌-◌, List, [], ◌∷◌, ◌++◌, length, append_assoc, append-nil, get_or, eqb, Contains, Bool, Less, Equal, Greater, nat_cmp, refl, sym, ap, ◌∙◌, subst, arith, Vec, Global}
+use Rattle.std.proofs.Common.{◌≡◌, inl, inr, ℕ, zero, suc, ◌<◌, ◌≤◌, ◌-◌, List, [], ◌∷◌, ◌++◌, length, append_assoc, append-nil, get_or, Contains, Bool, Less, Equal, Greater, nat_cmp, refl, sym, ap, ◌∙◌, subst, arith, Vec, Global}
 use Rattle.std.proofs.lemmas.Bool.{cases_lt, lt-ltb}
-use Rattle.std.specs.Bool.{Decides}
-use Rattle.std.specs.List.{IsAnyAnswer}
-use Rattle.std.proofs.lemmas.Bool.Decides.{nat_tests, Decides-eqb}
+use Rattle.std.proofs.lemmas.Bool.Decides.{nat_tests}
 use Rattle.std.proofs.lemmas.List.{length-map, get_or_default}
-use Rattle.std.proofs.lemmas.List.Elements.{All-from_get_or, contains_decides, Decides-contains}
+use Rattle.std.proofs.lemmas.List.Elements.{All-from_get_or}
 use Rattle.std.specs.Cmp.Lexicographic.{slice_cmp}
 use Rattle.std.specs.Ordering.{ordering_then}
 use Rattle.bf_graph.specs.Edges.{IsUpstream, IsChain}
@@ -170,12 +168,6 @@ none_left ups n len none (t, (m, p)) =
     none t (omega (arith, within, len)) (m, p)
 
 -- ---- what the code reads
-
--- whether a task is one of those found
-pub is_found : (found read : List ℕ) (t : ℕ) (b : Bool) → read ≡ found → IsAnyAnswer (λ y r. eqb y t ≡ r) read b → Decides b (Contains found t)
-is_found found read t b is answer =
-    let P : List ℕ → Type 0 = λ xs. Decides b (Contains xs t) in
-    subst P is (Decides-contains read t b (contains_decides eqb Decides-eqb read t b answer))
 
 -- a task that is found leads to itself
 pub returns_soon : (ups : List (List ℕ)) (t n : ℕ) (found : List ℕ) → AreReaching ups t found → n ≡ length found → Contains found t → (m : ℕ) × (m < n) × IsPath ups t (suc m) t

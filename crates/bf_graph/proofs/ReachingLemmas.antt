@@ -6,7 +6,7 @@ use Rattle.std.proofs.lemmas.List.{get_or_default, get_or_read, get_or-set_same,
 use Rattle.std.proofs.lemmas.List.Elements.{Contains-get_or, Contains-append_left, Contains-push, Contains-push_cases}
 use Rattle.std.proofs.Math.Seq.{get_or-append_seam}
 use Rattle.bf_graph.specs.Edges.{lists, upstreams_of, IsUpstream, AreInRange}
-use Rattle.bf_graph.specs.Reach.{IsPath, is_marked}
+use Rattle.bf_graph.specs.Reach.{IsPath, Reaches, is_marked, IsRow}
 use Rattle.bf_graph.specs.Cycles.{unmarked_in, AreMarked, AreAdded, AreReaching}
 use Rattle.bf_graph.proofs.PathLemmas.{edge_before, first_edge}
 
@@ -144,6 +144,19 @@ all_reaching ups t done found h so_far = record { near = so_far.near; all = λ a
         let P : ℕ → Type 0 = λ b. IsUpstream ups v b in
         let is : u ≡ get_or found k 0 = sym (get_or_default found k 0 u within ∙ at) in
         back a n v (so_far.closed k (omega (arith, within, h)) v (subst P is up)) p
+
+-- marks on the tasks that reach t
+pub marks_reaching : (ups : List (List ℕ)) (t n : ℕ) (found : List ℕ) (marks : List Bool) → length marks ≡ n → AreMarked found marks → AreReaching ups t found → IsRow ups n t marks
+marks_reaching ups t n found marks len marked reaching = record {
+  len = len;
+  right = λ a h. (λ e. reaches a ((marked.marked a).0 e), λ w. (marked.marked a).1 (reaching.all a w));
+}
+  where
+    reaches : (a : ℕ) → Contains found a → Reaches ups a t
+    reaches a (k, h, at) =
+        let w = reaching.near k h in
+        let P : ℕ → Type 0 = λ b. IsPath ups b (suc w.0) t in
+        (w.0, subst P (get_or_default found k 0 a h ∙ at) w.2)
 
 -- the task at a place, as it is read
 pub task_read : (es : List (Vec ℕ Global)) (t done : ℕ) (found : List ℕ) (x : ℕ) → AreInRange (lists es) → ReachesSoFar (lists es) t done found → done < length found → x ≡ get_or found done x → (x < length es) × (x ≡ get_or found done 0)

@@ -14,3 +14,4 @@ mod reach;
 
 pub use graph::{Graph, GraphFault, MOST_TASKS};
 pub use ids::Ids;
+pub use reach::reaching;

@@ -1,5 +1,7 @@
 -- Finding the first entry by what entries name.
-use Rattle.std.proofs.Common.{◌≡◌, ℕ, suc, ◌<◌, ◌+◌, Bool, true, false, cond, if◌then◌else◌, List, ◌∷◌, length, get_or, drop, Option, Some, None, option_map, refl, sym, ap, ◌∙◌, arith, [], ◌++◌}
+use Rattle.std.proofs.Common.{◌≡◌, ℕ, suc, ◌<◌, ◌+◌, Bool, true, false, cond, if◌then◌else◌, List, ◌∷◌, length, get_or, drop, Option, Some, None, option_map, position, not, nat_lt, refl, sym, ap, ◌∙◌, arith, [], ◌++◌}
+use Rattle.std.specs.List.{position_or_len}
+use Rattle.std.proofs.lemmas.Bool.{ltb-true, ltb-false, lt-ltb, le-ltb}
 use Rattle.std.specs.Ordering.{is_eq, eq_by_cmp}
 use Rattle.std.specs.Cmp.{IsTotalOrder, nat_cmp_total, int_cmp_total, then_total, on_total, eq_by_cmp_equiv}
 use Rattle.std.specs.Cmp.Lexicographic.{options_total, lists_total}
@@ -7,6 +9,26 @@ use Rattle.bf_try.specs.declared.table.TableEntry.{TableEntry}
 use Rattle.bf_try.specs.declared.table_index.Pattern.{Pattern}
 use Rattle.bf_try.specs.TableIndex.{earlier, first_of_key, first_of_keys, is_pattern, pattern_cmp, pattern_in}
 use Rattle.bf_try.proofs.TableLemmas.{rest_from}
+
+-- ---- the first that passes
+
+pub position-cons : {X : Type 0} (p : X → Bool) (x : X) (xs : List X) → position p (x ∷ xs) ≡ (if p x then Some 0 else option_map suc (position p xs))
+position-cons p x xs = by (p x)
+  where
+    n : ℕ
+    n = position_or_len p xs
+
+    one_more : (b : Bool) → nat_lt n (length xs) ≡ b → nat_lt (1 + n) (length (x ∷ xs)) ≡ b
+    one_more true e = (let low = ltb-true n (length xs) e in lt-ltb (1 + n) (length (x ∷ xs)) (omega (arith, low)))
+    one_more false e = (let high = ltb-false n (length xs) e in le-ltb (1 + n) (length (x ∷ xs)) (omega (arith, high)))
+
+    same : (b : Bool) → nat_lt n (length xs) ≡ b → cond (nat_lt (1 + n) (length (x ∷ xs))) (Some (1 + n)) None ≡ option_map suc (cond (nat_lt n (length xs)) (Some n) None)
+    same true e = rw (one_more true e, e) (ap Some (omega arith))
+    same false e = rw (one_more false e, e) refl
+
+    by : (b : Bool) → (let k = cond (not b) (1 + n) 0 in cond (nat_lt k (length (x ∷ xs))) (Some k) None) ≡ (if b then Some 0 else option_map suc (position p xs))
+    by true = rw (lt-ltb 0 (length (x ∷ xs)) (omega arith)) refl
+    by false = same _ refl
 
 -- ---- the earliest
 
@@ -50,7 +72,9 @@ module _ (ids : List (List ℕ)) (entries : List TableEntry) (n : ℕ) (e : Tabl
   from key i = option_map (λ k. i + k) (first_of_key ids (drop i entries) key)
 
   opened : (key : Pattern) → from key n ≡ option_map (λ k. n + k) (if is_pattern key (pattern_in ids e) then Some 0 else option_map suc (first_of_key ids (drop (n + 1) entries) key))
-  opened key = ap (λ es. option_map (λ k. n + k) (first_of_key ids es key)) (rest_from entries n e within is)
+  opened key =
+      ap (λ es. option_map (λ k. n + k) (first_of_key ids es key)) (rest_from entries n e within is)
+      ∙ ap (option_map (λ k. n + k)) (position-cons (λ x. is_pattern key (pattern_in ids x)) e (drop (n + 1) entries))
 
   pub pattern_noted : (p : Pattern) (key : Pattern) (old new : Option ℕ) → pattern_in ids e ≡ Some p → new ≡ cond (is_eq (pattern_cmp p key)) (Some n) old → old ≡ from key (n + 1) → new ≡ from key n
   pattern_noted p key old new has step before =

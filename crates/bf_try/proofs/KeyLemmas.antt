@@ -15,18 +15,20 @@ use Rattle.bf_value.specs.declared.name.JobName.{JobName}
 use Rattle.bf_try.specs.declared.table.TableEntry.{TableEntry}
 use Rattle.bf_try.specs.declared.table_index.Pattern.{Pattern}
 use Rattle.bf_try.specs.Tables.{answers_for, is_number, is_text}
-use Rattle.bf_try.specs.TableIndex.{date_named, earlier, first, first_of_keys, is_pattern, keys_for, keys_with_date, keys_with_index, keys_with_task, number_named, pattern_cmp, pattern_in, IsIndexOf, pattern_of_try}
+use Rattle.bf_try.specs.TableIndex.{date_named, earlier, first_of_keys, is_pattern, keys_for, keys_with_date, keys_with_index, keys_with_task, number_named, pattern_cmp, pattern_in, IsIndexOf, pattern_of_try}
+use Rattle.bf_try.proofs.IndexLemmas.{position-cons}
 use Rattle.bf_try.proofs.Pushes.{same_answer}
 
 -- ---- the first that passes
 
-first_same : {X : Type 0} (p q : X → Bool) (xs : List X) → ((x : X) → p x ≡ q x) → first p xs ≡ first q xs
-first_same p q [] same = refl
-first_same p q (x ∷ xs) same = ap₂ (λ b o. if b then Some 0 else option_map suc o) (same x) (first_same p q xs same)
+pass_same : {X : Type 0} (p q : X → Bool) (xs : List X) → ((x : X) → p x ≡ q x) → position p xs ≡ position q xs
+pass_same p q [] same = refl
+pass_same p q (x ∷ xs) same =
+    position-cons p x xs ∙ ap₂ (λ b o. if b then Some 0 else option_map suc o) (same x) (pass_same p q xs same) ∙ sym (position-cons q x xs)
 
-first_none : {X : Type 0} (xs : List X) → first (λ x. false) xs ≡ None
-first_none [] = refl
-first_none (x ∷ xs) = ap (option_map suc) (first_none xs)
+never_passes : {X : Type 0} (xs : List X) → position (λ x. false) xs ≡ None
+never_passes [] = refl
+never_passes (x ∷ xs) = position-cons (λ y. false) x xs ∙ ap (option_map suc) (never_passes xs)
 
 either : (a b : Bool) (m n : Option ℕ) → (if a || b then Some 0 else option_map suc (earlier m n)) ≡ earlier (if a then Some 0 else option_map suc m) (if b then Some 0 else option_map suc n)
 either true true m n = refl
@@ -39,13 +41,15 @@ either false false None (Some n) = refl
 either false false (Some m) None = refl
 either false false (Some m) (Some n) = ap Some (omega arith)
 
-first_or : {X : Type 0} (p q : X → Bool) (xs : List X) → first (λ x. p x || q x) xs ≡ earlier (first p xs) (first q xs)
-first_or p q [] = refl
-first_or p q (x ∷ xs) = ap (λ o. if p x || q x then Some 0 else option_map suc o) (first_or p q xs) ∙ either (p x) (q x) (first p xs) (first q xs)
+one_passes : {X : Type 0} (p q : X → Bool) (xs : List X) → position (λ x. p x || q x) xs ≡ earlier (position p xs) (position q xs)
+one_passes p q [] = refl
+one_passes p q (x ∷ xs) =
+    position-cons (λ y. p y || q y) x xs ∙ ap (λ o. if p x || q x then Some 0 else option_map suc o) (one_passes p q xs)
+    ∙ either (p x) (q x) (position p xs) (position q xs) ∙ ap₂ earlier (sym (position-cons p x xs)) (sym (position-cons q x xs))
 
-find_first : {X : Type 0} (p : X → Bool) (xs : List X) → find p xs ≡ option_and_then (slice_get xs) (first p xs)
-find_first p [] = refl
-find_first p (x ∷ xs) = by (p x) (first p xs) (find_first p xs)
+find_passing : {X : Type 0} (p : X → Bool) (xs : List X) → find p xs ≡ option_and_then (slice_get xs) (position p xs)
+find_passing p [] = refl
+find_passing p (x ∷ xs) = by (p x) (position p xs) (find_passing p xs) ∙ ap (option_and_then (slice_get (x ∷ xs))) (sym (position-cons p x xs))
   where
     by : (b : Bool) (o : Option ℕ) → find p xs ≡ option_and_then (slice_get xs) o → (if b then Some x else find p xs) ≡ option_and_then (slice_get (x ∷ xs)) (if b then Some 0 else option_map suc o)
     by true o e = refl
@@ -54,11 +58,11 @@ find_first p (x ∷ xs) = by (p x) (first p xs) (find_first p xs)
 
 -- what is found for keys is the first that has one of them
 first_of_any : (ids : List (List ℕ)) (entries : List TableEntry) (firsts : tree.BTreeMap Pattern ℕ) (keys : List Pattern) → IsIndexOf ids entries firsts
-    → first_of_keys (tree.get pattern_cmp firsts) keys ≡ first (λ e. list_any (λ key. is_pattern key (pattern_in ids e)) keys) entries
-first_of_any ids entries firsts [] index = sym (first_none entries)
+    → first_of_keys (tree.get pattern_cmp firsts) keys ≡ position (λ e. list_any (λ key. is_pattern key (pattern_in ids e)) keys) entries
+first_of_any ids entries firsts [] index = sym (never_passes entries)
 first_of_any ids entries firsts (key ∷ keys) index =
     ap₂ earlier (index key) (first_of_any ids entries firsts keys index)
-    ∙ sym (first_or (λ e. is_pattern key (pattern_in ids e)) (λ e. list_any (λ k. is_pattern k (pattern_in ids e)) keys) entries)
+    ∙ sym (one_passes (λ e. is_pattern key (pattern_in ids e)) (λ e. list_any (λ k. is_pattern k (pattern_in ids e)) keys) entries)
 
 -- ---- sixteen keys
 
@@ -231,5 +235,5 @@ module _ (ids : List (List ℕ)) (t : ℕ) (id date : List ℕ) (name : JobName)
   pub first_answers : (entries : List TableEntry) (firsts : tree.BTreeMap Pattern ℕ) → IsIndexOf ids entries firsts
       → option_and_then (slice_get entries) (first_of_keys (tree.get pattern_cmp firsts) (keys_for (pattern_of_try t date name))) ≡ find (answers_for id date name) entries
   first_answers entries firsts index =
-      ap (option_and_then (slice_get entries)) (first_of_any ids entries firsts (keys_for (pattern_of_try t date name)) index ∙ first_same _ (answers_for id date name) entries passes)
-      ∙ sym (find_first (answers_for id date name) entries)
+      ap (option_and_then (slice_get entries)) (first_of_any ids entries firsts (keys_for (pattern_of_try t date name)) index ∙ pass_same _ (answers_for id date name) entries passes)
+      ∙ sym (find_passing (answers_for id date name) entries)

@@ -1,5 +1,5 @@
 -- Which entry of a table comes first of those that name the same. For private clauses.
-use Rattle.std.specs.Prelude.{◌≡◌, ℕ, suc, min, ◌==◌, ℤ, pos, Bool, false, if◌then◌else◌, List, [], ◌∷◌, ◌++◌, length, position, Option, Some, None, option_map, option_and_then}
+use Rattle.std.specs.Prelude.{◌≡◌, ℕ, min, ◌==◌, ℤ, pos, Bool, false, if◌then◌else◌, List, [], ◌∷◌, ◌++◌, length, position, Option, Some, None, option_map, option_and_then}
 use Rattle.std.specs.declared.cmp.Ordering.{Ordering}
 use Rattle.std.specs.Ordering.{nat_cmp, int_cmp, then_cmp, on, is_eq}
 use Rattle.std.specs.Option.{option_cmp}
@@ -10,11 +10,7 @@ use Rattle.bf_value.specs.declared.name.JobName.{JobName}
 use Rattle.bf_try.specs.declared.table.TableEntry.{TableEntry}
 use Rattle.bf_try.specs.declared.table_index.Pattern.{Pattern}
 
--- the number of the first item that passes
-abbrev pub first : {X : Type 0} → (X → Bool) → List X → Option ℕ
-first p [] = None
-first p (x ∷ xs) = if p x then Some 0 else option_map suc (first p xs)
-
+-- the less of two numbers, where there are two
 abbrev pub earlier : Option ℕ → Option ℕ → Option ℕ
 earlier (Some a) (Some b) = Some (min a b)
 earlier (Some a) None = Some a
@@ -44,7 +40,7 @@ is_pattern key (Some p) = is_eq (pattern_cmp key p)
 
 -- the first entry with a pattern
 abbrev pub first_of_key : List (List ℕ) → List TableEntry → Pattern → Option ℕ
-first_of_key ids entries key = first (λ e. is_pattern key (pattern_in ids e)) entries
+first_of_key ids entries key = position (λ e. is_pattern key (pattern_in ids e)) entries
 
 -- each pattern has its first entry
 abbrev pub IsIndexOf : List (List ℕ) → List TableEntry → tree.BTreeMap Pattern ℕ → Type 0

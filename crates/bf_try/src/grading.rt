@@ -9,7 +9,7 @@ ghost use Rattle.bf_check.specs.Plans.{task_of, shape_of, is_branch as branch};
 ghost use Rattle.bf_try.specs.Grades.{grade_of, grade_line as line_grade, fits as fits_in, gives_items as items_given, is_list_of_items as list_of_items, is_short as short, is_source, is_value_of_lines as of_lines, may_push as pushable};
 
 use crate::answers::{Exit, Line, Raw, copied};
-use bf_check::{Dag, Plan, TaskKind};
+use bf_check::{Dag, Plan};
 use bf_rule::names_downstreams;
 use bf_value::{LineFault, OutOfMemory, Sequence, Xval, read_line, text_of};
 use bf_xcom::Outcome;
@@ -42,16 +42,6 @@ fn is_list_of_items(value: &Option<Xval>) -> bool
     match value {
         Some(Xval::List(values)) => values.as_slice().len() <= MOST_ITEMS,
         _ => false,
-    }
-}
-
-fn is_branch(plan: &Plan, task: u32) -> bool
-    requires { task < length plan.now.dag.tasks }
-    ensures { result ≡ branch (task_of plan.now.dag task) }
-{
-    match plan.dag().task(task).kind {
-        TaskKind::Branch => true,
-        TaskKind::Program => false,
     }
 }
 
@@ -102,7 +92,7 @@ fn names_followed(plan: &Plan, task: u32, value: &Option<Xval>) -> bool
     requires { task < length plan.now.dag.tasks }
     ensures { result ≡ (not (branch (task_of plan.now.dag task)) || names_downstreams_in (shape_of plan.now.dag) task value.now) }
 {
-    !is_branch(plan, task) || names_downstreams(plan.graph(), task, value.as_ref())
+    !plan.dag().is_branch(task) || names_downstreams(plan.graph(), task, value.as_ref())
 }
 
 fn may_push(plan: &Plan, task: u32, value: &Option<Xval>) -> bool

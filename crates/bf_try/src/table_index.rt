@@ -2,7 +2,7 @@
 ghost use Rattle.std.specs.Prelude.{◌≡◌, ◌≤◌, ◌<◌, None, Some, length, option_copied, option_map, slice_index_or, IfOk, IfSome};
 ghost use Rattle.std.specs.BTreeMap as tree;
 ghost use Rattle.std.specs.List.{list_any};
-ghost use Rattle.bf_try.specs.TableIndex.{date_named, keys_with_date, keys_with_index, keys_with_task, earlier as earlier_of, first, first_of_key, first_of_keys, keys_for as keys_of, number_named, pattern_cmp, pattern_in, pattern_of_try, IsIndexOf};
+ghost use Rattle.bf_try.specs.TableIndex.{date_named, keys_with_date, keys_with_index, keys_with_task, earlier as earlier_of, first_of_key, first_of_keys, keys_for as keys_of, number_named, pattern_cmp, pattern_in, pattern_of_try, IsIndexOf};
 
 use crate::table::TableEntry;
 use bf_graph::Graph;

@@ -2,26 +2,28 @@ use Rattle.std.proofs.Common.{ℕ, true≢false, below_more, sym, ◌∙◌, ari
 use Rattle.std.proofs.lemmas.List.{length-map}
 use Rattle.bf_graph.specs.Edges.{lists}
 use Rattle.std.proofs.lemmas.Result.{IfOk-weaker}
-use Rattle.bf_graph.proofs.NamedLemmas.{levels_again, is_named, none_left, is_found, returns_soon}
+use Rattle.bf_graph.proofs.NamedLemmas.{levels_again, is_named, none_left, returns_soon}
+use Rattle.bf_graph.proofs.ReachLemmas.{mark_tells}
 use Rattle.bf_graph.proofs.cycles.named_cycle.Goals as goal
 
 pub levels_of-requires-clause-returns : goal.levels_of-requires-clause-returns
 levels_of-requires-clause-returns c =
-    let found = is_found _ _ _ _ c.deref.ensures.value c.contains.ensures.cases in
-    returns_soon _ _ _ _ c.in_ok-found.ensures (omega (arith, c.len.ensures)) (found.0 c.if-contains.true)
+    let found = c.in_ok-reaching.ensures in
+    let reached = (mark_tells _ _ _ _ _ _ found.marks c.loop-first-test.true c.index.ensures).0 c.if-index.true in
+    returns_soon _ _ _ _ found.tasks (omega (arith, c.len.ensures)) (found.tasks.all _ reached)
 
 pub first_shortest-requires-clause-levels : goal.first_shortest-requires-clause-levels
 first_shortest-requires-clause-levels c = levels_again _ _ _ _ _ c.as_slice.ensures.value c.in_ok-levels.ensures.1
 
-pub returns-then-contains : goal.returns-then-contains
-returns-then-contains c =
+pub returns-then-index : goal.returns-then-index
+returns-then-index c =
     let levels = levels_again _ _ _ _ _ c.as_slice.ensures.value c.in_ok-levels.ensures.1 in
     IfOk-weaker c.first_shortest.result _ _ (λ ts first. is_named _ _ _ _ _ c.loop-first.invariant levels first) c.first_shortest.ensures
 
 pub loop-first-preserved : goal.loop-first-preserved
 loop-first-preserved c =
-    let found = is_found _ _ _ _ c.deref.ensures.value c.contains.ensures.cases in
-    below_more _ _ c.loop-first.invariant (λ w. true≢false (sym (found.1 (c.in_ok-found.ensures.all _ w)) ∙ c.if-contains.false))
+    let marks = c.in_ok-reaching.ensures.marks in
+    below_more _ _ c.loop-first.invariant (λ w. true≢false (sym ((mark_tells _ _ _ _ _ _ marks c.loop-first-test.true c.index.ensures).1 w) ∙ c.if-index.false))
 
 pub unreachable-requires : goal.unreachable-requires
 unreachable-requires c =

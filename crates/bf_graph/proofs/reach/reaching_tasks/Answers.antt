@@ -2,8 +2,8 @@ use Rattle.std.proofs.Common.{◌<◌, List, ℕ, length, subst, ap, ◌∙◌, 
 use Rattle.bf_graph.specs.Edges.{lists, upstreams_of}
 use Rattle.bf_graph.specs.Cycles.{AreAdded}
 use Rattle.bf_graph.proofs.RankLemmas.{upstreams_read, in_range_read}
-use Rattle.bf_graph.proofs.ReachingLemmas.{none_marked, direct_found, task_read, one_done, all_reaching}
-use Rattle.bf_graph.proofs.cycles.reaching.Goals as goal
+use Rattle.bf_graph.proofs.ReachingLemmas.{none_marked, direct_found, task_read, one_done, all_reaching, marks_reaching}
+use Rattle.bf_graph.proofs.reach.reaching_tasks.Goals as goal
 
 pub add_unmarked-requires-clause-in_range : goal.add_unmarked-requires-clause-in_range
 add_unmarked-requires-clause-in_range c =
@@ -43,5 +43,10 @@ found-preserved c =
       reached = one_done _ _ _ _ _ _ within (read ∙ ap (upstreams_of (lists c.args.edges.now)) next.1) c.in_ok-add_unmarked-2.ensures.added c.found.invariant.reached;
     }
 
-pub returns : goal.returns
-returns c = all_reaching _ _ _ _ (omega (arith, c.found-test.false, c.len.ensures)) c.found.invariant.reached
+pub returns-clause-tasks : goal.returns-clause-tasks
+returns-clause-tasks c = all_reaching _ _ _ _ (omega (arith, c.found-test.false, c.len.ensures)) c.found.invariant.reached
+
+pub returns-clause-marks : goal.returns-clause-marks
+returns-clause-marks c =
+    let all = all_reaching _ _ _ _ (omega (arith, c.found-test.false, c.len.ensures)) c.found.invariant.reached in
+    marks_reaching _ _ _ _ _ c.found.invariant.len c.found.invariant.marked all

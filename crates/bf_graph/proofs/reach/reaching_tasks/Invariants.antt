@@ -2,7 +2,7 @@ use Rattle.std.proofs.Common.{◌≡◌, ◌-◌, length}
 use Rattle.bf_graph.specs.Edges.{lists}
 use Rattle.bf_graph.specs.Cycles.{AreMarked}
 use Rattle.bf_graph.proofs.ReachingLemmas.{ReachesSoFar}
-use Rattle.bf_graph.proofs.cycles.reaching.Given as goal
+use Rattle.bf_graph.proofs.reach.reaching_tasks.Given as goal
 
 abbrev pub invariant-found : goal.invariant-found
 invariant-found l = record {

@@ -1,7 +1,7 @@
 use Rattle.std.proofs.Common.{◌≡◌, length}
 use Rattle.bf_graph.specs.Cycles.{AreMarked}
 use Rattle.bf_graph.proofs.ReachingLemmas.{AddsBelow}
-use Rattle.bf_graph.proofs.cycles.add_unmarked.Given as goal
+use Rattle.bf_graph.proofs.reach.add_unmarked.Given as goal
 
 abbrev pub invariant-loop-t : goal.invariant-loop-t
 invariant-loop-t l = record {

@@ -2,8 +2,8 @@ use Rattle.std.proofs.Common.{◌<◌, ◌∙◌, length, sym, true, false, arit
 use Rattle.std.proofs.lemmas.List.{get_or_default, length-set}
 use Rattle.std.proofs.lemmas.List.Elements.{Contains-get_or}
 use Rattle.bf_graph.proofs.ReachingLemmas.{one_marked, one_there, one_added, all_added}
-use Rattle.bf_graph.proofs.cycles.add_unmarked.Goals as goal
-use Rattle.bf_graph.proofs.cycles.add_unmarked.Goals.{then-not-index+in_ok-push, else-not-index}
+use Rattle.bf_graph.proofs.reach.add_unmarked.Goals as goal
+use Rattle.bf_graph.proofs.reach.add_unmarked.Goals.{then-not-index+in_ok-push, else-not-index}
 
 pub index-requires : goal.index-requires
 index-requires c =
