@@ -1,9 +1,11 @@
 -- How lines end that `clap` answers.
-use Rattle.std.proofs.Common.{◌≡◌, [], ◌∷◌, Result, Ok, Err, IfOk, IsErr, refl, inl, inr, ap}
-use Rattle.clap.specs.Words.{HasKind, IsAmong, Kinds, kind_of}
+use Rattle.std.proofs.Common.{◌≡◌, ◌⊎◌, ℕ, List, [], ◌∷◌, Option, Result, Ok, Err, IfOk, IsErr, IsSome, refl, sym, ◌∙◌, inl, inr, ap, true≢false}
+use Rattle.clap.specs.Words.{HasKind, IsAmong, Kinds, Row, Text, kind_of}
 use Rattle.clap.specs.declared.error.Error.{Error}
 use Rattle.clap.specs.declared.error.kind.ErrorKind.{ErrorKind}
 use Rattle.clap.specs.declared.error.kind.ErrorKind.TheVariants.{OutOfMemory}
+use Rattle.bf_program.specs.Commands.{Files, IsFaulted, IsRefused}
+use Rattle.bf_program.specs.Refusal.{number_of}
 use Rattle.bf_program.specs.Status.{EndsAs, code_of, shown_as}
 use Rattle.bf_program.specs.declared.refusal.CommandFault.{CommandFault}
 use Rattle.bf_program.specs.declared.status.Status.{Status}
@@ -25,3 +27,17 @@ pub shown_ends : (kinds : Kinds) (e : Error) (r : Result Status CommandFault) �
 shown_ends kinds e (Err f) has memory ok = tt
 shown_ends kinds e (Ok s) (inl none) memory ok = let bad = memory none in cc
 shown_ends kinds e (Ok s) (inr among) memory ok = rw ok (kind_ends kinds (kind_of e) among)
+
+two_is : (s : Status) → code_of s ≡ 2 → s ≡ Status.Refused
+two_is Status.Success e = cc
+two_is Status.Failed e = cc
+two_is Status.Refused e = refl
+two_is Status.Fault e = cc
+
+-- status 2 comes of a refusal that has a number, and want of memory has none
+pub refused_why : (files : Files) (matched : Option (Text × List Row)) (f : CommandFault) (s : Status) (code : ℕ) → code ≡ code_of s → code ≡ 2 → (s ≡ Status.Refused → IsSome (number_of f))
+    → (f ≡ CommandFault.OutOfMemory) ⊎ IsFaulted files matched f → IsRefused files matched
+refused_why files matched f s code is two numbered (inl wanting) =
+    let some : IsSome (number_of f) = numbered (two_is s (sym is ∙ two)) in
+    absurd (true≢false (sym (rw wanting at some)))
+refused_why files matched f s code is two numbered (inr faulted) = record { fault = f; faulted = faulted; numbered = numbered (two_is s (sym is ∙ two)) }

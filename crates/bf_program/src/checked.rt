@@ -1,6 +1,6 @@
 //! The command `check`: whether a graph file has a fault.
 ghost use Rattle.std.specs.Prelude.{◌≡◌, IfOk, IfErr, IsSome, string_bytes};
-ghost use Rattle.bf_program.specs.Commands.{IsCheckAnswer, size_text};
+ghost use Rattle.bf_program.specs.Commands.{IsCheckAnswer, IsCheckFault, size_text};
 ghost use Rattle.bf_program.specs.Refusal.{number_of};
 
 use crate::forms::GraphAsked;
@@ -28,6 +28,7 @@ pub fn check_answered<S: Source, W: Write>(
     out: &mut W,
 ) -> Result<Status, CommandFault>
     ensures answer { IfOk result (IsCheckAnswer (S.file files.old) asked (W.written out.old) (W.written out.new)) }
+    ensures fault { IfErr result (IsCheckFault (S.file files.old) asked) }
     ensures refused { IfErr result (λ f. IsSome (number_of f) → W.written out.new ≡ W.written out.old) }
 {
     let files = graph_files(alloc, asked, files)?;

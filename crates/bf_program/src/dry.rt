@@ -1,6 +1,6 @@
 //! The command `dry`: a run for each data interval of a range, answered from a table.
 ghost use Rattle.std.specs.Prelude.{◌≡◌, IfOk, IfErr, IsSome};
-ghost use Rattle.bf_program.specs.Commands.{IsDryAnswer};
+ghost use Rattle.bf_program.specs.Commands.{IsDryAnswer, IsDryFault};
 ghost use Rattle.bf_program.specs.Refusal.{number_of};
 
 use crate::dated_runs::run_dry;
@@ -20,6 +20,7 @@ pub fn dry_answered<S: Source, W: Write>(
     out: &mut W,
 ) -> Result<Status, CommandFault>
     ensures answer { IfOk result (IsDryAnswer (S.file files.old) asked (W.written out.old) (W.written out.new)) }
+    ensures fault { IfErr result (IsDryFault (S.file files.old) asked) }
     ensures refused { IfErr result (λ f. IsSome (number_of f) → W.written out.new ≡ W.written out.old) }
 {
     let from = moment_of(asked.range.from.as_str())?;

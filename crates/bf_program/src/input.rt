@@ -1,7 +1,6 @@
 //! The files that a command line names.
-ghost use Rattle.std.specs.Prelude.{◌≡◌, ◌<◌, ◌^◌, ◌⊎◌, ℕ, ℤ, List, Option, IfOk, IfErr, IfSome, IsSome, option_map, string_bytes};
-ghost use Rattle.bf_moment.specs.Moment.{Spells};
-ghost use Rattle.bf_program.specs.Commands.{AreHeld, Means};
+ghost use Rattle.std.specs.Prelude.{◌≡◌, ◌<◌, ◌^◌, ◌⊎◌, ℕ, List, Option, IfOk, IfErr, IfSome, IsSome, option_map, string_bytes};
+ghost use Rattle.bf_program.specs.Commands.{AreHeld, IsNoMoment, IsReadFault, Means};
 ghost use Rattle.bf_program.specs.Source.{IsWholeUpTo};
 
 use crate::forms::GraphAsked;
@@ -66,6 +65,7 @@ pub(crate) fn graph_files<S: Source>(
 ) -> Result<GraphFiles, CommandFault>
     ensures held { IfOk result (λ f. (graph : List ℕ) (zone : Option (List ℕ)) → AreHeld (S.file files.old) asked graph zone
         → (f.graph.items ≡ graph) × (option_map (λ v. v.items) f.zone_file ≡ zone)) }
+    ensures fault { IfErr result (IsReadFault (S.file files.old) asked) }
     ensures stays { (p : List ℕ) → S.file files.new p ≡ S.file files.old p }
 {
     let graph = file_bytes(alloc, asked.graph, LONGEST_FILE, files)?;
@@ -79,7 +79,7 @@ pub(crate) fn graph_files<S: Source>(
 /// The moment of a text.
 pub(crate) fn moment_of(text: &str) -> Result<Timestamp, CommandFault>
     ensures means { IfOk result (Means text.now) }
-    ensures bad { IfErr result (λ f. (f ≡ CommandFault.BadMoment) × ((n : ℤ) → Spells text.now n → ⊥)) }
+    ensures bad { IfErr result (λ f. (f ≡ CommandFault.BadMoment) × IsNoMoment text.now) }
 {
     match moment_in(text) {
         Some(moment) => Ok(moment),

@@ -1,6 +1,6 @@
 //! The command `list`: the data intervals of a range.
 ghost use Rattle.std.specs.Prelude.{◌≡◌, IfOk, IfErr, IsSome};
-ghost use Rattle.bf_program.specs.Commands.{IsListAnswer};
+ghost use Rattle.bf_program.specs.Commands.{IsListAnswer, IsListFault};
 ghost use Rattle.bf_program.specs.Refusal.{number_of};
 
 use crate::forms::ListAsked;
@@ -20,6 +20,7 @@ pub fn list_answered<S: Source, W: Write>(
     out: &mut W,
 ) -> Result<Status, CommandFault>
     ensures answer { IfOk result (IsListAnswer (S.file files.old) asked (W.written out.old) (W.written out.new)) }
+    ensures fault { IfErr result (IsListFault (S.file files.old) asked) }
     ensures refused { IfErr result (λ f. IsSome (number_of f) → W.written out.new ≡ W.written out.old) }
 {
     let from = moment_of(asked.range.from.as_str())?;

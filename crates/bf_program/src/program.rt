@@ -1,8 +1,7 @@
 //! The whole program below `main`.
-ghost use Rattle.std.specs.Prelude.{◌≡◌, ◌≢◌, ◌≤◌, ◌⊎◌, [], None, IfOk, IfErr, IsErr, IsSome, map, string_bytes};
-ghost use Rattle.clap.specs.Words.{fault_of, kind_of, subcommand_of};
-ghost use Rattle.bf_program.specs.CommandLine.{backfill_app};
-ghost use Rattle.bf_program.specs.Commands.{IsDone};
+ghost use Rattle.std.specs.Prelude.{◌≡◌, ◌≢◌, ◌≤◌, ◌⊎◌, [], None, IfOk, IfErr, IsErr, IsSome};
+ghost use Rattle.clap.specs.Words.{kind_of};
+ghost use Rattle.bf_program.specs.Commands.{IsDone, IsFaulted, IsRefused, found_in, wrongs_of};
 ghost use Rattle.bf_program.specs.Refusal.{number_of};
 ghost use Rattle.bf_program.specs.Status.{code_of, shown_as, EndsAs};
 
@@ -21,8 +20,9 @@ use clap::error::ErrorKind;
 use std::alloc::Global;
 
 /// Answers a command line, of which the first word is the program's own name. Files are read from `files`, the
-/// report, the size of a graph, the intervals or help goes to `out`, and why there is none to `err`. Gives the exit status: 0 where every
-/// run is a success, a graph has no fault, the intervals were listed, or help was asked for, 1 where some run failed, 2 where something was refused, and 3 at a fault.
+/// report, the size of a graph, the intervals or help goes to `out`, and why there is none to `err`. Gives the exit
+/// status: 0 where every run is a success, a graph has no fault, the intervals were listed, or help was asked for, 1
+/// where some run failed, 2 where something was refused, and 3 at a fault.
 #[tactic(auto, using(crate::proofs::Ends::fault_ends))]
 pub fn answer<S: Source, W: Write, E: Write>(
     alloc: Global,
@@ -34,10 +34,10 @@ pub fn answer<S: Source, W: Write, E: Write>(
     ensures range { result ≤ 3 }
     ensures answered { result ≤ 1 → E.written err.new ≡ E.written err.old }
     ensures refused { result ≡ 2 → W.written out.new ≡ W.written out.old }
-    ensures line { fault_of backfill_app (map string_bytes words.now) ≢ []
-        → EndsAs (fault_of backfill_app (map string_bytes words.now)) result }
-    ensures done { fault_of backfill_app (map string_bytes words.now) ≡ [] → result ≤ 1
-        → IsDone (S.file files.old) (subcommand_of backfill_app (map string_bytes words.now)) (W.written out.old) (W.written out.new) result }
+    ensures line { wrongs_of words.now ≢ [] → EndsAs (wrongs_of words.now) result }
+    ensures done { wrongs_of words.now ≡ [] → result ≤ 1
+        → IsDone (S.file files.old) (found_in words.now) (W.written out.old) (W.written out.new) result }
+    ensures why { wrongs_of words.now ≡ [] → result ≡ 2 → IsRefused (S.file files.old) (found_in words.now) }
 {
     match line_answered(alloc, words, files, out, err) {
         Ok(status) => status.code(),
@@ -56,12 +56,12 @@ fn line_answered<S: Source, W: Write, E: Write>(
     ensures answered { IfOk result (λ s. s ≢ Status.Refused → E.written err.new ≡ E.written err.old) }
     ensures wrong { IfOk result (λ s. s ≡ Status.Refused → W.written out.new ≡ W.written out.old) }
     ensures refused { IfErr result (λ f. IsSome (number_of f) → W.written out.new ≡ W.written out.old) }
-    ensures line { fault_of backfill_app (map string_bytes words.now) ≢ []
-        → IfOk result (λ s. EndsAs (fault_of backfill_app (map string_bytes words.now)) (code_of s)) }
-    ensures fault { fault_of backfill_app (map string_bytes words.now) ≢ []
-        → IfErr result (λ f. number_of f ≡ None) }
-    ensures done { fault_of backfill_app (map string_bytes words.now) ≡ []
-        → IfOk result (λ s. IsDone (S.file files.old) (subcommand_of backfill_app (map string_bytes words.now)) (W.written out.old) (W.written out.new) (code_of s)) }
+    ensures line { wrongs_of words.now ≢ [] → IfOk result (λ s. EndsAs (wrongs_of words.now) (code_of s)) }
+    ensures fault { wrongs_of words.now ≢ [] → IfErr result (λ f. number_of f ≡ None) }
+    ensures done { wrongs_of words.now ≡ [] → IfOk result (λ s.
+        IsDone (S.file files.old) (found_in words.now) (W.written out.old) (W.written out.new) (code_of s)) }
+    ensures why { wrongs_of words.now ≡ [] → IfErr result (λ f.
+        (f ≡ CommandFault.OutOfMemory) ⊎ IsFaulted (S.file files.old) (found_in words.now) f) }
 {
     match asked(alloc, words) {
         Ok(Asked::Check(check)) => check_answered(alloc, check, files, out),
@@ -81,6 +81,7 @@ fn shown<W: Write, E: Write>(
 ) -> Result<Status, CommandFault>
     ensures ok { IfOk result (λ s. s ≡ shown_as (kind_of error.now)) }
     ensures memory { kind_of error.now ≡ ErrorKind.OutOfMemory → IsErr result }
+    ensures wanting { kind_of error.now ≡ ErrorKind.OutOfMemory → IfErr result (λ f. f ≡ CommandFault.OutOfMemory) }
     ensures fault { IfErr result (λ f. number_of f ≡ None) }
     ensures help { IfOk result (λ s. s ≢ Status.Refused → E.written err.new ≡ E.written err.old) }
     ensures wrong { IfOk result (λ s. s ≡ Status.Refused → W.written out.new ≡ W.written out.old) }

@@ -1,6 +1,6 @@
 //! The command `single`: one run, answered from a table.
 ghost use Rattle.std.specs.Prelude.{◌≡◌, IfOk, IfErr, IsSome};
-ghost use Rattle.bf_program.specs.Commands.{IsSingleAnswer};
+ghost use Rattle.bf_program.specs.Commands.{IsSingleAnswer, IsSingleFault};
 ghost use Rattle.bf_program.specs.Refusal.{number_of};
 
 use crate::forms::SingleAsked;
@@ -20,6 +20,7 @@ pub fn single_answered<S: Source, W: Write>(
     out: &mut W,
 ) -> Result<Status, CommandFault>
     ensures answer { IfOk result (IsSingleAnswer (S.file files.old) asked (W.written out.old) (W.written out.new)) }
+    ensures fault { IfErr result (IsSingleFault (S.file files.old) asked) }
     ensures refused { IfErr result (λ f. IsSome (number_of f) → W.written out.new ≡ W.written out.old) }
 {
     let at = moment_of(asked.at.as_str())?;

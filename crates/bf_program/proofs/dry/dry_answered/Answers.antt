@@ -1,5 +1,6 @@
 use Rattle.std.proofs.Common.{◌≡◌, ℕ, List, option_map, ◌∙◌, subst}
-use Rattle.bf_program.specs.DatedRuns.{IsReportedIn}
+use Rattle.std.proofs.lemmas.Result.{err_from_is_err_and}
+use Rattle.bf_program.specs.DatedRuns.{IsFaultOfDry, IsReportedIn}
 use Rattle.bf_program.proofs.CommandFacts.{means_lent, of_held, table_read}
 use Rattle.bf_program.proofs.dry.dry_answered.Goals as goal
 
@@ -17,3 +18,18 @@ returns-clause-answer g c = record {
       of_held (λ bytes file. IsReportedIn bytes file table c.in_ok-from.from.nanosecond c.in_ok-to.to.nanosecond (g.W.Write.written c.args.out.now) (g.W.Write.written c.run_dry.new.out) c.in_ok-succeeded.succeeded) c.deref.result.now graph _ zone (c.deref.ensures.value ∙ are.0) (c.zone_file.ensures ∙ are.1)
       (subst (λ (bytes : List ℕ). IsReportedIn c.deref.result.now (option_map (λ s. s.now) c.zone_file.result) bytes c.in_ok-from.from.nanosecond c.in_ok-to.to.nanosecond (g.W.Write.written c.args.out.now) (g.W.Write.written c.run_dry.new.out) c.in_ok-succeeded.succeeded) read c.in_ok-succeeded.ensures.ok);
 }
+
+pub returns-in_err-succeeded-clause-fault : goal.returns-in_err-succeeded-clause-fault
+returns-in_err-succeeded-clause-fault g c =
+    let p = err_from_is_err_and c.from_residual-in_err-succeeded.result c.from_residual-in_err-succeeded.ensures.1 in
+    rw (p.1, p.2) (
+      c.in_ok-from.from,
+      c.in_ok-to.to,
+      means_lent c.as_str.result.now _ c.in_ok-from.from c.as_str.ensures.value c.in_ok-from.ensures.means,
+      means_lent c.as_str-2.result.now _ c.in_ok-to.to c.as_str-2.ensures.value c.in_ok-to.ensures.means,
+      λ graph table zone held table_held.
+          let are = c.in_ok-graph.ensures.held graph zone held in
+          let read = c.deref-2.ensures.value ∙ table_read _ _ _ c.in_ok-table.table.items table c.in_ok-graph.ensures.stays c.in_ok-table.ensures.ok table_held in
+          of_held (λ bytes file. IsFaultOfDry bytes file table c.in_ok-from.from.nanosecond c.in_ok-to.to.nanosecond c.in_err-succeeded.field-0.0) c.deref.result.now graph _ zone (c.deref.ensures.value ∙ are.0) (c.zone_file.ensures ∙ are.1)
+          (subst (λ (bytes : List ℕ). IsFaultOfDry c.deref.result.now (option_map (λ s. s.now) c.zone_file.result) bytes c.in_ok-from.from.nanosecond c.in_ok-to.to.nanosecond c.in_err-succeeded.field-0.0) read c.in_err-succeeded.ensures.fault),
+    )
