@@ -1,3 +1,5 @@
+pub mod Splits
+pub mod Bytes
 pub mod Growth
 pub mod HeldFacts
 pub mod RunFacts

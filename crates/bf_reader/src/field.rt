@@ -1,11 +1,14 @@
 //! The fields of a line.
-ghost use Rattle.std.specs.Prelude.{◌≡◌, ◌++◌, ◌∷◌, IfSome, decimal};
+ghost use Rattle.std.specs.Prelude.{◌≡◌, ◌<◌, ◌^◌, ◌++◌, ◌∷◌, ℕ, IfSome, IfNone, Some, decimal};
+ghost use Rattle.bf_reader.specs.Reads.{IsWord};
 
 use itoa::Buffer;
 
 /// The first field of a text, and what stands behind the space after it.
 pub(crate) fn split_field(text: &[u8]) -> Option<(&[u8], &[u8])>
-    ensures { IfSome result (λ p. text.now ≡ p.0.now ++ 32 ∷ p.1.now) }
+    ensures some { IfSome result (λ p. text.now ≡ p.0.now ++ 32 ∷ p.1.now) }
+    ensures word { IfSome result (λ p. IsWord p.0.now) }
+    ensures none { IfNone result (IsWord text.now) }
 {
     let at = text.iter().position(|byte| *byte == b' ')?;
     Some((&text[..at], &text[at + 1..]))
@@ -13,7 +16,8 @@ pub(crate) fn split_field(text: &[u8]) -> Option<(&[u8], &[u8])>
 
 /// The number that a text spells.
 pub(crate) fn number_in(text: &[u8]) -> Option<u32>
-    ensures { IfSome result (λ n. text.now ≡ decimal n) }
+    ensures some { IfSome result (λ n. text.now ≡ decimal n) }
+    ensures every { (n : ℕ) → n < 2 ^ 32 → text.now ≡ decimal n → result ≡ Some n }
 {
     let Ok(digits) = std::str::from_utf8(text) else {
         return None;
