@@ -15,9 +15,11 @@ mod fault;
 mod field;
 mod held;
 mod interval;
+mod laws;
 mod line;
 mod reading;
 mod value;
 
 pub use fault::ReportFault;
+pub use laws::no_two_reports_have_one_text;
 pub use reading::read_report;
