@@ -37,7 +37,8 @@ type Fields<'a> = (&'a [u8], &'a [u8], &'a [u8], &'a [u8]);
 /// The four fields of a text.
 fn fields_of(text: &[u8]) -> Option<Fields<'_>>
     ensures some { IfSome result (λ f. AreFields text.now f.0.now f.1.now f.2.now f.3.now) }
-    ensures none { IfNone result ((index state tries value : List ℕ) → ¬ (AreFields text.now index state tries value)) }
+    ensures none { IfNone result ((index state tries value : List ℕ) →
+        ¬ (AreFields text.now index state tries value)) }
 {
     let (index, rest) = split_field(text)?;
     let (state, rest) = split_field(rest)?;

@@ -6,5 +6,6 @@ ghost use Rattle.bf_reader.specs.Rules.{IsShownReport};
 
 /// No two reports have one text.
 pub fn no_two_reports_have_one_text()
-    ensures { (one two : Report) → IsShownReport one → IsShownReport two → report_text one ≡ report_text two → one ≡ two }
+    ensures { (one two : Report) → IsShownReport one → IsShownReport two →
+        report_text one ≡ report_text two → one ≡ two }
 {}

@@ -33,7 +33,8 @@ struct Lines {
 
 impl Lines {
     fn new(alloc: Global) -> Result<Lines, OutOfMemory>
-        ensures { IfOk result (λ lines. (held_bytes lines.held ≡ []) × (lines.held.interruptions ≡ 0) × (lines.number ≡ 0)) }
+        ensures { IfOk result (λ lines.
+            (held_bytes lines.held ≡ []) × (lines.held.interruptions ≡ 0) × (lines.number ≡ 0)) }
     {
         Ok(Lines {
             held: Held::new(alloc)?,
@@ -45,15 +46,18 @@ impl Lines {
     /// Reads the next line.
     fn read<R: Read>(&mut self, device: &mut R) -> Result<(), ReportFault>
         requires { self.old.number < 30_000_000_000 }
-        ensures line { OnOk result (Consumes (ahead self.old.held (R.left device.old)) (ahead self.new.held (R.left device.new))
-            (self.new.line.items ++ 10 ∷ [])) }
+        ensures line { OnOk result (Consumes (ahead self.old.held (R.left device.old))
+            (ahead self.new.held (R.left device.new)) (self.new.line.items ++ 10 ∷ [])) }
         ensures in_line { OnOk result (IsInLine self.new.line.items) }
-        ensures stops { IfErr result (λ fault. IfSome (ahead self.old.held (R.left device.old)) (StopsAt fault (self.old.number + 1))) }
+        ensures stops { IfErr result (λ fault.
+            IfSome (ahead self.old.held (R.left device.old)) (StopsAt fault (self.old.number + 1))) }
         ensures number { OnOk result (self.new.number ≡ self.old.number + 1) }
-        ensures tallied { OnOk result (Tallies self.old.held.interruptions (R.interruptions device.old) (R.failures device.old)
+        ensures tallied { OnOk result (Tallies
+            self.old.held.interruptions (R.interruptions device.old) (R.failures device.old)
             self.new.held.interruptions (R.interruptions device.new) (R.failures device.new)) }
         ensures halted { IfErr result (λ fault. fault ≡ ReportFault.Io
-            → Breaks self.old.held.interruptions (R.interruptions device.old) (R.failures device.old)
+            → Breaks self.old.held.interruptions
+            (R.interruptions device.old) (R.failures device.old)
             (R.interruptions device.new) (R.failures device.new)) }
     {
         self.number += 1;
@@ -68,7 +72,8 @@ impl Lines {
 /// What stands behind a word and a space.
 fn after_word<'a>(text: &'a [u8], word: &[u8]) -> Option<&'a [u8]>
     ensures some { IfSome result (λ rest. text.now ≡ word.now ++ 32 ∷ rest.now) }
-    ensures none { IfNone result (IsWord word.now → (rest : List ℕ) → text.now ≢ word.now ++ 32 ∷ rest) }
+    ensures none { IfNone result (IsWord word.now →
+        (rest : List ℕ) → text.now ≢ word.now ++ 32 ∷ rest) }
 {
     let (first, rest) = split_field(text)?;
     if first == word { Some(rest) } else { None }
@@ -110,7 +115,8 @@ fn read_run(alloc: Global, beginning: &mut Beginning, text: &[u8]) -> Result<Ste
     requires counted { IsCounted beginning.old }
     requires small { IsSmall beginning.old }
     requires ruled { IsRuled beginning.old }
-    ensures { IfOk result (λ step. Steps step beginning.old (codes "@run" ++ 32 ∷ text.now) beginning.new) }
+    ensures { IfOk result (λ step.
+        Steps step beginning.old (codes "@run" ++ 32 ∷ text.now) beginning.new) }
 {
     let Some((interval, state)) = run_in(text) else {
         return Ok(Step::Refused);
@@ -186,14 +192,16 @@ fn read_lines<R: Read>(
     requires known { IsKnown beginning.old }
     requires second { lines.old.number ≡ 1 }
     requires place { lines_in (opening_text (so_far beginning.old)) ≡ 1 }
-    ensures ok { OnOk result (ReadsOn (ahead lines.old.held (R.left device.old)) (ahead lines.new.held (R.left device.new))
+    ensures ok { OnOk result (ReadsOn
+        (ahead lines.old.held (R.left device.old)) (ahead lines.new.held (R.left device.new))
         (opening_text (so_far beginning.old)) (report_text (so_far beginning.new))) }
     ensures rules { OnOk result (IsShownReport (so_far beginning.new)) }
     ensures tells { IfErr result (λ fault. IfSome (ahead lines.old.held (R.left device.old))
         (λ bytes. Tells (opening_text (so_far beginning.old) ++ bytes) fault)) }
     ensures place { OnOk result (lines.new.number ≡ lines_in (report_text (so_far beginning.new))) }
     ensures number { OnOk result (lines.new.number < 30_000_000_000) }
-    ensures tallied { OnOk result (Tallies lines.old.held.interruptions (R.interruptions device.old) (R.failures device.old)
+    ensures tallied { OnOk result (Tallies
+        lines.old.held.interruptions (R.interruptions device.old) (R.failures device.old)
         lines.new.held.interruptions (R.interruptions device.new) (R.failures device.new)) }
     ensures halted { IfErr result (λ fault. fault ≡ ReportFault.Io
         → Breaks lines.old.held.interruptions (R.interruptions device.old) (R.failures device.old)
@@ -211,11 +219,14 @@ fn read_lines<R: Read>(
 
 /// Reads a report from a device, up to its last byte. After a fault what was read is lost.
 pub fn read_report<R: Read>(alloc: Global, device: &mut R) -> Result<Report, ReportFault>
-    ensures ok { IfOk result (λ report. IfSome (R.left device.old) (λ bytes. bytes ≡ report_text report)) }
+    ensures ok { IfOk result (λ report.
+        IfSome (R.left device.old) (λ bytes. bytes ≡ report_text report)) }
     ensures rules { IfOk result IsShownReport }
     ensures err { IfErr result (λ fault. IfSome (R.left device.old) (λ bytes. Tells bytes fault)) }
-    ensures reads { IfErr result (λ fault. IfSome (R.left device.old) (λ bytes. IsReportText bytes → IsFromOutside fault)) }
-    ensures io { IfErr result (λ fault. fault ≡ ReportFault.Io → HasHalted (R.failures device.old) (R.failures device.new)
+    ensures reads { IfErr result (λ fault.
+        IfSome (R.left device.old) (λ bytes. IsReportText bytes → IsFromOutside fault)) }
+    ensures io { IfErr result (λ fault. fault ≡ ReportFault.Io → HasHalted
+        (R.failures device.old) (R.failures device.new)
         (R.interruptions device.old) (R.interruptions device.new)) }
 {
     let mut lines = Lines::new(alloc)?;

@@ -48,7 +48,8 @@ fn bare_outcome_in(state: &[u8]) -> Option<Outcome>
 /// How an instance ended that pushed a value.
 fn pushing_outcome_in(alloc: Global, value: &[u8]) -> Result<Option<Outcome>, OutOfMemory>
     ensures some { IfOk result (λ o. IfSome o (SaysOutcome (codes "success") value.now)) }
-    ensures every { IfOk result (λ o. value.now ≢ codes "-" → Finds (SaysOutcome (codes "success") value.now) o) }
+    ensures every { IfOk result (λ o.
+        value.now ≢ codes "-" → Finds (SaysOutcome (codes "success") value.now) o) }
 {
     match value_in(alloc, value)? {
         Some(value) => Ok(Some(Outcome::Success(Some(value)))),
