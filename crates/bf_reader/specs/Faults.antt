@@ -16,17 +16,17 @@ IsInLine text = list_any (λ b. b == 10) text ≡ false
 abbrev pub lines_in : List ℕ → ℕ
 lines_in text = count_by (λ b. b == 10) text
 
--- whole lines
+-- nothing, or text that ends in a line feed
 abbrev pub AreLines : List ℕ → Type 0
 AreLines text = (text ≡ []) ⊎ ((front : List ℕ) × (text ≡ front ++ 10 ∷ []))
 
--- the bytes are the text of a report
+-- the bytes are the text of a report by the rules
 pub record IsReportText (bytes : List ℕ) : Type 0 where
   pub report : Report
   pub shown : IsShownReport report
   pub text_is : report_text report ≡ bytes
 
--- a report begins with these bytes
+-- a report by the rules begins with these bytes
 pub record Begins (bytes : List ℕ) : Type 0 where
   pub report : Report
   pub more : List ℕ
@@ -48,7 +48,7 @@ pub record IsCut (bytes : List ℕ) : Type 0 where
   pub short : length piece ≤ 66_000
   pub no_report : ¬ (IsReportText bytes)
 
--- the line of that number has more bytes than a line may have
+-- the line of that number has more bytes than a line may have, and stands in no report
 pub record HasLongLine (bytes : List ℕ) (number : ℕ) : Type 0 where
   pub opening : List ℕ
   pub piece : List ℕ

@@ -10,7 +10,7 @@ use Rattle.bf_reader.specs.Runs.{IsRunInterval, run_words}
 use Rattle.bf_reader.specs.Rules.{IsRuled}
 use Rattle.bf_reader.specs.Beginning.{IsCounted, IsSmall, is_whole_in, room, opening_text, so_far, runs_of, with_entry, with_run}
 
--- the line is that of a task which may stand next, and the last is the report with it
+-- the line is that of a task which may stand next, and the other is the report with it
 pub record AddsEntry (old : Beginning) (text : List ℕ) (new : Beginning) : Type 0 where
   pub id : List ℕ
   pub entry : Entry
@@ -26,6 +26,7 @@ pub record AddsRun (old : Beginning) (text : List ℕ) (new : Beginning) : Type 
   pub spelled : text ≡ codes "@run" ++ 32 ∷ run_words (run.interval, run.state)
   pub added : with_run old run ≡ Some new
 
+-- by the line the report has become the other
 abbrev pub Follows : Beginning → List ℕ → Beginning → Type 0
 Follows old text new = AddsEntry old text new ⊎ AddsRun old text new
 
@@ -33,6 +34,7 @@ Follows old text new = AddsEntry old text new ⊎ AddsRun old text new
 abbrev pub MayEnd : Beginning → List ℕ → Type 0
 MayEnd b text = (text ≡ codes "@end" ++ 32 ∷ decimal (length (runs_of b))) × (is_whole_in b.run b.tasks ≡ true)
 
+-- the line may stand next
 abbrev pub MayStand : Beginning → List ℕ → Type 0
 MayStand b text = ((new : Beginning) × Follows b text new) ⊎ MayEnd b text
 
@@ -45,6 +47,7 @@ pub record IsNext (old : Beginning) (text : List ℕ) (new : Beginning) : Type 0
   pub follows : Follows old text new
   pub read : opening_text (so_far new) ≡ opening_text (so_far old) ++ (text ++ 10 ∷ [])
 
+-- what comes of a line
 abbrev pub Steps : Step → Beginning → List ℕ → Beginning → Type 0
 Steps Step.Taken old text new = IsNext old text new
 Steps Step.End old text new = MayEnd old text × (new ≡ old)

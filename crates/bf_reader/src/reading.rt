@@ -151,7 +151,7 @@ fn read_task(
 
 /// Whether the report may end here, with this number of runs.
 fn read_end(beginning: &Beginning, text: &[u8]) -> Step
-    requires { IsRuled beginning.now }
+    requires ruled { IsRuled beginning.now }
     ensures { EndsBy result beginning.now text.now }
 {
     match number_in(text) {
