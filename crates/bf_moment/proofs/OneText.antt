@@ -1,5 +1,7 @@
--- No two moments of whole seconds have one text.
-use Rattle.std.proofs.Common.{◌≡◌, ℕ, ◌+◌, ◌/◌, ◌%◌, ◌<◌, get_or, ℤ, pos, unsigned_abs, sym, ap, ◌∙◌, arith}
+-- No two moments of whole seconds have one text, and each text is ASCII.
+use Rattle.std.proofs.Common.{◌≡◌, ℕ, zero, suc, ◌+◌, ◌/◌, ◌%◌, ◌<◌, List, [], ◌∷◌, get_or, ℤ, pos, unsigned_abs, sym, ap, ◌∙◌, subst, arith}
+use Rattle.std.specs.List.{AllByRecursion}
+use Rattle.std.specs.Str.{IsAscii}
 use Rattle.jiff_core.specs.declared.civil.date.Date.{Date}
 use Rattle.jiff_core.specs.declared.civil.datetime.DateTime.{DateTime}
 use Rattle.jiff_core.specs.Calendar.{days_from_civil}
@@ -52,3 +54,28 @@ one_text m n shown_m shown_n whole_m whole_n e =
     let date_b = shown_date b n is_b shown_n in
     sym is_a ∙ one_clock a b date_a date_b (whole_clock a m is_a whole_m) (whole_clock b n is_b whole_n)
     (sym (moment_text_of_clock a m is_a date_a) ∙ e ∙ moment_text_of_clock b n is_b date_b) ∙ is_b
+
+-- ---- ASCII
+
+low_ascii : (bs : List ℕ) → AllByRecursion (λ b. b < 128) bs → IsAscii bs
+low_ascii [] low i = omega arith
+low_ascii (b ∷ bs) low zero = low.0
+low_ascii (b ∷ bs) low (suc i) = low_ascii bs low.1 i
+
+clock_ascii : (at : DateTime) → IsShownDate at.date → IsAscii (clock_text at)
+clock_ascii at shown =
+    let year = unsigned_abs at.date.year in
+    let below : year < 10_000 = year_is at.date shown in
+    let day : at.date.day < 100 = day_is at.date in
+    let month : at.date.month < 100 = omega (arith, at.date.month_in) in
+    let hour : at.time.hour < 100 = omega (arith, at.time.hour_in) in
+    let minute : at.time.minute < 100 = omega (arith, at.time.minute_in) in
+    let second : at.time.second < 100 = omega (arith, at.time.second_in) in
+    low_ascii (clock_text at)
+    (omega arith, (omega arith, (omega arith, (omega arith, (omega arith, (omega arith, (omega arith, (omega arith, (omega arith, (omega arith, (omega arith, (omega arith, (omega arith, (omega arith, (omega arith, (omega arith, (omega arith, (omega arith, (omega arith, (omega arith, tt))))))))))))))))))))
+
+pub moment_ascii : (n : ℤ) → IsShown n → IsAscii (moment_text n)
+moment_ascii n shown =
+    let (at, is) = clock_of n shown in
+    let date = shown_date at n is shown in
+    subst IsAscii (sym (moment_text_of_clock at n is date)) (clock_ascii at date)

@@ -12,7 +12,12 @@ use Rattle.bf_reader.specs.Rules.{IsShownReport}
 use Rattle.bf_reader.proofs.HeldFacts.{nothing_first, consumes_more}
 use Rattle.bf_reader.specs.Faults.{IsInLine, lines_in, IsOpening, Tells, StopsAt}
 use Rattle.bf_reader.specs.Held.{IsNextByte}
-use Rattle.bf_reader.specs.Steps.{ReadsOn}
+use Rattle.bf_reader.specs.declared.beginning.Beginning.{Beginning}
+use Rattle.bf_reader.specs.Beginning.{so_far, opening_text}
+use Rattle.bf_reader.specs.Steps.{ReadsOn, MayStand}
+use Rattle.bf_reader.specs.Extensions.{SaysDag, IsKnown}
+use Rattle.bf_reader.proofs.Chains.{Keeps, Goes, IsNextOf, known_goes, no_such_line, no_long_line, no_cut_report}
+use Rattle.bf_reader.proofs.Reports.{head_goes, opens, opens_nothing}
 
 in_line_push : (text : List ℕ) (b : ℕ) → IsInLine text → (b == 10) ≡ false → IsInLine (text ++ b ∷ [])
 in_line_push [] b e other = rw other refl
@@ -53,14 +58,24 @@ tells_on (Some xs) (Some ys) before after fault (text, came, is) told =
     let P : List ℕ → Type 0 = λ l. Tells l fault in
     subst P same told
 
-pub stops_tell : (opening : List ℕ) (number : ℕ) (fault : ReportFault) (bytes : List ℕ) → IsOpening opening → number ≡ lines_in opening + 1 → StopsAt fault number bytes → Tells (opening ++ bytes) fault
-stops_tell opening number (ReportFault.BadLine n) bytes opens place stops = absurd stops
-stops_tell opening number (ReportFault.TooLong n) bytes opens place (same, (piece, rest, is, in_line, long)) =
-    record { opening = opening; piece = piece; rest = rest; opens = opens; bytes_are = ap (λ l. opening ++ l) is; in_line = in_line; long = long; place = same ∙ place }
-stops_tell opening number ReportFault.Truncated bytes opens place stops =
-    record { opening = opening; piece = bytes; opens = opens; bytes_are = refl; in_line = stops.0; short = stops.1 }
-stops_tell opening number ReportFault.Io bytes opens place stops = tt
-stops_tell opening number ReportFault.OutOfMemory bytes opens place stops = tt
+pub stops_tell : (opening : List ℕ) (Stands : Report → List ℕ → Type 0) (number : ℕ) (fault : ReportFault) (bytes : List ℕ) → IsOpening opening → Goes opening Stands → number ≡ lines_in opening + 1 → StopsAt fault number bytes
+    → Tells (opening ++ bytes) fault
+stops_tell opening Stands number (ReportFault.BadLine n) bytes opens goes place stops = absurd stops
+stops_tell opening Stands number (ReportFault.TooLong n) bytes opens goes place (same, (piece, rest, is, in_line, long)) = record {
+  opening = opening;
+  piece = piece;
+  rest = rest;
+  opens = opens;
+  bytes_are = ap (λ l. opening ++ l) is;
+  in_line = in_line;
+  long = long;
+  bad = no_long_line opening piece Stands goes in_line long;
+  place = same ∙ place;
+}
+stops_tell opening Stands number ReportFault.Truncated bytes opens goes place stops =
+    record { opening = opening; piece = bytes; opens = opens; bytes_are = refl; in_line = stops.0; short = stops.1; no_report = no_cut_report opening bytes Stands goes stops.0 }
+stops_tell opening Stands number ReportFault.Io bytes opens goes place stops = tt
+stops_tell opening Stands number ReportFault.OutOfMemory bytes opens goes place stops = tt
 
 pub stops_cut : (a : Option (List ℕ)) (text : List ℕ) (number : ℕ) → IfSome a (λ bytes. bytes ≡ text) → length text ≤ 66_000 → IsInLine text → IfSome a (StopsAt ReportFault.Truncated number)
 stops_cut None text number is short in_line = tt
@@ -77,24 +92,57 @@ pub nothing_told : (a : Option (List ℕ)) → IfSome a (λ _. Unit {0})
 nothing_told None = tt
 nothing_told (Some xs) = tt
 
--- a line did not come behind what was read
-pub read_stops : (a b : Option (List ℕ)) (before after : List ℕ) (number : ℕ) (fault : ReportFault) → ReadsOn a b before after → IsOpening after → number ≡ lines_in after → IfSome b (StopsAt fault (number + 1))
-    → IfSome a (λ bytes. Tells (before ++ bytes) fault)
-read_stops a b before after number fault on opens place stops = tells_on a b before after fault on (go b stops)
+-- the first line did not come
+pub first_stops : (left : Option (List ℕ)) (bytes : List ℕ) (number : ℕ) (fault : ReportFault) → bytes ≡ [] → number ≡ 0 → IfSome (prepend_known bytes left) (StopsAt fault (number + 1)) → IfSome left (λ told. Tells told fault)
+first_stops left bytes number fault none first stops =
+    let P : Option (List ℕ) → Type 0 = λ o. IfSome o (StopsAt fault (number + 1)) in
+    go left (subst P (ap (λ l. prepend_known l left) none ∙ nothing_first left) stops)
   where
-    go : (o : Option (List ℕ)) → IfSome o (StopsAt fault (number + 1)) → IfSome o (λ bytes. Tells (after ++ bytes) fault)
+    go : (o : Option (List ℕ)) → IfSome o (StopsAt fault (number + 1)) → IfSome o (λ told. Tells told fault)
     go None stops = tt
-    go (Some bytes) stops = stops_tell after (number + 1) fault bytes opens (ap (λ n. n + 1) place) stops
+    go (Some told) stops = stops_tell [] (λ r text. SaysDag text r.dag_id) (number + 1) fault told opens_nothing head_goes (ap (λ n. n + 1) first) stops
 
--- a line came behind what was read that may not stand there
-pub line_tells : (a b c : Option (List ℕ)) (before after text : List ℕ) (number : ℕ) → ReadsOn a b before after → IsOpening after → number ≡ lines_in after + 1 → Consumes b c (text ++ 10 ∷ []) → IsInLine text
-    → IfSome a (λ bytes. Tells (before ++ bytes) (ReportFault.BadLine number))
-line_tells a b c before after text number on opens place came in_line = tells_on a b before after (ReportFault.BadLine number) on (go b c came)
+-- a line did not come behind what was read
+pub read_stops : (a b : Option (List ℕ)) (before : List ℕ) (read : Beginning) (number : ℕ) (fault : ReportFault) → ReadsOn a b before (opening_text (so_far read)) → Keeps read → IsKnown read → number ≡ lines_in (opening_text (so_far read))
+    → IfSome b (StopsAt fault (number + 1)) → IfSome a (λ bytes. Tells (before ++ bytes) fault)
+read_stops a b before read number fault on keeps known place stops = tells_on a b before after fault on (go b stops)
   where
-    go : (o p : Option (List ℕ)) → Consumes o p (text ++ 10 ∷ []) → IfSome o (λ bytes. Tells (after ++ bytes) (ReportFault.BadLine number))
-    go None p came = tt
-    go (Some xs) None came = absurd came
-    go (Some xs) (Some ys) came = inl (record { opening = after; text = text; rest = ys; opens = opens; bytes_are = ap (λ l. after ++ l) came; in_line = in_line; place = place })
+    after : List ℕ
+    after = opening_text (so_far read)
+
+    go : (o : Option (List ℕ)) → IfSome o (StopsAt fault (number + 1)) → IfSome o (λ bytes. Tells (opening_text (so_far read) ++ bytes) fault)
+    go None stops = tt
+    go (Some bytes) stops = stops_tell (opening_text (so_far read)) (IsNextOf read) (number + 1) fault bytes (opens read keeps) (known_goes read keeps known) (ap (λ n. n + 1) place) stops
+
+-- a line came that may not stand there
+line_told : (opening text : List ℕ) (Stands : Report → List ℕ → Type 0) (number : ℕ) (b c : Option (List ℕ)) → IsOpening opening → Goes opening Stands → ((report : Report) → Stands report text → ⊥) → number ≡ lines_in opening + 1
+    → Consumes b c (text ++ 10 ∷ []) → IsInLine text → IfSome b (λ bytes. Tells (opening ++ bytes) (ReportFault.BadLine number))
+line_told opening text Stands number None c opens goes none place came in_line = tt
+line_told opening text Stands number (Some xs) None opens goes none place came in_line = absurd came
+line_told opening text Stands number (Some xs) (Some ys) opens goes none place came in_line = inl (record {
+  opening = opening;
+  text = text;
+  rest = ys;
+  opens = opens;
+  bytes_are = ap (λ l. opening ++ l) came;
+  in_line = in_line;
+  bad = no_such_line opening text Stands goes none in_line;
+  place = place;
+})
+
+-- as the first line
+pub first_told : (left b : Option (List ℕ)) (bytes text : List ℕ) → bytes ≡ [] → Consumes (prepend_known bytes left) b (text ++ 10 ∷ []) → IsInLine text → ((id : List ℕ) → SaysDag text id → ⊥)
+    → IfSome left (λ bytes. Tells bytes (ReportFault.BadLine 1))
+first_told left b bytes text none came in_line other =
+    let P : Option (List ℕ) → Type 0 = λ o. Consumes o b (text ++ 10 ∷ []) in
+    line_told [] text (λ r line. SaysDag line r.dag_id) 1 left b opens_nothing head_goes (λ report. other report.dag_id) refl (subst P (ap (λ l. prepend_known l left) none ∙ nothing_first left) came) in_line
+
+-- behind what was read
+pub line_tells : (a b c : Option (List ℕ)) (before text : List ℕ) (read : Beginning) (number : ℕ) → ReadsOn a b before (opening_text (so_far read)) → Keeps read → IsKnown read → (MayStand read text → ⊥) → number ≡ lines_in (opening_text (so_far read)) + 1
+    → Consumes b c (text ++ 10 ∷ []) → IsInLine text → IfSome a (λ bytes. Tells (before ++ bytes) (ReportFault.BadLine number))
+line_tells a b c before text read number on keeps known none place came in_line =
+    tells_on a b before (opening_text (so_far read)) (ReportFault.BadLine number) on
+    (line_told (opening_text (so_far read)) text (IsNextOf read) number b c (opens read keeps) (known_goes read keeps known) (λ report stands. none stands.stands) place came in_line)
 
 -- a byte came behind a report
 pub more_tells : (a b c : Option (List ℕ)) (before : List ℕ) (report : Report) (first number : ℕ) → IsShownReport report → ReadsOn a b before (report_text report) → number ≡ lines_in (report_text report) + 1 → Consumes b c (first ∷ [])
@@ -118,6 +166,13 @@ reads_twice a b c x y z (s, came, is) (t, next, then) = (s ++ t, consumes_more a
 pub some_byte : (o : Option ℕ) (a b : Option (List ℕ)) → is_some o ≡ true → IsNextByte a b o → (x : ℕ) × Consumes a b (x ∷ [])
 some_byte None a b e next = absurd (true≢false (sym e))
 some_byte (Some x) a b e next = (x, next)
+
+-- the bytes end behind a report
+pub ends_there : (a b c : Option (List ℕ)) (text : List ℕ) (o : Option ℕ) → ReadsOn a b [] text → is_some o ≡ false → IsNextByte b c o → IfSome a (λ bytes. bytes ≡ text)
+ends_there a b c text (Some x) on none next = absurd (true≢false none)
+ends_there a b c text None (read, came, is) none next =
+    let P : List ℕ → Type 0 = λ t. IfSome a (λ bytes. bytes ≡ t) in
+    subst P (sym is) (ends_as a b read came next.0)
 
 -- a device that halts, or want of memory, says nothing of the bytes
 pub halts_stop : (a : Option (List ℕ)) (fault : ReportFault) (number : ℕ) → (fault ≡ ReportFault.Io) ⊎ (fault ≡ ReportFault.OutOfMemory) → IfSome a (StopsAt fault number)

@@ -1,39 +1,53 @@
 -- What comes of a line.
-use Rattle.std.proofs.Common.{◌≡◌, ℕ, List, [], ◌∷◌, ◌++◌, length, Option, Some, None, Bool, true, false, cond, codes, sym, ap, ◌∙◌, append_assoc, append-nil, length-append}
+use Rattle.std.proofs.Common.{◌≡◌, ℕ, List, [], ◌∷◌, ◌++◌, length, Option, Some, None, codes, sym, ap, ◌∙◌, append_assoc, append-nil, length-append, inl, inr}
 use Rattle.std.specs.Io.KnownBytes.{prepend_known, Consumes, IsAtEnd}
 use Rattle.std.specs.Prelude.{IfSome}
 use Rattle.bf_report.specs.declared.report.RunReport.{RunReport}
 use Rattle.bf_report.specs.Report.{run_line}
 use Rattle.bf_reader.specs.declared.entry.Entry.{Entry}
 use Rattle.bf_reader.specs.declared.beginning.Beginning.{Beginning}
-use Rattle.bf_reader.specs.declared.reading.Step.{Step}
 use Rattle.bf_reader.specs.Entries.{IsEntry, entry_text}
 use Rattle.bf_reader.specs.Runs.{run_words, IsRunInterval}
 use Rattle.bf_reader.specs.Rules.{IsRuled}
 use Rattle.bf_reader.specs.Beginning.{runs_of, run_count, last_run, so_far, opening_text, with_run, with_entry, IsCounted, IsSmall, entry_line}
-use Rattle.bf_reader.specs.Steps.{Steps, ReadsOn}
+use Rattle.bf_reader.specs.Steps.{Follows, IsNext, ReadsOn}
 use Rattle.bf_reader.proofs.Growth.{entry_grows, run_grows}
 use Rattle.bf_reader.proofs.Ruled.{entry_ruled, run_ruled}
 use Rattle.bf_reader.proofs.Rooms.{entry_room, run_room}
 use Rattle.bf_reader.proofs.HeldFacts.{consumes_more}
 
-pub entry_step : (b c : Beginning) (id text line : List ℕ) (e : Entry) (taken : Bool) → IsCounted b → IsSmall b → IsRuled b → IsEntry e → text ≡ entry_text e → line ≡ id ++ 32 ∷ text
-    → with_entry b id e ≡ cond taken (Some c) None → Steps (cond taken Step.Taken Step.Refused) b line c
-entry_step b c id text line e false counted small ruled good spelled is added = tt
-entry_step b c id text line e true counted small ruled good spelled is added =
+pub entry_next : (b c : Beginning) (id line : List ℕ) (e : Entry) → IsCounted b → IsSmall b → IsRuled b → IsEntry e → line ≡ id ++ 32 ∷ entry_text e → with_entry b id e ≡ Some c → IsNext b line c
+entry_next b c id line e counted small ruled good spelled added =
     let grows = entry_grows b c id e counted added in
     let (few, less) = entry_room b c id e counted small good added in
-    let same : entry_line id e ≡ line ++ 10 ∷ [] = ap (λ t. (id ++ 32 ∷ t) ++ 10 ∷ []) (sym spelled) ∙ ap (λ l. l ++ 10 ∷ []) (sym is) in
-    record { counted = grows.counted; small = few; ruled = entry_ruled b c id e good ruled added; shrinks = less; read = grows.read ∙ ap (λ l. opening_text (so_far b) ++ l) same }
+    let same : entry_line id e ≡ line ++ 10 ∷ [] = ap (λ l. l ++ 10 ∷ []) (sym spelled) in
+    record {
+      counted = grows.counted;
+      small = few;
+      ruled = entry_ruled b c id e good ruled added;
+      shrinks = less;
+      follows = inl (record { id = id; entry = e; good = good; spelled = spelled; added = added });
+      read = grows.read ∙ ap (λ l. opening_text (so_far b) ++ l) same;
+    }
 
-pub run_step : (b c : Beginning) (text line : List ℕ) (run : RunReport) (taken : Bool) → run.tasks ≡ [] → IsRunInterval run.interval → IsCounted b → IsSmall b → IsRuled b → text ≡ run_words (run.interval, run.state) → line ≡ codes "@run" ++ 32 ∷ text
-    → with_run b run ≡ cond taken (Some c) None → Steps (cond taken Step.Taken Step.Refused) b line c
-run_step b c text line run false none good counted small ruled spelled is added = tt
-run_step b c text line run true none good counted small ruled spelled is added =
-    let grows = run_grows b c run none counted added in
-    let (few, less) = run_room b c run none small added in
-    let same : run_line run ≡ line ++ 10 ∷ [] = ap (λ t. (codes "@run" ++ 32 ∷ t) ++ 10 ∷ []) (sym spelled) ∙ ap (λ l. l ++ 10 ∷ []) (sym is) in
-    record { counted = grows.counted; small = few; ruled = run_ruled b c run none good counted ruled added; shrinks = less; read = grows.read ∙ ap (λ l. opening_text (so_far b) ++ l) same }
+pub run_next : (b c : Beginning) (line : List ℕ) (run : RunReport) → run.tasks ≡ [] → IsRunInterval run.interval → IsCounted b → IsSmall b → IsRuled b → line ≡ codes "@run" ++ 32 ∷ run_words (run.interval, run.state)
+    → with_run b run ≡ Some c → IsNext b line c
+run_next b c line run bare good counted small ruled spelled added =
+    let grows = run_grows b c run bare counted added in
+    let (few, less) = run_room b c run bare small added in
+    let same : run_line run ≡ line ++ 10 ∷ [] = ap (λ l. l ++ 10 ∷ []) (sym spelled) in
+    record {
+      counted = grows.counted;
+      small = few;
+      ruled = run_ruled b c run bare good counted ruled added;
+      shrinks = less;
+      follows = inr (record { run = run; bare = bare; good = good; spelled = spelled; added = added });
+      read = grows.read ∙ ap (λ l. opening_text (so_far b) ++ l) same;
+    }
+
+pub follows_next : (b c : Beginning) (line : List ℕ) → IsCounted b → IsSmall b → IsRuled b → Follows b line c → IsNext b line c
+follows_next b c line counted small ruled (inl one) = entry_next b c one.id line one.entry counted small ruled one.good one.spelled one.added
+follows_next b c line counted small ruled (inr one) = run_next b c line one.run one.bare one.good counted small ruled one.spelled one.added
 
 pub counted_runs : (b : Beginning) → length (runs_of b) ≡ run_count b
 counted_runs b = length-append b.runs (last_run b.run)

@@ -6,9 +6,7 @@ use Rattle.bf_report.specs.declared.report.Report.{Report}
 use Rattle.bf_report.specs.Report.{report_text}
 use Rattle.bf_reader.specs.declared.fault.ReportFault.{ReportFault}
 use Rattle.bf_reader.specs.declared.line.LineEnd.{LineEnd}
-use Rattle.bf_reader.specs.declared.beginning.Beginning.{Beginning}
-use Rattle.bf_reader.specs.Beginning.{IsCounted, so_far, opening_text}
-use Rattle.bf_reader.specs.Rules.{IsRuled, IsShownReport}
+use Rattle.bf_reader.specs.Rules.{IsShownReport}
 
 -- text within one line
 abbrev pub IsInLine : List ℕ → Type 0
@@ -18,11 +16,29 @@ IsInLine text = list_any (λ b. b == 10) text ≡ false
 abbrev pub lines_in : List ℕ → ℕ
 lines_in text = count_by (λ b. b == 10) text
 
--- nothing, or the lines of a report as far as it was read
-abbrev pub IsOpening : List ℕ → Type 0
-IsOpening text = (text ≡ []) ⊎ ((b : Beginning) × (IsCounted b × IsRuled b × (text ≡ opening_text (so_far b))))
+-- nothing, or text that ends in a line feed
+abbrev pub AreLines : List ℕ → Type 0
+AreLines text = (text ≡ []) ⊎ ((front : List ℕ) × (text ≡ front ++ 10 ∷ []))
 
--- the bytes end before the line feed of the line
+-- the bytes are the text of a report by the rules
+pub record IsReportText (bytes : List ℕ) : Type 0 where
+  pub report : Report
+  pub shown : IsShownReport report
+  pub text_is : report_text report ≡ bytes
+
+-- a report by the rules begins with these bytes
+pub record Begins (bytes : List ℕ) : Type 0 where
+  pub report : Report
+  pub more : List ℕ
+  pub shown : IsShownReport report
+  pub text_is : report_text report ≡ bytes ++ more
+
+-- a report begins with these lines
+pub record IsOpening (bytes : List ℕ) : Type 0 where
+  pub lines : AreLines bytes
+  pub begins : Begins bytes
+
+-- the bytes end before the line feed of the line, and are no report
 pub record IsCut (bytes : List ℕ) : Type 0 where
   pub opening : List ℕ
   pub piece : List ℕ
@@ -30,8 +46,9 @@ pub record IsCut (bytes : List ℕ) : Type 0 where
   pub bytes_are : bytes ≡ opening ++ piece
   pub in_line : IsInLine piece
   pub short : length piece ≤ 66_000
+  pub no_report : ¬ (IsReportText bytes)
 
--- the line of that number has more bytes than a line may have
+-- the line of that number has more bytes than a line may have, and stands in no report
 pub record HasLongLine (bytes : List ℕ) (number : ℕ) : Type 0 where
   pub opening : List ℕ
   pub piece : List ℕ
@@ -40,9 +57,10 @@ pub record HasLongLine (bytes : List ℕ) (number : ℕ) : Type 0 where
   pub bytes_are : bytes ≡ opening ++ (piece ++ rest)
   pub in_line : IsInLine piece
   pub long : length piece ≡ 66_001
+  pub bad : ¬ (Begins (opening ++ piece))
   pub place : number ≡ lines_in opening + 1
 
--- the line of that number stands behind lines that may stand
+-- a report begins with the lines before the line of that number, and none with that line too
 pub record HasLine (bytes : List ℕ) (number : ℕ) : Type 0 where
   pub opening : List ℕ
   pub text : List ℕ
@@ -50,6 +68,7 @@ pub record HasLine (bytes : List ℕ) (number : ℕ) : Type 0 where
   pub opens : IsOpening opening
   pub bytes_are : bytes ≡ opening ++ ((text ++ 10 ∷ []) ++ rest)
   pub in_line : IsInLine text
+  pub bad : ¬ (Begins (opening ++ (text ++ 10 ∷ [])))
   pub place : number ≡ lines_in opening + 1
 
 -- more stands behind a report, in the line of that number
@@ -60,6 +79,10 @@ pub record HasMore (bytes : List ℕ) (number : ℕ) : Type 0 where
   pub shown : IsShownReport report
   pub bytes_are : bytes ≡ report_text report ++ first ∷ rest
   pub place : number ≡ lines_in (report_text report) + 1
+
+-- the device failed, or memory was wanting
+abbrev pub IsFromOutside : ReportFault → Type 0
+IsFromOutside fault = (fault ≡ ReportFault.Io) ⊎ (fault ≡ ReportFault.OutOfMemory)
 
 -- what the fault says of the bytes
 abbrev pub Tells : List ℕ → ReportFault → Type 0

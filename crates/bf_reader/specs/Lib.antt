@@ -5,4 +5,5 @@ pub mod Runs
 pub mod Beginning
 pub mod Rules
 pub mod Steps
+pub mod Extensions
 pub mod Faults

@@ -40,7 +40,9 @@ impl OpenRun {
 
     /// Puts a task behind the others.
     fn push_task(&mut self, task: TaskReport) -> Result<(), OutOfMemory>
-        ensures { OnOk result (self.new ≡ record self.old { run = record self.old.run { tasks = self.old.run.tasks ++ task ∷ [] } }) }
+        ensures { OnOk result (self.new ≡ record self.old {
+          run = record self.old.run { tasks = self.old.run.tasks ++ task ∷ [] };
+        }) }
     {
         self.run.tasks.push(task)?;
         Ok(())
@@ -142,7 +144,8 @@ impl Beginning {
 
     /// Adds a run without its tasks, where it may stand next.
     pub fn add_run(&mut self, alloc: Global, run: RunReport) -> Result<bool, OutOfMemory>
-        ensures { IfOk result (λ taken. with_run self.old run ≡ (if taken then Some self.new else None)) }
+        ensures { IfOk result (λ taken.
+            with_run self.old run ≡ (if taken then Some self.new else None)) }
     {
         if !self.may_begin(run.interval) {
             return Ok(false);
@@ -177,7 +180,9 @@ impl Beginning {
     }
 
     fn add_id(&mut self, alloc: Global, id: &str) -> Result<(), OutOfMemory>
-        ensures { OnOk result (self.new ≡ record self.old { tasks = ids_with self.old.runs self.old.tasks id.now }) }
+        ensures { OnOk result (self.new ≡ record self.old {
+          tasks = ids_with self.old.runs self.old.tasks id.now;
+        }) }
     {
         if self.runs.is_empty() {
             self.tasks.push(Text::copied(alloc, id)?)?;
@@ -187,7 +192,8 @@ impl Beginning {
 
     /// Adds a task of one line, where it may stand next.
     fn add_task(&mut self, alloc: Global, id: &str, task: TaskReport) -> Result<bool, OutOfMemory>
-        ensures { IfOk result (λ taken. with_task self.old id.now task ≡ (if taken then Some self.new else None)) }
+        ensures { IfOk result (λ taken.
+            with_task self.old id.now task ≡ (if taken then Some self.new else None)) }
     {
         if !self.is_next(id) {
             return Ok(false);
@@ -206,7 +212,8 @@ impl Beginning {
         id: &str,
         first: TaskResult,
     ) -> Result<bool, OutOfMemory>
-        ensures { IfOk result (λ taken. with_expanded self.old id.now first ≡ (if taken then Some self.new else None)) }
+        ensures { IfOk result (λ taken.
+            with_expanded self.old id.now first ≡ (if taken then Some self.new else None)) }
     {
         if !self.is_next(id) {
             return Ok(false);
@@ -241,7 +248,8 @@ impl Beginning {
         index: u32,
         instance: TaskResult,
     ) -> Result<bool, OutOfMemory>
-        ensures { IfOk result (λ taken. with_instance self.old id.now index instance ≡ (if taken then Some self.new else None)) }
+        ensures { IfOk result (λ taken.
+            with_instance self.old id.now index instance ≡ (if taken then Some self.new else None)) }
     {
         if !self.goes_on(id, index) {
             return Ok(false);
@@ -255,7 +263,8 @@ impl Beginning {
     /// Adds what a line says of a task, where it may stand next.
     #[tactic(auto, unfolding(crate::specs::Beginning::with_entry))]
     pub fn add_entry(&mut self, alloc: Global, id: &str, entry: Entry) -> Result<bool, OutOfMemory>
-        ensures { IfOk result (λ taken. with_entry self.old id.now entry ≡ (if taken then Some self.new else None)) }
+        ensures { IfOk result (λ taken.
+            with_entry self.old id.now entry ≡ (if taken then Some self.new else None)) }
     {
         match entry {
             Entry::Never(Untried::NoStatus) => self.add_task(alloc, id, TaskReport::NoStatus),

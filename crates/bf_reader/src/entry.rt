@@ -1,6 +1,6 @@
 //! What a line says of a task, behind the task's id.
-ghost use Rattle.std.specs.Prelude.{◌≡◌, ◌++◌, ◌∷◌, IfOk, IfSome, decimal};
-ghost use Rattle.bf_reader.specs.Reads.{Spells};
+ghost use Rattle.std.specs.Prelude.{◌≡◌, ℕ, List, IfOk, IfSome, IfNone, decimal};
+ghost use Rattle.bf_reader.specs.Reads.{Spells, Finds, AreFields};
 ghost use Rattle.bf_reader.specs.Entries.{IsIndex, index_text, IsEntry, entry_text, never_word, SaysNever, IsTries, SaysResult};
 
 use crate::field::{number_in, split_field};
@@ -36,7 +36,9 @@ type Fields<'a> = (&'a [u8], &'a [u8], &'a [u8], &'a [u8]);
 
 /// The four fields of a text.
 fn fields_of(text: &[u8]) -> Option<Fields<'_>>
-    ensures { IfSome result (λ f. text.now ≡ f.0.now ++ 32 ∷ (f.1.now ++ 32 ∷ (f.2.now ++ 32 ∷ f.3.now))) }
+    ensures some { IfSome result (λ f. AreFields text.now f.0.now f.1.now f.2.now f.3.now) }
+    ensures none { IfNone result ((index state tries value : List ℕ) →
+        ¬ (AreFields text.now index state tries value)) }
 {
     let (index, rest) = split_field(text)?;
     let (state, rest) = split_field(rest)?;
@@ -46,7 +48,8 @@ fn fields_of(text: &[u8]) -> Option<Fields<'_>>
 
 /// A map index, or `-1` for none.
 fn index_in(text: &[u8]) -> Option<Option<u32>>
-    ensures { IfSome result (Spells IsIndex index_text text.now) }
+    ensures some { IfSome result (Spells IsIndex index_text text.now) }
+    ensures every { Finds (Spells IsIndex index_text text.now) result }
 {
     if text == b"-1".as_slice() {
         return Some(None);
@@ -60,7 +63,8 @@ fn index_in(text: &[u8]) -> Option<Option<u32>>
 
 /// The state of a task without a try.
 fn untried_state_in(state: &[u8]) -> Option<Untried>
-    ensures { IfSome result (λ u. state.now ≡ never_word u) }
+    ensures some { IfSome result (λ u. state.now ≡ never_word u) }
+    ensures every { Finds (λ u. state.now ≡ never_word u) result }
 {
     match state {
         b"no_status" => Some(Untried::NoStatus),
@@ -72,7 +76,8 @@ fn untried_state_in(state: &[u8]) -> Option<Untried>
 
 /// A task without a try.
 fn untried_in(index: &[u8], state: &[u8], tries: &[u8], value: &[u8]) -> Option<Untried>
-    ensures { IfSome result (SaysNever index.now state.now tries.now value.now) }
+    ensures some { IfSome result (SaysNever index.now state.now tries.now value.now) }
+    ensures every { Finds (SaysNever index.now state.now tries.now value.now) result }
 {
     if index == b"-1".as_slice() && tries == b"0".as_slice() && value == b"-".as_slice() {
         return untried_state_in(state);
@@ -82,7 +87,8 @@ fn untried_in(index: &[u8], state: &[u8], tries: &[u8], value: &[u8]) -> Option<
 
 /// The number of an instance's last try.
 fn tries_in(text: &[u8]) -> Option<u32>
-    ensures { IfSome result (Spells IsTries decimal text.now) }
+    ensures some { IfSome result (Spells IsTries decimal text.now) }
+    ensures every { Finds (Spells IsTries decimal text.now) result }
 {
     let tries = number_in(text)?;
     if tries == 0 || tries > MOST_TRIES {
@@ -98,7 +104,8 @@ fn result_in(
     tries: &[u8],
     value: &[u8],
 ) -> Result<Option<TaskResult>, OutOfMemory>
-    ensures { IfOk result (λ o. IfSome o (SaysResult state.now tries.now value.now)) }
+    ensures some { IfOk result (λ o. IfSome o (SaysResult state.now tries.now value.now)) }
+    ensures every { IfOk result (Finds (SaysResult state.now tries.now value.now)) }
 {
     let Some(tries) = tries_in(tries) else {
         return Ok(None);
@@ -111,7 +118,8 @@ fn result_in(
 
 /// What a text says of a task.
 pub(crate) fn entry_in(alloc: Global, text: &[u8]) -> Result<Option<Entry>, OutOfMemory>
-    ensures { IfOk result (λ o. IfSome o (Spells IsEntry entry_text text.now)) }
+    ensures some { IfOk result (λ o. IfSome o (Spells IsEntry entry_text text.now)) }
+    ensures every { IfOk result (Finds (Spells IsEntry entry_text text.now)) }
 {
     let Some((index, state, tries, value)) = fields_of(text) else {
         return Ok(None);

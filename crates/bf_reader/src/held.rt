@@ -43,12 +43,15 @@ impl Held {
     /// Reads once more from the device, and says whether it gave anything. Interruptions are counted over all calls.
     fn fill<R: Read>(&mut self, device: &mut R) -> Result<bool, Halted>
         requires { self.old.start ≡ self.old.end }
-        ensures bytes { OnOk result (Consumes (R.left device.old) (R.left device.new) (held_bytes self.new)) }
+        ensures bytes { OnOk result
+            (Consumes (R.left device.old) (R.left device.new) (held_bytes self.new)) }
         ensures more { IfOk result (λ more. IsTrue more ↔ (self.new.start < self.new.end)) }
         ensures end { IfOk result (λ more. more ≡ false → IsAtEnd (R.left device.new)) }
-        ensures tallied { OnOk result (Tallies self.old.interruptions (R.interruptions device.old) (R.failures device.old)
+        ensures tallied { OnOk result (Tallies
+            self.old.interruptions (R.interruptions device.old) (R.failures device.old)
             self.new.interruptions (R.interruptions device.new) (R.failures device.new)) }
-        ensures halted { OnErr result (Breaks self.old.interruptions (R.interruptions device.old) (R.failures device.old)
+        ensures halted { OnErr result (Breaks
+            self.old.interruptions (R.interruptions device.old) (R.failures device.old)
             (R.interruptions device.new) (R.failures device.new)) }
     {
         loop {
@@ -83,10 +86,13 @@ impl Held {
 
     /// The next byte, if the device does not end.
     pub fn next_byte<R: Read>(&mut self, device: &mut R) -> Result<Option<u8>, Halted>
-        ensures byte { IfOk result (IsNextByte (ahead self.old (R.left device.old)) (ahead self.new (R.left device.new))) }
-        ensures tallied { OnOk result (Tallies self.old.interruptions (R.interruptions device.old) (R.failures device.old)
+        ensures byte { IfOk result
+            (IsNextByte (ahead self.old (R.left device.old)) (ahead self.new (R.left device.new))) }
+        ensures tallied { OnOk result (Tallies
+            self.old.interruptions (R.interruptions device.old) (R.failures device.old)
             self.new.interruptions (R.interruptions device.new) (R.failures device.new)) }
-        ensures halted { OnErr result (Breaks self.old.interruptions (R.interruptions device.old) (R.failures device.old)
+        ensures halted { OnErr result (Breaks
+            self.old.interruptions (R.interruptions device.old) (R.failures device.old)
             (R.interruptions device.new) (R.failures device.new)) }
     {
         if self.start < self.end {

@@ -1,7 +1,7 @@
 //! What the line of a run says.
 ghost use Rattle.std.specs.Prelude.{◌≡◌, IfSome};
 ghost use Rattle.bf_report.specs.Report.{run_state_word};
-ghost use Rattle.bf_reader.specs.Reads.{Spells};
+ghost use Rattle.bf_reader.specs.Reads.{Spells, Finds};
 ghost use Rattle.bf_reader.specs.Runs.{IsReportMoment, spelled_moment, IsRunWords, run_words};
 
 use crate::field::split_field;
@@ -18,7 +18,8 @@ const MOMENT_LEN: usize = 20;
 
 /// The moment that a text spells.
 fn report_moment_in(text: &[u8]) -> Option<Timestamp>
-    ensures { IfSome result (Spells IsReportMoment spelled_moment text.now) }
+    ensures some { IfSome result (Spells IsReportMoment spelled_moment text.now) }
+    ensures every { Finds (Spells IsReportMoment spelled_moment text.now) result }
 {
     let Ok(text) = std::str::from_utf8(text) else {
         return None;
@@ -34,7 +35,8 @@ fn report_moment_in(text: &[u8]) -> Option<Timestamp>
 }
 
 fn run_state_in(text: &[u8]) -> Option<RunState>
-    ensures { IfSome result (λ state. text.now ≡ run_state_word state) }
+    ensures some { IfSome result (λ state. text.now ≡ run_state_word state) }
+    ensures every { Finds (λ state. text.now ≡ run_state_word state) result }
 {
     match text {
         b"success" => Some(RunState::Success),
@@ -45,7 +47,8 @@ fn run_state_in(text: &[u8]) -> Option<RunState>
 
 /// The data interval and the state of a run.
 pub(crate) fn run_in(text: &[u8]) -> Option<(Interval, RunState)>
-    ensures { IfSome result (Spells IsRunWords run_words text.now) }
+    ensures some { IfSome result (Spells IsRunWords run_words text.now) }
+    ensures every { Finds (Spells IsRunWords run_words text.now) result }
 {
     let (start, rest) = split_field(text)?;
     let (end, state) = split_field(rest)?;

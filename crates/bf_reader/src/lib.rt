@@ -1,7 +1,7 @@
 //! Reports read back from a device.
 //!
-//! `read_report` takes exactly the texts that `write_report` of bf_report writes, one spelling a report. It looks at the
-//! lines in order, and answers the first that may not stand in its place:
+//! `read_report` takes exactly the texts of reports by the rules, as `write_report` of bf_report writes them, one spelling
+//! a report. It looks at the lines in order, and answers the first that may not stand in its place:
 //!
 //! - `held` gives the bytes of a device one by one, over a room that is filled by few reads;
 //! - `line` takes a line off them;
@@ -15,9 +15,11 @@ mod fault;
 mod field;
 mod held;
 mod interval;
+mod laws;
 mod line;
 mod reading;
 mod value;
 
 pub use fault::ReportFault;
+pub use laws::no_two_reports_have_one_text;
 pub use reading::read_report;

@@ -1,7 +1,7 @@
 //! Lines, taken off a device.
-ghost use Rattle.std.specs.Prelude.{◌≡◌, ◌++◌, ◌∷◌, ◌⊎◌, [], IfOk, OnOk, IfErr};
+ghost use Rattle.std.specs.Prelude.{◌≡◌, ◌++◌, ◌∷◌, [], IfOk, OnOk, IfErr};
 ghost use Rattle.bf_reader.specs.Held.{ahead, Tallies, Breaks};
-ghost use Rattle.bf_reader.specs.Faults.{Came, IsInLine};
+ghost use Rattle.bf_reader.specs.Faults.{Came, IsInLine, IsFromOutside};
 
 use crate::fault::ReportFault;
 use crate::held::Held;
@@ -34,10 +34,12 @@ pub(crate) fn next_line<R: Read>(
     device: &mut R,
     line: &mut Vec<u8>,
 ) -> Result<LineEnd, ReportFault>
-    ensures came { IfOk result (λ end. Came end (ahead held.old (R.left device.old)) (ahead held.new (R.left device.new)) line.new.items) }
+    ensures came { IfOk result (λ end. Came end (ahead held.old (R.left device.old))
+        (ahead held.new (R.left device.new)) line.new.items) }
     ensures in_line { IfOk result (λ _. IsInLine line.new.items) }
-    ensures fault { IfErr result (λ fault. (fault ≡ ReportFault.Io) ⊎ (fault ≡ ReportFault.OutOfMemory)) }
-    ensures tallied { OnOk result (Tallies held.old.interruptions (R.interruptions device.old) (R.failures device.old)
+    ensures fault { IfErr result IsFromOutside }
+    ensures tallied { OnOk result (Tallies
+        held.old.interruptions (R.interruptions device.old) (R.failures device.old)
         held.new.interruptions (R.interruptions device.new) (R.failures device.new)) }
     ensures halted { IfErr result (λ fault. fault ≡ ReportFault.Io
         → Breaks held.old.interruptions (R.interruptions device.old) (R.failures device.old)

@@ -1,14 +1,15 @@
 //! Reports from devices.
-ghost use Rattle.std.specs.Prelude.{◌≡◌, ◌<◌, ◌+◌, ◌++◌, ◌∷◌, [], IfOk, OnOk, IfErr, IfSome, codes, true, if◌then◌else◌};
+ghost use Rattle.std.specs.Prelude.{◌≡◌, ◌≢◌, ◌<◌, ◌+◌, ◌++◌, ◌∷◌, [], List, ℕ, IfOk, OnOk, IfErr, IfSome, IfNone, codes, if◌then◌else◌};
 ghost use Rattle.std.specs.Io.KnownBytes.{Consumes};
-ghost use Rattle.bf_read.specs.Fields.{is_id as id_text};
 ghost use Rattle.bf_report.specs.Device.{HasHalted};
 ghost use Rattle.bf_report.specs.Report.{report_text};
+ghost use Rattle.bf_reader.specs.Reads.{IsWord, Finds};
 ghost use Rattle.bf_reader.specs.Held.{held_bytes, ahead, Tallies, Breaks};
 ghost use Rattle.bf_reader.specs.Beginning.{IsCounted, IsSmall, so_far, opening_text};
 ghost use Rattle.bf_reader.specs.Rules.{IsRuled, IsShownReport};
-ghost use Rattle.bf_reader.specs.Faults.{IsInLine, StopsAt, Tells, lines_in};
-ghost use Rattle.bf_reader.specs.Steps.{Steps, EndsBy, ReadsOn};
+ghost use Rattle.bf_reader.specs.Faults.{IsInLine, StopsAt, Tells, IsReportText, IsFromOutside, lines_in};
+ghost use Rattle.bf_reader.specs.Steps.{Steps, EntrySteps, EndsBy, ReadsOn};
+ghost use Rattle.bf_reader.specs.Extensions.{SaysDag, IsKnown};
 
 use crate::beginning::Beginning;
 use crate::entry::entry_in;
@@ -32,7 +33,8 @@ struct Lines {
 
 impl Lines {
     fn new(alloc: Global) -> Result<Lines, OutOfMemory>
-        ensures { IfOk result (λ lines. (held_bytes lines.held ≡ []) × (lines.held.interruptions ≡ 0) × (lines.number ≡ 0)) }
+        ensures { IfOk result (λ lines.
+            (held_bytes lines.held ≡ []) × (lines.held.interruptions ≡ 0) × (lines.number ≡ 0)) }
     {
         Ok(Lines {
             held: Held::new(alloc)?,
@@ -44,15 +46,18 @@ impl Lines {
     /// Reads the next line.
     fn read<R: Read>(&mut self, device: &mut R) -> Result<(), ReportFault>
         requires { self.old.number < 30_000_000_000 }
-        ensures line { OnOk result (Consumes (ahead self.old.held (R.left device.old)) (ahead self.new.held (R.left device.new))
-            (self.new.line.items ++ 10 ∷ [])) }
+        ensures line { OnOk result (Consumes (ahead self.old.held (R.left device.old))
+            (ahead self.new.held (R.left device.new)) (self.new.line.items ++ 10 ∷ [])) }
         ensures in_line { OnOk result (IsInLine self.new.line.items) }
-        ensures stops { IfErr result (λ fault. IfSome (ahead self.old.held (R.left device.old)) (StopsAt fault (self.old.number + 1))) }
+        ensures stops { IfErr result (λ fault.
+            IfSome (ahead self.old.held (R.left device.old)) (StopsAt fault (self.old.number + 1))) }
         ensures number { OnOk result (self.new.number ≡ self.old.number + 1) }
-        ensures tallied { OnOk result (Tallies self.old.held.interruptions (R.interruptions device.old) (R.failures device.old)
+        ensures tallied { OnOk result (Tallies
+            self.old.held.interruptions (R.interruptions device.old) (R.failures device.old)
             self.new.held.interruptions (R.interruptions device.new) (R.failures device.new)) }
         ensures halted { IfErr result (λ fault. fault ≡ ReportFault.Io
-            → Breaks self.old.held.interruptions (R.interruptions device.old) (R.failures device.old)
+            → Breaks self.old.held.interruptions
+            (R.interruptions device.old) (R.failures device.old)
             (R.interruptions device.new) (R.failures device.new)) }
     {
         self.number += 1;
@@ -66,7 +71,9 @@ impl Lines {
 
 /// What stands behind a word and a space.
 fn after_word<'a>(text: &'a [u8], word: &[u8]) -> Option<&'a [u8]>
-    ensures { IfSome result (λ rest. text.now ≡ word.now ++ 32 ∷ rest.now) }
+    ensures some { IfSome result (λ rest. text.now ≡ word.now ++ 32 ∷ rest.now) }
+    ensures none { IfNone result (IsWord word.now →
+        (rest : List ℕ) → text.now ≢ word.now ++ 32 ∷ rest) }
 {
     let (first, rest) = split_field(text)?;
     if first == word { Some(rest) } else { None }
@@ -74,8 +81,8 @@ fn after_word<'a>(text: &'a [u8], word: &[u8]) -> Option<&'a [u8]>
 
 /// The dag id that the first line says.
 fn head_in(alloc: Global, line: &[u8]) -> Result<Option<Text>, OutOfMemory>
-    ensures id { IfOk result (λ o. IfSome o (λ id. id_text id ≡ true)) }
-    ensures text { IfOk result (λ o. IfSome o (λ id. line.now ≡ codes "@backfill" ++ 32 ∷ (codes "1" ++ 32 ∷ id))) }
+    ensures some { IfOk result (λ o. IfSome o (SaysDag line.now)) }
+    ensures every { IfOk result (Finds (SaysDag line.now)) }
 {
     let Some(rest) = after_word(line, b"@backfill".as_slice()) else {
         return Ok(None);
@@ -108,7 +115,8 @@ fn read_run(alloc: Global, beginning: &mut Beginning, text: &[u8]) -> Result<Ste
     requires counted { IsCounted beginning.old }
     requires small { IsSmall beginning.old }
     requires ruled { IsRuled beginning.old }
-    ensures { IfOk result (λ step. Steps step beginning.old (codes "@run" ++ 32 ∷ text.now) beginning.new) }
+    ensures { IfOk result (λ step.
+        Steps step beginning.old (codes "@run" ++ 32 ∷ text.now) beginning.new) }
 {
     let Some((interval, state)) = run_in(text) else {
         return Ok(Step::Refused);
@@ -130,7 +138,7 @@ fn read_task(
     requires counted { IsCounted beginning.old }
     requires small { IsSmall beginning.old }
     requires ruled { IsRuled beginning.old }
-    ensures { IfOk result (λ step. Steps step beginning.old (id.now ++ 32 ∷ text.now) beginning.new) }
+    ensures { IfOk result (λ step. EntrySteps step beginning.old id.now text.now beginning.new) }
 {
     let Ok(id) = std::str::from_utf8(id) else {
         return Ok(Step::Refused);
@@ -143,6 +151,7 @@ fn read_task(
 
 /// Whether the report may end here, with this number of runs.
 fn read_end(beginning: &Beginning, text: &[u8]) -> Step
+    requires ruled { IsRuled beginning.now }
     ensures { EndsBy result beginning.now text.now }
 {
     match number_in(text) {
@@ -158,12 +167,16 @@ fn read_line(alloc: Global, beginning: &mut Beginning, line: &[u8]) -> Result<St
     requires ruled { IsRuled beginning.old }
     ensures { IfOk result (λ step. Steps step beginning.old line.now beginning.new) }
 {
-    match split_field(line) {
-        Some((b"@run", text)) => read_run(alloc, beginning, text),
-        Some((b"@end", text)) => Ok(read_end(beginning, text)),
-        Some((id, text)) => read_task(alloc, beginning, id, text),
-        None => Ok(Step::Refused),
+    let Some((first, text)) = split_field(line) else {
+        return Ok(Step::Refused);
+    };
+    if first == b"@run".as_slice() {
+        return read_run(alloc, beginning, text);
     }
+    if first == b"@end".as_slice() {
+        return Ok(read_end(beginning, text));
+    }
+    read_task(alloc, beginning, first, text)
 }
 
 /// Reads the lines behind the head, up to the end.
@@ -176,16 +189,19 @@ fn read_lines<R: Read>(
     requires counted { IsCounted beginning.old }
     requires small { IsSmall beginning.old }
     requires ruled { IsRuled beginning.old }
+    requires known { IsKnown beginning.old }
     requires second { lines.old.number ≡ 1 }
     requires place { lines_in (opening_text (so_far beginning.old)) ≡ 1 }
-    ensures ok { OnOk result (ReadsOn (ahead lines.old.held (R.left device.old)) (ahead lines.new.held (R.left device.new))
+    ensures ok { OnOk result (ReadsOn
+        (ahead lines.old.held (R.left device.old)) (ahead lines.new.held (R.left device.new))
         (opening_text (so_far beginning.old)) (report_text (so_far beginning.new))) }
     ensures rules { OnOk result (IsShownReport (so_far beginning.new)) }
     ensures tells { IfErr result (λ fault. IfSome (ahead lines.old.held (R.left device.old))
         (λ bytes. Tells (opening_text (so_far beginning.old) ++ bytes) fault)) }
     ensures place { OnOk result (lines.new.number ≡ lines_in (report_text (so_far beginning.new))) }
     ensures number { OnOk result (lines.new.number < 30_000_000_000) }
-    ensures tallied { OnOk result (Tallies lines.old.held.interruptions (R.interruptions device.old) (R.failures device.old)
+    ensures tallied { OnOk result (Tallies
+        lines.old.held.interruptions (R.interruptions device.old) (R.failures device.old)
         lines.new.held.interruptions (R.interruptions device.new) (R.failures device.new)) }
     ensures halted { IfErr result (λ fault. fault ≡ ReportFault.Io
         → Breaks lines.old.held.interruptions (R.interruptions device.old) (R.failures device.old)
@@ -203,10 +219,14 @@ fn read_lines<R: Read>(
 
 /// Reads a report from a device, up to its last byte. After a fault what was read is lost.
 pub fn read_report<R: Read>(alloc: Global, device: &mut R) -> Result<Report, ReportFault>
-    ensures ok { IfOk result (λ report. IfSome (R.left device.old) (λ bytes. bytes ≡ report_text report)) }
+    ensures ok { IfOk result (λ report.
+        IfSome (R.left device.old) (λ bytes. bytes ≡ report_text report)) }
     ensures rules { IfOk result IsShownReport }
     ensures err { IfErr result (λ fault. IfSome (R.left device.old) (λ bytes. Tells bytes fault)) }
-    ensures io { IfErr result (λ fault. fault ≡ ReportFault.Io → HasHalted (R.failures device.old) (R.failures device.new)
+    ensures reads { IfErr result (λ fault.
+        IfSome (R.left device.old) (λ bytes. IsReportText bytes → IsFromOutside fault)) }
+    ensures io { IfErr result (λ fault. fault ≡ ReportFault.Io → HasHalted
+        (R.failures device.old) (R.failures device.new)
         (R.interruptions device.old) (R.interruptions device.new)) }
 {
     let mut lines = Lines::new(alloc)?;

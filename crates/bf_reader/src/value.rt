@@ -1,6 +1,7 @@
 //! What a line says of how an instance ended.
-ghost use Rattle.std.specs.Prelude.{◌≡◌, IfOk, IfSome, codes};
+ghost use Rattle.std.specs.Prelude.{◌≡◌, ◌≢◌, IfOk, IfSome, codes};
 ghost use Rattle.bf_value.specs.Json.{text_of as text_by};
+ghost use Rattle.bf_reader.specs.Reads.{Spells, Finds};
 ghost use Rattle.bf_reader.specs.Entries.{IsShownValue, SaysOutcome};
 
 use bf_value::{LineFault, OutOfMemory, Xval, read_line, text_of};
@@ -12,7 +13,8 @@ pub(crate) const LONGEST_VALUE: usize = 65_536;
 
 /// The value that has this compact JSON text.
 fn value_in(alloc: Global, text: &[u8]) -> Result<Option<Xval>, OutOfMemory>
-    ensures { IfOk result (λ o. IfSome o (λ value. IsShownValue value × (text.now ≡ text_by value))) }
+    ensures some { IfOk result (λ o. IfSome o (Spells IsShownValue text_by text.now)) }
+    ensures every { IfOk result (Finds (Spells IsShownValue text_by text.now)) }
 {
     if text.len() > LONGEST_VALUE {
         return Ok(None);
@@ -32,7 +34,8 @@ fn value_in(alloc: Global, text: &[u8]) -> Result<Option<Xval>, OutOfMemory>
 
 /// How an instance ended that pushed nothing.
 fn bare_outcome_in(state: &[u8]) -> Option<Outcome>
-    ensures { IfSome result (SaysOutcome state.now (codes "-")) }
+    ensures some { IfSome result (SaysOutcome state.now (codes "-")) }
+    ensures every { Finds (SaysOutcome state.now (codes "-")) result }
 {
     match state {
         b"success" => Some(Outcome::Success(None)),
@@ -44,7 +47,9 @@ fn bare_outcome_in(state: &[u8]) -> Option<Outcome>
 
 /// How an instance ended that pushed a value.
 fn pushing_outcome_in(alloc: Global, value: &[u8]) -> Result<Option<Outcome>, OutOfMemory>
-    ensures { IfOk result (λ o. IfSome o (SaysOutcome (codes "success") value.now)) }
+    ensures some { IfOk result (λ o. IfSome o (SaysOutcome (codes "success") value.now)) }
+    ensures every { IfOk result (λ o.
+        value.now ≢ codes "-" → Finds (SaysOutcome (codes "success") value.now) o) }
 {
     match value_in(alloc, value)? {
         Some(value) => Ok(Some(Outcome::Success(Some(value)))),
@@ -58,7 +63,8 @@ pub(crate) fn outcome_in(
     state: &[u8],
     value: &[u8],
 ) -> Result<Option<Outcome>, OutOfMemory>
-    ensures { IfOk result (λ o. IfSome o (SaysOutcome state.now value.now)) }
+    ensures some { IfOk result (λ o. IfSome o (SaysOutcome state.now value.now)) }
+    ensures every { IfOk result (Finds (SaysOutcome state.now value.now)) }
 {
     if value == b"-".as_slice() {
         return Ok(bare_outcome_in(state));
