@@ -18,7 +18,7 @@ use crate::tasks::tasks_of;
 use bf_cron::CronSpec;
 use bf_graph::{Graph, Ids};
 use bf_read::Draft;
-use bf_value::Sequence;
+use bf_value::{OutOfMemory, Sequence};
 use bf_zone::Zone;
 use std::alloc::Global;
 
@@ -44,26 +44,6 @@ fn limits_in_order(alloc: Global, draft: &Draft) -> Result<Limits, CheckFault>
     let limits = limits_of(alloc, draft)?;
     refuse_bad_rules(alloc, draft)?;
     Ok(limits)
-}
-
-/// What a plan has beside its tasks and its schedule.
-#[derive(Drop)]
-struct Parts {
-    graph: Graph,
-    limits: Limits,
-}
-
-fn parts_in_order(alloc: Global, ids: &Ids, draft: &Draft) -> Result<Parts, CheckFault>
-    requires { ids.now ≡ ids_of draft.now.tasks }
-    ensures graph { IfOk result (λ parts. parts.graph ≡ shape_in draft.now.tasks) }
-    ensures limits { IfOk result (λ parts. parts.limits ≡ limits_in draft.now) }
-    ensures ranking { OnOk result (Ranking (shape_in draft.now.tasks).upstreams) }
-    ensures ok { OnOk result (HasNoneBelow draft.now 14) }
-    ensures fault { IfErr result (IsEarlyFaultOf draft.now) }
-{
-    let graph = graph_in_order(alloc, ids, draft)?;
-    let limits = limits_in_order(alloc, draft)?;
-    Ok(Parts { graph, limits })
 }
 
 /// Refuses a draft in which what a task pulls, its source or its kind doesn't fit it.
@@ -117,6 +97,52 @@ fn timing_in_order(
     Ok(timing)
 }
 
+/// What a plan has beside its tasks, and the zone of its schedule.
+#[derive(Drop)]
+struct Parts {
+    graph: Graph,
+    limits: Limits,
+    timing: Timing,
+}
+
+fn parts_in_order(
+    alloc: Global,
+    ids: &Ids,
+    draft: &Draft,
+    zone_file: Option<&[u8]>,
+) -> Result<Parts, CheckFault>
+    requires { ids.now ≡ ids_of draft.now.tasks }
+    ensures graph { IfOk result (λ parts. parts.graph ≡ shape_in draft.now.tasks) }
+    ensures limits { IfOk result (λ parts. parts.limits ≡ limits_in draft.now) }
+    ensures schedule { IfOk result (λ parts. Fires draft.now.schedule parts.timing.schedule) }
+    ensures zone { IfOk result (λ parts. IsZoneFor draft.now.zone (option_map (λ s. s.now) zone_file.entry) parts.timing.zone) }
+    ensures ranking { OnOk result (Ranking (shape_in draft.now.tasks).upstreams) }
+    ensures ok { OnOk result (HasNoFault draft.now) }
+    ensures settled { OnOk result (AllMayPull draft.now) }
+    ensures fault { IfErr result (IsFaultOf draft.now (option_map (λ s. s.now) zone_file.entry)) }
+{
+    let graph = graph_in_order(alloc, ids, draft)?;
+    let limits = limits_in_order(alloc, draft)?;
+    let timing = timing_in_order(alloc, ids, draft, zone_file)?;
+    Ok(Parts {
+        graph,
+        limits,
+        timing,
+    })
+}
+
+/// What the recursion over dates reads of a draft.
+fn dag_in(alloc: Global, ids: &Ids, draft: Draft) -> Result<Dag, OutOfMemory>
+    requires { ids.now ≡ ids_of draft.tasks }
+    ensures { IfOk result (λ dag. dag ≡ dag_of draft) }
+{
+    let tasks = tasks_of(alloc, ids, draft.tasks)?;
+    Ok(Dag {
+        id: draft.dag_id,
+        tasks: Sequence::from_vec(tasks),
+    })
+}
+
 /// The plan of a draft and the zone of its schedule, or of its faults the one of the least number; of the tasks that have it
 /// the first in the file is named. The bytes of a zone file are looked at only where the zone is `file`.
 pub fn check(
@@ -132,12 +158,8 @@ pub fn check(
     ensures fault { IfErr result (IsFaultOf draft (option_map (λ s. s.now) zone_file.entry)) }
 {
     let ids = numbered(alloc, &draft)?;
-    let Parts { graph, limits } = parts_in_order(alloc, &ids, &draft)?;
-    let Timing { schedule, zone } = timing_in_order(alloc, &ids, &draft, zone_file)?;
-    let tasks = tasks_of(alloc, &ids, draft.tasks)?;
-    let dag = Dag {
-        id: draft.dag_id,
-        tasks: Sequence::from_vec(tasks),
-    };
-    Ok((Plan::new(dag, limits, schedule, graph), zone))
+    let parts = parts_in_order(alloc, &ids, &draft, zone_file)?;
+    let dag = dag_in(alloc, &ids, draft)?;
+    let Timing { schedule, zone } = parts.timing;
+    Ok((Plan::new(dag, parts.limits, schedule, parts.graph), zone))
 }

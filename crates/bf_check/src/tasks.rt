@@ -2,8 +2,8 @@
 ghost use Rattle.std.specs.Prelude.{◌≡◌, ◌<◌, ◌≤◌, length, map, All, position, unwrap_or, IfOk, IfSome};
 ghost use Rattle.std.specs.Str.{bytes_eq};
 ghost use Rattle.bf_read.specs.declared.draft.TheConstants.{MOST_PULLS};
-ghost use Rattle.bf_read.specs.Drafts.{IsTask};
-ghost use Rattle.bf_check.specs.Checking.{task_in, word_in};
+ghost use Rattle.bf_read.specs.Drafts.{IsTask, pulled_in};
+ghost use Rattle.bf_check.specs.Checking.{number_or_0, task_in, word_in};
 
 use crate::edges::numbers_of;
 use crate::plan::{Task, Word};
@@ -58,26 +58,47 @@ fn words_of(
     Ok(words)
 }
 
+/// What a task stands on by numbers, and the ids that it pulls from.
+#[derive(Drop)]
+struct Links {
+    upstreams: Vec<u32>,
+    pulled: Vec<Text>,
+    pulls: Vec<u32>,
+}
+
+fn links_of(alloc: Global, ids: &Ids, draft: &TaskDraft) -> Result<Links, OutOfMemory>
+    ensures upstreams { IfOk result (λ links. links.upstreams.items ≡ map (number_or_0 ids.now) draft.now.upstreams) }
+    ensures pulled { IfOk result (λ links. links.pulled.items ≡ pulled_in draft.now.command) }
+    ensures pulls { IfOk result (λ links. links.pulls.items ≡ map (number_or_0 ids.now) (pulled_in draft.now.command)) }
+{
+    let upstreams = numbers_of(alloc, ids, draft.upstreams.as_slice())?;
+    let pulled = pulls_of(alloc, draft.command.as_slice())?;
+    let pulls = numbers_of(alloc, ids, pulled.as_slice())?;
+    Ok(Links {
+        upstreams,
+        pulled,
+        pulls,
+    })
+}
+
 /// A task of a plan.
 fn task_of(alloc: Global, ids: &Ids, draft: TaskDraft) -> Result<Task, OutOfMemory>
     requires { IsTask draft }
     ensures { IfOk result (λ task. task ≡ task_in ids.now draft) }
 {
     let rule = rule_of(&draft);
-    let upstreams = numbers_of(alloc, ids, draft.upstreams.as_slice())?;
-    let pulled = pulls_of(alloc, draft.command.as_slice())?;
-    let pulls = numbers_of(alloc, ids, pulled.as_slice())?;
+    let links = links_of(alloc, ids, &draft)?;
+    let command = words_of(alloc, links.pulled.as_slice(), draft.command)?;
     let expand = draft
         .expand
         .map(|id| ids.number_of(id.as_str()).unwrap_or(0));
-    let command = words_of(alloc, pulled.as_slice(), draft.command)?;
     Ok(Task {
         id: draft.id,
-        upstreams: Sequence::from_vec(upstreams),
+        upstreams: Sequence::from_vec(links.upstreams),
         rule,
         kind: draft.kind,
         command: Sequence::from_vec(command),
-        pulls: Sequence::from_vec(pulls),
+        pulls: Sequence::from_vec(links.pulls),
         expand,
         depends_on_past: draft.depends_on_past,
         retries: draft.retries,
