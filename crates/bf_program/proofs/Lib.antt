@@ -1,4 +1,3 @@
-pub mod Rows
 pub mod FoundFiles
 pub mod Ends
 pub mod Over

@@ -7,19 +7,19 @@ use Rattle.jiff.specs.declared.timestamp.Timestamp.{Timestamp}
 use Rattle.bf_zone.specs.declared.zone.TheConstants.{MOST_FILE_BYTES}
 use Rattle.bf_moment.specs.Moment.{Spells, nearest}
 use Rattle.bf_report.specs.Device.{sent}
-use Rattle.bf_program.specs.declared.forms.Asked.{Asked}
-use Rattle.bf_program.specs.declared.forms.Asked.TheVariants.{Check, Dry, List as Intervals, Single}
-use Rattle.bf_program.specs.declared.forms.DryAsked.{DryAsked}
-use Rattle.bf_program.specs.declared.forms.GraphAsked.{GraphAsked}
-use Rattle.bf_program.specs.declared.forms.ListAsked.{ListAsked}
-use Rattle.bf_program.specs.declared.forms.SingleAsked.{SingleAsked}
+use Rattle.bf_line.specs.declared.forms.Asked.{Asked}
+use Rattle.bf_line.specs.declared.forms.Asked.TheVariants.{Check, Dry, List as Intervals, Single}
+use Rattle.bf_line.specs.declared.forms.DryAsked.{DryAsked}
+use Rattle.bf_line.specs.declared.forms.GraphAsked.{GraphAsked}
+use Rattle.bf_line.specs.declared.forms.ListAsked.{ListAsked}
+use Rattle.bf_line.specs.declared.forms.SingleAsked.{SingleAsked}
 use Rattle.bf_program.specs.declared.graphs.GraphSize.{GraphSize}
 use Rattle.bf_program.specs.declared.input.TheConstants.{LONGEST_FILE}
 use Rattle.bf_program.specs.declared.refusal.CommandFault.{CommandFault}
 use Rattle.bf_program.specs.declared.refusal.CommandFault.TheVariants.{Plan, Run, List as Listing, BadMoment, OutOfMemory, CannotRead, CannotWrite}
 use Rattle.bf_program.specs.declared.status.Status.{Status}
-use Rattle.bf_program.specs.Asked.{IsAskedBy}
-use Rattle.bf_program.specs.CommandLine.{backfill_app}
+use Rattle.bf_line.specs.Asked.{IsAskedBy}
+use Rattle.bf_line.specs.CommandLine.{backfill_app}
 use Rattle.bf_program.specs.DatedRuns.{IsFaultOfDry, IsReportedIn}
 use Rattle.bf_program.specs.Graphs.{IsFaultIn, IsSizeOf}
 use Rattle.bf_program.specs.Lists.{IsFaultOfList, IsListed}

@@ -1,5 +1,3 @@
-pub mod CommandLine
-pub mod Asked
 pub mod Source
 pub mod Stored
 pub mod Refusal

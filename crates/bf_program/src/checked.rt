@@ -3,7 +3,7 @@ ghost use Rattle.std.specs.Prelude.{◌≡◌, IfOk, IfErr, IsSome, string_bytes
 ghost use Rattle.bf_program.specs.Commands.{IsCheckAnswer, IsCheckFault, size_text};
 ghost use Rattle.bf_program.specs.Refusal.{number_of};
 
-use crate::forms::GraphAsked;
+use bf_line::GraphAsked;
 use crate::graphs::{GraphSize, check_graph};
 use crate::input::graph_files;
 use crate::refusal::CommandFault;

@@ -4,7 +4,7 @@ ghost use Rattle.bf_program.specs.Commands.{IsDryAnswer, IsDryFault};
 ghost use Rattle.bf_program.specs.Refusal.{number_of};
 
 use crate::dated_runs::run_dry;
-use crate::forms::DryAsked;
+use bf_line::DryAsked;
 use crate::input::{LONGEST_FILE, file_bytes, graph_files, moment_of};
 use crate::refusal::CommandFault;
 use crate::source::Source;

@@ -3,7 +3,7 @@ ghost use Rattle.std.specs.Prelude.{◌≡◌, ◌<◌, ◌^◌, ◌⊎◌, ℕ,
 ghost use Rattle.bf_program.specs.Commands.{AreHeld, IsNoMoment, IsReadFault, Means};
 ghost use Rattle.bf_program.specs.Source.{IsWholeUpTo};
 
-use crate::forms::GraphAsked;
+use bf_line::GraphAsked;
 use crate::refusal::CommandFault;
 use crate::source::{Source, SourceFault};
 use bf_report::moment_in;

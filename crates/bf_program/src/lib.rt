@@ -1,12 +1,10 @@
-//! The command line, the files that it names, and what the program prints of them.
+//! What each command makes of the files that the line names, and what the program prints of it.
 #![tactic(auto)]
 
 mod checked;
-mod command;
 mod dated_runs;
 mod disk;
 mod dry;
-pub mod forms;
 mod graphs;
 mod input;
 mod laws;
@@ -15,7 +13,6 @@ mod listing;
 mod one_run;
 mod over_table;
 mod program;
-mod reading;
 mod refusal;
 mod single;
 mod source;
@@ -30,7 +27,6 @@ pub use listing::{ListFault, run_list};
 pub use one_run::run_single;
 pub use over_table::RunFault;
 pub use program::answer;
-pub use reading::asked;
 pub use refusal::CommandFault;
 pub use source::{Source, SourceFault};
 pub use status::Status;

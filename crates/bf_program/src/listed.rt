@@ -3,7 +3,7 @@ ghost use Rattle.std.specs.Prelude.{◌≡◌, IfOk, IfErr, IsSome};
 ghost use Rattle.bf_program.specs.Commands.{IsListAnswer, IsListFault};
 ghost use Rattle.bf_program.specs.Refusal.{number_of};
 
-use crate::forms::ListAsked;
+use bf_line::ListAsked;
 use crate::input::{graph_files, moment_of};
 use crate::listing::run_list;
 use crate::refusal::CommandFault;

@@ -7,9 +7,9 @@ ghost use Rattle.bf_program.specs.Status.{code_of, shown_as, EndsAs};
 
 use crate::checked::check_answered;
 use crate::dry::dry_answered;
-use crate::forms::Asked;
+use bf_line::Asked;
 use crate::listed::list_answered;
-use crate::reading::asked;
+use bf_line::asked;
 use crate::refusal::CommandFault;
 use crate::single::single_answered;
 use crate::source::Source;

@@ -3,7 +3,7 @@ ghost use Rattle.std.specs.Prelude.{◌≡◌, IfOk, IfErr, IsSome};
 ghost use Rattle.bf_program.specs.Commands.{IsSingleAnswer, IsSingleFault};
 ghost use Rattle.bf_program.specs.Refusal.{number_of};
 
-use crate::forms::SingleAsked;
+use bf_line::SingleAsked;
 use crate::input::{LONGEST_FILE, file_bytes, graph_files, moment_of};
 use crate::one_run::run_single;
 use crate::refusal::CommandFault;

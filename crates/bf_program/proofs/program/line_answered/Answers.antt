@@ -1,6 +1,6 @@
 use Rattle.std.proofs.Common.{◌≡◌, inr, refl}
 use Rattle.std.proofs.lemmas.Result.{IfErr-weaker, IfOk-weaker}
-use Rattle.bf_program.specs.declared.forms.Asked.{Asked}
+use Rattle.bf_line.specs.declared.forms.Asked.{Asked}
 use Rattle.bf_program.proofs.Ends.{shown_ends}
 use Rattle.bf_program.proofs.program.line_answered.Goals as goal
 

@@ -1,10 +1,10 @@
 -- What the matches of a command line ask for.
 use Rattle.std.specs.Prelude.{◌≡◌, List, Option, None, Some, codes, option_map, string_bytes}
 use Rattle.clap.specs.Words.{Row, Text, first_of}
-use Rattle.bf_program.specs.declared.forms.Asked.{Asked}
-use Rattle.bf_program.specs.declared.forms.Asked.TheVariants.{Check, Dry, List as Intervals, Single}
-use Rattle.bf_program.specs.declared.forms.GraphAsked.{GraphAsked}
-use Rattle.bf_program.specs.declared.forms.RangeAsked.{RangeAsked}
+use Rattle.bf_line.specs.declared.forms.Asked.{Asked}
+use Rattle.bf_line.specs.declared.forms.Asked.TheVariants.{Check, Dry, List as Intervals, Single}
+use Rattle.bf_line.specs.declared.forms.GraphAsked.{GraphAsked}
+use Rattle.bf_line.specs.declared.forms.RangeAsked.{RangeAsked}
 
 -- the paths of a graph file and of a zone file
 abbrev pub IsGraphBy : List Row → GraphAsked → Type 0

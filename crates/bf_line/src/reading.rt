@@ -1,8 +1,8 @@
 //! Reads a command line.
 ghost use Rattle.std.specs.Prelude.{◌≡◌, IfOk, map, option_map, string_bytes, Some, codes};
 ghost use Rattle.clap.specs.Words.{fault_of, FailsBy, subcommand_of, first_of, found_of, rows_of, subcommand_rows_of};
-ghost use Rattle.bf_program.specs.CommandLine.{backfill_app};
-ghost use Rattle.bf_program.specs.Asked.{IsAskedBy, IsGraphBy, IsRangeBy};
+ghost use Rattle.bf_line.specs.CommandLine.{backfill_app};
+ghost use Rattle.bf_line.specs.Asked.{IsAskedBy, IsGraphBy, IsRangeBy};
 
 use crate::command::backfill;
 use crate::forms::{Asked, DryAsked, GraphAsked, ListAsked, RangeAsked, SingleAsked};

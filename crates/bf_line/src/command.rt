@@ -2,7 +2,7 @@
 ghost use Rattle.std.specs.Prelude.{◌≡◌, IfOk, false};
 ghost use Rattle.clap.specs.Words.{app_of, rule_of};
 ghost use Rattle.clap.specs.declared.builder.command.Command.TheViews.{out-Command};
-ghost use Rattle.bf_program.specs.CommandLine.{backfill_app, looking_app, check_app, dry_app, dry_table_app, list_app, running_app, single_app, graph_rule, zone_file_rule, table_rule, at_rule, from_rule, to_rule};
+ghost use Rattle.bf_line.specs.CommandLine.{backfill_app, looking_app, check_app, dry_app, dry_table_app, list_app, running_app, single_app, graph_rule, zone_file_rule, table_rule, at_rule, from_rule, to_rule};
 
 use clap::{Arg, Command};
 use std::alloc::{AllocError, Global};
@@ -145,7 +145,7 @@ fn running<'a>(alloc: Global) -> Result<Command<'a>, AllocError>
 }
 
 /// The whole command line.
-pub fn backfill<'a>(alloc: Global) -> Result<Command<'a>, AllocError>
+pub(crate) fn backfill<'a>(alloc: Global) -> Result<Command<'a>, AllocError>
     ensures { IfOk result (λ c. app_of c ≡ backfill_app) }
 {
     running(alloc)?.subcommand(dry(alloc)?)
