@@ -58,6 +58,7 @@ fn is_one_of(ids: &Ids, tasks: &[u32], id: &str) -> bool
     }
 }
 
+/// Whether these are all ids of some of these tasks.
 fn are_some_of(ids: &Ids, tasks: &[u32], pulled: &[Text]) -> bool
     ensures { IsTrue result → (id : List ℕ) → Contains pulled.now id → HasTask ids.now tasks.now id }
 {
@@ -85,6 +86,7 @@ fn may_pull_all(
     ensures not_all { IfOk result (λ may. may ≡ false → (id : List ℕ) × Contains pulled.now id
         × ¬ (LeadsTo ids.now (lists settling.now) task id)) }
 {
+    // Most pulls are from direct upstreams, and need no walk.
     let direct = settling[task as usize].as_slice();
     if are_some_of(ids, direct, pulled) {
         return Ok(true);
