@@ -1,5 +1,5 @@
 -- What commands read of files that are told.
-use Rattle.std.proofs.Common.{◌≡◌, ℕ, List, Option, Some, IfSome, ap, ◌∙◌, subst}
+use Rattle.std.proofs.Common.{◌≡◌, ℕ, List, Option, Some, IfSome, ◌∙◌, subst}
 use Rattle.jiff.specs.declared.timestamp.Timestamp.{Timestamp}
 use Rattle.bf_program.specs.declared.input.TheConstants.{LONGEST_FILE}
 use Rattle.bf_program.specs.Commands.{Files, IsTableHeld, Means}

@@ -1,5 +1,5 @@
 -- What the bytes of a graph and of a table say, and the faults of runs of them.
-use Rattle.std.proofs.Common.{◌≡◌, ◌≢◌, ℕ, ℤ, List, Bool, true, Option, Result, Ok, Err, IfErr, refl}
+use Rattle.std.proofs.Common.{◌≡◌, ℕ, ℤ, List, Bool, true, Option, Result, Ok, Err, IfErr, refl}
 use Rattle.jiff.specs.declared.timestamp.Timestamp.{Timestamp}
 use Rattle.bf_check.specs.Checked.{Checked}
 use Rattle.bf_interval.specs.declared.fault.IntervalFault.{IntervalFault}

@@ -1,5 +1,5 @@
 -- A plan, a table and data intervals leave one report.
-use Rattle.std.proofs.Common.{◌≡◌, ℕ, Bool, List, Option, length, refl, sym, ap, ◌∙◌, subst}
+use Rattle.std.proofs.Common.{◌≡◌, ℕ, Bool, List, Option, length, sym, ap, ◌∙◌, subst}
 use Rattle.std.specs.FinMap as finite
 use Rattle.std.specs.List.{list_all}
 use Rattle.bf_check.specs.declared.plan.Dag.{Dag}

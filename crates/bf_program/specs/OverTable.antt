@@ -1,5 +1,5 @@
 -- What is reported of a backfill over a table: the recursion over dates, over what the table answers.
-use Rattle.std.specs.Prelude.{◌≡◌, ◌≢◌, ℕ, Bool, true, false, List, length, map, Option, Some, None, Ok, Err}
+use Rattle.std.specs.Prelude.{◌≡◌, ◌≢◌, ℕ, Bool, true, false, List, length, map, Option, Some, Ok, Err}
 use Rattle.std.specs.List.{list_all}
 use Rattle.std.specs.FinMap as finite
 use Rattle.bf_value.specs.declared.name.JobName.{JobName}
@@ -21,7 +21,7 @@ use Rattle.bf_report.specs.Dated.{IsDated}
 use Rattle.bf_report.specs.Device.{sent}
 use Rattle.bf_report.specs.Report.{report_text}
 use Rattle.bf_program.specs.declared.over_table.RunFault.{RunFault}
-use Rattle.bf_program.specs.declared.over_table.RunFault.TheVariants.{Plan, Table, Range, OutOfMemory, Write}
+use Rattle.bf_program.specs.declared.over_table.RunFault.TheVariants.{Table, OutOfMemory, Write}
 
 -- each outcome is the grade of what the table answers
 abbrev pub AreAnswered : Answering → Look → Type 0

@@ -1,4 +1,3 @@
-use Rattle.std.proofs.Common.{◌≡◌, refl, sym, ap, ◌∙◌}
 use Rattle.bf_program.proofs.checked.size_line.Goals as goal
 
 pub returns : goal.returns

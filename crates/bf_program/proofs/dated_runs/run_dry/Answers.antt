@@ -1,8 +1,7 @@
-use Rattle.std.proofs.Common.{All, List, Ok, Err, subst, sym, ◌∙◌}
+use Rattle.std.proofs.Common.{All, Ok, Err, subst, sym}
 use Rattle.std.proofs.lemmas.Result.{err_from_is_err_and, IfOk-weaker}
 use Rattle.jiff.specs.ZoneView.{plain_zone}
-use Rattle.bf_interval.specs.declared.interval.Interval.{Interval}
-use Rattle.bf_program.specs.Lists.{HasListing, IsSince1970}
+use Rattle.bf_program.specs.Lists.{IsSince1970}
 use Rattle.bf_program.proofs.Faults.{late_faults_in, range_fault, reported_in, table_fault_in}
 use Rattle.bf_program.proofs.ListedIntervals.{listing, since_1970}
 use Rattle.bf_program.proofs.dated_runs.run_dry.Goals as goal

@@ -1,4 +1,4 @@
-use Rattle.std.proofs.Common.{◌≡◌, refl, sym, ap, ◌∙◌}
+use Rattle.std.proofs.Common.{refl, ◌∙◌}
 use Rattle.std.proofs.lemmas.Result.{err_from_is_err_and}
 use Rattle.bf_program.specs.Lists.{IsFaultOfList, IsListed}
 use Rattle.bf_program.proofs.CommandFacts.{means_lent, of_held}

@@ -1,4 +1,4 @@
-use Rattle.std.proofs.Common.{◌≡◌, ℕ, subst, sym}
+use Rattle.std.proofs.Common.{ℕ, subst, sym}
 use Rattle.bf_program.specs.Commands.{IsDone, found_in}
 use Rattle.bf_program.proofs.Ends.{refused_why}
 use Rattle.bf_program.proofs.program.answer.Goals as goal

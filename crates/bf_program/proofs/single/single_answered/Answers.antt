@@ -1,4 +1,4 @@
-use Rattle.std.proofs.Common.{◌≡◌, ℕ, List, option_map, ◌∙◌, subst}
+use Rattle.std.proofs.Common.{ℕ, List, option_map, ◌∙◌, subst}
 use Rattle.std.proofs.lemmas.Result.{err_from_is_err_and}
 use Rattle.bf_program.specs.OneRun.{IsFaultOfSingle, IsReportedAt}
 use Rattle.bf_program.proofs.CommandFacts.{means_lent, of_held, table_read}
