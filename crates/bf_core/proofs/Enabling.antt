@@ -1,5 +1,5 @@
 -- When an event is enabled, and when it is refused.
-use Rattle.std.proofs.Common.{◌≡◌, ◌≢◌, ◌<◌, ◌≤◌, ◌+◌, ◌&&◌, ℕ, Bool, true, false, length, pred, Option, None, Some, Result, Ok, Err, IfErr, IsSome, is_some, nat_le, refl, sym, ap, ap₂, ◌∙◌, subst, arith}
+use Rattle.std.proofs.Common.{◌≡◌, ◌<◌, ◌≤◌, ◌+◌, ◌&&◌, ℕ, Bool, true, false, length, pred, Option, None, Some, Result, Ok, Err, IfErr, IsSome, is_some, nat_le, refl, sym, ap₂, ◌∙◌, subst, arith}
 use Rattle.std.proofs.lemmas.Bool.Decides.{nat_tests}
 use Rattle.bf_core.specs.Terms.{Dag, Limits, State, Event, JobName, Phase, Instance, Verdict, demand_of, pool_size, task_of}
 use Rattle.bf_core.specs.Deciding.{Decision, after_verdict, decision, gate}

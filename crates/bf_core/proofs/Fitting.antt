@@ -1,8 +1,7 @@
 -- Every state has few instances of each task, and what they came to is what their tries may come to.
-use Rattle.std.proofs.Common.{◌≡◌, ℕ, zero, suc, ◌≤◌, nat_le, Bool, true, false, ◌&&◌, if◌then◌else◌, List, [], ◌∷◌, length, map, Option, None, Some, refl, sym, ap, ◌∙◌, subst, inl, inr, arith}
+use Rattle.std.proofs.Common.{◌≡◌, ℕ, zero, suc, nat_le, Bool, true, false, ◌&&◌, if◌then◌else◌, List, [], ◌∷◌, length, map, Option, None, Some, refl, sym, subst, inl, inr, arith}
 use Rattle.std.specs.List.{AllByRecursion}
 use Rattle.std.proofs.lemmas.List.{length-map}
-use Rattle.bf_try.specs.Grades.{most_items}
 use Rattle.bf_core.specs.Terms.{Cell, Dag, Event, Given, Instance, Items, Limits, Outcome, Phase, RunPhase, State, TaskValue, Verdict, Xval, fits, is_failed, items, task_of}
 use Rattle.bf_core.specs.Deciding.{Decision, Seen, after_verdict, decision, gate, instances, mapped, pulled}
 use Rattle.bf_core.specs.Events.{IsEnabled, after, before_in, begun, cell_at, cell_of, change_at, change_instance, decision_in, ended, fresh, next_run, place_in, put, seen_in, with_phase}

@@ -1,8 +1,8 @@
 -- What a core keeps when an event comes.
-use Rattle.std.proofs.Common.{◌≡◌, ℕ, suc, zero, ◌++◌, List, [], ◌∷◌, length, Option, refl, sym, ap, ◌∙◌, subst, inl, inr, arith}
+use Rattle.std.proofs.Common.{◌≡◌, ℕ, ◌++◌, List, [], ◌∷◌, refl, ap, ◌∙◌, subst}
 use Rattle.bf_pool.specs.Slots.{Slots, occupied_of}
-use Rattle.bf_core.specs.Terms.{Dag, Limits, State, Cell, Instance, Event, Verdict, RunPhase, Xval, task_of}
-use Rattle.bf_core.specs.Events.{cell_at, cell_of, change_at, change_instance, begun, ended, put, with_phase, next_run, decision_in, place_in, after, occupied, IsEnabled, IsLegal, HasEnded, replay, seen_in, before_in}
+use Rattle.bf_core.specs.Terms.{Dag, Limits, State, Event}
+use Rattle.bf_core.specs.Events.{after, occupied, IsEnabled, IsLegal, HasEnded, replay}
 use Rattle.bf_core.specs.Agreement.{IsOutcome}
 use Rattle.bf_core.specs.Cores.{Backfill, moved, IsReplay, IsCore}
 use Rattle.bf_core.specs.Checks.{HasRows}

@@ -1,8 +1,8 @@
 -- Tasks without downstreams.
-use Rattle.std.proofs.Common.{◌≡◌, ℕ, ◌<◌, ◌==◌, ◌+◌, Bool, true, false, not, List, [], ◌∷◌, length, Contains, refl, sym, ap, ◌∙◌, subst, inl, inr, arith}
-use Rattle.std.specs.List.{list_any, slice_index_or}
+use Rattle.std.proofs.Common.{◌≡◌, ℕ, ◌<◌, ◌==◌, true, not, List, [], ◌∷◌, length, Contains, refl, sym, ap, ◌∙◌, subst, inl, inr, arith}
+use Rattle.std.specs.List.{list_any}
 use Rattle.std.proofs.lemmas.Bool.{cases_Bool, eqb-true, eq-eqb}
-use Rattle.bf_graph.specs.Edges.{upstreams_of, IsUpstream}
+use Rattle.bf_graph.specs.Edges.{IsUpstream}
 use Rattle.bf_graph.specs.Lookups.{IsRisingListOf}
 use Rattle.bf_graph.proofs.PathLemmas.{task_within}
 use Rattle.bf_check.specs.declared.plan.Task.{Task}

@@ -74,6 +74,20 @@ Refuses dag limits s e Illegal.NotEnabled = SpeaksOfThese dag s e × ¬ (IsDue d
 Refuses dag limits s e Illegal.NoRoom = IsDue dag limits s e × ¬ (IsEnabled dag limits s e)
 Refuses dag limits s e Illegal.OutOfMemory = Unit {0}
 
+-- ---- of a backfill
+
+-- the event may come now
+abbrev pub MayCome : Backfill → Event → Type 0
+MayCome b e = IsEnabled b.dag b.limits b.state e
+
+-- the event could come, and it has come
+abbrev pub HasCome : Backfill → Event → Backfill → Type 0
+HasCome old e new = MayCome old e × (new ≡ moved old e)
+
+-- why the event is refused
+abbrev pub IsRefusal : Backfill → Event → Illegal → Type 0
+IsRefusal b e fault = Refuses b.dag b.limits b.state e fault
+
 -- ---- what a core keeps
 
 pub record IsCore (b : Backfill) (pools : Slots) (rooms : ℕ) : Type 0 where

@@ -1,8 +1,8 @@
 //! The end of a try, and any event at all.
 ghost use Rattle.std.specs.Prelude.{◌≡◌, ◌<◌, ◌^◌, ◌+◌, length, OnOk, OnErr, IfOk, IfErr};
 ghost use Rattle.bf_core.specs.Terms.{task_of, demand_of, Phase, JobName as JobNameTerm, Entry as EntryTerm};
-ghost use Rattle.bf_core.specs.Events.{IsEnabled, IsPresent, cell_at, instance_of, given_in};
-ghost use Rattle.bf_core.specs.Cores.{moved, Refuses};
+ghost use Rattle.bf_core.specs.Events.{IsPresent, cell_at, instance_of, given_in};
+ghost use Rattle.bf_core.specs.Cores.{HasCome, IsRefusal, MayCome};
 ghost use Rattle.bf_core.specs.Endings.{IsEnding};
 
 use crate::checks::running;
@@ -26,7 +26,7 @@ impl<'a> Core<'a> {
     /// What the end of a try notes, keeps and gives back; refused where the try does not run or could not end so.
     fn ending(&self, name: JobName, outcome: &Outcome) -> Result<Ending, Illegal>
         ensures ok { IfOk result (λ e. IsEnding self.now name outcome.now e.entry e.kept e.demand e.retries e.place) }
-        ensures err { IfErr result (Refuses self.now.dag self.now.limits self.now.state (Event.End name outcome.now)) }
+        ensures err { IfErr result (IsRefusal self.now (Event.End name outcome.now)) }
     {
         let instance = running(self.plan.dag(), &self.state, name)?;
         if !fits(self.plan, name.task, outcome) {
@@ -46,8 +46,8 @@ impl<'a> Core<'a> {
 
     /// Ends a try: its slots are given back, and the ledger gets its entry.
     pub(crate) fn end(&mut self, name: JobName, outcome: Outcome) -> Result<(), Illegal>
-        ensures ok { OnOk result (IsEnabled self.old.dag self.old.limits self.old.state (Event.End name outcome) × (self.new ≡ moved self.old (Event.End name outcome))) }
-        ensures err { IfErr result (Refuses self.old.dag self.old.limits self.old.state (Event.End name outcome)) }
+        ensures ok { OnOk result (HasCome self.old (Event.End name outcome) self.new) }
+        ensures err { IfErr result (IsRefusal self.old (Event.End name outcome)) }
         ensures same { OnErr result (self.new ≡ self.old) }
     {
         let Ending {
@@ -75,9 +75,9 @@ impl<'a> Core<'a> {
     /// by `NotEnabled` where it may not come for another cause than want of room, else by `NoRoom`. Want of memory may
     /// stand in the place of any answer, and nothing else refuses an event that may come.
     pub fn apply(&mut self, event: Event) -> Result<(), Illegal>
-        ensures ok { OnOk result (IsEnabled self.old.dag self.old.limits self.old.state event × (self.new ≡ moved self.old event)) }
-        ensures err { IfErr result (Refuses self.old.dag self.old.limits self.old.state event) }
-        ensures memory { IsEnabled self.old.dag self.old.limits self.old.state event → IfErr result (λ fault. fault ≡ Illegal.OutOfMemory) }
+        ensures ok { OnOk result (HasCome self.old event self.new) }
+        ensures err { IfErr result (IsRefusal self.old event) }
+        ensures memory { MayCome self.old event → IfErr result (λ fault. fault ≡ Illegal.OutOfMemory) }
         ensures same { OnErr result (self.new ≡ self.old) }
     {
         let _replayed = self.journal();

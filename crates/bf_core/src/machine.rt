@@ -1,8 +1,8 @@
 //! The core: the state of a backfill, the events that led to it, and what one more event does.
 ghost use Rattle.std.specs.Prelude.{◌≡◌, ◌≤◌, ◌<◌, [], length, OnOk, OnErr, IfOk, IfErr};
 ghost use Rattle.bf_core.specs.Terms.{demand_of, Phase};
-ghost use Rattle.bf_core.specs.Events.{IsEnabled, start, next_run, decision_in, IsPresent};
-ghost use Rattle.bf_core.specs.Cores.{deciding, moved, opening, Refuses};
+ghost use Rattle.bf_core.specs.Events.{start, next_run, decision_in, IsPresent};
+ghost use Rattle.bf_core.specs.Cores.{deciding, opening, HasCome, IsRefusal, MayCome};
 
 use crate::checks::{closable, first_unopened_run, open_runs, undecided, waiting};
 use crate::deciding::{Decision, decide, gate, goes_on};
@@ -81,8 +81,8 @@ impl<'a> Core<'a> {
 
     /// Refuses `Open` where every run is opened, or as many are open as may be.
     fn next_to_open(&self) -> Result<u32, Illegal>
-        ensures ok { IfOk result (λ k. (k ≡ next_run self.now.state) × IsEnabled self.now.dag self.now.limits self.now.state Event.Open) }
-        ensures err { IfErr result (Refuses self.now.dag self.now.limits self.now.state Event.Open) }
+        ensures ok { IfOk result (λ k. (k ≡ next_run self.now.state) × MayCome self.now Event.Open) }
+        ensures err { IfErr result (IsRefusal self.now Event.Open) }
     {
         let runs = self.state.runs.as_slice();
         match first_unopened_run(runs) {
@@ -99,8 +99,8 @@ impl<'a> Core<'a> {
 
     /// Opens the next run.
     pub(crate) fn open(&mut self) -> Result<(), Illegal>
-        ensures ok { OnOk result (IsEnabled self.old.dag self.old.limits self.old.state Event.Open × (self.new ≡ moved self.old Event.Open)) }
-        ensures err { IfErr result (Refuses self.old.dag self.old.limits self.old.state Event.Open) }
+        ensures ok { OnOk result (HasCome self.old Event.Open self.new) }
+        ensures err { IfErr result (IsRefusal self.old Event.Open) }
         ensures same { OnErr result (self.new ≡ self.old) }
     {
         let run = self.next_to_open()?;
@@ -114,8 +114,8 @@ impl<'a> Core<'a> {
 impl<'a> Core<'a> {
     /// What is decided of a task now, which goes on to its expansion or does not, as is asked.
     fn decided(&self, run: u32, task: u32, expands: bool) -> Result<Decision, Illegal>
-        ensures ok { IfOk result (λ d. IsEnabled self.now.dag self.now.limits self.now.state (deciding expands run task) × (d ≡ decision_in self.now.dag self.now.state run task)) }
-        ensures err { IfErr result (Refuses self.now.dag self.now.limits self.now.state (deciding expands run task)) }
+        ensures ok { IfOk result (λ d. MayCome self.now (deciding expands run task) × (d ≡ decision_in self.now.dag self.now.state run task)) }
+        ensures err { IfErr result (IsRefusal self.now (deciding expands run task)) }
     {
         let dag = self.plan.dag();
         undecided(dag, &self.state, run, task)?;
@@ -132,8 +132,8 @@ impl<'a> Core<'a> {
 
     /// Decides a task: by its expansion, or without.
     pub(crate) fn decide(&mut self, run: u32, task: u32, expands: bool) -> Result<(), Illegal>
-        ensures ok { OnOk result (IsEnabled self.old.dag self.old.limits self.old.state (deciding expands run task) × (self.new ≡ moved self.old (deciding expands run task))) }
-        ensures err { IfErr result (Refuses self.old.dag self.old.limits self.old.state (deciding expands run task)) }
+        ensures ok { OnOk result (HasCome self.old (deciding expands run task) self.new) }
+        ensures err { IfErr result (IsRefusal self.old (deciding expands run task)) }
         ensures same { OnErr result (self.new ≡ self.old) }
     {
         let decision = self.decided(run, task, expands)?;
@@ -147,8 +147,8 @@ impl<'a> Core<'a> {
 
     /// Begins a try, which takes its task's slots.
     pub(crate) fn begin(&mut self, name: JobName) -> Result<(), Illegal>
-        ensures ok { OnOk result (IsEnabled self.old.dag self.old.limits self.old.state (Event.Begin name) × (self.new ≡ moved self.old (Event.Begin name))) }
-        ensures err { IfErr result (Refuses self.old.dag self.old.limits self.old.state (Event.Begin name)) }
+        ensures ok { OnOk result (HasCome self.old (Event.Begin name) self.new) }
+        ensures err { IfErr result (IsRefusal self.old (Event.Begin name)) }
         ensures same { OnErr result (self.new ≡ self.old) }
     {
         let demand = self.waiting_demand(name)?;
@@ -168,7 +168,7 @@ impl<'a> Core<'a> {
     /// What a try would take, refused where it does not wait.
     fn waiting_demand(&self, name: JobName) -> Result<Demand, Illegal>
         ensures ok { IfOk result (λ d. IsPresent self.now.dag self.now.state name Phase.Waiting × (d ≡ demand_of self.now.limits name.task) × (d.pool < length self.now.limits.pools)) }
-        ensures err { IfErr result (Refuses self.now.dag self.now.limits self.now.state (Event.Begin name)) }
+        ensures err { IfErr result (IsRefusal self.now (Event.Begin name)) }
     {
         waiting(self.plan.dag(), &self.state, name)?;
         Ok(self.plan.demand(name.task))
@@ -176,8 +176,8 @@ impl<'a> Core<'a> {
 
     /// Closes a run.
     pub(crate) fn close(&mut self, run: u32) -> Result<(), Illegal>
-        ensures ok { OnOk result (IsEnabled self.old.dag self.old.limits self.old.state (Event.Close run) × (self.new ≡ moved self.old (Event.Close run))) }
-        ensures err { IfErr result (Refuses self.old.dag self.old.limits self.old.state (Event.Close run)) }
+        ensures ok { OnOk result (HasCome self.old (Event.Close run) self.new) }
+        ensures err { IfErr result (IsRefusal self.old (Event.Close run)) }
         ensures same { OnErr result (self.new ≡ self.old) }
     {
         closable(self.plan.dag(), &self.state, run)?;

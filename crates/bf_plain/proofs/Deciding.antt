@@ -1,14 +1,12 @@
 -- A task whose turn has come is decided.
-use Rattle.std.proofs.Common.{◌≡◌, ◌≢◌, ◌<◌, ◌≤◌, ◌++◌, ℕ, zero, suc, Bool, true, false, List, [], ◌∷◌, length, Some, is_some, refl, sym, ap, ◌∙◌, subst, inl, inr, arith}
+use Rattle.std.proofs.Common.{◌≡◌, ◌≢◌, ◌<◌, ℕ, zero, suc, true, length, is_some, refl, sym, ap, ◌∙◌, subst, inl, inr, arith}
 use Rattle.bf_core.specs.Terms.{Dag, task_of}
 use Rattle.bf_core.specs.declared.state.Cell.{Cell}
 use Rattle.bf_core.specs.declared.event.Event.{Event}
-use Rattle.bf_core.specs.declared.state.Instance.{Instance}
 use Rattle.bf_core.specs.declared.state.RunPhase.{RunPhase}
-use Rattle.bf_core.specs.declared.state.State.{State}
 use Rattle.bf_core.specs.Cores.{Backfill, IsReplay, IsThere, deciding, moved}
 use Rattle.bf_core.specs.declared.deciding.Decision.{Decision}
-use Rattle.bf_core.specs.Events.{IsDecidable, IsEnabled, after, before_in, cell_at, cell_of, decision_in, goes_on, instance_of, occupied, phase_of, put, seen_in, value_in}
+use Rattle.bf_core.specs.Events.{IsDecidable, IsEnabled, before_in, cell_at, cell_of, decision_in, goes_on, instance_of, occupied, phase_of, put, seen_in, value_in}
 use Rattle.bf_core.proofs.Enabling.{after-deciding, able-decidable, decide-able}
 use Rattle.bf_core.proofs.Instances.{new-fresh}
 use Rattle.bf_core.proofs.Kept.{replay-shaped}
@@ -17,7 +15,7 @@ use Rattle.bf_core.proofs.Reading.{put-cases, put-there}
 use Rattle.bf_core.proofs.Shape.{open-run, put-phase, row_in}
 use Rattle.bf_core.proofs.Stuck.{all-in, proper-cell}
 use Rattle.bf_core.proofs.Taken.{decision-taken}
-use Rattle.bf_plain.specs.Driving.{AtInstance, IsFresh, IsIdle, IsKeptBut, IsNext, count_in}
+use Rattle.bf_plain.specs.Driving.{AtInstance, IsIdle, IsKeptBut, IsNext, count_in}
 
 -- the past of a task is known where the run before is closed
 past-known : (b : Backfill) → IsReplay b → (k t : ℕ) → t < length b.dag.tasks → ((j : ℕ) → k ≡ suc j → phase_of b.state j ≡ RunPhase.Closed) → k ≢ 0 → is_some (before_in b.state k t) ≡ true

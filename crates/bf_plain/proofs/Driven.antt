@@ -1,5 +1,5 @@
 -- What an event leaves of a backfill that is driven.
-use Rattle.std.proofs.Common.{◌≡◌, ℕ, Bool, true, false, [], Option, Some, None, refl, sym, ap, ◌∙◌, subst, inl, inr}
+use Rattle.std.proofs.Common.{◌≡◌, ℕ, Bool, true, false, Some, None, refl, sym, ◌∙◌, subst, inl, inr}
 use Rattle.std.specs.FinMap as map
 use Rattle.bf_check.specs.Sound.{AreLimits, IsSound}
 use Rattle.bf_try.specs.declared.answers.Raw.{Raw}

@@ -1,15 +1,14 @@
 -- One instance of a task after the other.
-use Rattle.std.proofs.Common.{◌≡◌, ◌≢◌, ◌⊎◌, ◌<◌, ◌≤◌, ◌+◌, ◌&&◌, ℕ, zero, suc, Bool, true, false, List, [], ◌∷◌, length, Option, None, Some, is_some, option_map, slice_get, refl, sym, ap, ◌∙◌, subst, inl, inr, arith}
+use Rattle.std.proofs.Common.{◌≡◌, ◌≢◌, ◌⊎◌, ◌<◌, ◌≤◌, ◌+◌, ℕ, zero, suc, true, List, [], ◌∷◌, length, Some, is_some, slice_get, refl, sym, ap, ◌∙◌, inl, inr, arith}
 use Rattle.std.specs.List.{list_all}
-use Rattle.bf_core.specs.Terms.{TaskValue}
 use Rattle.bf_core.specs.declared.state.Cell.{Cell}
 use Rattle.bf_core.specs.declared.state.Instance.{Instance}
 use Rattle.bf_core.specs.Cores.{Backfill}
-use Rattle.bf_core.specs.Events.{cell_at, instance_of, results, value_in}
+use Rattle.bf_core.specs.Events.{cell_at, instance_of, value_in}
 use Rattle.bf_core.specs.Words.{is_finished}
 use Rattle.bf_core.proofs.Known.{has-instance}
 use Rattle.bf_core.proofs.Sums.{finished_settled}
-use Rattle.bf_plain.specs.Driving.{AtInstance, HasFinished, HasPassed, IsFresh, IsKeptBut, IsReady, count_in}
+use Rattle.bf_plain.specs.Driving.{AtInstance, HasFinished, HasPassed, IsKeptBut, IsReady, count_in}
 
 in-list : (xs : List Instance) (i : ℕ) → i < length xs → (x : Instance) × (slice_get xs i ≡ Some x)
 in-list [] i l = absurd (omega (arith, l))

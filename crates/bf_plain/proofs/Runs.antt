@@ -1,21 +1,19 @@
 -- One run after the other.
-use Rattle.std.proofs.Common.{◌≡◌, ◌⊎◌, ◌<◌, ◌≤◌, ◌+◌, ℕ, zero, suc, if◌then◌else◌, List, [], ◌∷◌, length, Result, Ok, Err, OnOk, slice_get, slice_index_or, refl, sym, ap, ◌∙◌, subst, inl, inr, arith}
+use Rattle.std.proofs.Common.{◌≡◌, ◌⊎◌, ◌<◌, ◌≤◌, ◌+◌, ℕ, zero, suc, if◌then◌else◌, List, [], ◌∷◌, length, slice_index_or, refl, sym, ap, ◌∙◌, subst, inl, inr, arith}
 use Rattle.bf_check.specs.Sound.{AreLimits}
 use Rattle.bf_core.specs.Terms.{Dag, Limits}
-use Rattle.bf_core.specs.declared.state.Cell.{Cell}
 use Rattle.bf_core.specs.declared.event.Event.{Event}
 use Rattle.bf_core.specs.declared.state.Run.{Run}
 use Rattle.bf_core.specs.declared.state.RunPhase.{RunPhase}
-use Rattle.bf_core.specs.declared.state.State.{State}
 use Rattle.bf_core.specs.Cores.{Backfill, IsReplay, moved, opening}
-use Rattle.bf_core.specs.Events.{AllSettled, HasEnded, IsEnabled, after, cell_at, first_unopened, is_unopened, next_run, no_run, occupied, open_now, phase_in, phase_of, start, with_phase}
+use Rattle.bf_core.specs.Events.{AllSettled, HasEnded, IsEnabled, after, first_unopened, is_unopened, next_run, no_run, open_now, phase_in, phase_of, start, with_phase}
 use Rattle.bf_core.proofs.Kept.{replay-shaped}
 use Rattle.bf_core.proofs.Pools.{occupied-phase, start-occupied}
 use Rattle.bf_core.proofs.Reading.{with_phase-cell}
 use Rattle.bf_core.proofs.Shape.{open-run, phase-cases, phase-there}
 use Rattle.bf_core.proofs.Steps.{start-cell}
 use Rattle.bf_core.proofs.Stuck.{none-open}
-use Rattle.bf_plain.specs.Driving.{AtRun, AtTask, IsIdle}
+use Rattle.bf_plain.specs.Driving.{AtRun, AtTask}
 
 -- ---- the start
 

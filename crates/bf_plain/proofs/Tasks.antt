@@ -1,17 +1,14 @@
 -- The tasks of a run in their order.
-use Rattle.std.proofs.Common.{◌≡◌, ◌⊎◌, ◌<◌, ◌≤◌, ◌+◌, ℕ, suc, true, List, length, Some, is_some, slice_get, slice_index_or, le_refl, refl, sym, ap, ◌∙◌, subst, inl, inr, arith}
+use Rattle.std.proofs.Common.{◌≡◌, ◌⊎◌, ◌<◌, ◌+◌, ℕ, List, length, Some, is_some, slice_get, slice_index_or, le_refl, sym, ap, ◌∙◌, subst, inl, inr, arith}
 use Rattle.std.proofs.lemmas.List.{length-map}
 use Rattle.std.proofs.lemmas.Option.{slice_get-get_or, slice_get_within}
 use Rattle.bf_graph.specs.Order.{IsByRank, StandBehind}
 use Rattle.bf_check.specs.Plans.{shape_of}
 use Rattle.bf_check.proofs.PlanLemmas.{is_upstream}
-use Rattle.bf_core.specs.Terms.{Dag, Task, task_of}
-use Rattle.bf_core.specs.declared.state.Cell.{Cell}
-use Rattle.bf_core.specs.declared.event.Event.{Event}
-use Rattle.bf_core.specs.declared.state.RunPhase.{RunPhase}
+use Rattle.bf_core.specs.Terms.{Dag, Task}
 use Rattle.bf_core.specs.Cores.{Backfill}
-use Rattle.bf_core.specs.Events.{AllSettled, IsEnabled, cell_at, value_in}
-use Rattle.bf_plain.specs.Driving.{AtTask, HasPassed, IsNext, IsSettled}
+use Rattle.bf_core.specs.Events.{AllSettled, value_in}
+use Rattle.bf_plain.specs.Driving.{AtTask, HasPassed, IsNext}
 
 last-or : (j i : ℕ) → j < i + 1 → (j ≡ i) ⊎ (j < i)
 last-or j i l = grind arith

@@ -12,17 +12,16 @@ use Rattle.bf_core.specs.declared.state.Instance.{Instance}
 use Rattle.bf_core.specs.declared.state.Phase.{Phase}
 use Rattle.bf_core.specs.declared.state.State.{State}
 use Rattle.bf_core.specs.Cores.{Backfill, IsReplay, moved}
-use Rattle.bf_core.specs.Events.{IsEnabled, IsPresent, after, begun, cell_at, change_at, change_instance, ended, given_in, given_of, instance_of, occupied, phase_of, place_in, put}
+use Rattle.bf_core.specs.Events.{IsEnabled, IsPresent, after, begun, cell_at, change_at, change_instance, ended, given_in, given_of, instance_of, occupied, place_in, put}
 use Rattle.bf_core.specs.Words.{is_finished}
 use Rattle.bf_core.proofs.Enabling.{has-room, present-there}
-use Rattle.bf_core.proofs.Instances.{instance-cases, instance-here, instance-kept}
+use Rattle.bf_core.proofs.Instances.{instance-cases, instance-here}
 use Rattle.bf_core.proofs.Kept.{replay-event, replay-invariant, replay-rows, replay-shaped}
 use Rattle.bf_core.proofs.Known.{has-instance}
 use Rattle.bf_core.proofs.Pools.{le-from, occupied-begun, occupied-ended}
 use Rattle.bf_core.proofs.Reading.{put-here}
-use Rattle.bf_core.proofs.Shape.{put-phase}
 use Rattle.bf_core.proofs.Stuck.{placed-in}
-use Rattle.bf_plain.specs.Driving.{AtTry, HasFinished, HasTried, IsDriven, IsFresh, IsIdle, IsKeptBut, IsReady, IsTryReady, IsWaiting, count_in, given_of_waiting, given_waiting}
+use Rattle.bf_plain.specs.Driving.{AtTry, HasFinished, HasTried, IsDriven, IsIdle, IsKeptBut, IsReady, IsTryReady, IsWaiting, count_in, given_of_waiting, given_waiting}
 use Rattle.bf_plain.proofs.Deciding.{kept-put}
 use Rattle.bf_plain.proofs.Driven.{EndsGraded, driven-after}
 use Rattle.bf_plain.proofs.Instances.{kept-twice}

@@ -2,7 +2,7 @@
 use Rattle.std.specs.Prelude.{◌≡◌, ◌≢◌, ◌⊎◌, ℕ, suc, ◌<◌, ◌≤◌, true, List, length, Option, None, Some, is_some, slice_get}
 use Rattle.bf_check.specs.Sound.{AreLimits, IsOneOf}
 use Rattle.bf_try.specs.declared.answers.Raw.{Raw}
-use Rattle.bf_core.specs.Terms.{Dag, Entry, Given, JobName, Limits, Outcome, fits, task_of}
+use Rattle.bf_core.specs.Terms.{Dag, Given, JobName, Limits, Outcome, fits, task_of}
 use Rattle.bf_core.specs.declared.state.Cell.{Cell}
 use Rattle.bf_core.specs.declared.event.Event.{Event}
 use Rattle.bf_core.specs.declared.state.Instance.{Instance}

@@ -3,8 +3,8 @@ ghost use Rattle.std.specs.Prelude.{◌≡◌, ◌<◌, ◌≤◌, ◌+◌, leng
 ghost use Rattle.bf_graph.specs.Order.{IsByRank, StandBehind};
 ghost use Rattle.bf_check.specs.Plans.{shape_of};
 ghost use Rattle.bf_core.specs.Agreement.{AreRunStates, IsOutcome};
-ghost use Rattle.bf_core.specs.Cores.{IsJournal, IsThere, moved, opening};
-ghost use Rattle.bf_core.specs.Events.{HasEnded, IsEnabled, cell_at, entry_in, instance_of};
+ghost use Rattle.bf_core.specs.Cores.{IsJournal, IsThere, MayCome, moved, opening};
+ghost use Rattle.bf_core.specs.Events.{HasEnded, cell_at, entry_in, instance_of};
 ghost use Rattle.bf_core.specs.Answered.{AreGraded, MayFault};
 ghost use Rattle.bf_plain.specs.Driving.{AtRun, AtTask, HasFinished, HasPassed, HasTried, IsDriven, IsNext, IsReady, IsTryReady, count_in, given_waiting};
 
@@ -18,7 +18,7 @@ use std::alloc::Global;
 
 /// Lets an event come that may come, so that nothing but want of memory is in its way.
 fn advance(core: &mut Core<'_>, event: Event) -> Result<(), OutOfMemory>
-    requires { IsEnabled core.old.dag core.old.limits core.old.state event }
+    requires { MayCome core.old event }
     ensures { OnOk result (core.new ≡ moved core.old event) }
 {
     match core.apply(event) {

@@ -3,12 +3,12 @@ ghost use Rattle.std.specs.Prelude.{◌≡◌, IfOk, IfErr, IsSome, string_bytes
 ghost use Rattle.bf_program.specs.Commands.{IsCheckAnswer, IsCheckFault, size_text};
 ghost use Rattle.bf_program.specs.Refusal.{number_of};
 
-use bf_line::GraphAsked;
 use crate::graphs::{GraphSize, check_graph};
 use crate::input::graph_files;
 use crate::refusal::CommandFault;
 use crate::source::Source;
 use crate::status::Status;
+use bf_line::GraphAsked;
 use bf_report::{Write, send};
 use bf_value::OutOfMemory;
 use std::alloc::Global;

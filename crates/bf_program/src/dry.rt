@@ -4,11 +4,11 @@ ghost use Rattle.bf_program.specs.Commands.{IsDryAnswer, IsDryFault};
 ghost use Rattle.bf_program.specs.Refusal.{number_of};
 
 use crate::dated_runs::run_dry;
-use bf_line::DryAsked;
 use crate::input::{LONGEST_FILE, file_bytes, graph_files, moment_of};
 use crate::refusal::CommandFault;
 use crate::source::Source;
 use crate::status::Status;
+use bf_line::DryAsked;
 use bf_report::Write;
 use std::alloc::Global;
 

@@ -3,9 +3,9 @@ ghost use Rattle.std.specs.Prelude.{◌≡◌, ◌<◌, ◌^◌, ◌⊎◌, ℕ,
 ghost use Rattle.bf_program.specs.Commands.{AreHeld, IsNoMoment, IsReadFault, Means};
 ghost use Rattle.bf_program.specs.Source.{IsWholeUpTo};
 
-use bf_line::GraphAsked;
 use crate::refusal::CommandFault;
 use crate::source::{Source, SourceFault};
+use bf_line::GraphAsked;
 use bf_report::moment_in;
 use bf_value::Text;
 use bf_zone::MOST_FILE_BYTES;

@@ -3,12 +3,12 @@ ghost use Rattle.std.specs.Prelude.{◌≡◌, IfOk, IfErr, IsSome};
 ghost use Rattle.bf_program.specs.Commands.{IsListAnswer, IsListFault};
 ghost use Rattle.bf_program.specs.Refusal.{number_of};
 
-use bf_line::ListAsked;
 use crate::input::{graph_files, moment_of};
 use crate::listing::run_list;
 use crate::refusal::CommandFault;
 use crate::source::Source;
 use crate::status::Status;
+use bf_line::ListAsked;
 use bf_report::Write;
 use std::alloc::Global;
 

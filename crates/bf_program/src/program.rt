@@ -7,13 +7,12 @@ ghost use Rattle.bf_program.specs.Status.{code_of, shown_as, EndsAs};
 
 use crate::checked::check_answered;
 use crate::dry::dry_answered;
-use bf_line::Asked;
 use crate::listed::list_answered;
-use bf_line::asked;
 use crate::refusal::CommandFault;
 use crate::single::single_answered;
 use crate::source::Source;
 use crate::status::Status;
+use bf_line::{Asked, asked};
 use bf_report::{Write, send};
 use clap::Error;
 use clap::error::ErrorKind;

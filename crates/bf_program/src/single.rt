@@ -3,12 +3,12 @@ ghost use Rattle.std.specs.Prelude.{◌≡◌, IfOk, IfErr, IsSome};
 ghost use Rattle.bf_program.specs.Commands.{IsSingleAnswer, IsSingleFault};
 ghost use Rattle.bf_program.specs.Refusal.{number_of};
 
-use bf_line::SingleAsked;
 use crate::input::{LONGEST_FILE, file_bytes, graph_files, moment_of};
 use crate::one_run::run_single;
 use crate::refusal::CommandFault;
 use crate::source::Source;
 use crate::status::Status;
+use bf_line::SingleAsked;
 use bf_report::Write;
 use std::alloc::Global;
 

@@ -1,7 +1,6 @@
-use Rattle.std.proofs.Common.{◌≡◌, true, ap, ◌∙◌}
+use Rattle.std.proofs.Common.{ap, ◌∙◌}
 use Rattle.bf_try.specs.declared.answers.Raw.{Raw}
 use Rattle.bf_try.specs.Grades.{grade_of}
-use Rattle.bf_core.specs.Terms.{fits}
 use Rattle.bf_plain.proofs.Trying.{driven-tried, end-at, graded-fits, tried-by, try-there}
 use Rattle.bf_plain.proofs.driving.make_try.Goals as goal
 

@@ -1,4 +1,4 @@
-use Rattle.std.proofs.Common.{◌≤◌, sym, ap, ◌∙◌, subst, arith}
+use Rattle.std.proofs.Common.{sym, ◌∙◌, subst, arith}
 use Rattle.bf_core.specs.Events.{goes_on}
 use Rattle.bf_plain.proofs.Deciding.{counted-as, decided-as, next-as, there-at}
 use Rattle.bf_plain.proofs.Driven.{EndsGraded, driven-moved, graded-deciding}

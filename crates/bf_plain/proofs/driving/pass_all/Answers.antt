@@ -1,4 +1,3 @@
-use Rattle.std.proofs.Common.{sym, ap, ◌∙◌}
 use Rattle.bf_plain.proofs.Driven.{driven-as}
 use Rattle.bf_plain.proofs.Tasks.{next-in, passed-in}
 use Rattle.bf_plain.proofs.driving.pass_all.Goals as goal

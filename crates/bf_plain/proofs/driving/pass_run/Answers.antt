@@ -1,4 +1,4 @@
-use Rattle.std.proofs.Common.{length, sym, ap, ◌∙◌}
+use Rattle.std.proofs.Common.{length, ap}
 use Rattle.bf_core.specs.declared.event.Event.{Event}
 use Rattle.bf_plain.proofs.Driven.{driven-as, driven-moved, driven-self}
 use Rattle.bf_plain.proofs.Runs.{close-may, closed-as, open-may, opened-as}

@@ -1,4 +1,4 @@
-use Rattle.std.proofs.Common.{◌≡◌, subst, sym}
+use Rattle.std.proofs.Common.{◌≡◌, subst}
 use Rattle.std.specs.FinMap as finite
 use Rattle.bf_core.proofs.Confluence.{tries-same}
 use Rattle.bf_report.specs.Dated.{IsDated}

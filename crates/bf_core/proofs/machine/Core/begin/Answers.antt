@@ -1,4 +1,4 @@
-use Rattle.std.proofs.Common.{◌≡◌, ◌<◌, ◌≤◌, ◌+◌, ℕ, length, List, refl, sym, ap, ◌∙◌, arith}
+use Rattle.std.proofs.Common.{◌≡◌, ◌<◌, ◌≤◌, ◌+◌, ℕ, length, List, refl, ap, ◌∙◌, arith}
 use Rattle.bf_pool.specs.Slots.{Slots, occupied_of, size_of, with_occupied}
 use Rattle.bf_core.specs.Terms.{Dag, State, Limits, Event, Phase, Demand, demand_of}
 use Rattle.bf_core.specs.Events.{after, put, change_instance, begun, cell_at, place_in}

@@ -1,8 +1,6 @@
-use Rattle.std.proofs.Common.{◌≡◌, Bool, true, false, not, refl, sym, ap, ◌∙◌}
+use Rattle.std.proofs.Common.{◌≡◌, Bool, true, false, not, refl, sym, ◌∙◌}
 use Rattle.std.proofs.Math.Bool.{beq}
 use Rattle.bf_core.specs.Terms.{Dag, Limits, State}
-use Rattle.bf_core.specs.Cores.{IsThere}
-use Rattle.bf_core.specs.Deciding.{Decision}
 use Rattle.bf_core.specs.Events.{decision_in, goes_on}
 use Rattle.bf_core.proofs.Kept.{replay-rows}
 use Rattle.bf_core.proofs.Enabling.{decide-able, decision-by, goes_on-by, not-decided}

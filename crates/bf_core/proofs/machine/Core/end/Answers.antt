@@ -1,4 +1,4 @@
-use Rattle.std.proofs.Common.{◌≡◌, ◌<◌, ◌+◌, ◌-◌, ℕ, List, length, sym, ap, ◌∙◌, arith}
+use Rattle.std.proofs.Common.{◌≡◌, ◌<◌, ◌+◌, ◌-◌, ℕ, List, length, ap, ◌∙◌, arith}
 use Rattle.std.specs.FinMap as map
 use Rattle.bf_pool.specs.Slots.{Slots, occupied_of, with_occupied}
 use Rattle.bf_core.specs.Terms.{Dag, Limits, Demand, State, Event, Phase, JobName, Outcome, Entry, task_of, demand_of}
