@@ -119,10 +119,6 @@ abbrev opened_all : OpenRun → List TaskReport → OpenRun
 opened_all o [] = o
 opened_all o (t ∷ ts) = opened_all (opened o t) ts
 
-some_instance : (rs : List TaskResult) → 1 ≤ length rs → (x : TaskResult) × (xs : List TaskResult) × (rs ≡ x ∷ xs)
-some_instance [] h = absurd (omega (arith, h))
-some_instance (x ∷ xs) h = (x, xs, refl)
-
 closed_opened : (o : OpenRun) (t : TaskReport) → IsShownTask t → closed (opened o t) ≡ record o.run { tasks = tasks_in o ++ t ∷ [] }
 closed_opened o TaskReport.NoStatus shown = ap (λ ts. record o.run { tasks = ts }) (append-nil (tasks_in o ++ TaskReport.NoStatus ∷ []))
 closed_opened o TaskReport.Skipped shown = ap (λ ts. record o.run { tasks = ts }) (append-nil (tasks_in o ++ TaskReport.Skipped ∷ []))

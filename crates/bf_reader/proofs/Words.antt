@@ -76,9 +76,6 @@ moment_lacks s n low = high_lacks s (moment_text n) low
 abbrev pub IsPlain : List ℕ → Type 0
 IsPlain text = Lacks 32 text × Lacks 10 text
 
-pub id_plain : (id : List ℕ) → is_id id ≡ true → IsPlain id
-id_plain id e = (id_lacks 32 id (omega arith) e, id_lacks 10 id (omega arith) e)
-
 pub moment_plain : (n : ℤ) → IsPlain (moment_text n)
 moment_plain n = (moment_lacks 32 n (omega arith), moment_lacks 10 n (omega arith))
 
