@@ -64,6 +64,15 @@ pub record AreHeld (files : Files) (asked : GraphAsked) (graph : List ℕ) (zone
 abbrev pub IsTableHeld : Files → List ℕ → List ℕ → Type 0
 IsTableHeld files path table = IsHeld (files path) LONGEST_FILE table
 
+-- so it is with whatever the graph file and the zone file are told to hold
+abbrev pub OfFiles : Files → GraphAsked → (List ℕ → Option (List ℕ) → Type 0) → Type 0
+OfFiles files asked P = (graph : List ℕ) (zone : Option (List ℕ)) → AreHeld files asked graph zone → P graph zone
+
+-- and with whatever the table is told to hold
+abbrev pub OfFilesAndTable : Files → GraphAsked → List ℕ → (List ℕ → Option (List ℕ) → List ℕ → Type 0) → Type 0
+OfFilesAndTable files asked path P =
+    (graph table : List ℕ) (zone : Option (List ℕ)) → AreHeld files asked graph zone → IsTableHeld files path table → P graph zone table
+
 -- ---- what is written then
 
 -- the text means this moment
@@ -77,7 +86,7 @@ size_text size = codes "ok " ++ (decimal size.tasks ++ (codes " tasks, " ++ (dec
 -- the size of a graph without a fault
 pub record IsCheckAnswer (files : Files) (asked : GraphAsked) (before after : Option (List ℕ)) (status : Status) : Type 0 where
   pub success : status ≡ Status.Success
-  pub written : (graph : List ℕ) (zone : Option (List ℕ)) → AreHeld files asked graph zone → (size : GraphSize) × (IsSizeOf graph zone size × (after ≡ sent before (size_text size)))
+  pub written : OfFiles files asked (λ graph zone. (size : GraphSize) × (IsSizeOf graph zone size × (after ≡ sent before (size_text size))))
 
 -- the data intervals of the range
 pub record IsListAnswer (files : Files) (asked : ListAsked) (before after : Option (List ℕ)) (status : Status) : Type 0 where
@@ -86,7 +95,7 @@ pub record IsListAnswer (files : Files) (asked : ListAsked) (before after : Opti
   pub to : Timestamp
   pub from_means : Means (string_bytes asked.range.from) from
   pub to_means : Means (string_bytes asked.range.to) to
-  pub written : (graph : List ℕ) (zone : Option (List ℕ)) → AreHeld files asked.graph graph zone → IsListed graph zone from.nanosecond to.nanosecond before after
+  pub written : OfFiles files asked.graph (λ graph zone. IsListed graph zone from.nanosecond to.nanosecond before after)
 
 -- the report of one run over the table, and whether it is a success
 pub record IsSingleAnswer (files : Files) (asked : SingleAsked) (before after : Option (List ℕ)) (status : Status) : Type 0 where
@@ -94,8 +103,8 @@ pub record IsSingleAnswer (files : Files) (asked : SingleAsked) (before after : 
   pub at_means : Means (string_bytes asked.at) at
   pub succeeded : Bool
   pub status_is : status ≡ of_runs succeeded
-  pub written : (graph table : List ℕ) (zone : Option (List ℕ)) → AreHeld files asked.graph graph zone → IsTableHeld files (string_bytes asked.table) table →
-      IsReportedAt graph zone table at before after succeeded
+  pub written : OfFilesAndTable files asked.graph (string_bytes asked.table) (λ graph zone table.
+      IsReportedAt graph zone table at before after succeeded)
 
 -- the report of a run for each data interval of the range over the table, and whether each is a success
 pub record IsDryAnswer (files : Files) (asked : DryAsked) (before after : Option (List ℕ)) (status : Status) : Type 0 where
@@ -105,8 +114,8 @@ pub record IsDryAnswer (files : Files) (asked : DryAsked) (before after : Option
   pub to_means : Means (string_bytes asked.range.to) to
   pub succeeded : Bool
   pub status_is : status ≡ of_runs succeeded
-  pub written : (graph table : List ℕ) (zone : Option (List ℕ)) → AreHeld files asked.graph graph zone → IsTableHeld files (string_bytes asked.table) table →
-      IsReportedIn graph zone table from.nanosecond to.nanosecond before after succeeded
+  pub written : OfFilesAndTable files asked.graph (string_bytes asked.table) (λ graph zone table.
+      IsReportedIn graph zone table from.nanosecond to.nanosecond before after succeeded)
 
 -- what a command wrote behind what was written before, and how it ended, where it was not refused and no fault came
 abbrev pub IsAnswer : Files → Asked → Option (List ℕ) → Option (List ℕ) → Status → Type 0
@@ -131,7 +140,8 @@ IsUntold file = (bytes : List ℕ) → file ≡ Some (Some bytes) → ⊥
 
 -- the path of the graph file or of the zone file, of which no bytes are told
 abbrev pub IsUntoldPath : Files → GraphAsked → List ℕ → Type 0
-IsUntoldPath files asked path = ((path ≡ string_bytes asked.graph) ⊎ (Some path ≡ option_map string_bytes asked.zone_file)) × IsUntold (files path)
+IsUntoldPath files asked path =
+    ((path ≡ string_bytes asked.graph) ⊎ (Some path ≡ option_map string_bytes asked.zone_file)) × IsUntold (files path)
 
 -- the table's path, of which no bytes are told
 abbrev pub IsUntoldTable : Files → List ℕ → List ℕ → Type 0
@@ -149,31 +159,36 @@ IsReadFault files asked _ = ⊥
 
 -- the first fault of the graph; or its files can't be read, or memory or the device is wanting
 abbrev pub IsCheckFault : Files → GraphAsked → CommandFault → Type 0
-IsCheckFault files asked (Plan fault) = (graph : List ℕ) (zone : Option (List ℕ)) → AreHeld files asked graph zone → IsFaultIn graph zone fault
+IsCheckFault files asked (Plan fault) = OfFiles files asked (λ graph zone. IsFaultIn graph zone fault)
 IsCheckFault files asked CannotWrite = Unit {0}
 IsCheckFault files asked fault = IsReadFault files asked fault
 
 -- the first fault of the graph and the range; or a text is no moment, the files can't be read, or memory is wanting
 abbrev pub IsListFault : Files → ListAsked → CommandFault → Type 0
-IsListFault files asked (Listing fault) = (from : Timestamp) × (to : Timestamp) × Means (string_bytes asked.range.from) from × Means (string_bytes asked.range.to) to
-    × ((graph : List ℕ) (zone : Option (List ℕ)) → AreHeld files asked.graph graph zone → IsFaultOfList graph zone from.nanosecond to.nanosecond fault)
+IsListFault files asked (Listing fault) = (from : Timestamp) × (to : Timestamp)
+    × Means (string_bytes asked.range.from) from × Means (string_bytes asked.range.to) to
+    × OfFiles files asked.graph (λ graph zone. IsFaultOfList graph zone from.nanosecond to.nanosecond fault)
 IsListFault files asked BadMoment = IsNoMoment (string_bytes asked.range.from) ⊎ IsNoMoment (string_bytes asked.range.to)
 IsListFault files asked fault = IsReadFault files asked.graph fault
 
 -- the first fault of the graph, the table and the moment; or the text is no moment, the files can't be read, or memory is wanting
 abbrev pub IsSingleFault : Files → SingleAsked → CommandFault → Type 0
 IsSingleFault files asked (Run fault) = (at : Timestamp) × Means (string_bytes asked.at) at
-    × ((graph table : List ℕ) (zone : Option (List ℕ)) → AreHeld files asked.graph graph zone → IsTableHeld files (string_bytes asked.table) table → IsFaultOfSingle graph zone table at fault)
+    × OfFilesAndTable files asked.graph (string_bytes asked.table) (λ graph zone table. IsFaultOfSingle graph zone table at fault)
 IsSingleFault files asked BadMoment = IsNoMoment (string_bytes asked.at)
-IsSingleFault files asked (CannotRead path) = IsUntoldPath files asked.graph path ⊎ IsUntoldTable files (string_bytes asked.table) path
+IsSingleFault files asked (CannotRead path) =
+    IsUntoldPath files asked.graph path ⊎ IsUntoldTable files (string_bytes asked.table) path
 IsSingleFault files asked fault = IsReadFault files asked.graph fault
 
 -- the first fault of the graph, the table and the range; or a text is no moment, the files can't be read, or memory is wanting
 abbrev pub IsDryFault : Files → DryAsked → CommandFault → Type 0
-IsDryFault files asked (Run fault) = (from : Timestamp) × (to : Timestamp) × Means (string_bytes asked.range.from) from × Means (string_bytes asked.range.to) to
-    × ((graph table : List ℕ) (zone : Option (List ℕ)) → AreHeld files asked.graph graph zone → IsTableHeld files (string_bytes asked.table) table → IsFaultOfDry graph zone table from.nanosecond to.nanosecond fault)
+IsDryFault files asked (Run fault) = (from : Timestamp) × (to : Timestamp)
+    × Means (string_bytes asked.range.from) from × Means (string_bytes asked.range.to) to
+    × OfFilesAndTable files asked.graph (string_bytes asked.table) (λ graph zone table.
+    IsFaultOfDry graph zone table from.nanosecond to.nanosecond fault)
 IsDryFault files asked BadMoment = IsNoMoment (string_bytes asked.range.from) ⊎ IsNoMoment (string_bytes asked.range.to)
-IsDryFault files asked (CannotRead path) = IsUntoldPath files asked.graph path ⊎ IsUntoldTable files (string_bytes asked.table) path
+IsDryFault files asked (CannotRead path) =
+    IsUntoldPath files asked.graph path ⊎ IsUntoldTable files (string_bytes asked.table) path
 IsDryFault files asked fault = IsReadFault files asked.graph fault
 
 -- why a command was refused, or what fault came
