@@ -1,5 +1,5 @@
 -- The states of closed runs.
-use Rattle.std.proofs.Common.{◌≡◌, ◌<◌, ◌⊎◌, ℕ, suc, zero, Bool, true, false, not, ◌&&◌, ◌||◌, if◌then◌else◌, length, ◌+◌, slice_index_or, slice_get, slice_set, List, [], ◌∷◌, Option, None, Some, is_some, option_map, refl, sym, ap, ap₂, ◌∙◌, inl, inr, arith}
+use Rattle.std.proofs.Common.{◌≡◌, ◌<◌, ℕ, suc, zero, Bool, true, false, not, ◌&&◌, ◌||◌, if◌then◌else◌, length, ◌+◌, slice_index_or, slice_get, slice_set, List, [], ◌∷◌, Option, None, Some, is_some, option_map, refl, sym, ap, ap₂, ◌∙◌, inl, inr, arith}
 use Rattle.std.specs.List.{list_all, list_any}
 use Rattle.bf_core.specs.Terms.{Dag, State, Run, RunPhase, RunState, Cell, Instance, Phase, TaskResult, TaskValue, is_failed}
 use Rattle.bf_core.specs.Recursion.{fails_run, any_below, run_state_of}
@@ -10,6 +10,7 @@ use Rattle.bf_core.proofs.Placing.{any-default}
 use Rattle.bf_core.proofs.Decisions.{and_left, and_right}
 use Rattle.bf_core.specs.Words.{is_failed_phase, is_failed_instance, instances_fail}
 use Rattle.bf_core.proofs.Sums.{some-results}
+use Rattle.bf_core.proofs.Numbers.{last-or}
 
 failed-cons : (a : ℕ) (p : Phase) (o : Option (List TaskResult)) (b : Bool) → ((rs : List TaskResult) → o ≡ Some rs → list_any (λ r. is_failed r.outcome) rs ≡ b) →
     (rs : List TaskResult) → cons_result a p o ≡ Some rs → list_any (λ r. is_failed r.outcome) rs ≡ (is_failed_phase p || b)
@@ -43,12 +44,9 @@ ran_fails leaf xs = fails-of leaf (results xs) _ _ (some-results xs) (failed-res
 
 -- ---- some task, or none
 
-last-or : (t n : ℕ) → t < suc n → (t ≡ n) ⊎ (t < n)
-last-or t n l = grind arith
-
 pub any-at : (n t : ℕ) (p : ℕ → Bool) → t < n → p t ≡ true → any_below n p ≡ true
 any-at zero t p l e = absurd (omega (arith, l))
-any-at (suc n) t p l e = elim (last-or t n l) [ inl same ↦ ap (λ b. b || any_below n p) (ap p (sym same) ∙ e) | inr less ↦ or-true (p n) (any-at n t p less e) ]
+any-at (suc n) t p l e = elim (last-or t n (omega (arith, l))) [ inl same ↦ ap (λ b. b || any_below n p) (ap p (sym same) ∙ e) | inr less ↦ or-true (p n) (any-at n t p less e) ]
   where
     or-true : (b : Bool) {c : Bool} → c ≡ true → (b || c) ≡ true
     or-true true h = refl

@@ -1,5 +1,5 @@
 -- What a source has for an expansion, by its instances, and how many items it gives at most.
-use Rattle.std.proofs.Common.{◌≡◌, ℕ, zero, suc, ◌≤◌, ◌==◌, nat_le, Bool, true, false, not, ◌&&◌, ◌||◌, if◌then◌else◌, List, [], ◌∷◌, length, map, slice_index_or, Option, None, Some, is_some, is_none, option_map, refl, sym, ap, ap₂, ◌∙◌, subst, arith}
+use Rattle.std.proofs.Common.{◌≡◌, ℕ, zero, suc, ◌≤◌, ◌==◌, Bool, true, false, not, ◌&&◌, ◌||◌, if◌then◌else◌, List, [], ◌∷◌, length, map, slice_index_or, Option, None, Some, is_some, is_none, option_map, refl, sym, ap, ap₂, ◌∙◌, subst, arith}
 use Rattle.std.specs.List.{AllByRecursion, cons_option, filter_map, list_any}
 use Rattle.std.proofs.lemmas.Bool.Decides.{nat_tests}
 use Rattle.std.proofs.lemmas.List.{length-map}
@@ -17,6 +17,7 @@ use Rattle.bf_core.specs.Words.{pushed_by_first, pushed_by_one, pushed_in, sourc
 use Rattle.bf_core.proofs.Decisions.{and_right}
 use Rattle.bf_core.proofs.Pulled.{first-pushed}
 use Rattle.bf_core.proofs.Sums.{some-results}
+use Rattle.bf_core.proofs.Numbers.{le-from}
 
 -- ---- by instances
 
@@ -83,9 +84,6 @@ length-results : (xs : List Instance) (rs : List TaskResult) → results xs ≡ 
 length-results [] [] e = refl
 length-results [] (r ∷ rs) e = cc
 length-results (x ∷ xs) rs e = length-result x.attempt x.phase (results xs) (length xs) (length-results xs) rs e
-
-le-from : (a b : ℕ) → nat_le a b ≡ true → a ≤ b
-le-from a b e = grind (arith, nat_tests)
 
 or-else : (a b : Bool) → (not a || b) ≡ true → a ≡ true → b ≡ true
 or-else true b e h = e

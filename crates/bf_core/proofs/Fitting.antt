@@ -52,7 +52,7 @@ few-decided dag s few fit k t =
 
 -- ---- few instances are kept
 
-length-change : (f : Instance → Instance) (xs : List Instance) (i : ℕ) → length (change_at f xs i) ≡ length xs
+pub length-change : (f : Instance → Instance) (xs : List Instance) (i : ℕ) → length (change_at f xs i) ≡ length xs
 length-change f [] i = refl
 length-change f (x ∷ xs) zero = refl
 length-change f (x ∷ xs) (suc i) = let e : _ = length-change f xs i in omega arith

@@ -1,3 +1,4 @@
+pub mod Numbers
 pub mod Decisions
 pub mod Cells
 pub mod Attempts

@@ -9,6 +9,7 @@ use Rattle.bf_core.specs.Deciding.{Decision}
 use Rattle.bf_core.specs.Events.{no_run, cell_at, cell_in, put, put_in, phase_put_in, with_phase, next_run, instance_of, change_at, change_instance, begun, ended, fresh, cell_of, decision_in, place_in, given_in, one_running, running_in, held_by, held_from, occupied, has_room, WithinPools, IsPresent, IsDecidable, IsEnabled, IsLegal, after, replay, start, empty_runs, undecided_cells}
 use Rattle.bf_core.proofs.Steps.{decided-held}
 use Rattle.bf_core.proofs.Shape.{IsShaped, row_in, open-run, event-shapes}
+use Rattle.bf_core.proofs.Numbers.{le-from}
 
 module _ (limits : Limits) (pool : ℕ) where
   held-set : (off : ℕ) (cells : List Cell) (t : ℕ) (c : Cell) → t < length cells →
@@ -113,9 +114,6 @@ not-running retries o x = go (is_failed o && nat_le x.attempt retries)
 
 pub eq-from : (a b : ℕ) → (a == b) ≡ true → a ≡ b
 eq-from a b e = grind (arith, nat_tests)
-
-pub le-from : (a b : ℕ) → nat_le a b ≡ true → a ≤ b
-le-from a b e = grind (arith, nat_tests)
 
 decide_in : (k n : ℕ) → (k < n) ⊎ (n ≤ k)
 decide_in k n = grind arith

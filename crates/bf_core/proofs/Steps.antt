@@ -1,6 +1,5 @@
 -- Each event keeps the invariant.
 use Rattle.std.proofs.Common.{◌≡◌, ◌≢◌, ℕ, suc, zero, pred, ◌<◌, ◌≤◌, ◌⊎◌, ◌&&◌, ◌||◌, not, nat_le, Bool, true, false, List, [], ◌∷◌, length, slice_index_or, Option, None, Some, is_some, refl, sym, ap, ◌∙◌, arith, inl, inr, le_trans, le_refl}
-use Rattle.std.proofs.lemmas.Bool.Decides.{nat_tests}
 use Rattle.std.specs.List.{list_all, AllByRecursion}
 use Rattle.std.specs.FinMap as map
 use Rattle.bf_core.specs.Terms.{name_cmp, map_index, Dag, Task, task_of, Verdict, is_waiting, Outcome, Entry, JobName, Ledger, name_of, is_failed, TaskValue, IsSettledAncestor, Direct, Above, IsSound, State, Cell, Instance, Phase, RunPhase, Event, Limits, is_branch}
@@ -14,6 +13,7 @@ use Rattle.bf_core.proofs.Depth.{out-is, pick}
 use Rattle.bf_core.proofs.Reading.{put-cases, put-here, with_phase-cell, entry-cases}
 use Rattle.bf_core.proofs.Invariant.{ended_of, LastTried, IsTried, IsRecorded, IsSettledIn, Invariant}
 use Rattle.bf_core.proofs.Instances.{IsUnfinished, open-cell, instance-cases, instance-kept, instance-here, change-agrees, new-agrees, IsFresh, new-fresh, tried-result}
+use Rattle.bf_core.proofs.Numbers.{le-from, lt-from}
 
 -- ---- what a decision waits for
 
@@ -273,12 +273,6 @@ module _ (dag : Dag) (sound : IsSound dag) (s : State) (inv : Invariant dag s) w
   failed-is Outcome.Failed e = refl
   failed-is (Outcome.Success v) e = cc
   failed-is Outcome.Skipped e = cc
-
-  le-from : (a b : ℕ) → nat_le a b ≡ true → a ≤ b
-  le-from a b e = grind (arith, nat_tests)
-
-  lt-from : (a b : ℕ) → nat_le a b ≡ false → b < a
-  lt-from a b e = grind (arith, nat_tests)
 
   ends : (L : Ledger) (n : JobName) (o : Outcome) (x : Instance) →
       L (name_of dag n.run n.task (place_in dag n) x.attempt) ≡ Some (record { given = x.given; outcome = o }) →

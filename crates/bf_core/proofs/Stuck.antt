@@ -10,6 +10,7 @@ use Rattle.bf_core.specs.Agreement.{givens_of, CellAgrees}
 use Rattle.bf_core.proofs.Invariant.{Invariant}
 use Rattle.bf_core.proofs.Shape.{IsShaped, before-next}
 use Rattle.bf_core.proofs.Taken.{decision-taken}
+use Rattle.bf_core.proofs.Numbers.{last-or}
 
 -- ---- an instance that waits
 
@@ -110,9 +111,6 @@ all-in P (u ∷ us) h = (h u (inl refl), all-in P us (λ v g. h v (inr g)))
 decide-lt : (a b : ℕ) → (a < b) ⊎ (b ≤ a)
 decide-lt a b = grind arith
 
-last-or : (t n : ℕ) → t < suc n → (t ≡ n) ⊎ (t < n)
-last-or t n l = grind arith
-
 open-not : (p : RunPhase) → p ≡ RunPhase.Open → p ≡ RunPhase.Unopened → ⊥
 open-not p a b = cc
 
@@ -199,7 +197,7 @@ module _ (dag : Dag) (sound : IsSound dag) (limits : Limits) (runs : ℕ) (s : S
     where
       all-n : ((t : ℕ) → t < n → sound.rank t < suc depth → is_some (value_in (cell_at s k t)) ≡ true) → (sound.rank n < suc depth → is_some (value_in (cell_at s k n)) ≡ true) →
           (t : ℕ) → t < suc n → sound.rank t < suc depth → is_some (value_in (cell_at s k t)) ≡ true
-      all-n low now t m r = elim (last-or t n m) [ inl e ↦ rw e (now (rw e at r)) | inr h ↦ low t h r ]
+      all-n low now t m r = elim (last-or t n (omega (arith, m))) [ inl e ↦ rw e (now (rw e at r)) | inr h ↦ low t h r ]
 
       here : (b : Bool) → is_some (value_in (cell_at s k n)) ≡ b → ((t : ℕ) → t < n → sound.rank t < suc depth → is_some (value_in (cell_at s k t)) ≡ true) →
           (sound.rank n < suc depth) ⊎ (suc depth ≤ sound.rank n) →
@@ -238,7 +236,7 @@ module _ (dag : Dag) (sound : IsSound dag) (limits : Limits) (runs : ℕ) (s : S
       before-known none e (suc j) same t l d = past none e j same t l
 
       all-but : (p : RunPhase) → phase_of s n ≡ p → (p ≡ RunPhase.Open → ⊥) → ((k : ℕ) → k < n → phase_of s k ≡ RunPhase.Open → ⊥) → (k : ℕ) → k < suc n → phase_of s k ≡ RunPhase.Open → ⊥
-      all-but p e not none k l f = elim (last-or k n l) [ inl same ↦ not (sym e ∙ rw same at f) | inr h ↦ none k h f ]
+      all-but p e not none k l f = elim (last-or k n (omega (arith, l))) [ inl same ↦ not (sym e ∙ rw same at f) | inr h ↦ none k h f ]
 
       here : (p : RunPhase) → phase_of s n ≡ p → ((k : ℕ) → k < n → phase_of s k ≡ RunPhase.Open → ⊥) → Moves dag limits s ⊎ ((k : ℕ) → k < suc n → phase_of s k ≡ RunPhase.Open → ⊥)
       here RunPhase.Open e none = inl (run-moves n e (before-known none e n refl))

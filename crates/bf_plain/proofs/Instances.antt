@@ -1,5 +1,5 @@
 -- One instance of a task after the other.
-use Rattle.std.proofs.Common.{◌≡◌, ◌≢◌, ◌⊎◌, ◌<◌, ◌≤◌, ◌+◌, ℕ, zero, suc, true, List, [], ◌∷◌, length, Some, is_some, slice_get, refl, sym, ap, ◌∙◌, inl, inr, arith}
+use Rattle.std.proofs.Common.{◌≡◌, ◌≢◌, ◌<◌, ◌≤◌, ◌+◌, ℕ, zero, suc, true, List, [], ◌∷◌, length, Some, is_some, slice_get, refl, sym, ap, ◌∙◌, inl, inr, arith}
 use Rattle.std.specs.List.{list_all}
 use Rattle.bf_core.specs.declared.state.Cell.{Cell}
 use Rattle.bf_core.specs.declared.state.Instance.{Instance}
@@ -9,6 +9,7 @@ use Rattle.bf_core.specs.Words.{is_finished}
 use Rattle.bf_core.proofs.Known.{has-instance}
 use Rattle.bf_core.proofs.Sums.{finished_settled}
 use Rattle.bf_plain.specs.Driving.{AtInstance, HasFinished, HasPassed, IsKeptBut, IsReady, count_in}
+use Rattle.bf_core.proofs.Numbers.{last-or}
 
 in-list : (xs : List Instance) (i : ℕ) → i < length xs → (x : Instance) × (slice_get xs i ≡ Some x)
 in-list [] i l = absurd (omega (arith, l))
@@ -36,9 +37,6 @@ kept-twice old middle new k t one two = record {
   cells = λ j u other. two.cells j u other ∙ one.cells j u other;
   phases = λ j. two.phases j ∙ one.phases j;
 }
-
-last-or : (j i : ℕ) → j < i + 1 → (j ≡ i) ⊎ (j < i)
-last-or j i l = grind arith
 
 -- with one instance more finished
 pub next-instance : (old middle new : Backfill) (k t count i : ℕ) → AtInstance old middle k t count i → HasFinished middle new k t i → AtInstance old new k t count (i + 1)

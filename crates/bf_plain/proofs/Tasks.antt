@@ -1,5 +1,5 @@
 -- The tasks of a run in their order.
-use Rattle.std.proofs.Common.{◌≡◌, ◌⊎◌, ◌<◌, ◌+◌, ℕ, List, length, Some, is_some, slice_get, slice_index_or, le_refl, sym, ap, ◌∙◌, subst, inl, inr, arith}
+use Rattle.std.proofs.Common.{◌≡◌, ◌<◌, ◌+◌, ℕ, List, length, Some, is_some, slice_get, slice_index_or, le_refl, sym, ap, ◌∙◌, subst, inl, inr, arith}
 use Rattle.std.proofs.lemmas.List.{length-map}
 use Rattle.std.proofs.lemmas.Option.{slice_get-get_or, slice_get_within}
 use Rattle.bf_graph.specs.Order.{IsByRank, StandBehind}
@@ -9,9 +9,7 @@ use Rattle.bf_core.specs.Terms.{Dag, Task}
 use Rattle.bf_core.specs.Cores.{Backfill}
 use Rattle.bf_core.specs.Events.{AllSettled, value_in}
 use Rattle.bf_plain.specs.Driving.{AtTask, HasPassed, IsNext}
-
-last-or : (j i : ℕ) → j < i + 1 → (j ≡ i) ⊎ (j < i)
-last-or j i l = grind arith
+use Rattle.bf_core.proofs.Numbers.{last-or}
 
 next-at : (b : Backfill) (order : List ℕ) (i k t : ℕ) → IsByRank (shape_of b.dag).upstreams order → StandBehind (shape_of b.dag).upstreams order → AtTask order i k b → slice_get order i ≡ Some t → IsNext b k t
 next-at b order i k t ranked behind at is = record {

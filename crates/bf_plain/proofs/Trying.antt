@@ -18,7 +18,9 @@ use Rattle.bf_core.proofs.Enabling.{has-room, present-there}
 use Rattle.bf_core.proofs.Instances.{instance-cases, instance-here}
 use Rattle.bf_core.proofs.Kept.{replay-event, replay-invariant, replay-rows, replay-shaped}
 use Rattle.bf_core.proofs.Known.{has-instance}
-use Rattle.bf_core.proofs.Pools.{le-from, occupied-begun, occupied-ended}
+use Rattle.bf_core.proofs.Fitting.{length-change}
+use Rattle.bf_core.proofs.Numbers.{le-from}
+use Rattle.bf_core.proofs.Pools.{occupied-begun, occupied-ended}
 use Rattle.bf_core.proofs.Reading.{put-here}
 use Rattle.bf_core.proofs.Stuck.{placed-in}
 use Rattle.bf_plain.specs.Driving.{AtTry, HasFinished, HasTried, IsDriven, IsIdle, IsKeptBut, IsReady, IsTryReady, IsWaiting, count_in, given_of_waiting, given_waiting}
@@ -212,11 +214,6 @@ same-beside f c p x j e other = go (instance_of c j) refl
     go : (o : Option Instance) → instance_of c j ≡ o → instance_of (change_instance f c p) j ≡ o
     go None h = none-beside f c p x j e other h
     go (Some y) h = some-beside f c p x j y e other h
-
-length-change : (f : Instance → Instance) (xs : List Instance) (i : ℕ) → length (change_at f xs i) ≡ length xs
-length-change f [] i = refl
-length-change f (x ∷ xs) zero = refl
-length-change f (x ∷ xs) (suc i) = ap suc (length-change f xs i)
 
 same-count : (f : Instance → Instance) (c : Cell) (i : ℕ) → count_in (change_instance f c i) ≡ count_in c
 same-count f (Cell.Ran xs) i = length-change f xs i
