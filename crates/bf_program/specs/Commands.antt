@@ -1,6 +1,5 @@
 -- What the commands come to, by what the files hold that they name.
-use Rattle.std.specs.Prelude.{◌≡◌, ◌≤◌, ◌⊎◌, ℕ, ℤ, Bool, List, ◌++◌, length, Option, Some, None, IsSome, option_map, codes, decimal, string_bytes}
-use Rattle.std.specs.Prelude.{String, map}
+use Rattle.std.specs.Prelude.{◌≡◌, ◌≤◌, ◌⊎◌, ℕ, ℤ, Bool, List, ◌++◌, length, Option, Some, None, IsSome, String, map, option_map, codes, decimal, string_bytes}
 use Rattle.std.specs.Global.{Global}
 use Rattle.clap.specs.Words.{Kinds, Row, Text, fault_of, subcommand_of}
 use Rattle.jiff.specs.declared.timestamp.Timestamp.{Timestamp}
