@@ -5,20 +5,20 @@ use Rattle.std.proofs.lemmas.Str.{IsUtf8-from_is_utf8, is_utf8-from_IsUtf8}
 use Rattle.serde_json.specs.Data.{Data}
 use Rattle.serde_json.specs.Read.{read}
 use Rattle.bf_read.specs.declared.fault.ReadFault.{ReadFault}
-use Rattle.bf_read.specs.declared.reader.TheConstants.{MOST_BYTES}
+use Rattle.bf_read.specs.Limits.{most_bytes}
 use Rattle.bf_read.specs.Fields.{limit}
 use Rattle.bf_read.specs.Reading.{data_in, draft_of, graph_in, graph_of}
 
-pub short_file : (bytes : List ℕ) → nat_le (length bytes) MOST_BYTES ≡ true → graph_in bytes ≡ graph_of (data_in bytes)
+pub short_file : (bytes : List ℕ) → nat_le (length bytes) most_bytes ≡ true → graph_in bytes ≡ graph_of (data_in bytes)
 unfolding graph_in limit
 short_file bytes short = rw short refl
 
-pub json_file : (bytes : List ℕ) (d : Data) → nat_le (length bytes) MOST_BYTES ≡ true → IsUtf8 bytes → read bytes ≡ Some d → graph_in bytes ≡ draft_of d
+pub json_file : (bytes : List ℕ) (d : Data) → nat_le (length bytes) most_bytes ≡ true → IsUtf8 bytes → read bytes ≡ Some d → graph_in bytes ≡ draft_of d
 json_file bytes d short text is = short_file bytes short ∙ ap (λ b. graph_of (if b then read bytes else None)) (is_utf8-from_IsUtf8 bytes text) ∙ ap graph_of is
 
 no_data : (b : Bool) (o : Option Data) → (b ≡ true → o ≡ None) → (if b then o else None) ≡ None
 no_data true o none = none refl
 no_data false o none = refl
 
-pub no_json_file : (bytes : List ℕ) → nat_le (length bytes) MOST_BYTES ≡ true → (IsUtf8 bytes → read bytes ≡ None) → graph_in bytes ≡ Err ReadFault.NotJson
+pub no_json_file : (bytes : List ℕ) → nat_le (length bytes) most_bytes ≡ true → (IsUtf8 bytes → read bytes ≡ None) → graph_in bytes ≡ Err ReadFault.NotJson
 no_json_file bytes short none = short_file bytes short ∙ ap graph_of (no_data (is_utf8 bytes) (read bytes) (λ e. none (IsUtf8-from_is_utf8 bytes e)))

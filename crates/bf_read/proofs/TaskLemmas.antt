@@ -12,7 +12,7 @@ use Rattle.serde_json.specs.Events.{items_len}
 use Rattle.serde_json.specs.View.{view, items_view}
 use Rattle.serde_json.specs.declared.value.Value.{Value}
 use Rattle.bf_read.specs.declared.draft.TaskDraft.{TaskDraft}
-use Rattle.bf_read.specs.declared.draft.TheConstants.{MOST_TASKS, MOST_EDGES}
+use Rattle.bf_read.specs.Limits.{most_tasks, most_edges}
 use Rattle.bf_read.specs.declared.path.Path.{Path}
 use Rattle.bf_read.specs.Gives.{◌>>=◌}
 use Rattle.bf_read.specs.Drafts.{edge_count, HaveDistinctIds, IsTask, MayFollow}
@@ -26,8 +26,8 @@ items_len-items_view : (vs : List Value) → items_len (items_view vs) ≡ lengt
 items_len-items_view [] = refl
 items_len-items_view (v ∷ vs) = ap suc (items_len-items_view vs)
 
-pub tasks_count : (p : Path) (vs : List Value) → limit p (nat_le (items_len (items_view vs)) MOST_TASKS) ≡ limit p (nat_le (length vs) MOST_TASKS)
-tasks_count p vs = ap (λ n. limit p (nat_le n MOST_TASKS)) (items_len-items_view vs)
+pub tasks_count : (p : Path) (vs : List Value) → limit p (nat_le (items_len (items_view vs)) most_tasks) ≡ limit p (nat_le (length vs) most_tasks)
+tasks_count p vs = ap (λ n. limit p (nat_le n most_tasks)) (items_len-items_view vs)
 
 -- ---- the walk
 
@@ -51,7 +51,7 @@ any_id id (t ∷ ts) = ap (λ b. bytes_eq id t.id || b) (any_id id ts)
 -- the tasks so far
 pub record KeepsTasks (n : ℕ) (tasks : List TaskDraft) : Type 0 where
   pub len : length tasks ≡ n
-  pub few_edges : edge_count tasks ≤ MOST_EDGES
+  pub few_edges : edge_count tasks ≤ most_edges
   pub distinct_ids : HaveDistinctIds tasks
   pub each : All IsTask tasks
 

@@ -7,7 +7,7 @@ use Rattle.serde_json.specs.Find.{as_str, as_object}
 use Rattle.bf_read.specs.declared.path.Path.{Path}
 use Rattle.bf_read.specs.declared.draft.WordDraft.{WordDraft}
 use Rattle.bf_read.specs.declared.draft.WordDraft.TheVariants.{Text, Context, Pull, Item}
-use Rattle.bf_read.specs.declared.draft.TheConstants.{MOST_WORDS, MOST_PULLS, LONGEST_WORD}
+use Rattle.bf_read.specs.Limits.{most_words, most_pulls, longest_word}
 use Rattle.bf_read.specs.declared.fault.ReadFault.{ReadFault}
 use Rattle.bf_read.specs.declared.fault.ReadFault.TheVariants.{Shape}
 use Rattle.bf_read.specs.Drafts.{pulled_in}
@@ -62,8 +62,8 @@ words_in is_expanded p = each_item (word_at is_expanded p)
 -- ---- commands
 
 abbrev pub is_short : WordDraft → Bool
-is_short (Text s) = nat_le (length s) LONGEST_WORD
-is_short (Pull id) = nat_le (length id) LONGEST_WORD
+is_short (Text s) = nat_le (length s) longest_word
+is_short (Pull id) = nat_le (length id) longest_word
 is_short (Context variable) = true
 is_short Item = true
 
@@ -72,7 +72,7 @@ unfoldable pub command_at : Bool → Member → Result (List WordDraft) ReadFaul
 command_at is_expanded m = if_there m.value [] (do
   ds ← items_at m
   words ← words_in is_expanded m.path ds
-  _ ← limit m.path (nat_le (length words) MOST_WORDS)
+  _ ← limit m.path (nat_le (length words) most_words)
   _ ← limit m.path (list_all is_short words)
-  _ ← limit m.path (nat_le (length (pulled_in words)) MOST_PULLS)
+  _ ← limit m.path (nat_le (length (pulled_in words)) most_pulls)
   Ok words)

@@ -5,7 +5,7 @@ use Rattle.std.specs.Cmp.Lexicographic.{slice_cmp}
 use Rattle.std.specs.Ordering.{nat_cmp}
 use Rattle.std.specs.declared.cmp.Ordering.TheVariants.{Less}
 use Rattle.std.specs.Str.{bytes_eq}
-use Rattle.bf_read.specs.declared.draft.TheConstants.{MOST_TASKS, MOST_EDGES, MOST_WORDS, MOST_PULLS, MOST_RETRIES, MOST_SLOTS, GREATEST_WEIGHT, MOST_ACTIVE_RUNS}
+use Rattle.bf_read.specs.Limits.{most_tasks, most_edges, most_words, most_pulls, most_retries, longest_retry_delay, most_slots, greatest_weight, most_active_runs}
 use Rattle.bf_read.specs.declared.draft.PoolDraft.{PoolDraft}
 use Rattle.bf_read.specs.declared.draft.TaskDraft.{TaskDraft}
 use Rattle.bf_read.specs.declared.draft.WordDraft.{WordDraft}
@@ -34,24 +34,25 @@ HaveDistinctIds tasks = AllPairs (λ a b. a ≢ b) (map (λ task. task.id) tasks
 
 -- a task whose numbers and words are within their limits
 pub record IsTask (task : TaskDraft) : Type 0 where
-  pub few_words : length task.command ≤ MOST_WORDS
-  pub few_pulls : length (pulled_in task.command) ≤ MOST_PULLS
-  pub few_retries : task.retries ≤ MOST_RETRIES
+  pub few_words : length task.command ≤ most_words
+  pub few_pulls : length (pulled_in task.command) ≤ most_pulls
+  pub few_retries : task.retries ≤ most_retries
+  pub short_delay : task.retry_delay ≤ longest_retry_delay
   pub some_slots : 1 ≤ task.pool_slots
-  pub few_slots : task.pool_slots ≤ MOST_SLOTS
-  pub light : task.priority_weight ≤ GREATEST_WEIGHT
+  pub few_slots : task.pool_slots ≤ most_slots
+  pub light : task.priority_weight ≤ greatest_weight
 
 -- the tasks of a draft
 pub record AreTasks (tasks : List TaskDraft) : Type 0 where
-  pub few : length tasks ≤ MOST_TASKS
-  pub few_edges : edge_count tasks ≤ MOST_EDGES
+  pub few : length tasks ≤ most_tasks
+  pub few_edges : edge_count tasks ≤ most_edges
   pub distinct_ids : HaveDistinctIds tasks
   pub each : All IsTask tasks
 
 -- a pool whose size is within its limits
 pub record IsPool (pool : PoolDraft) : Type 0 where
   pub some_slots : 1 ≤ pool.slots
-  pub few_slots : pool.slots ≤ MOST_SLOTS
+  pub few_slots : pool.slots ≤ most_slots
 
 -- each pool's name is below those behind it, byte by byte
 abbrev pub StandByName : List PoolDraft → Type 0
@@ -60,7 +61,7 @@ StandByName pools = AllPairs (λ a b. slice_cmp nat_cmp a.name b.name ≡ Less) 
 -- the numbers, the pools and the tasks of a draft
 pub record IsDraft (max_active_runs : ℕ) (pools : List PoolDraft) (tasks : List TaskDraft) : Type 0 where
   pub some_runs : 1 ≤ max_active_runs
-  pub few_runs : max_active_runs ≤ MOST_ACTIVE_RUNS
+  pub few_runs : max_active_runs ≤ most_active_runs
   pub are_pools : All IsPool pools
   pub by_name : StandByName pools
   pub are_tasks : AreTasks tasks
@@ -68,5 +69,5 @@ pub record IsDraft (max_active_runs : ℕ) (pools : List PoolDraft) (tasks : Lis
 -- a task that may follow these: none of them has its id, and its upstreams are not too many
 pub record MayFollow (before : List TaskDraft) (task : TaskDraft) : Type 0 where
   pub fresh : list_any (λ other. bytes_eq task.id other.id) before ≡ false
-  pub few : edge_count before + length task.upstreams ≤ MOST_EDGES
+  pub few : edge_count before + length task.upstreams ≤ most_edges
   pub is_task : IsTask task

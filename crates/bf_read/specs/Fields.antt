@@ -9,7 +9,7 @@ use Rattle.bf_read.specs.declared.path.Path.{Path}
 use Rattle.bf_read.specs.declared.keys.GraphKey.{GraphKey}
 use Rattle.bf_read.specs.declared.keys.TaskKey.{TaskKey}
 use Rattle.bf_read.specs.declared.draft.PoolDraft.{PoolDraft}
-use Rattle.bf_read.specs.declared.draft.TheConstants.{MOST_SLOTS}
+use Rattle.bf_read.specs.Limits.{most_slots, longest_id}
 use Rattle.bf_read.specs.declared.kinds.TaskKind.{TaskKind}
 use Rattle.bf_read.specs.declared.kinds.WeightRule.{WeightRule}
 use Rattle.bf_read.specs.declared.kinds.ContextVariable.{ContextVariable}
@@ -17,7 +17,6 @@ use Rattle.bf_read.specs.declared.fault.ReadFault.{ReadFault}
 use Rattle.bf_read.specs.declared.fault.ReadFault.TheVariants.{Shape, BadName, LimitPassed}
 use Rattle.bf_read.specs.declared.fields.Field.{Field}
 use Rattle.bf_read.specs.declared.fields.ObjectKind.{ObjectKind}
-use Rattle.bf_read.specs.declared.fields.TheConstants.{LONGEST_ID}
 use Rattle.bf_read.specs.Drafts.{distinct}
 use Rattle.bf_read.specs.Gives.{◌>>=◌}
 use Rattle.bf_read.specs.Keys.{graph_key_name, task_key_name, is_graph_key, is_task_key}
@@ -93,7 +92,7 @@ abbrev pub is_id_byte : ℕ → Bool
 is_id_byte b = (nat_le 97 b && nat_le b 122) || (nat_le 65 b && nat_le b 90) || (nat_le 48 b && nat_le b 57) || b == 45 || b == 46 || b == 95
 
 abbrev pub is_id : List ℕ → Bool
-is_id s = nat_le 1 (length s) && nat_le (length s) LONGEST_ID && list_all is_id_byte s
+is_id s = nat_le 1 (length s) && nat_le (length s) longest_id && list_all is_id_byte s
 
 -- a text that has to be an id
 unfoldable pub named_at : Path → List ℕ → Result (List ℕ) ReadFault
@@ -172,7 +171,7 @@ unfoldable pub pool_at : Path → List ℕ → Data → Result PoolDraft ReadFau
 pool_at p text d = do
   number ← whole_at (there p d)
   name ← named_at p text
-  slots ← within p 1 MOST_SLOTS number
+  slots ← within p 1 most_slots number
   Ok (record { name = name; slots = slots })
 
 -- the pools by name, as members stand in an object; none where the key is missing

@@ -5,7 +5,7 @@ use Rattle.std.specs.Str.{bytes_eq}
 use Rattle.bf_read.specs.declared.keys.GraphKey.{GraphKey}
 use Rattle.bf_read.specs.declared.keys.GraphKey.TheVariants.{DagId, Schedule, Zone, MaxActiveRuns, Pools, Tasks}
 use Rattle.bf_read.specs.declared.keys.TaskKey.{TaskKey}
-use Rattle.bf_read.specs.declared.keys.TaskKey.TheVariants.{Id, Upstream, Rule, Kind, Command, Expand, DependsOnPast, Retries, Pool, PoolSlots, PriorityWeight, WeightRule}
+use Rattle.bf_read.specs.declared.keys.TaskKey.TheVariants.{Id, Upstream, Rule, Kind, Command, Expand, DependsOnPast, Retries, RetryDelay, Pool, PoolSlots, PriorityWeight, WeightRule}
 
 abbrev pub graph_key_name : GraphKey → List ℕ
 graph_key_name DagId = codes "dag_id"
@@ -24,6 +24,7 @@ task_key_name Command = codes "command"
 task_key_name Expand = codes "expand"
 task_key_name DependsOnPast = codes "depends_on_past"
 task_key_name Retries = codes "retries"
+task_key_name RetryDelay = codes "retry_delay"
 task_key_name Pool = codes "pool"
 task_key_name PoolSlots = codes "pool_slots"
 task_key_name PriorityWeight = codes "priority_weight"
@@ -33,7 +34,7 @@ abbrev pub graph_keys : List GraphKey
 graph_keys = DagId ∷ Schedule ∷ Zone ∷ MaxActiveRuns ∷ Pools ∷ Tasks ∷ []
 
 abbrev pub task_keys : List TaskKey
-task_keys = Id ∷ Upstream ∷ Rule ∷ Kind ∷ Command ∷ Expand ∷ DependsOnPast ∷ Retries ∷ Pool ∷ PoolSlots ∷ PriorityWeight ∷ WeightRule ∷ []
+task_keys = Id ∷ Upstream ∷ Rule ∷ Kind ∷ Command ∷ Expand ∷ DependsOnPast ∷ Retries ∷ RetryDelay ∷ Pool ∷ PoolSlots ∷ PriorityWeight ∷ WeightRule ∷ []
 
 abbrev pub is_graph_key : List ℕ → Bool
 is_graph_key name = list_any (λ key. bytes_eq name (graph_key_name key)) graph_keys

@@ -1,3 +1,4 @@
+pub mod Limits
 pub mod Drafts
 pub mod Gives
 pub mod Keys

@@ -8,11 +8,10 @@ use Rattle.serde_json.specs.Read.{read}
 use Rattle.bf_read.specs.declared.draft.Draft.{Draft}
 use Rattle.bf_read.specs.declared.draft.PoolDraft.{PoolDraft}
 use Rattle.bf_read.specs.declared.draft.TaskDraft.{TaskDraft}
-use Rattle.bf_read.specs.declared.draft.TheConstants.{MOST_TASKS, MOST_EDGES, MOST_RETRIES, MOST_SLOTS, GREATEST_WEIGHT, MOST_ACTIVE_RUNS}
+use Rattle.bf_read.specs.Limits.{most_tasks, most_edges, most_retries, longest_retry_delay, most_slots, greatest_weight, most_active_runs, most_bytes}
 use Rattle.bf_read.specs.declared.tasks.TaskPlace.{TaskPlace}
 use Rattle.bf_read.specs.declared.tasks.TaskWork.{TaskWork}
 use Rattle.bf_read.specs.declared.tasks.TaskDemand.{TaskDemand}
-use Rattle.bf_read.specs.declared.reader.TheConstants.{MOST_BYTES}
 use Rattle.bf_read.specs.declared.keys.GraphKey.{GraphKey}
 use Rattle.bf_read.specs.declared.keys.TaskKey.{TaskKey}
 use Rattle.bf_read.specs.declared.path.Path.{Path}
@@ -56,7 +55,7 @@ place_at before at = do
   found ← id_at (at TaskKey.Id)
   id ← fresh before found
   upstreams ← upstreams_at (at TaskKey.Upstream)
-  _ ← limit (at TaskKey.Upstream).path (nat_le (edge_count before + length upstreams) MOST_EDGES)
+  _ ← limit (at TaskKey.Upstream).path (nat_le (edge_count before + length upstreams) most_edges)
   Ok (record { id = id; upstreams = upstreams })
 
 -- what a task does, and when
@@ -67,15 +66,16 @@ work_at at = do
   command ← command_at (is_some (at TaskKey.Expand).value) (at TaskKey.Command)
   expand ← expand_at (at TaskKey.Expand)
   depends_on_past ← flag_at (at TaskKey.DependsOnPast)
-  retries ← count_at 0 0 MOST_RETRIES (at TaskKey.Retries)
-  Ok (record { rule = rule; kind = kind; command = command; expand = expand; depends_on_past = depends_on_past; retries = retries })
+  retries ← count_at 0 0 most_retries (at TaskKey.Retries)
+  retry_delay ← count_at 0 0 longest_retry_delay (at TaskKey.RetryDelay)
+  Ok (record { rule = rule; kind = kind; command = command; expand = expand; depends_on_past = depends_on_past; retries = retries; retry_delay = retry_delay })
 
 -- what a running try of a task takes, and what the task weighs
 unfoldable pub demand_at : (TaskKey → Member) → Result TaskDemand ReadFault
 demand_at at = do
   pool ← text_or (codes "default_pool") (at TaskKey.Pool)
-  slots ← count_at 1 1 MOST_SLOTS (at TaskKey.PoolSlots)
-  weight ← count_at 1 0 GREATEST_WEIGHT (at TaskKey.PriorityWeight)
+  slots ← count_at 1 1 most_slots (at TaskKey.PoolSlots)
+  weight ← count_at 1 0 greatest_weight (at TaskKey.PriorityWeight)
   weight_rule ← weight_rule_at (at TaskKey.WeightRule)
   Ok (record { pool = pool; slots = slots; weight = weight; weight_rule = weight_rule })
 
@@ -89,6 +89,7 @@ task_of place work demand = record {
   expand = work.expand;
   depends_on_past = work.depends_on_past;
   retries = work.retries;
+  retry_delay = work.retry_delay;
   pool = demand.pool;
   pool_slots = demand.slots;
   priority_weight = demand.weight;
@@ -115,7 +116,7 @@ tasks_from before n (item d ds) = do
 unfoldable pub tasks_at : Member → Result (List TaskDraft) ReadFault
 tasks_at m = do
   ds ← items_at m
-  _ ← limit m.path (nat_le (items_len ds) MOST_TASKS)
+  _ ← limit m.path (nat_le (items_len ds) most_tasks)
   tasks_from [] 0 ds
 
 -- ---- the whole
@@ -125,7 +126,7 @@ draft_at at = do
   dag_id ← id_at (at GraphKey.DagId)
   schedule ← text_at (at GraphKey.Schedule)
   zone ← text_or (codes "UTC") (at GraphKey.Zone)
-  max_active_runs ← count_at 16 1 MOST_ACTIVE_RUNS (at GraphKey.MaxActiveRuns)
+  max_active_runs ← count_at 16 1 most_active_runs (at GraphKey.MaxActiveRuns)
   pools ← pools_at (at GraphKey.Pools)
   tasks ← tasks_at (at GraphKey.Tasks)
   Ok (record { dag_id = dag_id; schedule = schedule; zone = zone; max_active_runs = max_active_runs; pools = pools; tasks = tasks })
@@ -147,5 +148,5 @@ data_in bytes = if is_utf8 bytes then read bytes else None
 -- what a graph file says, or its first fault: it is too long, or no JSON text, or its value lacks something
 unfoldable pub graph_in : List ℕ → Result GraphFile ReadFault
 graph_in bytes = do
-  _ ← limit Path.Bytes (nat_le (length bytes) MOST_BYTES)
+  _ ← limit Path.Bytes (nat_le (length bytes) most_bytes)
   graph_of (data_in bytes)

@@ -6,11 +6,13 @@ ghost use Rattle.bf_read.specs.Drafts.{pulled_by, pulled_in};
 ghost use Rattle.bf_read.specs.Gives.{Gives};
 ghost use Rattle.bf_read.specs.Fields.{member_of};
 ghost use Rattle.bf_read.specs.Commands.{only_of as only, only_member as only_in, context_word as context, pull_word as pull, item_word as item, keyed_word as keyed, word_at as word, words_in as words, is_short as short, command_at as command};
+ghost use Rattle.bf_read.specs.Limits.{most_words, most_pulls};
 
-use crate::draft::{LONGEST_WORD, MOST_PULLS, MOST_WORDS, WordDraft};
+use crate::draft::WordDraft;
 use crate::fault::ReadFault;
 use crate::fields::{Field, flag_at, items_at, limit, text_at, there};
 use crate::kinds::ContextVariable;
+use crate::limits::{LONGEST_WORD, MOST_PULLS, MOST_WORDS};
 use crate::path::Path;
 use crate::texts::distinct;
 use bf_value::{OutOfMemory, Sequence, Text};
@@ -174,8 +176,8 @@ pub(crate) fn command_at(
     field: Field,
 ) -> Result<Sequence<WordDraft>, ReadFault>
     ensures exact { Gives (λ ws. ws) result (command is_expanded (member_of field.entry)) }
-    ensures few_words { IfOk result (λ ws. length ws ≤ MOST_WORDS) }
-    ensures few_pulls { IfOk result (λ ws. length (pulled_in ws) ≤ MOST_PULLS) }
+    ensures few_words { IfOk result (λ ws. length ws ≤ most_words) }
+    ensures few_pulls { IfOk result (λ ws. length (pulled_in ws) ≤ most_pulls) }
 {
     if field.value.is_none() {
         return Ok(Sequence::new(alloc));

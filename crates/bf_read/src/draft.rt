@@ -1,37 +1,10 @@
 //! Drafts of graphs.
 ghost use Rattle.std.specs.Prelude.{◌≡◌, ◌≤◌};
 ghost use Rattle.bf_read.specs.Drafts.{IsDraft, edge_count as edges};
-ghost use Rattle.bf_read.specs.declared.draft.TheConstants.{MOST_EDGES};
+ghost use Rattle.bf_read.specs.Limits.{most_edges};
 
 use crate::kinds::{ContextVariable, TaskKind, WeightRule};
 use bf_value::{Sequence, Text};
-
-/// How many tasks a graph file may have.
-pub const MOST_TASKS: usize = 2_000;
-
-/// How many distinct edges a graph file may have.
-pub const MOST_EDGES: usize = 20_000;
-
-/// How many words a command may have.
-pub const MOST_WORDS: usize = 64;
-
-/// How many distinct tasks a command may pull from.
-pub const MOST_PULLS: usize = 16;
-
-/// How many bytes a text in a command may have.
-pub const LONGEST_WORD: usize = 4_096;
-
-/// How often a failed try may be made again.
-pub const MOST_RETRIES: u32 = 100;
-
-/// How many slots a pool may have, and a task may take.
-pub const MOST_SLOTS: u32 = 1_000_000;
-
-/// What a task may weigh by itself.
-pub const GREATEST_WEIGHT: u32 = 1_000_000;
-
-/// How many runs may be open at once.
-pub const MOST_ACTIVE_RUNS: u32 = 4_096;
 
 /// A word of a task's command, as a graph file gives it.
 #[derive(Debug, Drop)]
@@ -65,6 +38,8 @@ pub struct TaskDraft {
     pub expand: Option<Text>,
     pub depends_on_past: bool,
     pub retries: u32,
+    /// How many seconds the next try waits after one that failed.
+    pub retry_delay: u32,
     pub pool: Text,
     pub pool_slots: u32,
     pub priority_weight: u32,
@@ -87,7 +62,7 @@ pub struct Draft {
 
 /// How many upstreams the tasks have.
 pub(crate) fn edges_of(tasks: &[TaskDraft]) -> usize
-    requires { edges tasks.now ≤ MOST_EDGES }
+    requires { edges tasks.now ≤ most_edges }
     ensures { result ≡ edges tasks.now }
 {
     tasks.iter().map(|task| task.upstreams.len()).sum()

@@ -8,13 +8,11 @@ ghost use Rattle.bf_read.specs.Fields.{member_of, there as place, graph_member, 
 
 use crate::fault::ReadFault;
 use crate::keys::{GraphKey, TaskKey, is_graph_key, is_task_key};
+use crate::limits::LONGEST_ID;
 use crate::path::Path;
 use bf_value::Text;
 use serde_json::{Map, Value};
 use std::alloc::Global;
-
-/// How many bytes an id may have.
-const LONGEST_ID: usize = 250;
 
 /// Which object of a graph file it is.
 #[derive(Clone, Copy, Debug, PartialEq, Eq)]

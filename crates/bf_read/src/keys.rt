@@ -26,6 +26,7 @@ pub enum TaskKey {
     Expand,
     DependsOnPast,
     Retries,
+    RetryDelay,
     Pool,
     PoolSlots,
     PriorityWeight,
@@ -41,7 +42,7 @@ const GRAPH_KEYS: [GraphKey; 6] = [
     GraphKey::Tasks,
 ];
 
-const TASK_KEYS: [TaskKey; 12] = [
+const TASK_KEYS: [TaskKey; 13] = [
     TaskKey::Id,
     TaskKey::Upstream,
     TaskKey::Rule,
@@ -50,6 +51,7 @@ const TASK_KEYS: [TaskKey; 12] = [
     TaskKey::Expand,
     TaskKey::DependsOnPast,
     TaskKey::Retries,
+    TaskKey::RetryDelay,
     TaskKey::Pool,
     TaskKey::PoolSlots,
     TaskKey::PriorityWeight,
@@ -86,6 +88,7 @@ impl TaskKey {
             TaskKey::Expand => "expand",
             TaskKey::DependsOnPast => "depends_on_past",
             TaskKey::Retries => "retries",
+            TaskKey::RetryDelay => "retry_delay",
             TaskKey::Pool => "pool",
             TaskKey::PoolSlots => "pool_slots",
             TaskKey::PriorityWeight => "priority_weight",

@@ -5,9 +5,9 @@
 //! 1,000,000, and `tasks` is a list of at most 2,000 objects. A task has an `id` of its own; what it comes after,
 //! `upstream` (none, 20,000 distinct ones over the file) and `rule` (`all_success`); what it does, `kind` (`program`, or
 //! `branch`), `command` (no words; texts, or objects with one key: `context`, `pull` or `item`), `expand` (none),
-//! `depends_on_past` (false) and `retries` (0, to 100); and what it takes, `pool` (`default_pool`), `pool_slots` (1, from
-//! 1 to 1,000,000), `priority_weight` (1, from 0 to 1,000,000) and `weight_rule` (`downstream`, or `upstream`,
-//! `absolute`). In parentheses stands what is meant by a missing key; the others have to be there.
+//! `depends_on_past` (false) and `retries` (0, to 100); and what its tries wait for and take, `retry_delay` (0 seconds,
+//! to 86,400), `pool` (`default_pool`), `pool_slots` (1, from 1 to 1,000,000), `priority_weight` (1, from 0 to
+//! 1,000,000) and `weight_rule` (`downstream`, or `upstream`, `absolute`). In parentheses stands what is meant by a missing key; the others have to be there.
 //!
 //! `read_graph` gives the draft of such a file with its defaults filled in, or the first fault of its walk: of each
 //! object an unknown key, then its keys in this order, the pools by name, and the tasks as they stand. For one key
@@ -21,6 +21,7 @@ mod fault;
 mod fields;
 mod keys;
 mod kinds;
+mod limits;
 mod path;
 mod pools;
 mod reader;
@@ -28,13 +29,14 @@ mod tasks;
 mod texts;
 
 pub use command::pulls_of;
-pub use draft::{
-    Draft, GREATEST_WEIGHT, LONGEST_WORD, MOST_ACTIVE_RUNS, MOST_EDGES, MOST_PULLS, MOST_RETRIES,
-    MOST_SLOTS, MOST_TASKS, MOST_WORDS, PoolDraft, TaskDraft, WordDraft,
-};
+pub use draft::{Draft, PoolDraft, TaskDraft, WordDraft};
 pub use fault::ReadFault;
 pub use fields::is_id;
 pub use keys::{GraphKey, TaskKey};
 pub use kinds::{ContextVariable, TaskKind, WeightRule};
+pub use limits::{
+    GREATEST_WEIGHT, LONGEST_RETRY_DELAY, LONGEST_WORD, MOST_ACTIVE_RUNS, MOST_BYTES, MOST_EDGES,
+    MOST_PULLS, MOST_RETRIES, MOST_SLOTS, MOST_TASKS, MOST_WORDS,
+};
 pub use path::Path;
-pub use reader::{MOST_BYTES, read_graph};
+pub use reader::read_graph;

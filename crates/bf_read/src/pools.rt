@@ -5,9 +5,10 @@ ghost use Rattle.bf_read.specs.Drafts.{IsPool, StandByName};
 ghost use Rattle.bf_read.specs.Gives.{Gives};
 ghost use Rattle.bf_read.specs.Fields.{member_of, pool_at as pool, each_member, pools_at as pools};
 
-use crate::draft::{MOST_SLOTS, PoolDraft};
+use crate::draft::PoolDraft;
 use crate::fault::ReadFault;
 use crate::fields::{Field, members_at, named_at, there, whole_at, within};
+use crate::limits::MOST_SLOTS;
 use crate::path::Path;
 use bf_value::Sequence;
 use serde_json::{Map, Value};

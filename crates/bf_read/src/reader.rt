@@ -5,19 +5,17 @@ ghost use Rattle.bf_read.specs.Gives.{Gives};
 ghost use Rattle.bf_read.specs.Fields.{graph_member};
 ghost use Rattle.bf_read.specs.Reading.{draft_at as draft_with, draft_of as draft, graph_in, graph_file_of};
 
-use crate::draft::{Draft, MOST_ACTIVE_RUNS};
+use crate::draft::Draft;
 use crate::fault::ReadFault;
 use crate::fields::{GraphObject, ObjectKind, count_at, id_at, limit, object_at, text_at, text_or};
 use crate::keys::GraphKey;
+use crate::limits::{MOST_ACTIVE_RUNS, MOST_BYTES};
 use crate::path::Path;
 use crate::pools::pools_at;
 use crate::tasks::tasks_at;
 use bf_value::Text;
 use serde_json::Value;
 use std::alloc::Global;
-
-/// How many bytes a graph file may have.
-pub const MOST_BYTES: usize = 8_388_608;
 
 #[tactic(auto, unfolding(crate::specs::Reading::draft_at))]
 fn draft_at(alloc: Global, graph: GraphObject) -> Result<Draft, ReadFault>

@@ -8,12 +8,10 @@ ghost use Rattle.bf_read.specs.Gives.{Gives};
 ghost use Rattle.bf_read.specs.Drafts.{edge_count, pulled_in, AreTasks, MayFollow};
 ghost use Rattle.bf_read.specs.Fields.{member_of, task_member, limit as limited};
 ghost use Rattle.bf_read.specs.Reading.{fresh as new, place_at as place, work_at as work, demand_at as demand, task_at as task, tasks_from, tasks_at as tasks};
+ghost use Rattle.bf_read.specs.Limits.{most_edges, most_tasks, most_words, most_pulls, most_retries, longest_retry_delay, most_slots, greatest_weight};
 
 use crate::command::command_at;
-use crate::draft::{
-    GREATEST_WEIGHT, MOST_EDGES, MOST_PULLS, MOST_RETRIES, MOST_SLOTS, MOST_TASKS, MOST_WORDS,
-    TaskDraft, WordDraft, edges_of,
-};
+use crate::draft::{TaskDraft, WordDraft, edges_of};
 use crate::fault::ReadFault;
 use crate::fields::{
     Field, ObjectKind, TaskObject, count_at, expand_at, flag_at, id_at, items_at, limit, object_at,
@@ -21,6 +19,9 @@ use crate::fields::{
 };
 use crate::keys::TaskKey;
 use crate::kinds::{TaskKind, WeightRule, kind_at, weight_rule_at};
+use crate::limits::{
+    GREATEST_WEIGHT, LONGEST_RETRY_DELAY, MOST_EDGES, MOST_RETRIES, MOST_SLOTS, MOST_TASKS,
+};
 use crate::path::Path;
 use crate::texts::upstreams_at;
 use bf_value::{Sequence, Text};
@@ -43,6 +44,7 @@ struct TaskWork {
     expand: Option<Text>,
     depends_on_past: bool,
     retries: u32,
+    retry_delay: u32,
 }
 
 /// What a running try of a task takes, and what the task weighs.
@@ -74,10 +76,10 @@ fn fresh(tasks: &[TaskDraft], id: Text) -> Result<Text, ReadFault>
 
 #[tactic(auto, unfolding(crate::specs::Reading::place_at))]
 fn place_of(alloc: Global, tasks: &[TaskDraft], task: TaskObject) -> Result<TaskPlace, ReadFault>
-    requires { edge_count tasks.now ≤ MOST_EDGES }
+    requires { edge_count tasks.now ≤ most_edges }
     ensures exact { Gives (λ p. p) result (place tasks.now (task_member task.entry.n (view task.entry.value.now))) }
     ensures fresh { IfOk result (λ p. list_any (λ task. bytes_eq p.id task.id) tasks.now ≡ false) }
-    ensures few { IfOk result (λ p. edge_count tasks.now + length p.upstreams ≤ MOST_EDGES) }
+    ensures few { IfOk result (λ p. edge_count tasks.now + length p.upstreams ≤ most_edges) }
 {
     let id = id_at(alloc, task.at(TaskKey::Id))?;
     let id = fresh(tasks, id)?;
@@ -93,9 +95,10 @@ fn place_of(alloc: Global, tasks: &[TaskDraft], task: TaskObject) -> Result<Task
 #[tactic(auto, unfolding(crate::specs::Reading::work_at))]
 fn work_of(alloc: Global, task: TaskObject) -> Result<TaskWork, ReadFault>
     ensures exact { Gives (λ w. w) result (work (task_member task.entry.n (view task.entry.value.now))) }
-    ensures few_words { IfOk result (λ w. length w.command ≤ MOST_WORDS) }
-    ensures few_pulls { IfOk result (λ w. length (pulled_in w.command) ≤ MOST_PULLS) }
-    ensures few_retries { IfOk result (λ w. w.retries ≤ MOST_RETRIES) }
+    ensures few_words { IfOk result (λ w. length w.command ≤ most_words) }
+    ensures few_pulls { IfOk result (λ w. length (pulled_in w.command) ≤ most_pulls) }
+    ensures few_retries { IfOk result (λ w. w.retries ≤ most_retries) }
+    ensures short_delay { IfOk result (λ w. w.retry_delay ≤ longest_retry_delay) }
 {
     let rule = text_or(alloc, "all_success", task.at(TaskKey::Rule))?;
     let kind = kind_at(task.at(TaskKey::Kind))?;
@@ -105,6 +108,7 @@ fn work_of(alloc: Global, task: TaskObject) -> Result<TaskWork, ReadFault>
     let expand = expand_at(alloc, source)?;
     let depends_on_past = flag_at(task.at(TaskKey::DependsOnPast))?;
     let retries = count_at(0, 0, MOST_RETRIES, task.at(TaskKey::Retries))?;
+    let retry_delay = count_at(0, 0, LONGEST_RETRY_DELAY, task.at(TaskKey::RetryDelay))?;
     Ok(TaskWork {
         rule,
         kind,
@@ -112,6 +116,7 @@ fn work_of(alloc: Global, task: TaskObject) -> Result<TaskWork, ReadFault>
         expand,
         depends_on_past,
         retries,
+        retry_delay,
     })
 }
 
@@ -119,8 +124,8 @@ fn work_of(alloc: Global, task: TaskObject) -> Result<TaskWork, ReadFault>
 fn demand_of(alloc: Global, task: TaskObject) -> Result<TaskDemand, ReadFault>
     ensures exact { Gives (λ d. d) result (demand (task_member task.entry.n (view task.entry.value.now))) }
     ensures some_slots { IfOk result (λ d. 1 ≤ d.slots) }
-    ensures few_slots { IfOk result (λ d. d.slots ≤ MOST_SLOTS) }
-    ensures light { IfOk result (λ d. d.weight ≤ GREATEST_WEIGHT) }
+    ensures few_slots { IfOk result (λ d. d.slots ≤ most_slots) }
+    ensures light { IfOk result (λ d. d.weight ≤ greatest_weight) }
 {
     let pool = text_or(alloc, "default_pool", task.at(TaskKey::Pool))?;
     let slots = count_at(1, 1, MOST_SLOTS, task.at(TaskKey::PoolSlots))?;
@@ -142,7 +147,7 @@ fn task_of(
     n: u32,
     value: &Value,
 ) -> Result<TaskDraft, ReadFault>
-    requires { edge_count tasks.now ≤ MOST_EDGES }
+    requires { edge_count tasks.now ≤ most_edges }
     ensures exact { Gives (λ t. t) result (task tasks.now n (view value.now)) }
     ensures follows { IfOk result (MayFollow tasks.now) }
 {
@@ -160,6 +165,7 @@ fn task_of(
         expand: work.expand,
         depends_on_past: work.depends_on_past,
         retries: work.retries,
+        retry_delay: work.retry_delay,
         pool: demand.pool,
         pool_slots: demand.slots,
         priority_weight: demand.weight,
@@ -168,7 +174,7 @@ fn task_of(
 }
 
 fn tasks_of(alloc: Global, items: &[Value]) -> Result<Vec<TaskDraft>, ReadFault>
-    requires { length items.now ≤ MOST_TASKS }
+    requires { length items.now ≤ most_tasks }
     ensures exact { Gives (λ v. v.items) result (tasks_from [] 0 (items_view items.now)) }
     ensures tasks { IfOk result (λ v. AreTasks v.items) }
 {
@@ -182,8 +188,8 @@ fn tasks_of(alloc: Global, items: &[Value]) -> Result<Vec<TaskDraft>, ReadFault>
 
 /// Refuses more tasks than there may be.
 fn few_tasks(path: Path, items: &[Value]) -> Result<(), ReadFault>
-    ensures exact { Gives (λ u. u) result (limited path (nat_le (items_len (items_view items.now)) MOST_TASKS)) }
-    ensures few { OnOk result (length items.now ≤ MOST_TASKS) }
+    ensures exact { Gives (λ u. u) result (limited path (nat_le (items_len (items_view items.now)) most_tasks)) }
+    ensures few { OnOk result (length items.now ≤ most_tasks) }
 {
     limit(path, items.len() <= MOST_TASKS)
 }
