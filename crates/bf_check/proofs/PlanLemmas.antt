@@ -212,6 +212,9 @@ module _ (draft : Draft) where
   light_at : (t : ℕ) → (demand_of limits t).weight ≤ 1_000_000
   light_at t = made_at (λ (demand : Demand). demand.weight ≤ 1_000_000) (demand_in pools) no_demand ds (omega arith) (λ i task there. (is_task_at i task there).light) t
 
+  short_at : (t : ℕ) → (demand_of limits t).retry_delay ≤ 86_400
+  short_at t = made_at (λ (demand : Demand). demand.retry_delay ≤ 86_400) (demand_in pools) no_demand ds (omega arith) (λ i task there. (is_task_at i task there).short_delay) t
+
   all_pools : All IsPool pools
   all_pools = go (names_default draft.pools)
     where
@@ -236,6 +239,7 @@ module _ (draft : Draft) where
         some_slots = λ t h. some_at t (omega (arith, h, made));
         pools_bounded = bounded_at;
         light = light_at;
+        short_delays = short_at;
         some_runs = draft.within_limits.some_runs;
         few_runs = draft.within_limits.few_runs;
       }

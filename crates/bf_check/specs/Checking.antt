@@ -80,13 +80,14 @@ dag_of draft = record { id = draft.dag_id; tasks = map (task_in (ids_of draft.ta
 abbrev pub shape_in : List TaskDraft → Shape
 shape_in tasks = record { ids = ids_of tasks; upstreams = map (λ task. map (number_or_0 (ids_of tasks)) task.upstreams) tasks }
 
--- what a running try of a task takes
+-- what a running try of a task takes, what the task weighs, and how long its retries wait
 abbrev pub demand_in : List PoolDraft → TaskDraft → Demand
 demand_in pools task = record {
   pool = unwrap_or (pool_number pools task.pool) 0;
   slots = task.pool_slots;
   weight = task.priority_weight;
   weight_rule = task.weight_rule;
+  retry_delay = task.retry_delay;
 }
 
 abbrev pub limits_of : Draft → Limits

@@ -29,13 +29,14 @@ pub record IsSound (dag : Dag) : Type 0 where
   pub source_is_upstream : (t source : ℕ) → (task_of dag t).expand ≡ Some source → IsOneOf (task_of dag t).upstreams source
   pub few_tasks : length dag.tasks ≤ 2_000
   pub few_upstreams : (t : ℕ) → length (task_of dag t).upstreams ≤ 20_000
+  pub distinct_upstreams : (t : ℕ) → AllPairs (λ u v. u ≢ v) (task_of dag t).upstreams
   pub few_retries : (t : ℕ) → (task_of dag t).retries ≤ 100
 
 -- ---- limits
 
 -- a task that takes nothing
 abbrev pub no_demand : Demand
-no_demand = record { pool = 0; slots = 0; weight = 0; weight_rule = WeightRule.Downstream }
+no_demand = record { pool = 0; slots = 0; weight = 0; weight_rule = WeightRule.Downstream; retry_delay = 0 }
 
 -- what a running try of the task t takes
 abbrev pub demand_of : Limits → ℕ → Demand
@@ -52,6 +53,7 @@ pub record AreLimits (dag : Dag) (limits : Limits) : Type 0 where
   pub some_slots : (t : ℕ) → t < length dag.tasks → 1 ≤ (demand_of limits t).slots
   pub pools_bounded : (pool : ℕ) → pool_size limits pool ≤ 1_000_000
   pub light : (t : ℕ) → (demand_of limits t).weight ≤ 1_000_000
+  pub short_delays : (t : ℕ) → (demand_of limits t).retry_delay ≤ 86_400
   pub some_runs : 1 ≤ limits.max_active_runs
   pub few_runs : limits.max_active_runs ≤ 4_096
 

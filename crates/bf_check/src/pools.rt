@@ -136,6 +136,7 @@ fn demand_of(pools: &[PoolDraft], task: &TaskDraft) -> Demand
         slots: task.pool_slots,
         weight: task.priority_weight,
         weight_rule: task.weight_rule,
+        retry_delay: task.retry_delay,
     }
 }
 

@@ -1,11 +1,12 @@
 -- Each text once, found one after another.
-use Rattle.std.proofs.Common.{◌≡◌, ℕ, ◌<◌, ◌+◌, List, [], ◌∷◌, ◌++◌, ◌&&◌, ◌||◌, length, get_or, map, drop, drop-cons, add-one, filter, Bool, true, false, not, cond, Bor, refl, sym, ap, ◌∙◌, append_assoc, append-nil, true≢false}
+use Rattle.std.proofs.Common.{◌≡◌, ◌≢◌, ℕ, ◌<◌, ◌+◌, All, arith, List, [], ◌∷◌, ◌++◌, ◌&&◌, ◌||◌, length, get_or, map, drop, drop-cons, add-one, filter, Bool, true, false, not, cond, Bor, refl, sym, ap, ◌∙◌, append_assoc, append-nil, true≢false}
 use Rattle.std.specs.List.{list_any}
 use Rattle.std.specs.Str.{bytes_eq}
 use Rattle.std.specs.Cmp.Lexicographic.{bytes_decides}
-use Rattle.std.proofs.lemmas.List.Elements.{filter_agree}
+use Rattle.std.proofs.lemmas.List.Elements.{filter_agree, filter_passes}
+use Rattle.std.proofs.lemmas.List.Kept.{AllPairs-cons, AllPairs-filter}
 use Rattle.std.proofs.lemmas.List.Folds.{list_any-append}
-use Rattle.bf_read.specs.Drafts.{distinct}
+use Rattle.bf_read.specs.Drafts.{distinct, AreDistinct}
 
 -- a text that is none of these
 abbrev pub is_new : List (List ℕ) → List ℕ → Bool
@@ -84,6 +85,15 @@ none_found ss = all (distinct ss)
 pub all_found : (found : List (List ℕ)) → with_new found [] ≡ found
 unfolding distinct
 all_found found = append-nil found
+
+-- no text stands twice among the distinct ones
+pub distinct-AreDistinct : (ss : List (List ℕ)) → AreDistinct (distinct ss)
+unfolding distinct
+distinct-AreDistinct [] = λ i j d lt within. absurd (omega (arith, within))
+distinct-AreDistinct (s ∷ ss) = AllPairs-cons (λ a b. a ≢ b) s (filter (λ t. not (bytes_eq s t)) (distinct ss)) others (AllPairs-filter (λ a b. a ≢ b) (λ t. not (bytes_eq s t)) (distinct ss) (distinct-AreDistinct ss))
+  where
+    others : All (λ t. s ≢ t) (filter (λ t. not (bytes_eq s t)) (distinct ss))
+    others k d within same = true≢false (sym (filter_passes (λ t. not (bytes_eq s t)) (distinct ss) k d within) ∙ ap not ((bytes_decides s _).1 same))
 
 -- ---- a text at a time
 

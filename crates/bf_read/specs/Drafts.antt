@@ -28,12 +28,17 @@ pulled_in words = distinct (filter_map pulled_by words)
 abbrev pub edge_count : List TaskDraft → ℕ
 edge_count tasks = sum_by (λ task. length task.upstreams) tasks
 
+-- no text stands there twice
+abbrev pub AreDistinct : List (List ℕ) → Type 0
+AreDistinct texts = AllPairs (λ a b. a ≢ b) texts
+
 -- no two tasks have one id
 abbrev pub HaveDistinctIds : List TaskDraft → Type 0
-HaveDistinctIds tasks = AllPairs (λ a b. a ≢ b) (map (λ task. task.id) tasks)
+HaveDistinctIds tasks = AreDistinct (map (λ task. task.id) tasks)
 
--- a task whose numbers and words are within their limits
+-- a task whose upstreams are distinct, and whose numbers and words are within their limits
 pub record IsTask (task : TaskDraft) : Type 0 where
+  pub distinct_upstreams : AreDistinct task.upstreams
   pub few_words : length task.command ≤ most_words
   pub few_pulls : length (pulled_in task.command) ≤ most_pulls
   pub few_retries : task.retries ≤ most_retries

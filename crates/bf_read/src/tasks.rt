@@ -5,7 +5,7 @@ ghost use Rattle.std.specs.Str.{bytes_eq};
 ghost use Rattle.serde_json.specs.Events.{items_len};
 ghost use Rattle.serde_json.specs.View.{view, items_view};
 ghost use Rattle.bf_read.specs.Gives.{Gives};
-ghost use Rattle.bf_read.specs.Drafts.{edge_count, pulled_in, AreTasks, MayFollow};
+ghost use Rattle.bf_read.specs.Drafts.{edge_count, pulled_in, AreDistinct, AreTasks, MayFollow};
 ghost use Rattle.bf_read.specs.Fields.{member_of, task_member, limit as limited};
 ghost use Rattle.bf_read.specs.Reading.{fresh as new, place_at as place, work_at as work, demand_at as demand, task_at as task, tasks_from, tasks_at as tasks};
 ghost use Rattle.bf_read.specs.Limits.{most_edges, most_tasks, most_words, most_pulls, most_retries, longest_retry_delay, most_slots, greatest_weight};
@@ -79,6 +79,7 @@ fn place_of(alloc: Global, tasks: &[TaskDraft], task: TaskObject) -> Result<Task
     requires { edge_count tasks.now ≤ most_edges }
     ensures exact { Gives (λ p. p) result (place tasks.now (task_member task.entry.n (view task.entry.value.now))) }
     ensures fresh { IfOk result (λ p. list_any (λ task. bytes_eq p.id task.id) tasks.now ≡ false) }
+    ensures distinct { IfOk result (λ p. AreDistinct p.upstreams) }
     ensures few { IfOk result (λ p. edge_count tasks.now + length p.upstreams ≤ most_edges) }
 {
     let id = id_at(alloc, task.at(TaskKey::Id))?;

@@ -2,7 +2,7 @@
 ghost use Rattle.std.specs.Prelude.{◌≡◌, map, IfOk};
 ghost use Rattle.serde_json.specs.View.{items_view};
 ghost use Rattle.bf_read.specs.Gives.{Gives};
-ghost use Rattle.bf_read.specs.Drafts.{distinct as distinct_texts};
+ghost use Rattle.bf_read.specs.Drafts.{distinct as distinct_texts, AreDistinct};
 ghost use Rattle.bf_read.specs.Fields.{member_of, texts_in as texts, upstreams_at as upstreams};
 
 use crate::fault::ReadFault;
@@ -41,7 +41,8 @@ pub(crate) fn distinct(alloc: Global, texts: &[&str]) -> Result<Vec<Text>, OutOf
 /// The distinct upstreams of a task, of which there are none where the key is missing.
 #[tactic(auto, unfolding(crate::specs::Fields::upstreams_at))]
 pub(crate) fn upstreams_at(alloc: Global, field: Field) -> Result<Vec<Text>, ReadFault>
-    ensures { Gives (λ v. v.items) result (upstreams (member_of field.entry)) }
+    ensures exact { Gives (λ v. v.items) result (upstreams (member_of field.entry)) }
+    ensures distinct { IfOk result (λ v. AreDistinct v.items) }
 {
     if field.value.is_none() {
         return Ok(Vec::new(alloc));
