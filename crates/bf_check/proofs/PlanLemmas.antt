@@ -1,11 +1,13 @@
 -- The plan of a draft without faults is sound, and its limits fit it.
-use Rattle.std.proofs.Common.{◌≡◌, inl, inr, ℕ, zero, suc, ◌<◌, ◌≤◌, ◌++◌, List, [], ◌∷◌, length, get_or, slice_get, map, All, Contains, Bool, true, false, not, ◌||◌, cond, Option, Some, None, option_map, unwrap_or, is_none, refl, sym, ap, ◌∙◌, subst, arith, true≢false}
+use Rattle.std.proofs.Common.{◌≡◌, ◌≢◌, inl, inr, ℕ, zero, suc, ◌<◌, ◌≤◌, ◌++◌, List, [], ◌∷◌, length, get_or, slice_get, map, All, AllPairs, Contains, Bool, true, false, not, ◌||◌, cond, Option, Some, None, option_map, unwrap_or, is_none, refl, sym, ap, ◌∙◌, subst, arith, true≢false}
 use Rattle.std.specs.List.{AllByRecursion, list_any}
 use Rattle.std.specs.Str.{bytes_eq}
 use Rattle.std.specs.Cmp.Lexicographic.{bytes_decides}
 use Rattle.std.proofs.lemmas.Bool.{ltb-false, false_from_ne_true}
 use Rattle.std.proofs.lemmas.List.{length-map}
-use Rattle.std.proofs.lemmas.List.Elements.{All-get_or, All-from_get_or, All-append}
+use Rattle.std.proofs.lemmas.List.Elements.{All-get_or, All-from_get_or, All-append, All-map}
+use Rattle.std.proofs.lemmas.List.Folds.{list_any_at}
+use Rattle.std.proofs.lemmas.List.Kept.{AllPairs-cons}
 use Rattle.std.proofs.lemmas.List.Quantifiers.{position-Some}
 use Rattle.std.proofs.lemmas.List.Sums.{sum_by-cons}
 use Rattle.std.proofs.lemmas.Option.{get_or_from_slice_get, slice_get_within}
@@ -16,7 +18,7 @@ use Rattle.bf_graph.specs.Shape.{Shape}
 use Rattle.bf_read.specs.declared.draft.Draft.{Draft}
 use Rattle.bf_read.specs.declared.draft.PoolDraft.{PoolDraft}
 use Rattle.bf_read.specs.declared.draft.TaskDraft.{TaskDraft}
-use Rattle.bf_read.specs.Drafts.{edge_count, pulled_in, IsTask, IsPool}
+use Rattle.bf_read.specs.Drafts.{edge_count, pulled_in, AreDistinct, IsTask, IsPool}
 use Rattle.bf_check.specs.declared.fault.TaskFault.TheVariants.{UnknownUpstream, UnknownPool, SlotsBeyondPool, ExpandSource}
 use Rattle.bf_check.specs.declared.plan.Task.{Task}
 use Rattle.bf_check.specs.declared.plan.Dag.{Dag}
@@ -68,6 +70,34 @@ known_numbers ids (id ∷ names) known u one = go (is_none (number_of ids id)) r
     go false e known (inl is) rest = subst (λ (n : ℕ). n < length ids) (sym is) (number_within ids id _ refl e)
     go false e known (inr one) rest = rest known u one
 
+-- the number of an id is where it stands
+named : (ids : List (List ℕ)) (id : List ℕ) (found : Option ℕ) → number_of ids id ≡ found → is_none found ≡ false → id ≡ get_or ids (unwrap_or found 0) []
+named ids id None e some = absurd (true≢false some)
+named ids id (Some n) e some = (bytes_decides id (get_or ids n [])).0 (position-Some (bytes_eq id) ids n [] e).1.0
+
+same_id : (ids : List (List ℕ)) (a b : List ℕ) → is_none (number_of ids a) ≡ false → is_none (number_of ids b) ≡ false → number_or_0 ids a ≡ number_or_0 ids b → a ≡ b
+same_id ids a b known_a known_b same = named ids a _ refl known_a ∙ ap (λ n. get_or ids n []) same ∙ sym (named ids b _ refl known_b)
+
+-- distinct ids of tasks have distinct numbers
+distinct_numbers : (ids names : List (List ℕ)) → list_any (λ id. is_none (number_of ids id)) names ≡ false → AreDistinct names → AllPairs (λ u v. u ≢ v) (map (number_or_0 ids) names)
+distinct_numbers ids [] known apart = λ i j d lt within. absurd (omega (arith, within))
+distinct_numbers ids (id ∷ names) known apart =
+    AllPairs-cons (λ u v. u ≢ v) (number_or_0 ids id) (map (number_or_0 ids) names) (All-map (λ v. number_or_0 ids id ≢ v) (number_or_0 ids) names others) (distinct_numbers ids names (later (is_none (number_of ids id)) known) (λ i j d lt within. apart (suc i) (suc j) d (omega (arith, lt)) (omega (arith, within))))
+  where
+    later : (b : Bool) → (b || list_any (λ other. is_none (number_of ids other)) names) ≡ false → list_any (λ other. is_none (number_of ids other)) names ≡ false
+    later true e = absurd (true≢false e)
+    later false e = e
+
+    first : (b : Bool) → (b || list_any (λ other. is_none (number_of ids other)) names) ≡ false → b ≡ false
+    first true e = absurd (true≢false e)
+    first false e = refl
+
+    known_later : (k : ℕ) (d : List ℕ) → k < length names → is_none (number_of ids (get_or names k d)) ≡ false
+    known_later k d h = false_from_ne_true _ (λ e. true≢false (sym (list_any_at (λ other. is_none (number_of ids other)) names k d h e) ∙ later (is_none (number_of ids id)) known))
+
+    others : All (λ other. number_or_0 ids id ≢ number_or_0 ids other) names
+    others k d h same = apart 0 (suc k) d (omega arith) (omega (arith, h)) (same_id ids id (get_or names k d) (first (is_none (number_of ids id)) known) (known_later k d h) same)
+
 upstreams_of_task : (dag : Dag) (t : ℕ) → (task_of dag t).upstreams ≡ upstreams_of (shape_of dag).upstreams t
 unfolding task_of
 upstreams_of_task dag t = sym (get_or-map_default (λ (task : Task). task.upstreams) dag.tasks t no_task)
@@ -92,12 +122,19 @@ module _ (draft : Draft) where
     upstreams = map-then (task_in ids) (λ (task : Task). task.upstreams) ds i;
   }
 
+  is_task_at : (t : ℕ) (task : TaskDraft) → slice_get ds t ≡ Some task → IsTask task
+  is_task_at t task there = all_at IsTask ds t task draft.within_limits.are_tasks.each there
+
   known_at : NoneHas draft UnknownUpstream → (t : ℕ) (task : TaskDraft) → slice_get ds t ≡ Some task → has_unknown_upstream ids task ≡ false
   known_at none t task there = false_from_ne_true (has_unknown_upstream ids task) (none t task there)
 
   below_ids : NoneHas draft UnknownUpstream → (t u : ℕ) → IsOneOf (task_of dag t).upstreams u → u < length ids
   unfolding task_of
   below_ids none t = made_at (λ (task : Task). (u : ℕ) → IsOneOf task.upstreams u → u < length ids) (task_in ids) no_task ds (λ u one. absurd one) (λ i task there u one. known_numbers ids task.upstreams (known_at none i task there) u one) t
+
+  distinct_at : NoneHas draft UnknownUpstream → (t : ℕ) → AllPairs (λ u v. u ≢ v) (task_of dag t).upstreams
+  unfolding task_of
+  distinct_at none t = made_at (λ (task : Task). AllPairs (λ u v. u ≢ v) task.upstreams) (task_in ids) no_task ds (λ i j d lt within. absurd (omega (arith, within))) (λ i task there. distinct_numbers ids task.upstreams (known_at none i task there) (is_task_at i task there).distinct_upstreams) t
 
   -- each upstream is the number of a task, along all edges and along those that settle
   pub in_range : NoneHas draft UnknownUpstream → AreInRange (shape_in ds).upstreams
@@ -161,9 +198,6 @@ module _ (draft : Draft) where
   unfolding task_of
   few_upstreams_at t = few_at ds t
 
-  is_task_at : (t : ℕ) (task : TaskDraft) → slice_get ds t ≡ Some task → IsTask task
-  is_task_at t task there = all_at IsTask ds t task draft.within_limits.are_tasks.each there
-
   few_retries_at : (t : ℕ) → (task_of dag t).retries ≤ 100
   unfolding task_of
   few_retries_at t = made_at (λ (task : Task). task.retries ≤ 100) (task_in ids) no_task ds (omega arith) (λ i task there. (is_task_at i task there).few_retries) t
@@ -185,6 +219,7 @@ module _ (draft : Draft) where
         source_is_upstream = sources_at (accepted.tasks ExpandSource);
         few_tasks = (let few = draft.within_limits.are_tasks.few in omega (arith, few, made));
         few_upstreams = λ t. let low = few_upstreams_at t in let few = draft.within_limits.are_tasks.few_edges in omega (arith, low, few);
+        distinct_upstreams = distinct_at (accepted.tasks UnknownUpstream);
         few_retries = few_retries_at;
       }
 

@@ -1,5 +1,5 @@
 -- What a checked plan keeps.
-use Rattle.std.specs.Prelude.{◌≡◌, ◌⊎◌, ℕ, ◌<◌, ◌≤◌, true, List, [], ◌∷◌, length, Some, slice_index_or}
+use Rattle.std.specs.Prelude.{◌≡◌, ◌≢◌, ◌⊎◌, ℕ, ◌<◌, ◌≤◌, true, List, [], ◌∷◌, length, AllPairs, Some, slice_index_or}
 use Rattle.std.specs.List.{AllByRecursion}
 use Rattle.bf_graph.specs.Shape.{Shape}
 use Rattle.bf_read.specs.declared.kinds.WeightRule.{WeightRule}
@@ -19,7 +19,7 @@ pub data IsSettledAncestor (dag : Dag) : ℕ → ℕ → Type 0 where
   Direct : {t a : ℕ} → is_waiting (task_of dag t).rule ≡ true → IsOneOf (task_of dag t).upstreams a → IsSettledAncestor dag t a
   Above : {t u a : ℕ} → is_waiting (task_of dag t).rule ≡ true → IsOneOf (task_of dag t).upstreams u → IsSettledAncestor dag u a → IsSettledAncestor dag t a
 
--- ranks rise along edges, so there is no cycle; what a task pulls is settled when it is decided; an expanded task's source is upstream
+-- ranks rise along edges, so there is no cycle; no upstream stands there twice; what a task pulls is settled when it is decided; an expanded task's source is upstream
 pub record IsSound (dag : Dag) : Type 0 where
   pub rank : ℕ → ℕ
   pub bounded : (t : ℕ) → rank t ≤ length dag.tasks

@@ -1,7 +1,7 @@
 //! The tasks of a plan.
 ghost use Rattle.std.specs.Prelude.{◌≡◌, ◌<◌, ◌≤◌, length, map, All, position, unwrap_or, IfOk, IfSome};
 ghost use Rattle.std.specs.Str.{bytes_eq};
-ghost use Rattle.bf_read.specs.declared.draft.TheConstants.{MOST_PULLS};
+ghost use Rattle.bf_read.specs.Limits.{most_pulls};
 ghost use Rattle.bf_read.specs.Drafts.{IsTask, pulled_in};
 ghost use Rattle.bf_check.specs.Checking.{number_or_0, task_in, word_in};
 
@@ -22,7 +22,7 @@ fn place_of(pulled: &[Text], id: &str) -> Option<usize>
 
 /// The place of an id among those that are pulled.
 fn pull_of(pulled: &[Text], id: &str) -> u32
-    requires { length pulled.now ≤ MOST_PULLS }
+    requires { length pulled.now ≤ most_pulls }
     ensures { result ≡ unwrap_or (position (bytes_eq id.now) pulled.now) 0 }
 {
     match place_of(pulled, id) {
@@ -32,7 +32,7 @@ fn pull_of(pulled: &[Text], id: &str) -> u32
 }
 
 fn word_of(pulled: &[Text], word: WordDraft) -> Word
-    requires { length pulled.now ≤ MOST_PULLS }
+    requires { length pulled.now ≤ most_pulls }
     ensures { result ≡ word_in pulled.now word }
 {
     match word {
@@ -48,7 +48,7 @@ fn words_of(
     pulled: &[Text],
     drafts: Sequence<WordDraft>,
 ) -> Result<Vec<Word>, OutOfMemory>
-    requires { length pulled.now ≤ MOST_PULLS }
+    requires { length pulled.now ≤ most_pulls }
     ensures { IfOk result (λ v. v.items ≡ map (word_in pulled.now) drafts) }
 {
     let mut words = Vec::new(alloc);

@@ -18,7 +18,7 @@ module _ (ups : List (List ℕ)) (ranks : List ℕ) (kept : HasRanks ups ranks) 
 
   pub ranking_of : Ranking ups
   unfolding rank
-  ranking_of = record { rank = rank; bounded = kept.bounded; rises = λ t u up. rises u t up }
+  ranking_of = record { rank = rank; is_rank = kept.rank; bounded = kept.bounded; rises = λ t u up. rises u t up }
 
   chain_rises : (t : ℕ) (ts : List ℕ) (last : ℕ) → IsChain ups (t ∷ ts ++ last ∷ []) → rank t < rank last
   chain_rises t [] last c = rises t last c.0

@@ -144,6 +144,13 @@ impl Graph {
             → IsUpstream self.now.upstreams u t → q < r }
     {}
 
+    /// A law: each upstream is the number of a task.
+    pub fn in_range(&self)
+        ensures { AreInRange self.now.upstreams }
+    {
+        let _edges = &self.edges;
+    }
+
     /// A law: every task has a rank, no higher than there are tasks, and ranks rise along edges.
     pub fn ranks(&self)
         ensures { Ranking self.now.upstreams }
