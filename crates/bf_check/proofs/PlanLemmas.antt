@@ -73,7 +73,7 @@ known_numbers ids (id ∷ names) known u one = go (is_none (number_of ids id)) r
 -- the number of an id is where it stands
 named : (ids : List (List ℕ)) (id : List ℕ) (found : Option ℕ) → number_of ids id ≡ found → is_none found ≡ false → id ≡ get_or ids (unwrap_or found 0) []
 named ids id None e some = absurd (true≢false some)
-named ids id (Some n) e some = (bytes_decides id (get_or ids n [])).0 (position-Some (bytes_eq id) ids n [] e).1.0
+named ids id (Some n) e some = (bytes_decides id (get_or ids n [])).0 (position-Some (bytes_eq id) ids n [] e).1
 
 same_id : (ids : List (List ℕ)) (a b : List ℕ) → is_none (number_of ids a) ≡ false → is_none (number_of ids b) ≡ false → number_or_0 ids a ≡ number_or_0 ids b → a ≡ b
 same_id ids a b known_a known_b same = named ids a _ refl known_a ∙ ap (λ n. get_or ids n []) same ∙ sym (named ids b _ refl known_b)

@@ -47,9 +47,9 @@ IsZoneOf (Rule tz) zone = zone ≡ plain_zone tz
 IsZoneOf (Table t) (Tzif z) = z.now ≡ t
 IsZoneOf (Table t) zone = ⊥
 
--- the bytes of a zone file that can be read
+-- the bytes of a zone file that can be read, and isn't too long
 abbrev pub TakesMemory : Asked → Option (List ℕ) → Type 0
-TakesMemory file (Some bytes) = IsOk (read_tzif bytes)
+TakesMemory file (Some bytes) = (length bytes ≤ 1_048_576) × IsOk (read_tzif bytes)
 TakesMemory other bytes = ⊥
 
 -- what was read lends a zone that is meant, or no zone is meant, or memory ran out

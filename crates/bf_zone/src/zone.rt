@@ -65,7 +65,7 @@ fn rule_in(text: &str) -> Option<TimeZone<'static>>
 impl Zone {
     /// The zone of a text, where `file` means the bytes of a zone file. For another text these aren't looked at.
     /// `Bad` comes exactly where the text means no zone, as `file` does without bytes, and `OutOfMemory` only for a
-    /// zone file.
+    /// zone file that can be read: one that is too long is `Bad` before anything grows.
     pub fn read(alloc: Global, text: &str, file: Option<&[u8]>) -> Result<Zone, ZoneFault>
         ensures { IsZoneRead (asked text.now) (option_map (λ s. s.now) file.entry) result }
     {
