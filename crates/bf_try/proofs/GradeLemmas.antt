@@ -2,13 +2,14 @@
 use Rattle.std.proofs.Common.{◌≡◌, ◌≢◌, ◌≤◌, ℕ, zero, suc, ℤ, if◌then◌else◌, Bool, true, false, pos, IsUtf8, List, [], ◌∷◌, Option, None, Some, option_map, option_and_then, refl, sym, ap, ◌∙◌, subst, arith}
 use Rattle.std.specs.Str.{is_utf8}
 use Rattle.std.proofs.lemmas.Bool.{and_parts, le-leb, leb-true}
-use Rattle.std.proofs.lemmas.Str.{is_utf8-from_IsUtf8}
+use Rattle.std.proofs.lemmas.Str.{is_utf8-from_IsUtf8, IsUtf8-nil}
 use Rattle.serde_json.specs.Data.{Data, null, boolean, number, string, array, object, Items, no_items, item}
 use Rattle.serde_json.specs.Find.{as_i64}
 use Rattle.serde_json.specs.Read.{read}
-use Rattle.bf_value.specs.Json.{deepest, plain_in, plains_in, pushed_by, value_of_line, value_or_text}
+use Rattle.bf_value.specs.Json.{deepest, plain_in, plains_in, pushed_by, text_of, value_of_line, value_or_text}
 use Rattle.bf_value.specs.Plain.{Plain, flag, int, text, list, nil, Plains, none, more, plain_depth, plains_depth}
 use Rattle.bf_value.specs.Views.{plain_of}
+use Rattle.bf_value.proofs.TextLemmas.{IsUtf8-text_of, value_of_line-text_of}
 use Rattle.bf_value.specs.declared.xval.Xval.{Xval}
 use Rattle.bf_value.specs.declared.xval.Xval.TheVariants.{Flag, Int, Text, List as ListOf, Nil}
 use Rattle.bf_check.specs.declared.plan.Dag.{Dag}
@@ -16,7 +17,7 @@ use Rattle.bf_xcom.specs.declared.values.Outcome.{Outcome}
 use Rattle.bf_try.specs.declared.answers.Exit.{Exit}
 use Rattle.bf_try.specs.declared.answers.Line.{Line}
 use Rattle.bf_try.specs.declared.answers.Raw.{Raw}
-use Rattle.bf_try.specs.Grades.{fits, grade_of, grade_answer, grade_line, grade_status, grade_value, is_status, is_value_of_lines, may_push}
+use Rattle.bf_try.specs.Grades.{HasSoundValue, fits, grade_of, grade_answer, grade_line, grade_status, grade_value, is_status, is_value_of_lines, may_push}
 
 int-some : (o : Option ℤ) (p : Plain) → option_map int o ≡ Some p → plain_depth p ≤ 0
 int-some None p e = cc
@@ -167,3 +168,15 @@ failed_answered o raw line is answer dag t = ap (grade_of dag t) answer ∙ sym 
 pub skipped_answered : (o : Outcome) (raw : Raw) (line : List ℕ) → o ≡ Outcome.Skipped → raw ≡ record { exit = Exit.Code (pos 99); line = Line.Bytes line } → (dag : Dag) (t : ℕ) → grade_of dag t raw ≡ o
 unfolding grade_of
 skipped_answered o raw line is answer dag t = ap (grade_of dag t) answer ∙ sym is
+
+-- the answer by which a program ends so, and prints this line
+abbrev coded : ℕ → List ℕ → Raw
+coded status line = record { exit = Exit.Code (pos status); line = Line.Bytes line }
+
+-- each outcome that fits is the grade of an answer
+pub fit_graded : (dag : Dag) (t : ℕ) (o : Outcome) → HasSoundValue o → fits dag t o ≡ true → (raw : Raw) × (grade_of dag t raw ≡ o)
+fit_graded dag t (Outcome.Success None) sound e = (coded 0 [], success_graded dag t None [] IsUtf8-nil (λ _. refl) e)
+fit_graded dag t (Outcome.Success (Some x)) sound e =
+    (coded 0 (text_of x), success_graded dag t (Some x) (text_of x) (IsUtf8-text_of x sound) (line_reads_back x (text_of x) (λ some deep. value_of_line-text_of x sound deep some)) e)
+fit_graded dag t Outcome.Failed sound e = (coded 1 [], failed_answered Outcome.Failed (coded 1 []) [] refl refl dag t)
+fit_graded dag t Outcome.Skipped sound e = (coded 99 [], skipped_answered Outcome.Skipped (coded 99 []) [] refl refl dag t)

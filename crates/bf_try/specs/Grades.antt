@@ -3,8 +3,8 @@ use Rattle.std.specs.Prelude.{ℕ, ◌==◌, ℤ, pos, negsuc, nat_le, length, B
 use Rattle.std.specs.List.{list_any}
 use Rattle.std.specs.Str.{is_utf8}
 use Rattle.bf_value.specs.Json.{deepest, text_of, value_of_line}
-use Rattle.bf_value.specs.Plain.{plains_depth}
-use Rattle.bf_value.specs.Views.{xvals_of}
+use Rattle.bf_value.specs.Plain.{plains_depth, IsSound}
+use Rattle.bf_value.specs.Views.{plain_of, xvals_of}
 use Rattle.bf_value.specs.declared.xval.Xval.{Xval}
 use Rattle.bf_value.specs.declared.xval.Xval.TheVariants.{Nil, List as ListOf}
 use Rattle.bf_rule.specs.Branches.{names_downstreams}
@@ -79,6 +79,11 @@ unfoldable pub grade_of : Dag → ℕ → Raw → Outcome
 grade_of dag t raw = grade_answer dag t raw.exit raw.line
 
 -- ---- outcomes that a grade could give
+
+-- the pushed value is one that the program can hold: its numbers fit 64 bits, and its texts are UTF-8
+abbrev pub HasSoundValue : Outcome → Type 0
+HasSoundValue (Outcome.Success (Some x)) = IsSound (plain_of x)
+HasSoundValue _ = Unit {0}
 
 -- a line may have this value: never null, with lists that are not nested too deep
 abbrev pub is_value_of_lines : Option Xval → Bool

@@ -2,11 +2,12 @@
 ghost use Rattle.std.specs.Prelude.{◌≡◌, ◌<◌, ◌||◌, ℕ, true, not, length, IfOk, IsUtf8};
 ghost use Rattle.bf_value.specs.Json.{value_of_line};
 ghost use Rattle.bf_check.specs.declared.plan.Dag.{Dag as DagTerm};
+ghost use Rattle.bf_xcom.specs.declared.values.Outcome.{Outcome as OutcomeTerm};
 ghost use Rattle.bf_try.specs.declared.answers.Raw.{Raw as RawTerm};
 ghost use Rattle.std.specs.List.{list_any};
 ghost use Rattle.bf_rule.specs.Branches.{names_downstreams as names_downstreams_in};
 ghost use Rattle.bf_check.specs.Plans.{task_of, shape_of, is_branch as branch};
-ghost use Rattle.bf_try.specs.Grades.{grade_of, grade_line as line_grade, fits as fits_in, gives_items as items_given, is_list_of_items as list_of_items, is_short as short, is_source, is_value_of_lines as of_lines, may_push as pushable};
+ghost use Rattle.bf_try.specs.Grades.{grade_of, grade_line as line_grade, fits as fits_in, gives_items as items_given, HasSoundValue, is_list_of_items as list_of_items, is_short as short, is_source, is_value_of_lines as of_lines, may_push as pushable};
 
 use crate::answers::{Exit, Line, Raw, copied};
 use bf_check::{Dag, Plan};
@@ -169,6 +170,12 @@ pub fn grade(alloc: Global, plan: &Plan, task: u32, raw: &Raw) -> Result<Outcome
 /// A law: a grade fits.
 pub fn grades_fit()
     ensures { (dag : DagTerm) (task : ℕ) (raw : RawTerm) → fits_in dag task (grade_of dag task raw) ≡ true }
+{}
+
+/// A law: what fits is the grade of some answer.
+pub fn each_fit_is_a_grade()
+    ensures { (dag : DagTerm) (task : ℕ) (outcome : OutcomeTerm) → HasSoundValue outcome
+        → fits_in dag task outcome ≡ true → (raw : RawTerm) × (grade_of dag task raw ≡ outcome) }
 {}
 
 /// The last line by which a program pushes this.
