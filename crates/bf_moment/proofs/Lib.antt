@@ -3,4 +3,5 @@ mod MomentFacts
 mod Spelling
 mod ClockFacts
 mod LongFacts
+mod LongForm
 pub mod OneText

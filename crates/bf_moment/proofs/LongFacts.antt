@@ -47,7 +47,7 @@ by_numbers : (text : List ℕ) (y m d h n s : ℕ) → four_from text 0 ≡ y �
 unfolding is_long
 by_numbers text y m d h n s a b c e f g long = (λ i. is_long_of text (a i) (b i) (c i) (e i) (f i) (g i)) ∙ long
 
-clock_is_long : (at : DateTime) → IsShownDate at.date → is_long (clock_text at) ≡ true
+pub clock_is_long : (at : DateTime) → IsShownDate at.date → is_long (clock_text at) ≡ true
 clock_is_long at shown =
     let y = unsigned_abs at.date.year in
     by_numbers (clock_text at) y at.date.month at.date.day at.time.hour at.time.minute at.time.second
@@ -87,11 +87,11 @@ clock_by text y m d h n s e =
       record { year = omega (arith, signed_arith); whole = refl; text = inl ((bytes_eq-Decides text (date_parts_text y m d ++ 84 ∷ time_parts_text h n s ++ 90 ∷ [])).0 b.0) },
     )
 
-clock_of_long : (text : List ℕ) → is_long text ≡ true → (at : DateTime) × SpellsClock text at
+pub clock_of_long : (text : List ℕ) → is_long text ≡ true → (at : DateTime) × SpellsClock text at
 unfolding is_long
 clock_of_long text e = clock_by text _ _ _ _ _ _ e
 
-long_length : (text : List ℕ) → is_long text ≡ true → length text ≡ 20
+pub long_length : (text : List ℕ) → is_long text ≡ true → length text ≡ 20
 unfolding is_long
 long_length text e = ap length ((bytes_eq-Decides text _).0 (and_parts _ _ (and_parts _ _ e).0).0)
 

@@ -1,8 +1,8 @@
 -- Texts of the long form, as 2024-01-31T06:05:09Z, of moments that exist.
-use Rattle.std.specs.Prelude.{ℕ, ◌+◌, ◌-◌, ◌*◌, nat_le, nat_lt, Bool, ◌&&◌, pos, List, [], ◌∷◌, ◌++◌, slice_index_or}
+use Rattle.std.specs.Prelude.{◌≡◌, ℕ, ℤ, ◌+◌, ◌-◌, ◌*◌, nat_le, nat_lt, Bool, ◌&&◌, pos, List, [], ◌∷◌, ◌++◌, slice_index_or}
 use Rattle.std.specs.Str.{bytes_eq}
 use Rattle.jiff_core.specs.Calendar.{days_in_month}
-use Rattle.bf_moment.specs.Moment.{date_parts_text, time_parts_text}
+use Rattle.bf_moment.specs.Moment.{date_parts_text, time_parts_text, moment_text, IsShown, IsWhole}
 
 -- the number that the digits say which stand from a place on, two and four
 abbrev pub two_from : List ℕ → ℕ → ℕ
@@ -26,3 +26,10 @@ is_long_of text year month day hour minute second =
 
 unfoldable pub is_long : List ℕ → Bool
 is_long text = is_long_of text (four_from text 0) (two_from text 5) (two_from text 8) (two_from text 11) (two_from text 14) (two_from text 17)
+
+-- the text is that of a moment of whole seconds, in a year of four digits
+pub record IsTextOfMoment (text : List ℕ) : Type 0 where
+  pub moment : ℤ
+  pub shown : IsShown moment
+  pub whole : IsWhole moment
+  pub is_text : text ≡ moment_text moment

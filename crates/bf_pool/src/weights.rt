@@ -1,6 +1,5 @@
 //! The weight of a task, which says whose waiting instance begins first (Airflow's "Priority Weights").
 ghost use Rattle.std.specs.Prelude.{◌≡◌, ◌<◌, ◌≤◌, ℕ, length, All, IfOk};
-ghost use Rattle.bf_graph.specs.Edges.{AreInRange};
 ghost use Rattle.bf_check.specs.Sound.{demand_of};
 ghost use Rattle.bf_pool.specs.Weights.{tasks_counting, weights_of, total_weight_of};
 
@@ -17,11 +16,11 @@ fn counting(
     rule: WeightRule,
     task: u32,
 ) -> Result<Vec<u32>, OutOfMemory>
-    requires task { task < length graph.now.upstreams }
-    requires in_range { AreInRange graph.now.upstreams }
+    requires { task < length graph.now.upstreams }
     ensures { IfOk result (λ tasks. tasks.items ≡ tasks_counting rule graph.now.upstreams task) }
 {
     graph.ranks();
+    graph.in_range();
     match rule {
         WeightRule::Downstream => graph.descendants(alloc, task),
         WeightRule::Upstream => graph.ancestors(alloc, task),

@@ -6,7 +6,7 @@ pub returns-in-Downstream : goal.returns-in-Downstream
 returns-in-Downstream c = rw c.in-Downstream.is (if_ok _ _ c.descendants.result (λ tasks is. descendants_are _ _ _ c.ranks.ensures is) c.descendants.ensures)
 
 pub returns-in-Upstream : goal.returns-in-Upstream
-returns-in-Upstream c = rw c.in-Upstream.is (if_ok _ _ c.ancestors.result (λ tasks is. ancestors_are _ _ _ c.ranks.ensures c.requires.in_range is) c.ancestors.ensures)
+returns-in-Upstream c = rw c.in-Upstream.is (if_ok _ _ c.ancestors.result (λ tasks is. ancestors_are _ _ _ c.ranks.ensures c.in_range.ensures is) c.ancestors.ensures)
 
 pub returns-in-Absolute : goal.returns-in-Absolute
 returns-in-Absolute c = rw c.in-Absolute.is (c.new.ensures.items ∙ sym (none_are 0 (length c.args.graph.now.upstreams)))

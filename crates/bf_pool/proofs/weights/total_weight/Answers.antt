@@ -1,12 +1,8 @@
 use Rattle.std.proofs.Common.{◌≡◌, ◌<◌, ◌∙◌, ap, sym, subst, length, ℕ, All, arith}
-use Rattle.bf_graph.specs.Edges.{AreInRange}
 use Rattle.bf_graph.specs.Shape.{Shape}
 use Rattle.bf_pool.specs.Weights.{counts_for}
-use Rattle.bf_pool.proofs.WeightFacts.{in_range, tasks_there, few_kept, kept_there}
+use Rattle.bf_pool.proofs.WeightFacts.{tasks_there, few_kept, kept_there}
 use Rattle.bf_pool.proofs.weights.total_weight.Goals as goal
-
-pub counting-requires-clause-in_range : goal.counting-requires-clause-in_range
-counting-requires-clause-in_range c = subst (λ (s : Shape). AreInRange s.upstreams) (sym c.graph.ensures) (in_range _ c.dag-dag.ensures.sound)
 
 pub weights-requires-clause-few : goal.weights-requires-clause-few
 weights-requires-clause-few c =
