@@ -3,3 +3,4 @@ pub mod FaultLemmas
 pub mod PullLemmas
 pub mod PlanLemmas
 pub mod PoolLemmas
+mod OneAnswer

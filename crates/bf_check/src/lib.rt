@@ -4,6 +4,7 @@
 mod checking;
 mod edges;
 mod fault;
+mod laws;
 mod plan;
 mod pools;
 mod pulls;
@@ -16,4 +17,5 @@ pub use bf_read::{ContextVariable, TaskKind, WeightRule};
 pub use bf_zone::Zone;
 pub use checking::check;
 pub use fault::{CheckFault, TaskFault};
+pub use laws::one_answer;
 pub use plan::{Dag, Demand, Limits, Plan, Task, Word};

@@ -1,12 +1,15 @@
 -- The first of the shortest cycles from a task, and why it is the one that is named.
-use Rattle.std.proofs.Common.{◌≡◌, inl, inr, ℕ, zero, suc, ◌<◌, ◌≤◌, ◌-◌, List, [], ◌∷◌, ◌++◌, length, append_assoc, append-nil, get_or, Contains, Bool, Less, Equal, Greater, nat_cmp, refl, sym, ap, ◌∙◌, subst, arith, Vec, Global}
+use Rattle.std.proofs.Common.{◌≡◌, inl, inr, ℕ, zero, suc, ◌<◌, ◌≤◌, ◌-◌, List, [], ◌∷◌, ◌++◌, length, append_assoc, append-nil, get_or, Contains, Bool, Less, Equal, Greater, nat_cmp, ◌≢◌, Ordering, slice_index, refl, sym, ap, ◌∙◌, subst, arith, Vec, Global}
 use Rattle.std.proofs.lemmas.Bool.{cases_lt, lt-ltb}
 use Rattle.std.proofs.lemmas.Bool.Decides.{nat_tests}
 use Rattle.std.proofs.lemmas.List.{length-map, get_or_default}
 use Rattle.std.proofs.lemmas.List.Elements.{All-from_get_or}
 use Rattle.std.specs.Cmp.Lexicographic.{slice_cmp}
-use Rattle.std.specs.Ordering.{ordering_then}
-use Rattle.bf_graph.specs.Edges.{IsUpstream, IsChain}
+use Rattle.std.specs.Cmp.Lexicographic.{bytes_decides}
+use Rattle.std.specs.Ordering.{ordering_then, ordering_reverse, is_eq}
+use Rattle.std.proofs.lemmas.Cmp.{nat_list_cmp_total}
+use Rattle.std.proofs.lemmas.Map.Text.{is_eq-slice_cmp}
+use Rattle.bf_graph.specs.Edges.{IsUpstream, IsChain, IsCycle}
 use Rattle.bf_graph.specs.Reach.{IsPath, Reaches, rows_of}
 use Rattle.bf_graph.specs.Cycles.{IsCycleFrom, IsNamedCycle, IsLevel, IsAbove, AreLevels, IsEarliestNext, IsFirstShortest, AreReaching, HasCycle}
 use Rattle.bf_graph.proofs.PathLemmas.{task_within, first_edge, chain_path, cycle_reaches}
@@ -175,3 +178,24 @@ returns_soon ups t n found reaching len (k, h, at) =
     let w = reaching.near k h in
     let P : ℕ → Type 0 = λ a. IsPath ups a (suc w.0) t in
     (w.0, omega (arith, w.1, h, len), subst P (get_or_default found k 0 t h ∙ at) w.2)
+
+-- ---- one cycle is named
+
+same_order : (o : Ordering) (ts us : List ℕ) → slice_cmp nat_cmp ts us ≡ o → slice_cmp nat_cmp ts us ≢ Greater → slice_cmp nat_cmp us ts ≢ Greater → ts ≡ us
+same_order Less ts us e not_above not_below = absurd (not_below (nat_list_cmp_total.antisymm us ts ∙ ap ordering_reverse e))
+same_order Equal ts us e not_above not_below = (bytes_decides ts us).0 (sym (is_eq-slice_cmp ts us) ∙ ap is_eq e)
+same_order Greater ts us e not_above not_below = absurd (not_above e)
+
+begins : (ups : List (List ℕ)) (ts : List ℕ) → IsCycle ups ts → 0 < length ts
+begins ups [] cycle = absurd cycle
+begins ups (t ∷ ts) cycle = omega arith
+
+pub one_named : (ups : List (List ℕ)) (ts us : List ℕ) → IsNamedCycle ups ts → IsNamedCycle ups us → ts ≡ us
+one_named ups ts us a b =
+    let low = a.earliest us b.cycle 0 0 (begins ups us b.cycle) in
+    let high = b.earliest ts a.cycle 0 0 (begins ups ts a.cycle) in
+    let start : slice_index us 0 ≡ slice_index ts 0 = omega (arith, low, high) in
+    let short = a.shortest us (start, b.cycle) in
+    let long = b.shortest ts (sym start, a.cycle) in
+    let same : length us ≡ length ts = omega (arith, short, long) in
+    same_order _ ts us refl (a.first us (start, b.cycle) same) (b.first ts (sym start, a.cycle) (sym same))
