@@ -1,5 +1,6 @@
 //! The civil minutes that schedules are looked for in.
 ghost use Rattle.std.specs.Prelude.{◌≡◌, ◌↔◌, ◌<◌, ◌+◌, ◌*◌, ℕ, IsTrue, true, IfSome, IfNone};
+ghost use Rattle.jiff.specs.Words.{time_nanos};
 ghost use Rattle.bf_cron.specs.Cron.{spec_has_time};
 ghost use Rattle.bf_cron.specs.Minutes.{IsMinute, IsDay, NeverFires};
 
@@ -27,7 +28,9 @@ pub fn date_of(day: u64) -> Date
 /// A minute of a date, by its number after midnight.
 pub fn minute_of(date: Date, minute: u16) -> DateTime
     requires { minute < 1_440 }
-    ensures { (day : ℕ) → IsDay day date → IsMinute (day * 1_440 + minute) result }
+    ensures date { result.date ≡ date }
+    ensures time { time_nanos result.time ≡ minute * 60_000_000_000 }
+    ensures minute { (day : ℕ) → IsDay day date → IsMinute (day * 1_440 + minute) result }
 {
     date.at((minute / 60) as i8, (minute % 60) as i8, 0, 0)
 }

@@ -10,7 +10,7 @@ returns-in_default c = (λ _ m at small shows fits. (let (day, time) = time_fits
 pub returns-then-matches : goal.returns-then-matches
 returns-then-matches c =
     let fits : spec_matches c.args.self.now c.minute_of.result ≡ true = sym c.matches.ensures.value ∙ c.if-matches.true in
-    let shows = c.minute_of.ensures c.loop-day.day c.date_of.ensures in
+    let shows = c.minute_of.ensures.minute c.loop-day.day c.date_of.ensures in
     let (small, time) = c.in-Some.ensures.some in
     (λ bad. absurd (cc), λ never. absurd (never (c.loop-day.day * 1_440 + c.in-Some.minute) c.minute_of.result (omega arith) shows fits))
 
@@ -22,7 +22,7 @@ loop-day-preserved c = λ m at small shows fits.
           let (bound, time) = c.in-Some.ensures.some in
           let date = on_date c.date_of.result c.loop-day.day m at c.date_of.ensures shows g (omega arith) in
           let has : spec_has_date c.args.self.now c.date_of.result ≡ true = ap (spec_has_date c.args.self.now) (sym date) ∙ date_fits c.args.self.now at fits in
-          let both = both_fit c.args.self.now c.minute_of.result c.date_of.result c.loop-day.day c.in-Some.minute c.date_of.ensures bound (c.minute_of.ensures c.loop-day.day c.date_of.ensures) time has in
+          let both = both_fit c.args.self.now c.minute_of.result c.date_of.result c.loop-day.day c.in-Some.minute c.date_of.ensures bound (c.minute_of.ensures.minute c.loop-day.day c.date_of.ensures) time has in
           let value = c.matches.ensures.value in
           let off = c.if-matches.false in
           absurd (cc)
