@@ -4,7 +4,7 @@ ghost use Rattle.std.specs.List.{list_all};
 ghost use Rattle.bf_core.specs.Terms.{Ledger as Look, Dag as DagTerm, pool_size};
 ghost use Rattle.bf_core.specs.Events.{cell_at, row_of, entry_in, goes_on as goes_on_now, occupied, HasEnded, is_closed};
 ghost use Rattle.bf_core.specs.Agreement.{Holds, Agrees, IsOutcome, AreRunStates};
-ghost use Rattle.bf_core.specs.Cores.{IsThere, IsReplay, deciding};
+ghost use Rattle.bf_core.specs.Cores.{IsThere, IsJournal, IsReplay, deciding};
 ghost use Rattle.bf_core.specs.Few.{AreFew};
 ghost use Rattle.bf_core.specs.Checks.{AreStatesOf};
 
@@ -89,9 +89,10 @@ impl<'a> Core<'a> {
     }
 
     /// What the backfill came to, where it has ended; else the core is handed back. The cells are the recursion's over
-    /// the ledger, which holds just the tries that the recursion asks for.
+    /// the ledger, which holds just the tries that the recursion asks for; the journal leads to them.
     pub fn into_ended(self) -> Result<Ended, Core<'a>>
         ensures ok { IfOk result (λ ended. HasEnded self.entry.state × (ended.state ≡ self.entry.state) × (ended.journal ≡ self.entry.journal)) }
+        ensures journal { IfOk result (λ ended. IsJournal self.entry.dag self.entry.limits self.entry.runs ended.journal ended.state) }
         ensures outcome { OnOk result (IsOutcome self.entry.dag self.entry.runs self.entry.state) }
         ensures run_states { IfOk result (λ ended. AreRunStates self.entry.dag (entry_in self.entry.state.ledger) self.entry.runs ended.run_states) }
         ensures back { IfErr result (λ core. (core ≡ self.entry) × ¬ (HasEnded self.entry.state)) }

@@ -227,6 +227,7 @@ pub fn one_by_one<R: TaskRunner>(
     runner: &R,
 ) -> Result<Ended, BackfillFault>
     requires few { length intervals.now ≤ 4_096 }
+    ensures ended { IfOk result (λ ended. HasEnded ended.state) }
     ensures outcome { IfOk result (λ ended. IsOutcome plan.now.dag (length intervals.now) ended.state) }
     ensures run_states { IfOk result (λ ended. AreRunStates plan.now.dag (entry_in ended.state.ledger) (length intervals.now) ended.run_states) }
     ensures graded { IfOk result (λ ended. AreGraded (R.may_answer runner.now) plan.now.dag (entry_in ended.state.ledger)) }
