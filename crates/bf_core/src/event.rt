@@ -22,6 +22,8 @@ pub enum Event {
     End(JobName, Outcome),
     /// A run is closed.
     Close { run: u32 },
+    /// The clock comes to a later moment, in seconds since 1970.
+    Tick { moment: i64 },
 }
 
 impl Event {
@@ -53,6 +55,7 @@ impl Event {
             Event::Begin(name) => Event::Begin(*name),
             Event::End(name, outcome) => Event::End(*name, outcome.copy(alloc)?),
             Event::Close { run } => Event::Close { run: *run },
+            Event::Tick { moment } => Event::Tick { moment: *moment },
         })
     }
 }
