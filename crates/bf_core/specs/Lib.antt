@@ -4,8 +4,9 @@ pub mod Recursion
 pub mod Events
 pub mod Agreement
 pub mod Few
+pub mod Clocks
 pub mod Words
 pub mod Cores
 pub mod Checks
-pub mod Endings
+pub mod Tries
 pub mod Answered

@@ -1,10 +1,12 @@
 //! What can be seen of a core, and what it comes to.
-ghost use Rattle.std.specs.Prelude.{◌≡◌, ℕ, ◌≤◌, ◌<◌, ◌↔◌, length, vec_len, IsTrue, IsSome, IfSome, IfOk, IfErr, OnOk};
+ghost use Rattle.std.specs.Prelude.{◌≡◌, ℕ, ◌≤◌, ◌<◌, ◌↔◌, length, vec_len, IsTrue, IsSome, IfSome, IfNone, Some, IfOk, IfErr, OnOk};
 ghost use Rattle.std.specs.List.{list_all};
-ghost use Rattle.bf_core.specs.Terms.{Ledger as Look, Dag as DagTerm, pool_size};
+ghost use Rattle.std.specs.FinMap as map;
+ghost use Rattle.bf_core.specs.Terms.{Event as EventTerm, Ledger as Look, Dag as DagTerm, pool_size};
 ghost use Rattle.bf_core.specs.Events.{cell_at, row_of, entry_in, goes_on as goes_on_now, occupied, HasEnded, is_closed};
 ghost use Rattle.bf_core.specs.Agreement.{Holds, Agrees, IsOutcome, AreRunStates};
-ghost use Rattle.bf_core.specs.Cores.{IsThere, IsReplay, deciding};
+ghost use Rattle.bf_core.specs.Cores.{IsThere, IsJournal, IsReplay, MayCome, deciding};
+ghost use Rattle.bf_core.specs.Clocks.{IsTimely};
 ghost use Rattle.bf_core.specs.Few.{AreFew};
 ghost use Rattle.bf_core.specs.Checks.{AreStatesOf};
 
@@ -15,7 +17,7 @@ use crate::machine::Core;
 use crate::state::{Cell, Run};
 use bf_check::Plan;
 use bf_try::Ledger;
-use bf_value::Sequence;
+use bf_value::{JobName, Sequence};
 use bf_xcom::RunState;
 
 fn are_closed(runs: &[Run]) -> bool
@@ -57,6 +59,14 @@ impl<'a> Core<'a> {
         Event::deciding(goes_on(self.plan.dag(), task, verdict), run, task)
     }
 
+    /// The moment for which a try waits, where it is later than now. The clock may come to it.
+    pub fn moment(&self, name: JobName) -> Option<i64>
+        ensures some { IfSome result (λ m. (map.get self.now.clock.moments name ≡ Some m) × MayCome self.now (EventTerm.Tick m)) }
+        ensures none { IfNone result (IsTimely self.now.clock (EventTerm.Begin name)) }
+    {
+        self.clock.later(name)
+    }
+
     /// The tries that have ended.
     pub fn ledger(&self) -> &Ledger
         ensures { result.now ≡ self.now.state.ledger }
@@ -89,9 +99,10 @@ impl<'a> Core<'a> {
     }
 
     /// What the backfill came to, where it has ended; else the core is handed back. The cells are the recursion's over
-    /// the ledger, which holds just the tries that the recursion asks for.
+    /// the ledger, which holds just the tries that the recursion asks for; the journal leads to them.
     pub fn into_ended(self) -> Result<Ended, Core<'a>>
         ensures ok { IfOk result (λ ended. HasEnded self.entry.state × (ended.state ≡ self.entry.state) × (ended.journal ≡ self.entry.journal)) }
+        ensures journal { IfOk result (λ ended. IsJournal self.entry.dag self.entry.limits self.entry.runs ended.journal ended.state) }
         ensures outcome { OnOk result (IsOutcome self.entry.dag self.entry.runs self.entry.state) }
         ensures run_states { IfOk result (λ ended. AreRunStates self.entry.dag (entry_in self.entry.state.ledger) self.entry.runs ended.run_states) }
         ensures back { IfErr result (λ core. (core ≡ self.entry) × ¬ (HasEnded self.entry.state)) }
@@ -105,6 +116,7 @@ impl<'a> Core<'a> {
             runs: _,
             pools: _,
             state,
+            clock: _,
             mut run_states,
             journal,
         } = self;

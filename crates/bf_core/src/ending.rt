@@ -3,14 +3,15 @@ ghost use Rattle.std.specs.Prelude.{◌≡◌, ◌<◌, ◌^◌, ◌+◌, length
 ghost use Rattle.bf_core.specs.Terms.{task_of, demand_of, Phase, JobName as JobNameTerm, Entry as EntryTerm};
 ghost use Rattle.bf_core.specs.Events.{IsPresent, cell_at, instance_of, given_in};
 ghost use Rattle.bf_core.specs.Cores.{HasCome, IsRefusal, MayCome};
-ghost use Rattle.bf_core.specs.Endings.{IsEnding};
+ghost use Rattle.bf_core.specs.Tries.{IsEnding, IsRetry};
 
 use crate::checks::running;
+use crate::clock::{Retry, note_end};
 use crate::event::{Event, Illegal};
 use crate::machine::Core;
-use crate::places::place_of;
+use crate::places::{next_try, place_of};
 use bf_check::Demand;
-use bf_try::{Entry, NoteFault, Outcome, fits};
+use bf_try::{Entry, Outcome, fits};
 use bf_value::JobName;
 
 /// What is at hand when a try ends.
@@ -20,12 +21,13 @@ struct Ending {
     demand: Demand,
     retries: u32,
     place: usize,
+    retry: Retry,
 }
 
 impl<'a> Core<'a> {
     /// What the end of a try notes, keeps and gives back; refused where the try does not run or could not end so.
     fn ending(&self, name: JobName, outcome: &Outcome) -> Result<Ending, Illegal>
-        ensures ok { IfOk result (λ e. IsEnding self.now name outcome.now e.entry e.kept e.demand e.retries e.place) }
+        ensures ok { IfOk result (IsEnding self.now name outcome.now) }
         ensures err { IfErr result (IsRefusal self.now (Event.End name outcome.now)) }
     {
         let instance = running(self.plan.dag(), &self.state, name)?;
@@ -41,7 +43,21 @@ impl<'a> Core<'a> {
             demand: self.plan.demand(name.task),
             retries: self.plan.dag().task(name.task).retries,
             place: place_of(self.plan.dag(), name),
+            retry: self.retry_of(name, outcome),
         })
+    }
+
+    /// The next try of a try that runs and ends so.
+    fn retry_of(&self, name: JobName, outcome: &Outcome) -> Retry
+        requires { IsPresent self.now.dag self.now.state name Phase.Running }
+        ensures { IsRetry self.now name outcome.now result }
+    {
+        let task = self.plan.dag().task(name.task);
+        Retry {
+            next: next_try(name),
+            again: matches!(outcome, Outcome::Failed) && name.attempt <= task.retries,
+            delay: self.plan.demand(name.task).retry_delay,
+        }
     }
 
     /// Ends a try: its slots are given back, and the ledger gets its entry.
@@ -56,19 +72,15 @@ impl<'a> Core<'a> {
             demand,
             retries,
             place,
+            retry,
         } = self.ending(name, &outcome)?;
         self.pools.known();
         self.journal.reserve(1)?;
-        match self.state.ledger.note(name, entry) {
-            Err((_, NoteFault::OutOfMemory)) => Err(Illegal::OutOfMemory),
-            Err((_, NoteFault::AlreadyRecorded)) => unreachable!(),
-            Ok(()) => {
-                self.state.end(name.run, name.task, place, retries, kept);
-                self.pools.give_back(demand.pool, demand.slots);
-                self.journal.push_reserved(Event::End(name, outcome));
-                Ok(())
-            }
-        }
+        note_end(&mut self.clock, &mut self.state.ledger, name, entry, retry)?;
+        self.state.end(name.run, name.task, place, retries, kept);
+        self.pools.give_back(demand.pool, demand.slots);
+        self.journal.push_reserved(Event::End(name, outcome));
+        Ok(())
     }
 
     /// Lets an event come, or refuses it and changes nothing: by `Stranger` where what it speaks of isn't there, else
@@ -88,6 +100,7 @@ impl<'a> Core<'a> {
             Event::Begin(name) => self.begin(name),
             Event::End(name, outcome) => self.end(name, outcome),
             Event::Close { run } => self.close(run),
+            Event::Tick { moment } => self.tick(moment),
         }
     }
 }

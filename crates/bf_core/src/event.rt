@@ -1,10 +1,10 @@
 //! Events.
-ghost use Rattle.std.specs.Prelude.{◌≡◌};
+ghost use Rattle.std.specs.Prelude.{◌≡◌, IfOk};
 ghost use Rattle.bf_core.specs.Cores.{deciding};
 
 use bf_try::Outcome;
 use bf_value::{JobName, OutOfMemory};
-use std::alloc::AllocError;
+use std::alloc::{AllocError, Global};
 use thiserror::Error;
 
 /// What may happen next in a backfill.
@@ -22,6 +22,8 @@ pub enum Event {
     End(JobName, Outcome),
     /// A run is closed.
     Close { run: u32 },
+    /// The clock comes to a later moment, in seconds since 1970.
+    Tick { moment: i64 },
 }
 
 impl Event {
@@ -34,6 +36,27 @@ impl Event {
         } else {
             Event::Settle { run, task }
         }
+    }
+
+    /// An equal one.
+    pub fn copy(&self, alloc: Global) -> Result<Event, OutOfMemory>
+        ensures { IfOk result (λ event. event ≡ self.now) }
+    {
+        Ok(match self {
+            Event::Open => Event::Open,
+            Event::Settle { run, task } => Event::Settle {
+                run: *run,
+                task: *task,
+            },
+            Event::Expand { run, task } => Event::Expand {
+                run: *run,
+                task: *task,
+            },
+            Event::Begin(name) => Event::Begin(*name),
+            Event::End(name, outcome) => Event::End(*name, outcome.copy(alloc)?),
+            Event::Close { run } => Event::Close { run: *run },
+            Event::Tick { moment } => Event::Tick { moment: *moment },
+        })
     }
 }
 

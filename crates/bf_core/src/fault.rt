@@ -12,6 +12,9 @@ pub enum BackfillFault {
     /// The runner gave up this try.
     #[error("runner gave up")]
     Runner(JobName),
+    /// A worker's thread could not be started.
+    #[error("cannot start workers")]
+    Start,
 }
 
 impl From<OutOfMemory> for BackfillFault {

@@ -1,10 +1,11 @@
 //! The core: the state of a backfill, the events that led to it, and what one more event does.
 ghost use Rattle.std.specs.Prelude.{◌≡◌, ◌≤◌, ◌<◌, [], length, OnOk, OnErr, IfOk, IfErr};
-ghost use Rattle.bf_core.specs.Terms.{demand_of, Phase};
-ghost use Rattle.bf_core.specs.Events.{start, next_run, decision_in, IsPresent};
+ghost use Rattle.bf_core.specs.Events.{start, next_run, decision_in};
 ghost use Rattle.bf_core.specs.Cores.{deciding, opening, HasCome, IsRefusal, MayCome};
+ghost use Rattle.bf_core.specs.Tries.{IsBeginning};
 
 use crate::checks::{closable, first_unopened_run, open_runs, undecided, waiting};
+use crate::clock::{Clock, Moments};
 use crate::deciding::{Decision, decide, gate, goes_on};
 use crate::event::{Event, Illegal};
 use crate::opening::unopened_runs;
@@ -28,6 +29,7 @@ pub struct Core<'a> {
     pub(crate) runs: u32,
     pub(crate) pools: Pools,
     pub(crate) state: State,
+    pub(crate) clock: Clock,
     /// Room for the states of the runs, which are known once the backfill has ended.
     pub(crate) run_states: Vec<RunState>,
     pub(crate) journal: Vec<Event>,
@@ -39,16 +41,17 @@ impl<'a> Model for Core<'a> {
     ghost use Rattle.bf_check.specs.contracts.plan.Dag as d;
     ghost use Rattle.bf_check.specs.contracts.plan.Limits as l;
     ghost use Rattle.bf_core.specs.contracts.state.State as s;
+    ghost use Rattle.bf_core.specs.contracts.clock.Clock as k;
     ghost use Rattle.bf_core.specs.contracts.event.Event as e;
     ghost use Rattle.std.specs.Coded.{codes};
 
     ghost Value = { Backfill };
 
-    ghost coded = { Prim.hlevel (codes, d.the_row.coded, l.the_row.coded, s.the_row.coded, e.the_row.coded) };
+    ghost coded = { Prim.hlevel (codes, d.the_row.coded, l.the_row.coded, s.the_row.coded, k.the_row.coded, e.the_row.coded) };
 
-    ghost view = { λ c. record { dag = c.plan.now.dag; limits = c.plan.now.limits; runs = c.runs; state = c.state; journal = c.journal.items } };
+    ghost view = { λ c. record { dag = c.plan.now.dag; limits = c.plan.now.limits; runs = c.runs; state = c.state; clock = c.clock; journal = c.journal.items } };
 
-    ghost invariant = { λ c. IsCore (record { dag = c.plan.now.dag; limits = c.plan.now.limits; runs = c.runs; state = c.state; journal = c.journal.items }) c.pools (vec_len c.run_states) };
+    ghost invariant = { λ c. IsCore (record { dag = c.plan.now.dag; limits = c.plan.now.limits; runs = c.runs; state = c.state; clock = c.clock; journal = c.journal.items }) c.pools (vec_len c.run_states) };
 }
 
 impl<'a> Core<'a> {
@@ -73,6 +76,10 @@ impl<'a> Core<'a> {
             state: State {
                 runs,
                 ledger: Ledger::new(alloc),
+            },
+            clock: Clock {
+                time: 0,
+                moments: Moments::new(alloc),
             },
             run_states,
             journal: Vec::new(alloc),
@@ -159,19 +166,38 @@ impl<'a> Core<'a> {
             Ok(()) => {
                 self.state
                     .begin(name.run, name.task, place_of(self.plan.dag(), name));
+                self.clock.moments.forget(name);
                 self.journal.push_reserved(Event::Begin(name));
                 Ok(())
             }
         }
     }
 
-    /// What a try would take, refused where it does not wait.
+    /// What a try would take, refused where it does not wait, or waits for a later moment.
     fn waiting_demand(&self, name: JobName) -> Result<Demand, Illegal>
-        ensures ok { IfOk result (λ d. IsPresent self.now.dag self.now.state name Phase.Waiting × (d ≡ demand_of self.now.limits name.task) × (d.pool < length self.now.limits.pools)) }
+        ensures ok { IfOk result (IsBeginning self.now name) }
         ensures err { IfErr result (IsRefusal self.now (Event.Begin name)) }
     {
         waiting(self.plan.dag(), &self.state, name)?;
+        if !self.clock.lets_begin(name) {
+            return Err(Illegal::NotEnabled);
+        }
         Ok(self.plan.demand(name.task))
+    }
+
+    /// Lets the clock come to a later moment.
+    pub(crate) fn tick(&mut self, moment: i64) -> Result<(), Illegal>
+        ensures ok { OnOk result (HasCome self.old (Event.Tick moment) self.new) }
+        ensures err { IfErr result (IsRefusal self.old (Event.Tick moment)) }
+        ensures same { OnErr result (self.new ≡ self.old) }
+    {
+        if !self.clock.may_come_to(moment) {
+            return Err(Illegal::NotEnabled);
+        }
+        self.journal.reserve(1)?;
+        self.clock.time = moment;
+        self.journal.push_reserved(Event::Tick { moment });
+        Ok(())
     }
 
     /// Closes a run.

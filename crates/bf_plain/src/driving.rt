@@ -5,14 +5,16 @@ ghost use Rattle.bf_check.specs.Plans.{shape_of};
 ghost use Rattle.bf_core.specs.Agreement.{AreRunStates, IsOutcome};
 ghost use Rattle.bf_core.specs.Cores.{IsJournal, IsThere, MayCome, moved, opening};
 ghost use Rattle.bf_core.specs.Events.{HasEnded, cell_at, entry_in, instance_of};
+ghost use Rattle.bf_core.specs.declared.event.Event.{Event as EventTerm};
+ghost use Rattle.bf_core.specs.Clocks.{IsTimely};
 ghost use Rattle.bf_core.specs.Answered.{AreGraded, MayFault};
-ghost use Rattle.bf_plain.specs.Driving.{AtRun, AtTask, HasFinished, HasPassed, HasTried, IsDriven, IsNext, IsReady, IsTryReady, count_in, given_waiting};
+ghost use Rattle.bf_plain.specs.Driving.{AtRun, AtTask, HasFinished, HasPassed, HasTried, HasWaited, IsDriven, IsNext, IsReady, IsTryReady, count_in, given_waiting};
 
 use bf_check::Plan;
 use bf_core::{BackfillFault, Cell, Core, Ended, Event, Illegal, Phase, name_of};
 use bf_interval::Interval;
 use bf_try::{Done, RunnerFault, TaskRunner, Ticket, grade};
-use bf_value::OutOfMemory;
+use bf_value::{JobName, OutOfMemory};
 use bf_xcom::Given;
 use std::alloc::Global;
 
@@ -26,6 +28,16 @@ fn advance(core: &mut Core<'_>, event: Event) -> Result<(), OutOfMemory>
         Err(Illegal::OutOfMemory) => Err(OutOfMemory),
         Err(_) => unreachable!(),
     }
+}
+
+/// Lets the clock come to the moment of a try, where that is later than what it shows.
+fn come_to(core: &mut Core<'_>, name: JobName) -> Result<(), OutOfMemory>
+    ensures { OnOk result (HasWaited core.old core.new name) }
+{
+    if let Some(moment) = core.moment(name) {
+        advance(core, Event::Tick { moment })?;
+    }
+    Ok(())
 }
 
 /// The runner's answer to a try.
@@ -50,6 +62,7 @@ fn make_try<R: TaskRunner>(
 ) -> Result<(), BackfillFault>
     requires driven { IsDriven (R.may_answer runner.now) plan.now.dag plan.now.limits core.old.runs core.old }
     requires ready { IsTryReady core.old ticket.name ticket.given }
+    requires timely { IsTimely core.old.clock (EventTerm.Begin ticket.name) }
     ensures driven { OnOk result (IsDriven (R.may_answer runner.now) plan.now.dag plan.now.limits core.old.runs core.new) }
     ensures tried { OnOk result (HasTried core.old core.new ticket.name) }
     ensures err { IfErr result (MayFault (R.may_give_up runner.now)) }
@@ -108,6 +121,7 @@ fn finish<R: TaskRunner>(
             return Ok(());
         };
         let name = name_of(dag, run, task, place, attempt);
+        come_to(core, name)?;
         make_try(alloc, plan, runner, core, Ticket::issue(name, given))?;
     }
     Ok(())
@@ -227,6 +241,7 @@ pub fn one_by_one<R: TaskRunner>(
     runner: &R,
 ) -> Result<Ended, BackfillFault>
     requires few { length intervals.now ≤ 4_096 }
+    ensures ended { IfOk result (λ ended. HasEnded ended.state) }
     ensures outcome { IfOk result (λ ended. IsOutcome plan.now.dag (length intervals.now) ended.state) }
     ensures run_states { IfOk result (λ ended. AreRunStates plan.now.dag (entry_in ended.state.ledger) (length intervals.now) ended.run_states) }
     ensures graded { IfOk result (λ ended. AreGraded (R.may_answer runner.now) plan.now.dag (entry_in ended.state.ledger)) }

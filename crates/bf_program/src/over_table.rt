@@ -116,7 +116,7 @@ fn ended_over(
     match one_by_one(alloc, plan, intervals, runner) {
         Ok(ended) => Ok(ended),
         Err(BackfillFault::OutOfMemory) => Err(OutOfMemory),
-        Err(BackfillFault::Runner(_)) => unreachable!(),
+        Err(BackfillFault::Runner(_) | BackfillFault::Start) => unreachable!(),
     }
 }
 

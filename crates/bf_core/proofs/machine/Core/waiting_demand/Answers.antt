@@ -1,6 +1,7 @@
+use Rattle.std.proofs.Common.{true≢false, sym, ◌∙◌}
 use Rattle.bf_core.specs.Terms.{Phase}
 use Rattle.bf_core.proofs.Kept.{replay-rows}
-use Rattle.bf_core.proofs.Enabling.{present-there}
+use Rattle.bf_core.proofs.Enabling.{present-known, present-there}
 use Rattle.bf_core.proofs.machine.Core.waiting_demand.Goals as goal
 
 pub waiting-requires : goal.waiting-requires
@@ -14,4 +15,14 @@ demand-requires c =
 pub returns-clause-ok : goal.returns-clause-ok
 returns-clause-ok c =
     let present : _ = rw c.dag.ensures.dag at c.in_ok-waiting.ensures.ok in
-    rw (← c.self.view_is) (present, c.demand.ensures.demand, c.demand.ensures.pool)
+    rw (← c.self.view_is) (record {
+      present = present;
+      timely = c.lets_begin.ensures.0 c.if-not-lets_begin.false;
+      demand_is = c.demand.ensures.demand;
+      pool_there = c.demand.ensures.pool;
+    })
+
+pub returns-then-not-lets_begin-clause-err : goal.returns-then-not-lets_begin-clause-err
+returns-then-not-lets_begin-clause-err c =
+    let present : _ = rw c.dag.ensures.dag at c.in_ok-waiting.ensures.ok in
+    rw (← c.self.view_is) (present-known _ c.self.invariant.replayed c.args.name Phase.Waiting present, λ able. true≢false (sym (c.lets_begin.ensures.1 able.1) ∙ c.if-not-lets_begin.true))

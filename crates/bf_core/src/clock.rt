@@ -1,0 +1,172 @@
+//! The clock beside the state: the moment that it shows, and the moments for which tries wait.
+ghost use Rattle.std.specs.Prelude.{◌≡◌, ◌↔◌, pos, ◌+ℤ◌, ◌≤ℤ◌, ◌<ℤ◌, int_lt, None, Some, IfSome, IfNone, IsTrue, OnOk, OnErr, option_copied};
+ghost use Rattle.std.specs.Int.{int_min};
+ghost use Rattle.std.specs.FinMap as map;
+ghost use Rattle.bf_core.specs.Clocks.{IsTimely, after_end, last_moment};
+ghost use Rattle.bf_core.specs.Terms.{Event};
+
+use bf_try::{Entry, Ledger, NoteFault};
+use bf_value::{JobName, OutOfMemory};
+use std::alloc::Global;
+use std::collections::BTreeMap;
+use std::marker::Model;
+
+/// The last moment of the clock, in seconds since 1970: the end of the year 9999.
+pub const LAST_MOMENT: i64 = 253_402_300_799;
+
+/// The moments for which tries wait, by the tries' names. Contracts see it as a finite map.
+#[derive(Drop)]
+pub struct Moments {
+    entries: BTreeMap<JobName, i64>,
+}
+
+impl Model for Moments {
+    ghost use Rattle.std.specs.Prelude.{ℤ};
+    ghost use Rattle.std.specs.FinMap as map;
+    ghost use Rattle.bf_value.specs.Names.{name_cmp, name_code};
+    ghost use base.Stored.{coded_ℤ};
+
+    ghost Value = { map.FinMap name_cmp ℤ };
+
+    ghost coded = { map.code name_code coded_ℤ };
+
+    ghost view = { λ m. map.from_entries m.entries.entries };
+}
+
+impl Moments {
+    /// No moments.
+    pub(crate) fn new(alloc: Global) -> Self
+        ensures { result ≡ map.empty }
+    {
+        Moments {
+            entries: BTreeMap::new(alloc),
+        }
+    }
+
+    /// The moment for which a try waits.
+    pub(crate) fn get(&self, name: JobName) -> Option<&i64>
+        ensures { option_copied result ≡ map.get self.now name }
+    {
+        self.entries.get(&name)
+    }
+
+    /// Lets a try wait for a moment.
+    pub(crate) fn note(&mut self, name: JobName, moment: i64) -> Result<(), OutOfMemory>
+        ensures ok { OnOk result (self.new ≡ map.insert self.old name moment) }
+        ensures same { OnErr result (self.new ≡ self.old) }
+    {
+        self.entries.insert(name, moment)?;
+        Ok(())
+    }
+
+    /// Lets a try wait for no moment.
+    pub(crate) fn forget(&mut self, name: JobName)
+        ensures { self.new ≡ map.remove self.old name }
+    {
+        let _ = self.entries.remove(&name);
+    }
+}
+
+/// What a clock shows, in seconds since 1970, and the moments for which tries wait.
+#[derive(Drop)]
+pub struct Clock {
+    pub time: i64,
+    pub moments: Moments,
+}
+
+impl Clock {
+    /// Whether the clock may come to a moment: a later one, and none past the last.
+    pub(crate) fn may_come_to(&self, moment: i64) -> bool
+        ensures { IsTrue result ↔ IsTimely self.now (Event.Tick moment) }
+    {
+        self.time < moment && moment <= LAST_MOMENT
+    }
+
+    /// Whether the moment of a try has come, where it has one.
+    pub(crate) fn lets_begin(&self, name: JobName) -> bool
+        ensures { IsTrue result ↔ IsTimely self.now (Event.Begin name) }
+    {
+        match self.moments.get(name) {
+            Some(moment) => *moment <= self.time,
+            None => true,
+        }
+    }
+
+    /// The moment for which a try waits, where it is later than now.
+    pub(crate) fn later(&self, name: JobName) -> Option<i64>
+        ensures some { IfSome result (λ m. (map.get self.now.moments name ≡ Some m) × (self.now.time <ℤ m)) }
+        ensures none { IfNone result (IsTimely self.now (Event.Begin name)) }
+    {
+        match self.moments.get(name) {
+            Some(moment) if self.time < *moment => Some(*moment),
+            _ => None,
+        }
+    }
+
+    /// The moment that comes so many seconds after now, and none past the last.
+    fn moment_after(&self, delay: u32) -> i64
+        requires begun { pos 0 ≤ℤ self.now.time }
+        requires within { self.now.time ≤ℤ last_moment }
+        ensures { result ≡ int_min (self.now.time +ℤ pos delay) last_moment }
+    {
+        (self.time + i64::from(delay)).min(LAST_MOMENT)
+    }
+
+    fn is_later(&self, moment: i64) -> bool
+        ensures { result ≡ int_lt self.now.time moment }
+    {
+        self.time < moment
+    }
+
+    /// Lets the next try wait as long as is asked, where that is later than now.
+    fn wait(&mut self, retry: Retry) -> Result<(), OutOfMemory>
+        requires begun { pos 0 ≤ℤ self.old.time }
+        requires within { self.old.time ≤ℤ last_moment }
+        ensures ok { OnOk result (self.new ≡ after_end self.old retry.next retry.again retry.delay) }
+        ensures same { OnErr result (self.new ≡ self.old) }
+    {
+        let moment = self.moment_after(retry.delay);
+        if !retry.again || !self.is_later(moment) {
+            return Ok(());
+        }
+        self.moments.note(retry.next, moment)?;
+        Ok(())
+    }
+}
+
+/// The next try of a try that ends: its name, whether it is made, and how many seconds it waits.
+#[derive(Clone, Copy)]
+pub(crate) struct Retry {
+    pub(crate) next: JobName,
+    pub(crate) again: bool,
+    pub(crate) delay: u32,
+}
+
+/// Notes a try that has ended in the ledger, and the moment of its next try in the clock; or nothing where memory is
+/// wanting.
+pub(crate) fn note_end(
+    clock: &mut Clock,
+    ledger: &mut Ledger,
+    name: JobName,
+    entry: Entry,
+    retry: Retry,
+) -> Result<(), OutOfMemory>
+    requires begun { pos 0 ≤ℤ clock.old.time }
+    requires within { clock.old.time ≤ℤ last_moment }
+    requires unrecorded { map.get ledger.old name ≡ None }
+    requires free { map.get clock.old.moments retry.next ≡ None }
+    ensures clock { OnOk result (clock.new ≡ after_end clock.old retry.next retry.again retry.delay) }
+    ensures ledger { OnOk result (ledger.new ≡ map.insert ledger.old name entry) }
+    ensures same_clock { OnErr result (clock.new ≡ clock.old) }
+    ensures same_ledger { OnErr result (ledger.new ≡ ledger.old) }
+{
+    clock.wait(retry)?;
+    match ledger.note(name, entry) {
+        Ok(()) => Ok(()),
+        Err((_, NoteFault::AlreadyRecorded)) => unreachable!(),
+        Err((_, NoteFault::OutOfMemory)) => {
+            clock.moments.forget(retry.next);
+            Err(OutOfMemory)
+        }
+    }
+}
