@@ -1,5 +1,5 @@
 -- What may come now, by tests.
-use Rattle.std.proofs.Common.{◌≡◌, ◌<◌, ◌&&◌, ℕ, zero, suc, Bool, true, false, List, [], ◌∷◌, length, Option, None, Some, IfSome, IfNone, is_some, slice_get, refl, sym, ◌∙◌, arith}
+use Rattle.std.proofs.Common.{◌≡◌, ◌<◌, ◌&&◌, ℕ, zero, suc, Bool, true, false, List, [], ◌∷◌, length, Option, None, Some, IfSome, IfNone, is_some, slice_get, refl, arith}
 use Rattle.std.specs.List.{list_all}
 use Rattle.bf_core.specs.Terms.{Dag, State, Run, RunPhase, JobName, Phase}
 use Rattle.bf_core.specs.Events.{value_in, is_open, phase_of, AllSettled, IsPresent}

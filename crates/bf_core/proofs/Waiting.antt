@@ -1,12 +1,12 @@
 -- While no try runs, a backfill that hasn't ended has an event that may come, or a try that waits for a later moment.
-use Rattle.std.proofs.Common.{◌≡◌, ◌⊎◌, ℕ, Bool, true, false, Option, None, Some, ℤ, ◌≤ℤ◌, ◌<ℤ◌, refl, true≢false, arith, inl, inr}
+use Rattle.std.proofs.Common.{◌≡◌, ◌⊎◌, ℕ, true, Option, None, Some, ℤ, refl, inl, inr}
 use Rattle.std.proofs.lemmas.Int.{by_lt_z}
 use Rattle.std.specs.FinMap as map
 use Rattle.bf_check.specs.Sound.{AreLimits}
 use Rattle.bf_core.specs.Terms.{Event, Instance, JobName, Phase}
 use Rattle.bf_core.specs.Events.{IsEnabled, cell_at, has_room, instance_of}
 use Rattle.bf_core.specs.Cores.{Backfill, GoesOn, IsReplay, MayCome, WaitsLater}
-use Rattle.bf_core.specs.Clocks.{IsReached, IsMove, IsTimely}
+use Rattle.bf_core.specs.Clocks.{IsMove}
 use Rattle.bf_core.proofs.Kept.{replay-invariant, replay-shaped}
 use Rattle.bf_core.proofs.Stuck.{never-stuck}
 

@@ -1,7 +1,7 @@
-use Rattle.std.proofs.Common.{◌≡◌, Bool, true, false, refl, sym, ap, ◌∙◌}
-use Rattle.bf_core.specs.Terms.{Dag, Limits, State}
+use Rattle.std.proofs.Common.{◌≡◌, true, false, refl, sym, ap, ◌∙◌}
+use Rattle.bf_core.specs.Terms.{Dag, State}
 use Rattle.bf_core.specs.Cores.{deciding}
-use Rattle.bf_core.specs.Deciding.{Decision, after_verdict}
+use Rattle.bf_core.specs.Deciding.{after_verdict}
 use Rattle.bf_core.specs.Events.{decision_in, goes_on, seen_in, cell_at}
 use Rattle.bf_core.proofs.Kept.{replay-rows}
 use Rattle.bf_core.proofs.Shape.{open-run}

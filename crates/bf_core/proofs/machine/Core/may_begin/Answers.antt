@@ -1,6 +1,5 @@
-use Rattle.std.proofs.Common.{◌≡◌, true≢false, sym, ap, ◌∙◌}
-use Rattle.bf_core.specs.Terms.{Dag, Phase}
-use Rattle.bf_core.specs.Checks.{IsKnownAs}
+use Rattle.std.proofs.Common.{true≢false, sym, ◌∙◌}
+use Rattle.bf_core.specs.Terms.{Phase}
 use Rattle.bf_core.proofs.Kept.{replay-rows}
 use Rattle.bf_core.proofs.Coming.{present-knows}
 use Rattle.bf_core.proofs.Known.{present-from}
