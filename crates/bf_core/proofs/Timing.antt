@@ -1,5 +1,5 @@
 -- What the clock keeps, and what a list of timely events leads to.
-use Rattle.std.proofs.Common.{◌≡◌, ℕ, suc, pred, ◌++◌, Bool, true, false, not, cond, List, [], ◌∷◌, Option, None, Some, IsSome, Ordering, Less, Equal, Greater, ℤ, pos, ◌+ℤ◌, ◌≤ℤ◌, ◌<ℤ◌, refl, sym, ap, ◌∙◌, arith}
+use Rattle.std.proofs.Common.{◌≡◌, ℕ, pred, ◌++◌, Bool, true, false, not, cond, List, [], ◌∷◌, Option, None, Some, IsSome, Ordering, Less, Equal, Greater, ℤ, pos, ◌+ℤ◌, ◌≤ℤ◌, refl, sym, ap, ◌∙◌, arith}
 use Rattle.std.specs.Prelude.{int_lt}
 use Rattle.std.proofs.lemmas.Int.{ints, clamps}
 use Rattle.std.specs.Int.{int_min}

@@ -1,12 +1,12 @@
 -- While no try runs, a backfill that hasn't ended has an event that may come, or a try that waits for a later moment.
-use Rattle.std.proofs.Common.{◌≡◌, ◌⊎◌, ℕ, Bool, true, false, Option, None, Some, ℤ, ◌≤ℤ◌, ◌<ℤ◌, refl, true≢false, arith, inl, inr}
+use Rattle.std.proofs.Common.{◌≡◌, ◌⊎◌, ℕ, true, Option, None, Some, ℤ, refl, inl, inr}
 use Rattle.std.proofs.lemmas.Int.{by_lt_z}
 use Rattle.std.specs.FinMap as map
 use Rattle.bf_check.specs.Sound.{AreLimits}
 use Rattle.bf_core.specs.Terms.{Event, Instance, JobName, Phase}
-use Rattle.bf_core.specs.Events.{IsEnabled, IsPresent, HasEnded, cell_at, has_room, instance_of}
-use Rattle.bf_core.specs.Cores.{Backfill, IsReplay, MayCome, WaitsLater}
-use Rattle.bf_core.specs.Clocks.{IsReached, IsMove, IsTimely}
+use Rattle.bf_core.specs.Events.{IsEnabled, cell_at, has_room, instance_of}
+use Rattle.bf_core.specs.Cores.{Backfill, GoesOn, IsReplay, MayCome, WaitsLater}
+use Rattle.bf_core.specs.Clocks.{IsMove}
 use Rattle.bf_core.proofs.Kept.{replay-invariant, replay-shaped}
 use Rattle.bf_core.proofs.Stuck.{never-stuck}
 
@@ -26,7 +26,7 @@ in-time b (Event.Begin n) able move = go (map.get b.clock.moments n) refl
 
 pub never-stuck-in-time : (b : Backfill) → IsReplay b → AreLimits b.dag b.limits →
     ((k t i : ℕ) (x : Instance) → instance_of (cell_at b.state k t) i ≡ Some x → x.phase ≡ Phase.Running → ⊥) → ((t : ℕ) → has_room b.limits b.state t ≡ true) →
-    HasEnded b.state ⊎ ((e : Event) × MayCome b e × IsMove e) ⊎ ((n : JobName) × WaitsLater b n)
+    GoesOn b
 never-stuck-in-time b is fit idle room =
     elim (never-stuck b.dag is.sound b.limits b.runs b.state (replay-invariant b is) (replay-shaped b is) idle room fit.some_runs) [
       | inl ended ↦ inl ended

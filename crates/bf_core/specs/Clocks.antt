@@ -2,7 +2,7 @@
 use Rattle.std.specs.Prelude.{◌≡◌, ℕ, suc, nat_le, Bool, ◌&&◌, if◌then◌else◌, List, [], ◌∷◌, Option, None, Some, IsSome, ℤ, pos, ◌+ℤ◌, ◌≤ℤ◌, ◌<ℤ◌, int_lt}
 use Rattle.std.specs.Int.{int_min}
 use Rattle.std.specs.FinMap as map
-use Rattle.bf_core.specs.Terms.{Clock, Dag, Event, JobName, Ledger, Limits, Outcome, demand_of, is_failed, name_cmp, task_of}
+use Rattle.bf_core.specs.Terms.{Clock, Dag, Event, JobName, Ledger, Limits, Outcome, demand_of, is_failed, task_of}
 
 abbrev pub last_moment : ℤ
 last_moment = pos 253_402_300_799

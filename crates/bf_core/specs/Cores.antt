@@ -1,12 +1,12 @@
 -- What callers see of a core, what an event does to it, and which events are refused.
-use Rattle.std.specs.Prelude.{◌≡◌, ◌<◌, ◌≤◌, ◌++◌, ◌∷◌, [], Bool, true, false, ℕ, List, length, Some, ℤ, ◌<ℤ◌}
+use Rattle.std.specs.Prelude.{◌≡◌, ◌⊎◌, ◌<◌, ◌≤◌, ◌++◌, ◌∷◌, [], Bool, true, false, ℕ, List, length, Some, ℤ, ◌<ℤ◌}
 use Rattle.std.specs.FinMap as map
 use Rattle.bf_check.specs.Sound.{AreLimits}
 use Rattle.bf_pool.specs.Slots.{Slots, occupied_of}
 use Rattle.bf_core.specs.Terms.{Clock, Dag, Limits, JobName, State, Event, Instance, Phase, IsSound, task_of, map_index}
 use Rattle.bf_core.specs.declared.event.Illegal.{Illegal}
-use Rattle.bf_core.specs.Events.{IsLegal, replay, start, after, occupied, IsEnabled, IsPresent, cell_at, instance_of, entry_in, place_in}
-use Rattle.bf_core.specs.Clocks.{AreTimely, IsTimely, KeepsTime, clock_after, clock_of, start_clock}
+use Rattle.bf_core.specs.Events.{IsLegal, replay, start, after, occupied, IsEnabled, IsPresent, HasEnded, cell_at, instance_of, entry_in, place_in}
+use Rattle.bf_core.specs.Clocks.{AreTimely, IsMove, IsTimely, KeepsTime, clock_after, clock_of, start_clock}
 use Rattle.bf_core.specs.Few.{AreFew, AreFitting}
 
 -- the plan, how many runs there are, the state, the clock, and the events that led to them
@@ -92,6 +92,10 @@ pub record WaitsLater (b : Backfill) (n : JobName) : Type 0 where
   pub moment : ℤ
   pub is_moment : map.get b.clock.moments n ≡ Some moment
   pub is_later : b.clock.time <ℤ moment
+
+-- it has ended, or an event but a tick may come, or a try waits for a later moment
+abbrev pub GoesOn : Backfill → Type 0
+GoesOn b = HasEnded b.state ⊎ ((e : Event) × MayCome b e × IsMove e) ⊎ ((n : JobName) × WaitsLater b n)
 
 -- the event could come, and it has come
 abbrev pub HasCome : Backfill → Event → Backfill → Type 0

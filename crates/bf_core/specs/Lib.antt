@@ -9,4 +9,6 @@ pub mod Words
 pub mod Cores
 pub mod Checks
 pub mod Tries
+pub mod Running
 pub mod Answered
+pub mod Driven

@@ -1,5 +1,5 @@
 //! The core: the state of a backfill, the events that led to it, and what one more event does.
-ghost use Rattle.std.specs.Prelude.{◌≡◌, ◌≤◌, ◌<◌, [], length, OnOk, OnErr, IfOk, IfErr};
+ghost use Rattle.std.specs.Prelude.{◌≡◌, ◌≤◌, ◌<◌, [], length, OnOk, OnErr, IfOk, IfErr, IfSome, IfNone};
 ghost use Rattle.bf_core.specs.Events.{start, next_run, decision_in};
 ghost use Rattle.bf_core.specs.Cores.{deciding, opening, HasCome, IsRefusal, MayCome};
 ghost use Rattle.bf_core.specs.Tries.{IsBeginning};
@@ -86,19 +86,19 @@ impl<'a> Core<'a> {
         })
     }
 
-    /// Refuses `Open` where every run is opened, or as many are open as may be.
-    fn next_to_open(&self) -> Result<u32, Illegal>
-        ensures ok { IfOk result (λ k. (k ≡ next_run self.now.state) × MayCome self.now Event.Open) }
-        ensures err { IfErr result (IsRefusal self.now Event.Open) }
+    /// The run that may be opened: the next one, unless as many are open as may be.
+    pub(crate) fn next_to_open(&self) -> Option<u32>
+        ensures some { IfSome result (λ k. (k ≡ next_run self.now.state) × MayCome self.now Event.Open) }
+        ensures none { IfNone result (¬ (MayCome self.now Event.Open)) }
     {
         let runs = self.state.runs.as_slice();
         match first_unopened_run(runs) {
-            None => Err(Illegal::NotEnabled),
+            None => None,
             Some(run) => {
                 if open_runs(runs) < self.plan.limits().max_active_runs as usize {
-                    Ok(run as u32)
+                    Some(run as u32)
                 } else {
-                    Err(Illegal::NotEnabled)
+                    None
                 }
             }
         }
@@ -110,7 +110,9 @@ impl<'a> Core<'a> {
         ensures err { IfErr result (IsRefusal self.old Event.Open) }
         ensures same { OnErr result (self.new ≡ self.old) }
     {
-        let run = self.next_to_open()?;
+        let Some(run) = self.next_to_open() else {
+            return Err(Illegal::NotEnabled);
+        };
         self.journal.reserve(1)?;
         self.state.set_phase(run, RunPhase::Open);
         self.journal.push_reserved(Event::Open);

@@ -1,5 +1,5 @@
 -- A clock that comes to the moment of a try leaves all else as it was.
-use Rattle.std.proofs.Common.{◌≡◌, ◌⊎◌, ℕ, ℤ, ◌≤ℤ◌, Option, None, Some, refl, sym, ap, ◌∙◌, subst, arith, inl, inr}
+use Rattle.std.proofs.Common.{◌≡◌, ℕ, ℤ, ◌≤ℤ◌, Some, refl, sym, ap, ◌∙◌, subst, arith, inl, inr}
 use Rattle.std.proofs.lemmas.Int.{ints}
 use Rattle.std.specs.FinMap as map
 use Rattle.bf_try.specs.declared.answers.Raw.{Raw}
@@ -8,8 +8,9 @@ use Rattle.bf_core.specs.declared.event.Event.{Event}
 use Rattle.bf_core.specs.Events.{after, cell_at, instance_of}
 use Rattle.bf_core.specs.Clocks.{IsReached, IsTimely}
 use Rattle.bf_core.specs.Cores.{Backfill, MayCome, moved}
-use Rattle.bf_plain.specs.Driving.{AtTry, HasWaited, IsDriven, IsIdle, given_waiting}
-use Rattle.bf_plain.proofs.Driven.{driven-moved}
+use Rattle.bf_core.specs.Driven.{IsDriven}
+use Rattle.bf_plain.specs.Driving.{AtTry, HasWaited, given_waiting}
+use Rattle.bf_core.proofs.Driven.{driven-moved}
 
 pub waited-driven : (may : JobName → Given → Raw → Type 0) (dag : Dag) (limits : Limits) (runs : ℕ) (b w : Backfill) (n : JobName) → HasWaited b w n → IsDriven may dag limits runs b → IsDriven may dag limits runs w
 waited-driven may dag limits runs b w n has d = elim has.ticked [

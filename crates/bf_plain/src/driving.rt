@@ -8,7 +8,8 @@ ghost use Rattle.bf_core.specs.Events.{HasEnded, cell_at, entry_in, instance_of}
 ghost use Rattle.bf_core.specs.declared.event.Event.{Event as EventTerm};
 ghost use Rattle.bf_core.specs.Clocks.{IsTimely};
 ghost use Rattle.bf_core.specs.Answered.{AreGraded, MayFault};
-ghost use Rattle.bf_plain.specs.Driving.{AtRun, AtTask, HasFinished, HasPassed, HasTried, HasWaited, IsDriven, IsNext, IsReady, IsTryReady, count_in, given_waiting};
+ghost use Rattle.bf_core.specs.Driven.{IsDriven};
+ghost use Rattle.bf_plain.specs.Driving.{AtRun, AtTask, HasFinished, HasPassed, HasTried, HasWaited, IsNext, IsReady, IsTryReady, count_in, given_waiting};
 
 use bf_check::Plan;
 use bf_core::{BackfillFault, Cell, Core, Ended, Event, Illegal, Phase, name_of};

@@ -1,4 +1,5 @@
-use Rattle.bf_plain.specs.Driving.{AtRun, IsDriven}
+use Rattle.bf_core.specs.Driven.{IsDriven}
+use Rattle.bf_plain.specs.Driving.{AtRun}
 use Rattle.bf_plain.proofs.driving.drive.Given as goal
 
 abbrev pub invariant-loop-run : goal.invariant-loop-run

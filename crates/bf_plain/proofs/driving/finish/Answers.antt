@@ -3,7 +3,7 @@ use Rattle.bf_core.specs.Terms.{Dag, JobName, name_of}
 use Rattle.bf_core.specs.declared.event.Event.{Event}
 use Rattle.bf_core.specs.Clocks.{IsTimely}
 use Rattle.bf_plain.proofs.Deciding.{there-at}
-use Rattle.bf_plain.proofs.Driven.{driven-as, driven-self}
+use Rattle.bf_core.proofs.Driven.{driven-as, driven-self}
 use Rattle.bf_plain.proofs.Trying.{tried-as, try-ready-as}
 use Rattle.bf_plain.proofs.Waiting.{waited-at, waited-driven, waited-given}
 use Rattle.bf_plain.proofs.driving.finish.Goals as goal

@@ -1,4 +1,5 @@
-use Rattle.bf_plain.specs.Driving.{AtTry, IsDriven}
+use Rattle.bf_core.specs.Driven.{IsDriven}
+use Rattle.bf_plain.specs.Driving.{AtTry}
 use Rattle.bf_plain.proofs.driving.finish.Given as goal
 
 abbrev pub invariant-loop-attempt : goal.invariant-loop-attempt

@@ -1,4 +1,4 @@
-use Rattle.bf_plain.proofs.Driven.{driven-opening, driven-self}
+use Rattle.bf_core.proofs.Driven.{driven-opening, driven-self}
 use Rattle.bf_plain.proofs.Runs.{first-run}
 use Rattle.bf_plain.proofs.driving.one_by_one.Goals as goal
 

@@ -1,7 +1,7 @@
 use Rattle.std.proofs.Common.{sym, ◌∙◌, subst, arith}
 use Rattle.bf_core.specs.Events.{goes_on}
 use Rattle.bf_plain.proofs.Deciding.{counted-as, decided-as, next-as, there-at}
-use Rattle.bf_plain.proofs.Driven.{EndsGraded, driven-moved, graded-deciding}
+use Rattle.bf_core.proofs.Driven.{EndsGraded, driven-moved, graded-deciding}
 use Rattle.bf_plain.proofs.Instances.{passed-at, ready-at}
 use Rattle.bf_plain.proofs.driving.pass.Goals as goal
 

@@ -1,4 +1,5 @@
-use Rattle.bf_plain.specs.Driving.{AtInstance, IsDriven}
+use Rattle.bf_core.specs.Driven.{IsDriven}
+use Rattle.bf_plain.specs.Driving.{AtInstance}
 use Rattle.bf_plain.proofs.driving.pass.Given as goal
 
 abbrev pub invariant-loop-place : goal.invariant-loop-place

@@ -1,4 +1,4 @@
-use Rattle.bf_plain.proofs.Driven.{driven-as}
+use Rattle.bf_core.proofs.Driven.{driven-as}
 use Rattle.bf_plain.proofs.Tasks.{next-in, passed-in}
 use Rattle.bf_plain.proofs.driving.pass_all.Goals as goal
 

@@ -1,4 +1,5 @@
-use Rattle.bf_plain.specs.Driving.{AtTask, IsDriven}
+use Rattle.bf_core.specs.Driven.{IsDriven}
+use Rattle.bf_plain.specs.Driving.{AtTask}
 use Rattle.bf_plain.proofs.driving.pass_all.Given as goal
 
 abbrev pub invariant-loop-task : goal.invariant-loop-task

@@ -1,6 +1,6 @@
 use Rattle.std.proofs.Common.{length, ap}
 use Rattle.bf_core.specs.declared.event.Event.{Event}
-use Rattle.bf_plain.proofs.Driven.{driven-as, driven-moved, driven-self}
+use Rattle.bf_core.proofs.Driven.{driven-as, driven-moved, driven-self}
 use Rattle.bf_plain.proofs.Runs.{close-may, closed-as, open-may, opened-as}
 use Rattle.bf_plain.proofs.Tasks.{settled-in}
 use Rattle.bf_plain.proofs.driving.pass_run.Goals as goal

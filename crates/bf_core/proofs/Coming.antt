@@ -1,0 +1,36 @@
+-- What may come now, by tests.
+use Rattle.std.proofs.Common.{◌≡◌, ◌<◌, ◌&&◌, ℕ, zero, suc, Bool, true, false, List, [], ◌∷◌, length, Option, None, Some, IfSome, IfNone, is_some, slice_get, refl, arith}
+use Rattle.std.specs.List.{list_all}
+use Rattle.bf_core.specs.Terms.{Dag, State, Run, RunPhase, JobName, Phase}
+use Rattle.bf_core.specs.Events.{value_in, is_open, phase_of, AllSettled, IsPresent}
+use Rattle.bf_core.specs.Cores.{Backfill, IsReplay}
+use Rattle.bf_core.specs.Checks.{HasRows, IsKnownAs}
+use Rattle.bf_core.proofs.Known.{known-back, not-closable}
+use Rattle.bf_core.proofs.Enabling.{present-known}
+use Rattle.bf_core.proofs.Shape.{open-run}
+
+-- an answer that is there exactly where a fact holds tests it
+pub some-test : {X : Type 0} (P : X → Type 0) (Q : Type 0) (o : Option X) → IfSome o (λ x. P x × Q) → IfNone o (¬ Q) → (is_some o ≡ true → Q) × (Q → is_some o ≡ true)
+some-test P Q (Some x) some none = (λ e. some.1, λ q. refl)
+some-test P Q None some none = (λ e. cc, λ q. absurd (none q))
+
+-- what is present is known by its name
+pub present-knows : (b : Backfill) → IsReplay b → (n : JobName) (p : Phase) → IsPresent b.dag b.state n p → (x : _) × IsKnownAs b.dag b.state n x
+present-knows b is n p at = let k = present-known b is n p at in (k.held, known-back b.dag b.state n k)
+
+is-there : {A : Type 0} (xs : List A) (k : ℕ) → k < length xs → None ≡ slice_get xs k → ⊥
+is-there [] k l e = omega (arith, l)
+is-there (x ∷ xs) zero l e = cc
+is-there (x ∷ xs) (suc k) l e = is-there xs k (omega arith) e
+
+-- an open run is there
+pub open-there : (s : State) (k : ℕ) → phase_of s k ≡ RunPhase.Open → None ≡ slice_get s.runs k → ⊥
+open-there s k open_run e = is-there s.runs k (open-run s k open_run) e
+
+pub closable-back : (dag : Dag) (s : State) → HasRows dag s → (k : ℕ) (row : Run) → slice_get s.runs k ≡ Some row → (phase_of s k ≡ RunPhase.Open) × AllSettled dag s k →
+    (is_open row.phase && list_all (λ c. is_some (value_in c)) row.cells) ≡ true
+closable-back dag s rows k row at able = go _ refl
+  where
+    go : (b : Bool) → (is_open row.phase && list_all (λ c. is_some (value_in c)) row.cells) ≡ b → (is_open row.phase && list_all (λ c. is_some (value_in c)) row.cells) ≡ true
+    go true e = e
+    go false e = absurd ((not-closable dag s rows k row at e).1 able)

@@ -1,0 +1,27 @@
+-- Backfills of a plan whose tries were answered as they may be, on the way and at the end.
+use Rattle.std.specs.Prelude.{◌≡◌, ℕ}
+use Rattle.bf_check.specs.Sound.{AreLimits}
+use Rattle.bf_try.specs.declared.answers.Raw.{Raw}
+use Rattle.bf_core.specs.Terms.{Dag, Given, JobName, Limits}
+use Rattle.bf_core.specs.Events.{HasEnded, entry_in}
+use Rattle.bf_core.specs.Agreement.{AreRunStates, IsOutcome}
+use Rattle.bf_core.specs.Cores.{Backfill, IsJournal, IsReplay}
+use Rattle.bf_core.specs.Answered.{AreGraded}
+use Rattle.bf_core.specs.declared.ended.Ended.{Ended}
+
+-- a backfill of the plan and of so many runs, whose tries so far have grades of answers that may be given
+pub record IsDriven (may_answer : JobName → Given → Raw → Type 0) (planned : Dag) (within : Limits) (many : ℕ) (b : Backfill) : Type 0 where
+  pub dag : b.dag ≡ planned
+  pub limits : b.limits ≡ within
+  pub runs : b.runs ≡ many
+  pub replayed : IsReplay b
+  pub limits_fit : AreLimits b.dag b.limits
+  pub graded : AreGraded may_answer b.dag (entry_in b.state.ledger)
+
+-- what a backfill that is driven to its end comes to
+pub record IsOver (may_answer : JobName → Given → Raw → Type 0) (dag : Dag) (limits : Limits) (runs : ℕ) (ended : Ended) : Type 0 where
+  pub closed : HasEnded ended.state
+  pub outcome : IsOutcome dag runs ended.state
+  pub run_states : AreRunStates dag (entry_in ended.state.ledger) runs ended.run_states
+  pub graded : AreGraded may_answer dag (entry_in ended.state.ledger)
+  pub journal : IsJournal dag limits runs ended.journal ended.state
