@@ -11,6 +11,8 @@ mod checks;
 #[cfg(test)]
 mod dated;
 #[cfg(test)]
+mod delays;
+#[cfg(test)]
 mod devices;
 #[cfg(test)]
 mod grades;
@@ -41,11 +43,15 @@ mod refusals;
 #[cfg(test)]
 mod reports;
 #[cfg(test)]
+mod rooms;
+#[cfg(test)]
 mod rows;
 #[cfg(test)]
 mod schedules;
 #[cfg(test)]
 mod stepping;
+#[cfg(test)]
+mod strangers;
 #[cfg(test)]
 mod tables;
 #[cfg(test)]

@@ -1,4 +1,6 @@
 //! Cores, driven by hand over one run.
+ghost use Rattle.std.specs.Prelude.{◌≡◌, IfOk};
+
 use crate::plans::first_try;
 use bf_check::Plan;
 use bf_core::{Core, Event};
@@ -7,7 +9,8 @@ use jiff::Timestamp;
 use std::alloc::Global;
 use std::test::Fail;
 
-const EPOCH: Interval = Interval {
+/// The data interval of the run.
+pub const EPOCH: Interval = Interval {
     start: Timestamp::UNIX_EPOCH,
     end: Timestamp::UNIX_EPOCH,
 };
@@ -37,7 +40,10 @@ pub fn begun_and(alloc: Global, tasks: u32, behind: Vec<Event>) -> Result<Vec<Ev
 }
 
 /// The core after these events, each of which it has to take.
-pub fn core_after<'a>(alloc: Global, plan: &'a Plan, events: Vec<Event>) -> Result<Core<'a>, Fail> {
+pub fn core_after<'a>(alloc: Global, plan: &'a Plan, events: Vec<Event>) -> Result<Core<'a>, Fail>
+    ensures dag { IfOk result (λ core. core.entry.dag ≡ plan.entry.now.dag) }
+    ensures runs { IfOk result (λ core. core.entry.runs ≡ 1) }
+{
     let mut core = Core::new(alloc, plan, &[EPOCH])?;
     for event in events {
         core.apply(event)?;
