@@ -1,0 +1,75 @@
+//! The time until which an answer is waited for.
+use std::sync::Wait;
+use std::thread::Parker;
+use std::time::Duration;
+
+/// A clock. Moments are whole seconds since 1970-01-01T00:00:00Z. Contracts see its last answer, and claim nothing else of time.
+pub trait Clock {
+    ghost use Rattle.std.specs.Prelude.{◌≡◌, ℤ};
+
+    /// What `now` answered last.
+    ghost last: { Self → ℤ };
+
+    /// The time.
+    fn now(&mut self) -> i64
+        ensures { last self.new ≡ result };
+
+    /// Sleeps until `sleep` is woken, or until the moment. It may wake sooner.
+    fn pause<W: Wait>(&mut self, rt: &W, sleep: &Parker, until: i64);
+}
+
+/// The machine's clock. Where it can't be read, it tells what it told before, at first 0.
+#[derive(Drop)]
+pub struct MachineClock<'c, C> {
+    clock: &'c C,
+    told: i64,
+}
+
+impl<'c, C> MachineClock<'c, C> {
+    /// The clock of the machine, as it is lent.
+    pub fn new(clock: &'c C) -> MachineClock<'c, C> {
+        MachineClock { clock, told: 0 }
+    }
+}
+
+impl<'c, C: std::time::Clock> Clock for MachineClock<'c, C> {
+    ghost last = { λ clock. clock.told };
+
+    fn now(&mut self) -> i64 {
+        if let Ok(passed) = self.clock.since_1970() {
+            self.told = i64::try_from(passed.as_secs()).unwrap_or(i64::MAX);
+        }
+        self.told
+    }
+
+    fn pause<W: Wait>(&mut self, rt: &W, sleep: &Parker, until: i64) {
+        let until = Duration::from_secs(u64::try_from(until).unwrap_or(0));
+        let passed = self.clock.since_1970().unwrap_or(Duration::ZERO);
+        sleep.park_timeout(rt, until.saturating_sub(passed));
+    }
+}
+
+/// A clock that stands still, and jumps to each moment that is waited for.
+#[derive(Clone, Copy, Debug, Drop)]
+pub struct Jump {
+    at: i64,
+}
+
+impl Jump {
+    /// A clock at the beginning of 1970.
+    pub fn new() -> Jump {
+        Jump { at: 0 }
+    }
+}
+
+impl Clock for Jump {
+    ghost last = { λ clock. clock.at };
+
+    fn now(&mut self) -> i64 {
+        self.at
+    }
+
+    fn pause<W: Wait>(&mut self, _rt: &W, _sleep: &Parker, until: i64) {
+        self.at = until;
+    }
+}

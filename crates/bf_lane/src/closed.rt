@@ -1,0 +1,40 @@
+//! Lanes whose workers have ended.
+ghost use Rattle.std.specs.Prelude.{◌≡◌};
+ghost use Rattle.crossbeam_queue.specs.Passes.{view};
+
+use crate::messages::Job;
+use crate::relay::Seat;
+use crate::reply::Reply;
+use crate::service::Service;
+use std::marker::Model;
+
+/// A lane whose worker has ended. Contracts see it as its four lists: what was submitted and taken, sent and gathered.
+#[derive(Drop)]
+pub struct Closed<K: Service> {
+    jobs: Seat<Job>,
+    results: Seat<Reply<K>>,
+}
+
+impl<K: Service> Model for Closed<K> {
+    ghost use Rattle.crossbeam_queue.specs.Passes.{view as known};
+    ghost use Rattle.bf_lane.specs.Lanes.{FourLists};
+    ghost use Rattle.bf_lane.specs.contracts.messages.Job as j;
+    ghost use Rattle.bf_lane.specs.contracts.messages.Answer as a;
+    ghost use Rattle.std.specs.Coded.{codes};
+
+    ghost Value = { FourLists };
+
+    ghost coded = { Prim.hlevel (codes, j.the_row.coded, a.the_row.coded) };
+
+    ghost view = { λ c. record { submitted = (known c.jobs).put; taken = (known c.jobs).taken; sent = (known c.results).put; gathered = (known c.results).taken } };
+}
+
+impl<K: Service> Closed<K> {
+    /// The lane of these passes, which each put and took.
+    pub fn of(jobs: Seat<Job>, results: Seat<Reply<K>>) -> Closed<K>
+        ensures jobs { (result.submitted ≡ (view jobs).put) × (result.taken ≡ (view jobs).taken) }
+        ensures results { (result.sent ≡ (view results).put) × (result.gathered ≡ (view results).taken) }
+    {
+        Closed { jobs, results }
+    }
+}

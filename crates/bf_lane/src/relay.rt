@@ -1,0 +1,80 @@
+//! The rule of a queue between two threads: what was put in is what was taken out, followed by what it holds.
+use crossbeam_queue::protocol::{Join, Lesson, Outcome, Protocol, Split};
+use crossbeam_queue::{Pass, RuledArrayQueue};
+use std::collections::LinkedList;
+
+/// What a pass may do, what it has put in and what it has taken out. No value of it is made.
+pub struct Log<T> {
+    pub puts: bool,
+    pub takes: bool,
+    pub put: LinkedList<T>,
+    pub taken: LinkedList<T>,
+}
+
+/// The rule.
+pub struct InOrder;
+
+impl<T> Protocol<T, Log<T>> for InOrder {
+    ghost use Rattle.std.specs.Prelude.{true, []};
+    ghost use Rattle.bf_lane.specs.Relay.{log, Relayed};
+
+    ghost holds = { Relayed };
+
+    ghost first = { log true true [] [] };
+}
+
+/// One pass puts, and a new one takes.
+pub struct Apart;
+
+impl<T> Split<Log<T>> for Apart {
+    ghost use Rattle.std.specs.Prelude.{true, false, []};
+    ghost use Rattle.bf_lane.specs.Relay.{log};
+
+    ghost left = { λ v. log true false v.put [] };
+
+    ghost right = { λ v. log false true [] v.taken };
+}
+
+/// The pass that puts takes in the one that takes.
+pub struct Together;
+
+impl<T> Join<Log<T>> for Together {
+    ghost use Rattle.std.specs.Prelude.{true, false, []};
+    ghost use Rattle.bf_lane.specs.Relay.{log};
+
+    ghost both = { λ v w. log true true v.put w.taken };
+
+    ghost spent = { log false false [] [] };
+}
+
+/// What a pass knows once it has put a value in.
+pub struct Put;
+
+impl<T> Outcome<T, Log<T>> for Put {
+    ghost use Rattle.std.specs.Prelude.{◌≡◌, ◌++◌, ◌∷◌, []};
+    ghost use Rattle.bf_lane.specs.Relay.{log};
+
+    ghost then = { λ v x w. w ≡ log v.puts v.takes (v.put ++ x ∷ []) v.taken };
+}
+
+/// What a pass knows once it has taken a value out, or found none; and what one learns that puts and takes.
+pub struct Taken;
+
+impl<T> Outcome<T, Log<T>> for Taken {
+    ghost use Rattle.std.specs.Prelude.{◌≡◌, ◌++◌, ◌∷◌, []};
+    ghost use Rattle.bf_lane.specs.Relay.{log};
+
+    ghost then = { λ v x w. w ≡ log v.puts v.takes v.put (v.taken ++ x ∷ []) };
+}
+
+impl<T> Lesson<T, Log<T>> for Taken {
+    ghost use Rattle.std.specs.Prelude.{◌≡◌, ◌++◌};
+
+    ghost fact = { λ v items. v.put ≡ v.taken ++ items };
+}
+
+/// A queue under this rule.
+pub type Line<T> = RuledArrayQueue<T, Log<T>, InOrder>;
+
+/// A pass of such a queue.
+pub type Seat<T> = Pass<T, Log<T>>;

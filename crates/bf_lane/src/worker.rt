@@ -1,0 +1,102 @@
+//! The worker at the other end of a lane.
+ghost use Rattle.std.specs.Prelude.{◌≡◌, ◌++◌, ◌∷◌, [], true, false, List, All, MatchOption, Some};
+ghost use Rattle.crossbeam_queue.specs.Passes.{view, IsPassOf, IsSamePass};
+ghost use Rattle.bf_lane.specs.Relay.{log};
+ghost use Rattle.bf_lane.specs.Lanes.{asked, answered, all_runs, asked_by, IsAllowedBy, Answers};
+ghost use Rattle.bf_lane.specs.Service.{HasServed};
+ghost use Rattle.bf_lane.specs.Open.{Fulfils};
+ghost use Rattle.bf_lane.specs.declared.messages.Job.{Job};
+ghost use Rattle.bf_lane.specs.declared.messages.Answer.{Answer};
+
+use crate::messages::{Answer, Job};
+use crate::relay::{Line, Put, Seat, Taken};
+use crate::reply::Reply;
+use crate::service::Service;
+use bf_try::{TaskRunner, Ticket};
+use std::sync::Wait;
+use std::thread::{self, Parker};
+
+/// Puts a value in, and tries again while the queue is full.
+pub fn put<W: Wait, T>(rt: &W, line: &Line<T>, seat: &mut Seat<T>, value: T)
+    requires seat { IsPassOf line.now seat.old }
+    requires puts { (view seat.old).puts ≡ true }
+    ensures seat { IsSamePass seat.old seat.new }
+    ensures put { view seat.new ≡ log (view seat.old).puts (view seat.old).takes ((view seat.old).put ++ value ∷ []) (view seat.old).taken }
+{
+    let mut value = value;
+    for _ in rt.forever() {
+        match line.try_push_as::<Put>(seat, value) {
+            Ok(()) => return,
+            Err(back) => {
+                value = back;
+                thread::yield_now();
+            }
+        }
+    }
+    unreachable!()
+}
+
+/// Takes a value out, and sleeps until there is one.
+pub fn take<W: Wait, T>(rt: &W, line: &Line<T>, called: &Parker, seat: &mut Seat<T>) -> T
+    requires seat { IsPassOf line.now seat.old }
+    requires takes { (view seat.old).takes ≡ true }
+    ensures seat { IsSamePass seat.old seat.new }
+    ensures taken { view seat.new ≡ log (view seat.old).puts (view seat.old).takes (view seat.old).put ((view seat.old).taken ++ result ∷ []) }
+{
+    for _ in rt.forever() {
+        match line.try_pop_as::<Taken>(seat) {
+            Some(value) => return value,
+            None => called.park(rt),
+        }
+    }
+    unreachable!()
+}
+
+/// What the runner answers to a ticket.
+fn answer_to<K: Service, R: TaskRunner>(runner: &R, ticket: Ticket) -> Reply<K>
+    requires { Fulfils (R.may_answer runner.now) (R.may_give_up runner.now) K.answers K.gives_up }
+    ensures ticket { asked_by result ≡ ticket }
+    ensures allowed { IsAllowedBy K.answers K.gives_up result }
+{
+    match runner.run(ticket) {
+        Ok(done) => Reply::new(Answer::Done(done)),
+        Err((ticket, fault)) => Reply::new(Answer::Gave(ticket, fault)),
+    }
+}
+
+/// Where a worker finds jobs and leaves answers.
+#[derive(Drop)]
+pub struct Desk<'d, K: Service> {
+    pub jobs: &'d Line<Job>,
+    pub results: &'d Line<Reply<K>>,
+    /// The worker sleeps on it while there is no job.
+    pub called: &'d Parker,
+    /// The scheduler sleeps on it while there is no answer.
+    pub answered: &'d Parker,
+}
+
+/// Answers each job, until one says to stop. After each answer the scheduler is woken.
+pub fn serve<K: Service, W: Wait, R: TaskRunner>(
+    rt: &W,
+    desk: Desk<'_, K>,
+    mut takes: Seat<Job>,
+    mut sends: Seat<Reply<K>>,
+    runner: &R,
+) -> (Seat<Job>, Seat<Reply<K>>)
+    requires jobs { IsPassOf desk.jobs.now takes × (view takes ≡ log false true [] []) }
+    requires results { IsPassOf desk.results.now sends × (view sends ≡ log true false [] []) }
+    requires fulfils { Fulfils (R.may_answer runner.now) (R.may_give_up runner.now) K.answers K.gives_up }
+    ensures { HasServed K.answers K.gives_up desk.entry.jobs.now desk.entry.results.now result.0 result.1 }
+{
+    for _ in rt.forever() {
+        match take(rt, desk.jobs, desk.called, &mut takes) {
+            Job::Run(ticket) => {
+                let answer = answer_to::<K, R>(runner, ticket);
+                put(rt, desk.results, &mut sends, answer);
+                desk.answered.unpark();
+            }
+            Job::Stop => return (takes, sends),
+        }
+    }
+    unreachable!()
+}
