@@ -1,16 +1,24 @@
 #!/usr/bin/env bash
 # Compares the data intervals in the zones of this machine's tz database, read by `--zone-file`, with those by the rule that
-# stands at the end of each file, over years in which the rule alone holds. Needs the tz database.
+# stands at the end of each file, over years in which the rule alone holds. Without a tz database nothing is compared. The last
+# line is the sum of the ranges, and the status is 1 where one differs.
 set -euo pipefail
 
-source "$(dirname "$(readlink -f "${BASH_SOURCE[0]}")")/../../bench/program.sh"
+source "$(dirname "$(readlink -f "${BASH_SOURCE[0]}")")/../bench/program.sh"
 zones=${1:-/usr/share/zoneinfo}
 
 graph() {
     printf '{"dag_id":"d","schedule":"%s","zone":"%s","tasks":[]}' "$1" "$2"
 }
 
-compared=0
+if [[ ! -d $zones ]]; then
+    echo "$zones is not there: nothing was compared"
+    echo "0 passed, 0 failed"
+    exit 0
+fi
+
+passed=0
+failed=0
 for name in Europe/Berlin Europe/Dublin Australia/Sydney Australia/Lord_Howe America/New_York America/St_Johns \
     Asia/Kolkata Asia/Kathmandu Pacific/Chatham UTC; do
     rule=$(tail -n 1 "$zones/$name")
@@ -26,10 +34,15 @@ for name in Europe/Berlin Europe/Dublin Australia/Sydney Australia/Lord_Howe Ame
                 echo "$name: its rule $rule isn't one alone: $(< "$work/err")"
                 continue 3
             fi
-            cmp "$work/file" "$work/rule" || { echo "$name: $schedule differs from $from to $to" >&2; exit 1; }
-            compared=$((compared + $(wc -l < "$work/file")))
+            if cmp "$work/file" "$work/rule"; then
+                passed=$((passed + 1))
+            else
+                echo "$name: $schedule differs from $from to $to"
+                failed=$((failed + 1))
+            fi
         done
     done
     echo "$name: as by $rule"
 done
-echo "$compared intervals compared"
+echo "$passed passed, $failed failed"
+[[ $failed -eq 0 ]]
