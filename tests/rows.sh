@@ -128,6 +128,10 @@ done <<'ROWS'
 {"id":"a b"} => 3 bad name: tasks[0].id
 {"id":"a"},{"id":"b"},{"id":"a"} => 4 duplicate task: a
 {"id":"a","retries":101} => 5 limit passed: tasks[0].retries
+{"id":"a","retry_delay":86401} => 5 limit passed: tasks[0].retry_delay
+{"id":"a","retry_delay":-1} => 5 limit passed: tasks[0].retry_delay
+{"id":"a","retry_delay":"60"} => 2 shape: tasks[0].retry_delay
+{"id":"a","retries":101,"retry_delay":86401} => 5 limit passed: tasks[0].retries
 {"id":"a"},{"id":"b","upstream":["a","c"]} => 6 unknown upstream: b
 {"id":"a","upstream":["b"]},{"id":"b","upstream":["a"]} => 7 cycle: a b
 {"id":"a","upstream":["a"]} => 7 cycle: a
@@ -177,6 +181,10 @@ runs failed '[{"task":"a","try":3},{"task":"a","status":1}]' <<'LINES'
 a -1 failed 2 -
 b -1 upstream_failed 0 -
 LINES
+
+# A table waits for nobody, however long a retry is to wait.
+tasks '{"id":"a","retries":1,"retry_delay":86400}'
+runs success '[{"try":1,"status":1}]' <<< 'a -1 success 2 -'
 
 tasks '{"id":"x"},{"id":"y"},{"id":"z","upstream":["x","y"]}'
 runs failed '[{"task":"x","status":99},{"task":"y","status":1}]' <<'LINES'

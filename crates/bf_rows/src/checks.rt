@@ -10,7 +10,7 @@ pub const EVERY_KEY: &str =
     r#"{"dag_id":"d","schedule":"0 6 * * mon-fri","zone":"+01:00","max_active_runs":4,
  "pools":{"db":2},
  "tasks":[
-  {"id":"src","command":["echo","[3,1,2]"],"retries":2},
+  {"id":"src","command":["echo","[3,1,2]"],"retries":2,"retry_delay":60},
   {"id":"m","upstream":["src"],"expand":"src","rule":"all_success","kind":"program",
    "command":["echo",{"item":true},{"context":"logical_date"}],"depends_on_past":false,
    "pool":"db","pool_slots":1,"priority_weight":5,"weight_rule":"absolute"},
