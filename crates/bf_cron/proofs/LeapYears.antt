@@ -14,7 +14,8 @@ use Rattle.bf_cron.specs.declared.field.Field.TheVariants.{Day, Weekday}
 use Rattle.bf_cron.specs.declared.spec.CronSpec.{CronSpec}
 use Rattle.bf_cron.specs.Cron.{Schedule, IsRead, Keeps, field_of, in_field, on_weekday, day_matches, date_matches, spec_matches, schedule_of}
 use Rattle.bf_cron.specs.Grammar.{IsFiveFields, IsScheduleText, fields, preset_of}
-use Rattle.bf_cron.specs.Minutes.{IsMinute, FiresIn}
+use Rattle.bf_cron.specs.Minutes.{IsMinute}
+use Rattle.bf_cron.specs.LeapYears.{FiresIn}
 use Rattle.bf_cron.proofs.Rules.{matches_is}
 use Rattle.bf_cron.proofs.Schedules.{schedule_written, field_read, some_injective}
 

@@ -1,5 +1,5 @@
 -- The civil minutes that schedules are looked for in: those of the dates 1969-12-30 to 2208-12-31.
-use Rattle.std.specs.Prelude.{◌≡◌, ℕ, ◌*◌, ◌<◌, ℤ, pos, ◌+ℤ◌, true}
+use Rattle.std.specs.Prelude.{◌≡◌, ℕ, ◌*◌, ◌<◌, pos, ◌+ℤ◌, true}
 use Rattle.jiff.specs.Types.{Date, DateTime}
 use Rattle.jiff.specs.Words.{civil_nanos, epoch_day}
 use Rattle.bf_cron.specs.declared.spec.CronSpec.{CronSpec}
@@ -24,11 +24,3 @@ IsCivilMinute at = (m : ℕ) × (m < minutes) × IsMinute m at
 -- no such minute matches
 abbrev pub NeverFires : CronSpec → Type 0
 NeverFires s = (m : ℕ) (at : DateTime) → m < minutes → IsMinute m at → spec_matches s at ≡ true → ⊥
-
--- a civil minute of that year matches
-pub record FiresIn (s : CronSpec) (year : ℤ) : Type 0 where
-  pub minute : ℕ
-  pub at : DateTime
-  pub in_year : at.date.year ≡ year
-  pub shown : IsMinute minute at
-  pub matching : spec_matches s at ≡ true

@@ -4,7 +4,8 @@ ghost use Rattle.std.specs.Prelude.{◌≡◌, ◌↔◌, ◌≤ℤ◌, ℕ, ℤ
 ghost use Rattle.jiff.specs.Types.{DateTime};
 ghost use Rattle.jiff.specs.Words.{IsYear, is_leap_year};
 ghost use Rattle.bf_cron.specs.Cron.{Schedule, IsRead, item_of, schedule_of, spec_matches};
-ghost use Rattle.bf_cron.specs.Minutes.{IsMinute, FiresIn};
+ghost use Rattle.bf_cron.specs.LeapYears.{FiresIn};
+ghost use Rattle.bf_cron.specs.Minutes.{IsMinute};
 ghost use Rattle.bf_cron.specs.declared.spec.CronSpec.{CronSpec};
 ghost use Rattle.bf_cron.specs.Grammar.{IsItemText, IsScheduleText};
 ghost use Rattle.bf_cron.specs.declared.field.Field.{Field};

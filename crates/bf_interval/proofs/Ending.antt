@@ -6,10 +6,11 @@ use Rattle.jiff.specs.Types.{TimeZone}
 use Rattle.jiff.specs.Words.{picked_instant, IsYear, is_leap_year}
 use Rattle.bf_cron.specs.declared.spec.CronSpec.{CronSpec}
 use Rattle.bf_cron.specs.Cron.{IsRead, schedule_of}
-use Rattle.bf_cron.specs.Minutes.{FiresIn}
+use Rattle.bf_cron.specs.LeapYears.{FiresIn}
 use Rattle.bf_cron.proofs.LeapYears.{fires_in_each_leap_year, minute_of_2204}
 use Rattle.bf_interval.specs.Fires.{IsFire}
-use Rattle.bf_interval.specs.Intervals.{ends, StartsIn, AreIntervals, IsRange, IsOfRun}
+use Rattle.bf_interval.specs.Intervals.{ends, StartsIn, AreIntervals, IsRange}
+use Rattle.bf_interval.specs.Runs.{IsOfRun}
 use Rattle.bf_interval.specs.Years.{IsInYears}
 use Rattle.bf_interval.specs.declared.interval.Interval.{Interval}
 use Rattle.bf_interval.proofs.Margins.{picked_offset, whole}

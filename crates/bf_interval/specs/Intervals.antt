@@ -2,7 +2,7 @@
 use Rattle.std.specs.Prelude.{ℕ, ◌+◌, ◌<◌, ◌≤◌, ℤ, ◌<ℤ◌, ◌≤ℤ◌, List, length, map, Contains, All, AllPairs, ◌⊎◌, Option, Some, None, Result, Ok, Err}
 use Rattle.jiff.specs.Types.{TimeZone}
 use Rattle.bf_cron.specs.declared.spec.CronSpec.{CronSpec}
-use Rattle.bf_interval.specs.Years.{IsInYears, IsSecondTo2208}
+use Rattle.bf_interval.specs.Years.{IsInYears}
 use Rattle.bf_interval.specs.Fires.{IsInterval}
 use Rattle.bf_interval.specs.declared.interval.Interval.{Interval}
 use Rattle.bf_interval.specs.declared.fault.IntervalFault.{IntervalFault}
@@ -34,13 +34,6 @@ pub record IsRange (from to : ℤ) : Type 0 where
   pub from_in_years : IsInYears from
   pub to_in_years : IsInYears to
   pub in_order : from ≤ℤ to
-
--- a run's data interval starts in the years, doesn't end before, and its moments are whole seconds up to 2208
-pub record IsOfRun (i : Interval) : Type 0 where
-  pub in_years : IsInYears i.start.nanosecond
-  pub in_order : i.start.nanosecond ≤ℤ i.end.nanosecond
-  pub start : IsSecondTo2208 i.start.nanosecond
-  pub end : IsSecondTo2208 i.end.nanosecond
 
 -- the data intervals of the range, or the first fault that it has
 abbrev pub IsAnswer : CronSpec → TimeZone → ℤ → ℤ → Result (List Interval) IntervalFault → Type 0

@@ -3,7 +3,8 @@ ghost use Rattle.std.specs.Prelude.{◌≡◌, ◌≢◌, ◌+◌, ◌≤◌, �
 ghost use Rattle.jiff.specs.Types.{TimeZone};
 ghost use Rattle.bf_cron.specs.declared.spec.CronSpec.{CronSpec};
 ghost use Rattle.bf_cron.specs.Cron.{IsRead, schedule_of};
-ghost use Rattle.bf_interval.specs.Intervals.{AreIntervals, IsAnswer, IsOfRun, IsRange};
+ghost use Rattle.bf_interval.specs.Intervals.{AreIntervals, IsAnswer, IsRange};
+ghost use Rattle.bf_interval.specs.Runs.{IsOfRun};
 ghost use Rattle.bf_interval.specs.declared.interval.Interval.{Interval};
 ghost use Rattle.bf_interval.specs.declared.fault.IntervalFault.{IntervalFault};
 ghost use Rattle.bf_interval.specs.declared.fault.IntervalFault.TheVariants.{OutOfMemory};
