@@ -7,3 +7,4 @@ mod Written
 mod Parts
 mod Schedules
 pub mod Dates
+pub mod LeapYears

@@ -46,7 +46,7 @@ field_written f text items e = record {
   each = items_written f (slice_split (λ c. c == 44) text) items e;
 }
 
-field_read : (f : Field) (text : List ℕ) (items : List Item) → IsFieldText f text items → field_of f text ≡ Some items
+pub field_read : (f : Field) (text : List ℕ) (items : List Item) → IsFieldText f text items → field_of f text ≡ Some items
 field_read f text items w = ap (items_of f) (parts_are (λ c. c == 44) text w.parts w.cut) ∙ items_read f w.parts items w.each
 
 -- ---- five fields
@@ -60,7 +60,7 @@ record AreRead (m h d mo w : Option (List Item)) (any_day any_weekday : Bool) (s
   is_any_day : s.any_day ≡ any_day
   is_any_weekday : s.any_weekday ≡ any_weekday
 
-some_injective : {A : Type 0} (x y : A) → Some x ≡ Some y → x ≡ y
+pub some_injective : {A : Type 0} (x y : A) → Some x ≡ Some y → x ≡ y
 some_injective x y e = cc
 
 are_read : (m h d mo w : Option (List Item)) (any_day any_weekday : Bool) (s : Schedule) → schedule_from m h d mo w any_day any_weekday ≡ Some s → AreRead m h d mo w any_day any_weekday s

@@ -1,3 +1,4 @@
 pub mod Cron
 pub mod Grammar
 pub mod Minutes
+pub mod LeapYears

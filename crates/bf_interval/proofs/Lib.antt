@@ -8,3 +8,4 @@ pub mod OneListing
 mod Places
 mod Meeting
 mod OneAnswer
+mod Ending

@@ -8,7 +8,7 @@ use Rattle.bf_interval.specs.Fires.{IsFire}
 use Rattle.bf_interval.specs.Search.{seconds}
 
 -- the offset that the zone picks for a civil time
-abbrev picked_offset : TimeZone → DateTime → Offset
+abbrev pub picked_offset : TimeZone → DateTime → Offset
 picked_offset zone at = compatible_offset (ambiguous_at zone at)
 
 pub not_early : (spec : CronSpec) (zone : TimeZone) (k : ℕ) (f : IsFire spec zone (seconds k)) → f.minute * 60 ≤ k + 266_399

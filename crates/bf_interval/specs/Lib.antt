@@ -2,3 +2,4 @@ pub mod Years
 pub mod Fires
 pub mod Intervals
 pub mod Search
+pub mod Runs

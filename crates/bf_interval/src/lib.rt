@@ -20,6 +20,6 @@ mod years;
 
 pub use fault::IntervalFault;
 pub use interval::Interval;
-pub use laws::{intervals_meet, one_answer, one_listing};
+pub use laws::{intervals_end_by_2208, intervals_meet, one_answer, one_listing};
 pub use listing::{MOST_RUNS, intervals};
 pub use years::{FIRST_NANOSECOND, LAST_NANOSECOND, is_in_years};

@@ -116,11 +116,12 @@ no_long_line opening piece Stands goes in_line long begins =
     let both = append_cancel_left opening _ _ (sym on.text ∙ is) in
     omega (arith, on.short, long, within_piece 10 on.next on.more piece begins.more in_line (sym (append_assoc on.next (10 ∷ []) on.more) ∙ both))
 
-pub no_cut_report : (opening piece : List ℕ) (Stands : Report → List ℕ → Type 0) → Goes opening Stands → IsInLine piece → IsReportText (opening ++ piece) → ⊥
-no_cut_report opening piece Stands goes in_line whole =
-    let on = goes whole.report piece whole.shown whole.text_is in
-    let both = append_cancel_left opening _ _ (sym on.text ∙ whole.text_is) in
-    none_stands 10 piece on.next on.more in_line (sym both ∙ append_assoc on.next (10 ∷ []) on.more)
+-- more stands behind the opening
+pub not_yet : (opening : List ℕ) (Stands : Report → List ℕ → Type 0) → Goes opening Stands → IsReportText opening → ⊥
+not_yet opening Stands goes whole =
+    let on = goes whole.report [] whole.shown (whole.text_is ∙ sym (append-nil opening)) in
+    let none : (on.next ++ 10 ∷ []) ++ on.more ≡ [] = append_cancel_left opening _ _ (sym on.text ∙ whole.text_is ∙ sym (append-nil opening)) in
+    none_stands 10 [] on.next on.more refl (sym none ∙ append_assoc on.next (10 ∷ []) on.more)
 
 -- ---- as far as it was read
 

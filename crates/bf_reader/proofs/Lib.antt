@@ -12,3 +12,4 @@ pub mod Lines
 pub mod Chains
 pub mod Paths
 pub mod Reports
+mod Written

@@ -16,7 +16,7 @@ use Rattle.bf_reader.specs.declared.beginning.Beginning.{Beginning}
 use Rattle.bf_reader.specs.Beginning.{so_far, opening_text}
 use Rattle.bf_reader.specs.Steps.{ReadsOn, MayStand}
 use Rattle.bf_reader.specs.Extensions.{SaysDag, IsKnown}
-use Rattle.bf_reader.proofs.Chains.{Keeps, Goes, IsNextOf, known_goes, no_such_line, no_long_line, no_cut_report}
+use Rattle.bf_reader.proofs.Chains.{Keeps, Goes, IsNextOf, known_goes, no_such_line, no_long_line}
 use Rattle.bf_reader.proofs.Reports.{head_goes, opens, opens_nothing}
 
 in_line_push : (text : List ℕ) (b : ℕ) → IsInLine text → (b == 10) ≡ false → IsInLine (text ++ b ∷ [])
@@ -73,7 +73,7 @@ stops_tell opening Stands number (ReportFault.TooLong n) bytes opens goes place 
   place = same ∙ place;
 }
 stops_tell opening Stands number ReportFault.Truncated bytes opens goes place stops =
-    record { opening = opening; piece = bytes; opens = opens; bytes_are = refl; in_line = stops.0; short = stops.1; no_report = no_cut_report opening bytes Stands goes stops.0 }
+    record { opening = opening; piece = bytes; opens = opens; bytes_are = refl; in_line = stops.0; short = stops.1 }
 stops_tell opening Stands number ReportFault.Io bytes opens goes place stops = tt
 stops_tell opening Stands number ReportFault.OutOfMemory bytes opens goes place stops = tt
 
@@ -112,37 +112,38 @@ read_stops a b before read number fault on keeps known place stops = tells_on a 
 
     go : (o : Option (List ℕ)) → IfSome o (StopsAt fault (number + 1)) → IfSome o (λ bytes. Tells (opening_text (so_far read) ++ bytes) fault)
     go None stops = tt
-    go (Some bytes) stops = stops_tell (opening_text (so_far read)) (IsNextOf read) (number + 1) fault bytes (opens read keeps) (known_goes read keeps known) (ap (λ n. n + 1) place) stops
+    go (Some bytes) stops = stops_tell (opening_text (so_far read)) (IsNextOf read) (number + 1) fault bytes (opens read keeps known) (known_goes read keeps known) (ap (λ n. n + 1) place) stops
 
 -- a line came that may not stand there
 line_told : (opening text : List ℕ) (Stands : Report → List ℕ → Type 0) (number : ℕ) (b c : Option (List ℕ)) → IsOpening opening → Goes opening Stands → ((report : Report) → Stands report text → ⊥) → number ≡ lines_in opening + 1
-    → Consumes b c (text ++ 10 ∷ []) → IsInLine text → IfSome b (λ bytes. Tells (opening ++ bytes) (ReportFault.BadLine number))
-line_told opening text Stands number None c opens goes none place came in_line = tt
-line_told opening text Stands number (Some xs) None opens goes none place came in_line = absurd came
-line_told opening text Stands number (Some xs) (Some ys) opens goes none place came in_line = inl (record {
+    → Consumes b c (text ++ 10 ∷ []) → IsInLine text → length text ≤ 66_000 → IfSome b (λ bytes. Tells (opening ++ bytes) (ReportFault.BadLine number))
+line_told opening text Stands number None c opens goes none place came in_line short = tt
+line_told opening text Stands number (Some xs) None opens goes none place came in_line short = absurd came
+line_told opening text Stands number (Some xs) (Some ys) opens goes none place came in_line short = inl (record {
   opening = opening;
   text = text;
   rest = ys;
   opens = opens;
   bytes_are = ap (λ l. opening ++ l) came;
   in_line = in_line;
+  short = short;
   bad = no_such_line opening text Stands goes none in_line;
   place = place;
 })
 
 -- as the first line
-pub first_told : (left b : Option (List ℕ)) (bytes text : List ℕ) → bytes ≡ [] → Consumes (prepend_known bytes left) b (text ++ 10 ∷ []) → IsInLine text → ((id : List ℕ) → SaysDag text id → ⊥)
+pub first_told : (left b : Option (List ℕ)) (bytes text : List ℕ) → bytes ≡ [] → Consumes (prepend_known bytes left) b (text ++ 10 ∷ []) → IsInLine text → length text ≤ 66_000 → ((id : List ℕ) → SaysDag text id → ⊥)
     → IfSome left (λ bytes. Tells bytes (ReportFault.BadLine 1))
-first_told left b bytes text none came in_line other =
+first_told left b bytes text none came in_line short other =
     let P : Option (List ℕ) → Type 0 = λ o. Consumes o b (text ++ 10 ∷ []) in
-    line_told [] text (λ r line. SaysDag line r.dag_id) 1 left b opens_nothing head_goes (λ report. other report.dag_id) refl (subst P (ap (λ l. prepend_known l left) none ∙ nothing_first left) came) in_line
+    line_told [] text (λ r line. SaysDag line r.dag_id) 1 left b opens_nothing head_goes (λ report. other report.dag_id) refl (subst P (ap (λ l. prepend_known l left) none ∙ nothing_first left) came) in_line short
 
 -- behind what was read
 pub line_tells : (a b c : Option (List ℕ)) (before text : List ℕ) (read : Beginning) (number : ℕ) → ReadsOn a b before (opening_text (so_far read)) → Keeps read → IsKnown read → (MayStand read text → ⊥) → number ≡ lines_in (opening_text (so_far read)) + 1
-    → Consumes b c (text ++ 10 ∷ []) → IsInLine text → IfSome a (λ bytes. Tells (before ++ bytes) (ReportFault.BadLine number))
-line_tells a b c before text read number on keeps known none place came in_line =
+    → Consumes b c (text ++ 10 ∷ []) → IsInLine text → length text ≤ 66_000 → IfSome a (λ bytes. Tells (before ++ bytes) (ReportFault.BadLine number))
+line_tells a b c before text read number on keeps known none place came in_line short =
     tells_on a b before (opening_text (so_far read)) (ReportFault.BadLine number) on
-    (line_told (opening_text (so_far read)) text (IsNextOf read) number b c (opens read keeps) (known_goes read keeps known) (λ report stands. none stands.stands) place came in_line)
+    (line_told (opening_text (so_far read)) text (IsNextOf read) number b c (opens read keeps known) (known_goes read keeps known) (λ report stands. none stands.stands) place came in_line short)
 
 -- a byte came behind a report
 pub more_tells : (a b c : Option (List ℕ)) (before : List ℕ) (report : Report) (first number : ℕ) → IsShownReport report → ReadsOn a b before (report_text report) → number ≡ lines_in (report_text report) + 1 → Consumes b c (first ∷ [])

@@ -1,5 +1,5 @@
 -- Texts of reports: how they begin, and that each is one report's.
-use Rattle.std.proofs.Common.{◌≡◌, ◌<◌, ℕ, zero, suc, List, [], ◌∷◌, ◌++◌, length, get_or, drop, true, false, true≢false, Option, Some, None, codes, decimal, refl, sym, ap, ◌∙◌, subst, arith, append_assoc, append-nil, inl, inr}
+use Rattle.std.proofs.Common.{◌≡◌, ◌<◌, ℕ, zero, suc, List, [], ◌∷◌, ◌++◌, length, get_or, drop, true, false, true≢false, Option, Some, None, codes, decimal, refl, sym, ap, ◌∙◌, ◌⊎◌, subst, arith, append_assoc, append-nil, inl, inr}
 use Rattle.std.specs.Prelude.{IfSome, IfErr, Result, Ok, Err}
 use Rattle.std.specs.List.{flat_map, enumerate_from, zip}
 use Rattle.std.proofs.lemmas.List.{append_cancel_left}
@@ -22,11 +22,11 @@ use Rattle.bf_reader.specs.Rules.{IsShownReport}
 use Rattle.bf_reader.specs.Beginning.{count, so_far, opening_text, is_whole_in, is_next_in, ids_with, put_task, with_entry, IsCountedIn, room}
 use Rattle.bf_reader.specs.Extensions.{SaysDag, start, Extends, IsKnown}
 use Rattle.bf_reader.specs.Faults.{IsInLine, AreLines, Begins, IsOpening, IsReportText, IsFromOutside, Tells}
-use Rattle.bf_reader.proofs.Splits.{cut_once}
+use Rattle.bf_reader.proofs.Splits.{cut_once, none_stands, tails}
 use Rattle.bf_reader.proofs.Words.{id_lacks, id_short}
 use Rattle.bf_reader.proofs.Ruled.{report_ruled}
 use Rattle.bf_reader.proofs.StepFacts.{entry_next}
-use Rattle.bf_reader.proofs.Chains.{Keeps, Goes, end_of, keeps_next, one_report}
+use Rattle.bf_reader.proofs.Chains.{Keeps, Goes, IsNextOf, known_goes, not_yet, end_of, keeps_next, one_report}
 use Rattle.bf_reader.proofs.Paths.{starts, text_true}
 
 -- ---- the head line
@@ -136,18 +136,44 @@ task_lines id (TaskReport.Mapped rs) = lines_flat (λ (p : ℕ × TaskResult). i
 run_lines : (ids : List (List ℕ)) (r : RunReport) → AreLines (run_text ids r)
 run_lines ids r = lines_append (run_line r) (tasks_text ids r.tasks) (inr (codes "@run" ++ 32 ∷ run_words (r.interval, r.state), refl)) (lines_flat (λ (p : List ℕ × TaskReport). task_text p.0 p.1) (zip ids r.tasks) (λ p. task_lines p.0 p.1))
 
-pub opens : (b : Beginning) → Keeps b → IsOpening (opening_text (so_far b))
-opens b keeps = record {
+pub opens : (b : Beginning) → Keeps b → IsKnown b → IsOpening (opening_text (so_far b))
+opens b keeps known = record {
   lines = lines_append (head_of b.dag_id ++ 10 ∷ []) (flat_map (run_text b.tasks) (so_far b).runs) (inr (head_of b.dag_id, refl)) (lines_flat (run_text b.tasks) (so_far b).runs (run_lines b.tasks));
   begins = begins_by (suc (room b)) b (omega arith) keeps;
+  unfinished = not_yet (opening_text (so_far b)) (IsNextOf b) (known_goes b keeps known);
 }
 
 pub opens_nothing : IsOpening []
 opens_nothing =
     let begins = begins_by (suc (room (start (codes "a")))) (start (codes "a")) (omega arith) (keeps_start (codes "a") refl) in
-    record { lines = inl refl; begins = record { report = begins.report; more = report_text begins.report; shown = begins.shown; text_is = refl } }
+    record {
+      lines = inl refl;
+      begins = record { report = begins.report; more = report_text begins.report; shown = begins.shown; text_is = refl };
+      unfinished = not_yet [] (λ r text. SaysDag text r.dag_id) head_goes;
+    }
 
 -- ---- faults
+
+-- what ends in a byte does so in its last part, or that part is nothing
+ends_behind : (s : ℕ) (xs ys front : List ℕ) → xs ++ ys ≡ front ++ s ∷ [] → (ys ≡ []) ⊎ ((back : List ℕ) × (ys ≡ back ++ s ∷ []))
+ends_behind s [] ys front e = inr (front, e)
+ends_behind s (x ∷ xs) ys [] e = inl (nothing_behind xs ys (tails x s (xs ++ ys) [] e).1)
+  where
+    nothing_behind : (one two : List ℕ) → one ++ two ≡ [] → two ≡ []
+    nothing_behind [] two none = none
+    nothing_behind (x ∷ one) two none = absurd (cc none)
+ends_behind s (x ∷ xs) ys (f ∷ front) e = ends_behind s xs ys front (tails x f (xs ++ ys) (front ++ s ∷ []) e).1
+
+-- an unfinished report with a piece of its next line is none
+no_cut_report : (opening piece : List ℕ) → ¬ (IsReportText opening) → IsInLine piece → IsReportText (opening ++ piece) → ⊥
+no_cut_report opening piece unfinished in_line whole =
+    let r = whole.report in
+    let last : List ℕ = codes "@end" ++ 32 ∷ decimal (length r.runs) in
+    let ends : report_text r ≡ (opening_text r ++ last) ++ 10 ∷ [] = sym (append_assoc (opening_text r) last (10 ∷ [])) in
+    elim (ends_behind 10 opening piece (opening_text r ++ last) (sym whole.text_is ∙ ends)) [
+      | inl none ↦ unfinished (record { report = r; shown = whole.shown; text_is = whole.text_is ∙ ap (λ l. opening ++ l) none ∙ append-nil opening })
+      | inr (back, is) ↦ none_stands 10 piece back [] in_line is
+    ]
 
 -- of the text of a report no line is told
 pub no_fault : (bytes : List ℕ) (fault : ReportFault) → Tells bytes fault → IsReportText bytes → IsFromOutside fault
@@ -161,7 +187,8 @@ no_fault bytes (ReportFault.BadLine n) (inr told) whole =
     absurd (cc none)
 no_fault bytes (ReportFault.TooLong n) told whole =
     absurd (told.bad (record { report = whole.report; more = told.rest; shown = whole.shown; text_is = whole.text_is ∙ told.bytes_are ∙ sym (append_assoc told.opening told.piece told.rest) }))
-no_fault bytes ReportFault.Truncated told whole = absurd (told.no_report whole)
+no_fault bytes ReportFault.Truncated told whole =
+    absurd (no_cut_report told.opening told.piece told.opens.unfinished told.in_line (record { report = whole.report; shown = whole.shown; text_is = whole.text_is ∙ told.bytes_are }))
 no_fault bytes ReportFault.Io told whole = inl refl
 no_fault bytes ReportFault.OutOfMemory told whole = inr refl
 

@@ -33,12 +33,13 @@ pub record Begins (bytes : List ℕ) : Type 0 where
   pub shown : IsShownReport report
   pub text_is : report_text report ≡ bytes ++ more
 
--- a report begins with these lines
+-- a report begins with these lines, and goes on behind them
 pub record IsOpening (bytes : List ℕ) : Type 0 where
   pub lines : AreLines bytes
   pub begins : Begins bytes
+  pub unfinished : ¬ (IsReportText bytes)
 
--- the bytes end before the line feed of the line, and are no report
+-- the bytes end before the line feed of the next line, which isn't too long so far
 pub record IsCut (bytes : List ℕ) : Type 0 where
   pub opening : List ℕ
   pub piece : List ℕ
@@ -46,7 +47,6 @@ pub record IsCut (bytes : List ℕ) : Type 0 where
   pub bytes_are : bytes ≡ opening ++ piece
   pub in_line : IsInLine piece
   pub short : length piece ≤ 66_000
-  pub no_report : ¬ (IsReportText bytes)
 
 -- the line of that number has more bytes than a line may have, and stands in no report
 pub record HasLongLine (bytes : List ℕ) (number : ℕ) : Type 0 where
@@ -60,7 +60,7 @@ pub record HasLongLine (bytes : List ℕ) (number : ℕ) : Type 0 where
   pub bad : ¬ (Begins (opening ++ piece))
   pub place : number ≡ lines_in opening + 1
 
--- a report begins with the lines before the line of that number, and none with that line too
+-- a report begins with the lines before the line of that number, which isn't too long, and none with that line too
 pub record HasLine (bytes : List ℕ) (number : ℕ) : Type 0 where
   pub opening : List ℕ
   pub text : List ℕ
@@ -68,6 +68,7 @@ pub record HasLine (bytes : List ℕ) (number : ℕ) : Type 0 where
   pub opens : IsOpening opening
   pub bytes_are : bytes ≡ opening ++ ((text ++ 10 ∷ []) ++ rest)
   pub in_line : IsInLine text
+  pub short : length text ≤ 66_000
   pub bad : ¬ (Begins (opening ++ (text ++ 10 ∷ [])))
   pub place : number ≡ lines_in opening + 1
 
@@ -96,7 +97,7 @@ Tells bytes ReportFault.OutOfMemory = Unit {0}
 
 -- what came off a device by a line, and what followed it
 abbrev pub Came : LineEnd → Option (List ℕ) → Option (List ℕ) → List ℕ → Type 0
-Came LineEnd.LineFeed old new text = Consumes old new (text ++ 10 ∷ [])
+Came LineEnd.LineFeed old new text = Consumes old new (text ++ 10 ∷ []) × (length text ≤ 66_000)
 Came LineEnd.Nothing old new text = IfSome old (λ bytes. bytes ≡ text) × (length text ≤ 66_000)
 Came LineEnd.TooMuch old new text = Consumes old new text × (length text ≡ 66_001)
 

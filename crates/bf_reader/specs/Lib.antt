@@ -7,3 +7,4 @@ pub mod Rules
 pub mod Steps
 pub mod Extensions
 pub mod Faults
+pub mod Written

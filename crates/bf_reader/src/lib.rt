@@ -21,5 +21,5 @@ mod reading;
 mod value;
 
 pub use fault::ReportFault;
-pub use laws::no_two_reports_have_one_text;
+pub use laws::{no_two_reports_have_one_text, reports_of_backfills_keep_the_rules};
 pub use reading::read_report;

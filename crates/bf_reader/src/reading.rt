@@ -1,5 +1,5 @@
 //! Reports from devices.
-ghost use Rattle.std.specs.Prelude.{◌≡◌, ◌≢◌, ◌<◌, ◌+◌, ◌++◌, ◌∷◌, [], List, ℕ, IfOk, OnOk, IfErr, IfSome, IfNone, codes, if◌then◌else◌};
+ghost use Rattle.std.specs.Prelude.{◌≡◌, ◌≢◌, ◌<◌, ◌≤◌, ◌+◌, ◌++◌, ◌∷◌, [], List, ℕ, length, IfOk, OnOk, IfErr, IfSome, IfNone, codes, if◌then◌else◌};
 ghost use Rattle.std.specs.Io.KnownBytes.{Consumes};
 ghost use Rattle.bf_report.specs.Device.{HasHalted};
 ghost use Rattle.bf_report.specs.Report.{report_text};
@@ -49,6 +49,7 @@ impl Lines {
         ensures line { OnOk result (Consumes (ahead self.old.held (R.left device.old))
             (ahead self.new.held (R.left device.new)) (self.new.line.items ++ 10 ∷ [])) }
         ensures in_line { OnOk result (IsInLine self.new.line.items) }
+        ensures short { OnOk result (length self.new.line.items ≤ 66_000) }
         ensures stops { IfErr result (λ fault.
             IfSome (ahead self.old.held (R.left device.old)) (StopsAt fault (self.old.number + 1))) }
         ensures number { OnOk result (self.new.number ≡ self.old.number + 1) }

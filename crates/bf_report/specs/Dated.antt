@@ -38,10 +38,15 @@ AreDated dag ledger k (interval ∷ intervals) (run ∷ runs) =
 AreDated dag ledger k [] (run ∷ runs) = ⊥
 AreDated dag ledger k (interval ∷ intervals) [] = ⊥
 
+-- the ids of the tasks, in file order, which a report without runs doesn't have
+abbrev pub ids_shown : Dag → List Interval → List (List ℕ)
+ids_shown dag [] = []
+ids_shown dag (interval ∷ intervals) = map (λ task. task.id) dag.tasks
+
 -- the report is the recursion's over the ledger
 pub record IsDated (dag : Dag) (intervals : List Interval) (ledger : Look) (report : Report) : Type 0 where
   pub dag_id : report.dag_id ≡ dag.id
-  pub tasks : report.tasks ≡ map (λ task. task.id) dag.tasks
+  pub tasks : report.tasks ≡ ids_shown dag intervals
   pub runs : AreDated dag ledger 0 intervals report.runs
 
 -- both moments have years of four digits

@@ -5,3 +5,4 @@ pub mod Bytes
 pub mod Input
 pub mod Report
 pub mod Dated
+pub mod Values

@@ -4,8 +4,8 @@ use Rattle.bf_report.specs.declared.output.Output.{Output}
 
 -- how many writes were interrupted
 abbrev pub interrupted_writes : {W : Type 0} → Output W → ℕ
-interrupted_writes o = o.interrupted
+interrupted_writes o = o.halts.interrupted
 
 -- how many writes failed, or took none of some bytes
 abbrev pub failed_writes : {W : Type 0} → Output W → ℕ
-failed_writes o = o.failed
+failed_writes o = o.halts.failed

@@ -1,7 +1,11 @@
 //! Devices: what bytes are written to and read from.
-ghost use Rattle.std.specs.Prelude.{◌≡◌, ℕ, ◌≤◌, List, length, take, Option, IfOk};
+ghost use Rattle.std.specs.Prelude.{◌≡◌, ◌↔◌, ℕ, ◌≤◌, List, length, take, Option, IfOk, Err};
 ghost use Rattle.std.specs.Io.KnownBytes.{ReadConsumes};
+ghost use Rattle.std.specs.IoError.{error_kind};
+ghost use Rattle.std.specs.declared.io.ErrorKind.TheVariants.{Interrupted};
 ghost use Rattle.bf_report.specs.Device.{sent, taken, interrupted, write_failed, read_failed, WentOn};
+
+use std::io;
 
 /// Why a device took or gave nothing.
 #[derive(Clone, Copy, Debug, PartialEq, Eq)]
@@ -9,6 +13,48 @@ pub enum Halt {
     /// The call was interrupted, and may be made again.
     Again,
     Failed,
+}
+
+impl Halt {
+    /// What an error of std is, be it of a reader, a writer or a file: all but an interruption are failures.
+    pub fn of(error: &io::Error) -> Halt
+        ensures { (result ≡ Halt.Again) ↔ (error_kind error.now ≡ Interrupted) }
+    {
+        match error.kind() {
+            io::ErrorKind::Interrupted => Halt::Again,
+            _ => Halt::Failed,
+        }
+    }
+}
+
+/// How often a device was interrupted, and how often it failed, as counters of 64 bits count.
+#[derive(Clone, Copy, Debug, PartialEq, Eq)]
+pub struct Halts {
+    pub interrupted: u64,
+    pub failed: u64,
+}
+
+impl Halts {
+    /// Of a device that was not called yet.
+    pub fn none() -> Halts
+        ensures { result ≡ record { interrupted = 0; failed = 0 } }
+    {
+        Halts {
+            interrupted: 0,
+            failed: 0,
+        }
+    }
+
+    /// Counts one more.
+    pub fn count(&mut self, halt: Halt)
+        ensures interrupted { WentOn (interrupted (Err halt)) self.old.interrupted self.new.interrupted }
+        ensures failed { WentOn (read_failed (Err halt)) self.old.failed self.new.failed }
+    {
+        match halt {
+            Halt::Again => self.interrupted = self.interrupted.wrapping_add(1),
+            Halt::Failed => self.failed = self.failed.wrapping_add(1),
+        }
+    }
 }
 
 /// What bytes can be written to. Contracts see the bytes that went out, where the device tells them, and how often

@@ -1,8 +1,7 @@
 //! The device that halts, for tests.
-ghost use Rattle.std.specs.Prelude.{◌≡◌, ◌+◌, Err};
-ghost use Rattle.bf_report.specs.Device.{interrupted, read_failed, WentOn};
+ghost use Rattle.std.specs.Prelude.{◌≡◌, ◌+◌};
 
-use crate::device::{Halt, Read, Write};
+use crate::device::{Halt, Halts, Read, Write};
 
 /// A device for tests, also those of other crates. It passes on one byte a call, but the `times` calls from the call
 /// `first` on, counted from 0, give `halt`.
@@ -14,8 +13,7 @@ pub struct Halting<D: Drop> {
     pub times: u64,
     /// How many calls were made.
     pub calls: u64,
-    pub interrupted: u64,
-    pub failed: u64,
+    pub halts: Halts,
 }
 
 impl<D: Drop> Halting<D> {
@@ -27,8 +25,7 @@ impl<D: Drop> Halting<D> {
           first = first;
           times = times;
           calls = 0;
-          interrupted = 0;
-          failed = 0;
+          halts = record { interrupted = 0; failed = 0 };
         } }
     {
         Halting {
@@ -37,23 +34,8 @@ impl<D: Drop> Halting<D> {
             first,
             times,
             calls: 0,
-            interrupted: 0,
-            failed: 0,
+            halts: Halts::none(),
         }
-    }
-
-    /// Counts a call that halts, and says how.
-    fn halted(&mut self) -> Halt
-        ensures halt { result ≡ self.old.halt }
-        ensures inner { self.new.inner ≡ self.old.inner }
-        ensures interrupted { WentOn (interrupted (Err result)) self.old.interrupted self.new.interrupted }
-        ensures failed { WentOn (read_failed (Err result)) self.old.failed self.new.failed }
-    {
-        match self.halt {
-            Halt::Again => self.interrupted = self.interrupted.wrapping_add(1),
-            Halt::Failed => self.failed = self.failed.wrapping_add(1),
-        }
-        self.halt
     }
 
     /// Gives the device back that was passed on to.
@@ -66,8 +48,7 @@ impl<D: Drop> Halting<D> {
             first: _,
             times: _,
             calls: _,
-            interrupted: _,
-            failed: _,
+            halts: _,
         } = self;
         inner
     }
@@ -76,9 +57,9 @@ impl<D: Drop> Halting<D> {
 impl<W: Write + Drop> Write for Halting<W> {
     ghost written = { λ h. W.written h.inner };
 
-    ghost interruptions = { λ h. W.interruptions h.inner + h.interrupted };
+    ghost interruptions = { λ h. W.interruptions h.inner + h.halts.interrupted };
 
-    ghost failures = { λ h. W.failures h.inner + h.failed };
+    ghost failures = { λ h. W.failures h.inner + h.halts.failed };
 
     fn write(&mut self, bytes: &[u8]) -> Result<usize, Halt> {
         let call = self.calls;
@@ -86,16 +67,17 @@ impl<W: Write + Drop> Write for Halting<W> {
         if call < self.first || call - self.first >= self.times {
             return self.inner.write(&bytes[..bytes.len().min(1)]);
         }
-        Err(self.halted())
+        self.halts.count(self.halt);
+        Err(self.halt)
     }
 }
 
 impl<R: Read + Drop> Read for Halting<R> {
     ghost left = { λ h. R.left h.inner };
 
-    ghost interruptions = { λ h. R.interruptions h.inner + h.interrupted };
+    ghost interruptions = { λ h. R.interruptions h.inner + h.halts.interrupted };
 
-    ghost failures = { λ h. R.failures h.inner + h.failed };
+    ghost failures = { λ h. R.failures h.inner + h.halts.failed };
 
     fn read(&mut self, room: &mut [u8]) -> Result<usize, Halt> {
         let call = self.calls;
@@ -104,6 +86,7 @@ impl<R: Read + Drop> Read for Halting<R> {
             let most = room.len().min(1);
             return self.inner.read(&mut room[..most]);
         }
-        Err(self.halted())
+        self.halts.count(self.halt);
+        Err(self.halt)
     }
 }

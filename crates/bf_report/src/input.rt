@@ -2,15 +2,14 @@
 ghost use Rattle.std.specs.Prelude.{◌≡◌};
 ghost use Rattle.bf_report.specs.Input.{interrupted_reads, failed_reads};
 
-use crate::device::{Halt, Read};
+use crate::device::{Halt, Halts, Read};
 use std::io;
 
 /// A reader of std, as a file. It tells what that reader tells.
 #[derive(Drop)]
 pub struct Input<R: io::Read + Drop> {
     pub inner: R,
-    interrupted: u64,
-    failed: u64,
+    halts: Halts,
 }
 
 impl<R: io::Read + Drop> Input<R> {
@@ -20,8 +19,7 @@ impl<R: io::Read + Drop> Input<R> {
     {
         Input {
             inner,
-            interrupted: 0,
-            failed: 0,
+            halts: Halts::none(),
         }
     }
 
@@ -29,11 +27,7 @@ impl<R: io::Read + Drop> Input<R> {
     pub fn into_inner(self) -> R
         ensures { result ≡ self.inner }
     {
-        let Input {
-            inner,
-            interrupted: _,
-            failed: _,
-        } = self;
+        let Input { inner, halts: _ } = self;
         inner
     }
 }
@@ -48,13 +42,10 @@ impl<R: io::Read + Drop> Read for Input<R> {
     fn read(&mut self, room: &mut [u8]) -> Result<usize, Halt> {
         match self.inner.read(room) {
             Ok(count) => Ok(count),
-            Err(error) if error.kind() == io::ErrorKind::Interrupted => {
-                self.interrupted = self.interrupted.wrapping_add(1);
-                Err(Halt::Again)
-            }
-            Err(_) => {
-                self.failed = self.failed.wrapping_add(1);
-                Err(Halt::Failed)
+            Err(error) => {
+                let halt = Halt::of(&error);
+                self.halts.count(halt);
+                Err(halt)
             }
         }
     }

@@ -29,7 +29,7 @@ mod writing;
 pub use bf_moment::{Moment, moment_bytes, moment_in};
 pub use bytes::Bytes;
 pub use dated::report_of;
-pub use device::{Halt, Read, Write};
+pub use device::{Halt, Halts, Read, Write};
 pub use halting::Halting;
 pub use input::Input;
 pub use laws::alike_ledgers_report_alike;

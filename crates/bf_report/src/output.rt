@@ -2,15 +2,14 @@
 ghost use Rattle.std.specs.Prelude.{◌≡◌};
 ghost use Rattle.bf_report.specs.Output.{interrupted_writes, failed_writes};
 
-use crate::device::{Halt, Write};
+use crate::device::{Halt, Halts, Write};
 use std::io;
 
 /// A writer of std, as a file or standard output. It doesn't tell what was written.
 #[derive(Drop)]
 pub struct Output<W: io::Write + Drop> {
     pub inner: W,
-    interrupted: u64,
-    failed: u64,
+    halts: Halts,
 }
 
 impl<W: io::Write + Drop> Output<W> {
@@ -20,8 +19,7 @@ impl<W: io::Write + Drop> Output<W> {
     {
         Output {
             inner,
-            interrupted: 0,
-            failed: 0,
+            halts: Halts::none(),
         }
     }
 
@@ -29,11 +27,7 @@ impl<W: io::Write + Drop> Output<W> {
     pub fn into_inner(self) -> W
         ensures { result ≡ self.inner }
     {
-        let Output {
-            inner,
-            interrupted: _,
-            failed: _,
-        } = self;
+        let Output { inner, halts: _ } = self;
         inner
     }
 }
@@ -51,17 +45,14 @@ impl<W: io::Write + Drop> Write for Output<W> {
         match self.inner.write(bytes) {
             Ok(count) => {
                 if count == 0 && !bytes.is_empty() {
-                    self.failed = self.failed.wrapping_add(1);
+                    self.halts.count(Halt::Failed);
                 }
                 Ok(count)
             }
-            Err(error) if error.kind() == io::ErrorKind::Interrupted => {
-                self.interrupted = self.interrupted.wrapping_add(1);
-                Err(Halt::Again)
-            }
-            Err(_) => {
-                self.failed = self.failed.wrapping_add(1);
-                Err(Halt::Failed)
+            Err(error) => {
+                let halt = Halt::of(&error);
+                self.halts.count(halt);
+                Err(halt)
             }
         }
     }

@@ -28,7 +28,8 @@ pub struct RunReport {
     pub ghost shown_end: { IsShown interval.end.nanosecond },
 }
 
-/// A report: the dag id, the ids of the tasks in file order, and the runs by date.
+/// A report: the dag id, the ids of the tasks in file order, and the runs by date. The text of a report without runs
+/// has no ids of tasks, and so has what `report_of` makes of no runs.
 #[derive(Debug, Drop)]
 pub struct Report {
     pub dag_id: Text,

@@ -17,6 +17,8 @@ mod devices;
 #[cfg(test)]
 mod grades;
 #[cfg(test)]
+mod interruptions;
+#[cfg(test)]
 mod join;
 #[cfg(test)]
 mod limits;

@@ -236,6 +236,8 @@ fn a_line_has_66000_bytes_at_most(rt: HostRuntime) -> Result<(), Fail> {
     );
     assert_eq!(rt; fault_of(alloc, full.as_slice())?, ReportFault::BadLine(3));
     assert_eq!(rt; fault_of(alloc, long.as_slice())?, ReportFault::TooLong(3));
+    let ended = with_line(alloc, 66_001, b"\n")?;
+    assert_eq!(rt; fault_of(alloc, ended.as_slice())?, ReportFault::TooLong(3));
     let cut = with_line(alloc, 66_000, b"")?;
     assert_eq!(rt; fault_of(alloc, cut.as_slice())?, ReportFault::Truncated);
     Ok(())

@@ -56,4 +56,4 @@ returns-in-Refused-clause-tells g c =
     let (keeps, known, reads, tallied, place, number) = c.loop-beginning.invariant in
     let none = rw (c.in-Refused.is, c.as_slice.ensures.value) at c.in_ok-read_line.ensures in
     line_tells _ _ _ (opening_text (so_far c.args.beginning.now)) c.read.new.self.line.items c.loop-beginning.beginning c.read.new.self.number reads keeps known none
-    (c.in_ok-read.ensures.number ∙ ap (λ n. n + 1) place) c.in_ok-read.ensures.line c.in_ok-read.ensures.in_line
+    (c.in_ok-read.ensures.number ∙ ap (λ n. n + 1) place) c.in_ok-read.ensures.line c.in_ok-read.ensures.in_line c.in_ok-read.ensures.short

@@ -22,7 +22,7 @@ returns-in_err-read-clause-reads g c = reads_if_err (g.R.Read.left c.args.device
 
 pub returns-in_default-clause-err : goal.returns-in_default-clause-err
 returns-in_default-clause-err g c =
-    first_told (g.R.Read.left c.args.device.now) _ _ c.read.new.self.line.items c.in_ok-lines.ensures.0 c.in_ok-read.ensures.line c.in_ok-read.ensures.in_line
+    first_told (g.R.Read.left c.args.device.now) _ _ c.read.new.self.line.items c.in_ok-lines.ensures.0 c.in_ok-read.ensures.line c.in_ok-read.ensures.in_line c.in_ok-read.ensures.short
     (λ id says. c.in_default.not-Some id (c.in_ok-dag_id.ensures.every id (subst (λ l. SaysDag l id) (sym c.as_slice.ensures.value) says)))
 
 pub returns-in_default-clause-reads : goal.returns-in_default-clause-reads
