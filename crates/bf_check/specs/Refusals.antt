@@ -1,6 +1,6 @@
 -- Why `check` refuses a draft.
-use Rattle.std.specs.Prelude.{◌≡◌, ℕ, ◌<◌, ◌&&◌, nat_lt, true, false, not, Bool, List, [], if◌then◌else◌, map, option_map, slice_get, Contains, Option, Some, None, unwrap_or, is_none, is_some}
-use Rattle.std.specs.List.{list_any, slice_index_or}
+use Rattle.std.specs.Prelude.{◌≡◌, ℕ, ◌<◌, ◌&&◌, nat_lt, true, false, not, Bool, List, [], if◌then◌else◌, map, option_map, slice_get, Contains, Option, Some, None, unwrap_or, is_none, is_some, ◌++◌, codes}
+use Rattle.std.specs.List.{join_with_byte, list_any, slice_index_or}
 use Rattle.std.specs.Str.{bytes_eq}
 use Rattle.bf_graph.specs.Edges.{IsAcyclic}
 use Rattle.bf_graph.specs.Cycles.{IsNamedCycle}
@@ -90,6 +90,26 @@ check_number BadCron = Some 11
 check_number NeverFires = Some 12
 check_number BadZone = Some 13
 check_number OutOfMemory = None
+
+-- the words of a task's fault
+abbrev pub task_fault_text : TaskFault → List ℕ
+task_fault_text UnknownUpstream = codes "unknown upstream"
+task_fault_text UnknownPool = codes "unknown pool"
+task_fault_text SlotsBeyondPool = codes "slots beyond pool"
+task_fault_text BadRule = codes "bad rule"
+task_fault_text PullNotSettled = codes "pull not settled"
+task_fault_text ExpandSource = codes "expand source"
+task_fault_text ExpandRule = codes "expand rule"
+task_fault_text BranchMisuse = codes "branch misuse"
+
+-- the words; the ids of a cycle stand with one space between each two
+abbrev pub fault_text : CheckFault → List ℕ
+fault_text (Task fault id) = task_fault_text fault ++ codes ": " ++ id
+fault_text (Cycle ids) = codes "cycle: " ++ join_with_byte 32 ids
+fault_text BadCron = codes "bad cron"
+fault_text NeverFires = codes "never fires"
+fault_text BadZone = codes "bad zone"
+fault_text OutOfMemory = codes "out of memory"
 
 -- the task t of the draft has this fault
 abbrev pub Has : Draft → TaskFault → ℕ → TaskDraft → Type 0

@@ -4,34 +4,26 @@ ghost use Rattle.bf_check.specs.Refusals.{number as number_of, check_number};
 
 use bf_value::{OutOfMemory, Sequence, Text};
 use std::alloc::AllocFailed;
+use std::error::Error;
 use std::fmt;
-use thiserror::Error;
 
 /// What is wrong with a task.
-#[derive(Clone, Copy, Debug, PartialEq, Eq, Error)]
+#[derive(Clone, Copy, Debug, PartialEq, Eq)]
 pub enum TaskFault {
     /// An upstream is the id of no task.
-    #[error("unknown upstream")]
     UnknownUpstream,
-    #[error("unknown pool")]
     UnknownPool,
     /// It takes more slots than its pool has.
-    #[error("slots beyond pool")]
     SlotsBeyondPool,
     /// Its rule is no trigger rule.
-    #[error("bad rule")]
     BadRule,
     /// It pulls from a task that needn't be settled when it is decided, or from none.
-    #[error("pull not settled")]
     PullNotSettled,
     /// It is expanded over what isn't a direct upstream.
-    #[error("expand source")]
     ExpandSource,
     /// It is expanded under a rule that may decide it before its upstreams are settled.
-    #[error("expand rule")]
     ExpandRule,
     /// It is a branch and expanded.
-    #[error("branch misuse")]
     BranchMisuse,
 }
 
@@ -53,26 +45,42 @@ impl TaskFault {
     }
 }
 
+impl fmt::Display for TaskFault {
+    ghost use Rattle.std.specs.Prelude.{Some};
+    ghost use Rattle.bf_check.specs.Refusals.{task_fault_text};
+
+    ghost output = { λ fault. Some (task_fault_text fault) };
+
+    fn fmt<W: fmt::Write>(&self, f: &mut fmt::Formatter<W>) -> fmt::Result {
+        f.write_str(match self {
+            TaskFault::UnknownUpstream => "unknown upstream",
+            TaskFault::UnknownPool => "unknown pool",
+            TaskFault::SlotsBeyondPool => "slots beyond pool",
+            TaskFault::BadRule => "bad rule",
+            TaskFault::PullNotSettled => "pull not settled",
+            TaskFault::ExpandSource => "expand source",
+            TaskFault::ExpandRule => "expand rule",
+            TaskFault::BranchMisuse => "branch misuse",
+        })
+    }
+}
+
+impl Error for TaskFault {}
+
 /// Why a draft is refused.
-#[derive(Debug, Drop, Error)]
+#[derive(Debug, Drop)]
 pub enum CheckFault {
     /// The task of this id, the first in the file with this fault.
-    #[error("{0}: {1}")]
     Task(TaskFault, Text),
     /// The edges have a cycle: each of these tasks is a direct upstream of the next, and the last of the first. It is the shortest
     /// through the task that comes first in the file of all that lie on one, and begins with that.
-    #[error("cycle: {}", Spaced(.0))]
     Cycle(Sequence<Text>),
     /// The schedule is neither a cron expression nor a preset.
-    #[error("bad cron")]
     BadCron,
     /// No civil minute matches the schedule.
-    #[error("never fires")]
     NeverFires,
     /// The zone is none, or its file is missing or can't be read.
-    #[error("bad zone")]
     BadZone,
-    #[error("out of memory")]
     OutOfMemory,
 }
 
@@ -91,6 +99,26 @@ impl CheckFault {
         }
     }
 }
+
+impl fmt::Display for CheckFault {
+    ghost use Rattle.std.specs.Prelude.{Some};
+    ghost use Rattle.bf_check.specs.Refusals.{fault_text};
+
+    ghost output = { λ fault. Some (fault_text fault) };
+
+    fn fmt<W: fmt::Write>(&self, f: &mut fmt::Formatter<W>) -> fmt::Result {
+        match self {
+            CheckFault::Task(fault, task) => write!(f, "{fault}: {task}"),
+            CheckFault::Cycle(tasks) => write!(f, "cycle: {}", Spaced(tasks)),
+            CheckFault::BadCron => write!(f, "bad cron"),
+            CheckFault::NeverFires => write!(f, "never fires"),
+            CheckFault::BadZone => write!(f, "bad zone"),
+            CheckFault::OutOfMemory => write!(f, "out of memory"),
+        }
+    }
+}
+
+impl Error for CheckFault {}
 
 /// Texts with one space between each two.
 #[derive(Clone, Copy)]

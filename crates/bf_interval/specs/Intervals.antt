@@ -1,5 +1,5 @@
 -- The data intervals of a range.
-use Rattle.std.specs.Prelude.{ℕ, ◌+◌, ◌<◌, ◌≤◌, ℤ, ◌<ℤ◌, ◌≤ℤ◌, List, length, map, Contains, All, AllPairs, ◌⊎◌, Option, Some, None, Result, Ok, Err}
+use Rattle.std.specs.Prelude.{ℕ, ◌+◌, ◌<◌, ◌≤◌, ℤ, ◌<ℤ◌, ◌≤ℤ◌, List, length, map, Contains, All, AllPairs, ◌⊎◌, Option, Some, None, Result, Ok, Err, codes}
 use Rattle.jiff.specs.Types.{TimeZone}
 use Rattle.bf_cron.specs.declared.spec.CronSpec.{CronSpec}
 use Rattle.bf_interval.specs.Years.{IsInYears}
@@ -50,3 +50,10 @@ fault_number OutsideYears = Some 25
 fault_number RangeReversed = Some 26
 fault_number TooManyRuns = Some 27
 fault_number OutOfMemory = None
+
+-- the words
+abbrev pub fault_text : IntervalFault → List ℕ
+fault_text OutsideYears = codes "outside years"
+fault_text RangeReversed = codes "range reversed"
+fault_text TooManyRuns = codes "too many runs"
+fault_text OutOfMemory = codes "out of memory"

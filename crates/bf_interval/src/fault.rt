@@ -4,21 +4,18 @@ ghost use Rattle.bf_interval.specs.Intervals.{fault_number};
 ghost use Rattle.bf_interval.specs.declared.fault.IntervalFault.TheVariants.{OutOfMemory as NoMemory};
 
 use std::alloc::{AllocError, AllocFailed};
-use thiserror::Error;
+use std::error::Error;
+use std::fmt;
 
 /// Why the data intervals of a range aren't listed.
-#[derive(Clone, Copy, Debug, PartialEq, Eq, Error)]
+#[derive(Clone, Copy, Debug, PartialEq, Eq)]
 pub enum IntervalFault {
     /// A moment lies outside the years 1970 to 2199.
-    #[error("outside years")]
     OutsideYears,
     /// The first moment lies after the last.
-    #[error("range reversed")]
     RangeReversed,
     /// More than 4,096 data intervals start in the range.
-    #[error("too many runs")]
     TooManyRuns,
-    #[error("out of memory")]
     OutOfMemory,
 }
 
@@ -35,6 +32,24 @@ impl IntervalFault {
         }
     }
 }
+
+impl fmt::Display for IntervalFault {
+    ghost use Rattle.std.specs.Prelude.{Some};
+    ghost use Rattle.bf_interval.specs.Intervals.{fault_text};
+
+    ghost output = { λ fault. Some (fault_text fault) };
+
+    fn fmt<W: fmt::Write>(&self, f: &mut fmt::Formatter<W>) -> fmt::Result {
+        match self {
+            IntervalFault::OutsideYears => write!(f, "outside years"),
+            IntervalFault::RangeReversed => write!(f, "range reversed"),
+            IntervalFault::TooManyRuns => write!(f, "too many runs"),
+            IntervalFault::OutOfMemory => write!(f, "out of memory"),
+        }
+    }
+}
+
+impl Error for IntervalFault {}
 
 impl From<AllocError> for IntervalFault {
     ghost from_gives = { λ _ e. e ≡ NoMemory };

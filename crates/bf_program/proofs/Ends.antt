@@ -1,14 +1,23 @@
--- How lines end that `clap` answers.
-use Rattle.std.proofs.Common.{◌≡◌, ◌⊎◌, ℕ, List, [], ◌∷◌, Option, Result, Ok, Err, IfOk, IsErr, IsSome, refl, sym, ◌∙◌, inl, inr, ap, true≢false}
+-- How lines end.
+use Rattle.std.proofs.Common.{◌≡◌, ◌≢◌, ◌≤◌, ◌⊎◌, ℕ, Bool, true, false, List, [], ◌∷◌, Option, Result, Ok, Err, IfOk, IfErr, IsErr, IsSome, OnOk, length, take, refl, sym, ◌∙◌, inl, inr, ap, subst, arith, true≢false}
 use Rattle.clap.specs.Words.{HasKind, IsAmong, Kinds, Row, Text, kind_of}
 use Rattle.clap.specs.declared.error.Error.{Error}
 use Rattle.clap.specs.declared.error.kind.ErrorKind.{ErrorKind}
-use Rattle.clap.specs.declared.error.kind.ErrorKind.TheVariants.{OutOfMemory}
-use Rattle.bf_program.specs.Commands.{Files, IsFaulted, IsRefused}
-use Rattle.bf_program.specs.Refusal.{number_of}
-use Rattle.bf_program.specs.Status.{EndsAs, code_of, shown_as}
+use Rattle.clap.specs.declared.error.kind.ErrorKind.TheVariants as kind
+use Rattle.bf_line.specs.declared.forms.Asked.{Asked}
+use Rattle.bf_line.specs.declared.forms.Asked.TheVariants as asked
+use Rattle.bf_line.specs.Asked.{IsAskedBy}
+use Rattle.bf_report.specs.Device.{sent}
+use Rattle.bf_report.specs.declared.sending.WriteFault.{WriteFault}
+use Rattle.bf_program.specs.Commands.{Files, IsAnswer, IsDone, IsFault, IsFaulted, IsTold, MayBeFaulted, MayTell, Tells}
+use Rattle.bf_program.specs.Refusal.{Leaves, Sends, line_of, number_of, status_of}
+use Rattle.bf_program.specs.Status.{EndsAs, code_of, of_runs, shown_as}
 use Rattle.bf_program.specs.declared.refusal.CommandFault.{CommandFault}
+use Rattle.bf_program.specs.declared.refusal.CommandFault.TheVariants.{Read, Check, Table, Range, BadMoment, OutOfMemory, CannotRead, CannotWrite}
 use Rattle.bf_program.specs.declared.status.Status.{Status}
+use Rattle.bf_program.proofs.Faults.{refusal_leaves}
+
+-- ---- lines that `clap` answers
 
 -- a fault may stand in the place of every end
 pub fault_ends : (kinds : Kinds) → EndsAs kinds 3
@@ -22,22 +31,88 @@ kind_ends (x ∷ xs) k (inr h) = inr (kind_ends xs k h)
 
 -- a line whose error is shown ends as its kind says
 pub shown_ends : (kinds : Kinds) (e : Error) (r : Result Status CommandFault) → HasKind kinds e
-    → (kind_of e ≡ OutOfMemory → IsErr r) → IfOk r (λ s. s ≡ shown_as (kind_of e))
+    → (kind_of e ≡ kind.OutOfMemory → IsErr r) → IfOk r (λ s. s ≡ shown_as (kind_of e))
     → IfOk r (λ s. EndsAs kinds (code_of s))
 shown_ends kinds e (Err f) has memory ok = tt
 shown_ends kinds e (Ok s) (inl none) memory ok = let bad = memory none in cc
 shown_ends kinds e (Ok s) (inr among) memory ok = rw ok (kind_ends kinds (kind_of e) among)
 
-two_is : (s : Status) → code_of s ≡ 2 → s ≡ Status.Refused
-two_is Status.Success e = cc
-two_is Status.Failed e = cc
-two_is Status.Refused e = refl
-two_is Status.Fault e = cc
+among_none : (kinds : Kinds) (k : ErrorKind) → kinds ≡ [] → IsAmong k kinds → ⊥
+among_none kinds k none among = let is : IsAmong k [] = subst (λ (ks : Kinds). IsAmong k ks) none among in elim is [ ]
 
--- status 2 comes of a refusal that has a number, and want of memory has none
-pub refused_why : (files : Files) (matched : Option (Text × List Row)) (f : CommandFault) (s : Status) (code : ℕ) → code ≡ code_of s → code ≡ 2 → (s ≡ Status.Refused → IsSome (number_of f))
-    → (f ≡ CommandFault.OutOfMemory) ⊎ IsFaulted files matched f → IsRefused files matched
-refused_why files matched f s code is two numbered (inl wanting) =
-    let some : IsSome (number_of f) = numbered (two_is s (sym is ∙ two)) in
-    absurd (true≢false (sym (rw wanting at some)))
-refused_why files matched f s code is two numbered (inr faulted) = record { fault = f; faulted = faulted; numbered = numbered (two_is s (sym is ∙ two)) }
+-- where `clap` finds nothing wrong, memory was wanting
+pub shown_may : (files : Files) (matched : Option (Text × List Row)) (Halted : Type 0) (before after : Option (List ℕ)) (kinds : Kinds) (e : Error) (r : Result Status CommandFault) → HasKind kinds e → kinds ≡ []
+    → (kind_of e ≡ kind.OutOfMemory → IfErr r (λ f. f ≡ OutOfMemory)) → (kind_of e ≡ kind.OutOfMemory → after ≡ before) → IfErr r (MayBeFaulted files matched Halted before after)
+shown_may files matched Halted before after kinds e (Ok s) has none wanting kept = tt
+shown_may files matched Halted before after kinds e (Err f) (inl memory) none wanting kept =
+    subst (λ (x : CommandFault). MayBeFaulted files matched Halted before after x) (sym (wanting memory)) (kept memory)
+shown_may files matched Halted before after kinds e (Err f) (inr among) none wanting kept = absurd (among_none kinds (kind_of e) none among)
+
+-- ---- answers
+
+runs_low : (success : Bool) → code_of (of_runs success) ≤ 1
+runs_low true = omega arith
+runs_low false = omega arith
+
+-- a command that answers ends with 0 or 1
+answer_low : (files : Files) (asked : Asked) (text : List ℕ) (status : Status) → IsAnswer files asked text status → code_of status ≤ 1
+answer_low files (asked.Check a) text status is = rw is.success (omega arith)
+answer_low files (asked.List a) text status is = rw is.success (omega arith)
+answer_low files (asked.Single a) text status is = rw is.status_is (runs_low is.succeeded)
+answer_low files (asked.Dry a) text status is = rw is.status_is (runs_low is.succeeded)
+
+pub done_low : (files : Files) (matched : Option (Text × List Row)) (before after : Option (List ℕ)) (code : ℕ) → IsDone files matched before after code → code ≤ 1
+done_low files matched before after code is = rw is.code_is (answer_low files is.asked is.text is.status is.answer)
+
+-- what a command answers is the line's answer
+module _ (files : Files) (matched : Option (Text × List Row)) (a : Asked) (asks : IsAskedBy matched a) (before after : Option (List ℕ)) where
+  pub done : (s : Status) → Sends (λ text. IsAnswer files a text s) before after → IsDone files matched before after (code_of s)
+  done s sends = record { asked = a; asks = asks; text = sends.0; status = s; answer = sends.1; written = sends.2; code_is = refl }
+
+  module _ (Halted : Type 0) where
+    faulted : (f : CommandFault) → IsFault files a f → Leaves Halted (λ text. (status : Status) × IsAnswer files a text status) before after f → IsFaulted files matched Halted before after f
+    faulted f is left = record { asked = a; asks = asks; is_fault = is; left = left }
+
+    may : (f : CommandFault) → IsFault files a f → Leaves Halted (λ text. (status : Status) × IsAnswer files a text status) before after f → MayBeFaulted files matched Halted before after f
+    may OutOfMemory is left = left
+    may (Read f) is left = faulted (Read f) is left
+    may (Check f) is left = faulted (Check f) is left
+    may (Table f) is left = faulted (Table f) is left
+    may (Range f) is left = faulted (Range f) is left
+    may BadMoment is left = faulted BadMoment is left
+    may (CannotRead path) is left = faulted (CannotRead path) is left
+    may (CannotWrite n) is left = faulted (CannotWrite n) is left
+
+    pub may_in : (r : Result Status CommandFault) → IfErr r (IsFault files a) → IfErr r (Leaves Halted (λ text. (status : Status) × IsAnswer files a text status) before after)
+        → IfErr r (MayBeFaulted files matched Halted before after)
+    may_in (Ok s) is left = tt
+    may_in (Err f) is left = may f is left
+
+-- a refusal has written nothing
+pub refusal_leaves_in : (Halted : Type 0) (IsDue : List ℕ → Type 0) (before after : Option (List ℕ)) (r : Result Status CommandFault) → IfErr r (Leaves Halted IsDue before after)
+    → IfErr r (λ f. IsSome (number_of f) → after ≡ before)
+refusal_leaves_in Halted IsDue before after (Ok s) left = tt
+refusal_leaves_in Halted IsDue before after (Err f) left = refusal_leaves Halted IsDue before after f left
+
+-- ---- what is told
+
+-- a line that was sent is told
+pub told_by : (Halted : Type 0) (before after : Option (List ℕ)) (line : List ℕ) (r : Result (Unit {0}) WriteFault) → OnOk r (after ≡ sent before line)
+    → IfErr r (λ fault. (fault.sent ≤ length line) × (after ≡ sent before (take fault.sent line))) → IfErr r (λ fault. Halted) → IsTold Halted before after line
+told_by Halted before after line (Ok u) ok part halted = inl ok
+told_by Halted before after line (Err fault) ok part halted = inr (halted, fault.sent, part.0, part.1)
+
+-- status 3 tells a fault
+pub tells_three : (Halted : Type 0) (before after : Option (List ℕ)) (fault : CommandFault) (code : ℕ) → MayTell Halted before after fault code → code ≡ 3 → (f : CommandFault) × Tells Halted before after f 3
+tells_three Halted before after fault code (inl tells) three = (fault, subst (λ (n : ℕ). Tells Halted before after fault n) three tells)
+tells_three Halted before after fault code (inr tells) three = (OutOfMemory, subst (λ (n : ℕ). Tells Halted before after OutOfMemory n) three tells)
+
+not_three : (s : Status) → s ≢ Status.Fault → code_of s ≢ 3
+not_three Status.Success ne = λ e. omega (arith, e)
+not_three Status.Failed ne = λ e. omega (arith, e)
+not_three Status.Refused ne = λ e. omega (arith, e)
+not_three Status.Fault ne = λ e. ne refl
+
+-- no answer has status 3
+pub no_three : (s : Status) (code : ℕ) → s ≢ Status.Fault → code ≡ code_of s → code ≢ 3
+no_three s code ne is = λ e. not_three s ne (sym is ∙ e)

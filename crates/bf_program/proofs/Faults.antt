@@ -1,79 +1,292 @@
--- What the bytes of a graph and of a table say, and the faults of runs of them.
-use Rattle.std.proofs.Common.{◌≡◌, ℕ, ℤ, List, Bool, true, Option, Result, Ok, Err, IfErr, refl}
+-- The faults of commands over bytes, and what they leave.
+use Rattle.std.proofs.Common.{◌≡◌, ◌≢◌, ◌≤◌, ℕ, ℤ, List, [], Bool, Option, Some, None, Result, Ok, Err, IfErr, IfOk, OnOk, IsSome, ◌++◌, length, take, refl, sym, ◌∙◌, ap, append-nil, subst, true≢false}
 use Rattle.jiff.specs.declared.timestamp.Timestamp.{Timestamp}
+use Rattle.bf_read.specs.declared.draft.Draft.{Draft}
+use Rattle.bf_read.specs.declared.fault.ReadFault.{ReadFault}
+use Rattle.bf_read.specs.declared.fault.ReadFault.TheVariants as read
+use Rattle.bf_read.specs.Gives.{Fails}
+use Rattle.bf_read.specs.Reading.{graph_in}
 use Rattle.bf_check.specs.Checked.{Checked}
+use Rattle.bf_check.specs.declared.fault.CheckFault.{CheckFault}
+use Rattle.bf_check.specs.declared.fault.CheckFault.TheVariants as check
+use Rattle.bf_check.specs.Refusals.{IsFaultOf}
 use Rattle.bf_interval.specs.declared.fault.IntervalFault.{IntervalFault}
+use Rattle.bf_interval.specs.declared.fault.IntervalFault.TheVariants as interval
 use Rattle.bf_interval.specs.declared.interval.Interval.{Interval}
 use Rattle.bf_interval.specs.Years.{IsInYears}
 use Rattle.bf_try.specs.declared.table.TableEntry.{TableEntry}
+use Rattle.bf_try.specs.declared.table.TableFault.{TableFault}
+use Rattle.bf_try.specs.declared.table.TableFault.TheVariants as table
 use Rattle.bf_try.specs.Tables.{table_of}
-use Rattle.bf_program.specs.declared.over_table.RunFault.{RunFault}
-use Rattle.bf_program.specs.declared.over_table.RunFault.TheVariants.{Plan, Table, Range, OutOfMemory, Write}
-use Rattle.bf_program.specs.DatedRuns.{IsFaultOfDry, IsReportedIn}
-use Rattle.bf_program.specs.Graphs.{IsPlanOf}
-use Rattle.bf_program.specs.Lists.{HasListing}
-use Rattle.bf_program.specs.OneRun.{IsFaultOfSingle, IsReportedAt, intervals_at}
-use Rattle.bf_program.specs.OverTable.{IsReportedOver, IsTable, IsTableFault, comes_late}
+use Rattle.bf_report.specs.Device.{sent}
+use Rattle.bf_report.specs.declared.sending.Cause.{Cause}
+use Rattle.bf_report.specs.declared.sending.Cause.TheVariants as cause
+use Rattle.bf_report.specs.declared.sending.WriteFault.{WriteFault}
+use Rattle.bf_program.specs.declared.refusal.CommandFault.{CommandFault}
+use Rattle.bf_program.specs.declared.refusal.CommandFault.TheVariants.{Read, Check, Table, Range, BadMoment, OutOfMemory, CannotRead, CannotWrite}
+use Rattle.bf_program.specs.DatedRuns.{IsFaultOfDry, IsReportIn}
+use Rattle.bf_program.specs.Commands.{Files}
+use Rattle.bf_program.specs.Files.{IsReadingFault}
+use Rattle.bf_program.specs.Graphs.{IsFaultIn, IsFileOf, IsPlanOf}
+use Rattle.bf_program.specs.Lists.{HasListing, IsFaultOfList, IsRangeFault}
+use Rattle.bf_program.specs.OneRun.{IsFaultOfSingle, IsReportAt, intervals_at}
+use Rattle.bf_program.specs.OverTable.{IsReportOver, IsTable, IsTableFault, IsWanting}
+use Rattle.bf_program.specs.Refusal.{Leaves, of_cause, of_check, of_range, of_read, of_table, of_write, number_of}
 
 -- ---- the whole
 
-pub reported_at : (graph : List ℕ) (file : Option (List ℕ)) (table : List ℕ) (plan : Checked) (entries : List TableEntry) (at : Timestamp) (before after : Option (List ℕ)) (success : Bool)
-    → IsPlanOf graph file plan → table_of table ≡ Ok entries → IsInYears at.nanosecond → IsReportedOver plan.dag entries (intervals_at at) before after success
-    → IsReportedAt graph file table at before after success
-reported_at graph file table plan entries at before after success is says years over =
+pub reported_at : (graph : List ℕ) (file : Option (List ℕ)) (table : List ℕ) (plan : Checked) (entries : List TableEntry) (at : Timestamp) (text : List ℕ) (success : Bool)
+    → IsPlanOf graph file plan → table_of table ≡ Ok entries → IsInYears at.nanosecond → IsReportOver plan.dag entries (intervals_at at) text success
+    → IsReportAt graph file table at text success
+reported_at graph file table plan entries at text success is says years over =
     record { draft = is.draft; entries = entries; graph_is = is.graph_is; table_says = says; in_years = years; reported = rw is.dag at over }
 
-pub reported_in : (graph : List ℕ) (file : Option (List ℕ)) (table : List ℕ) (plan : Checked) (entries : List TableEntry) (from to : ℤ) (found : List Interval) (before after : Option (List ℕ)) (success : Bool)
-    → IsPlanOf graph file plan → table_of table ≡ Ok entries → HasListing graph file from to (Ok found) → IsReportedOver plan.dag entries found before after success
-    → IsReportedIn graph file table from to before after success
-reported_in graph file table plan entries from to found before after success is says listing over =
+pub reported_in : (graph : List ℕ) (file : Option (List ℕ)) (table : List ℕ) (plan : Checked) (entries : List TableEntry) (from to : ℤ) (found : List Interval) (text : List ℕ) (success : Bool)
+    → IsPlanOf graph file plan → table_of table ≡ Ok entries → HasListing graph file from to (Ok found) → IsReportOver plan.dag entries found text success
+    → IsReportIn graph file table from to text success
+reported_in graph file table plan entries from to found text success is says listing over =
     record { draft = is.draft; entries = entries; found = found; graph_is = is.graph_is; table_says = says; listing = listing; reported = rw is.dag at over }
 
--- ---- faults
+-- ---- the faults of parts
 
-module _ (graph : List ℕ) (file : Option (List ℕ)) (plan : Checked) (is : IsPlanOf graph file plan) (table : List ℕ) where
-  pub table_fault_at : (at : Timestamp) (fault : RunFault) → IsTableFault table fault → IsFaultOfSingle graph file table at fault
-  table_fault_at at (Table fault) bad = (is.draft, is.graph_is, bad)
-  table_fault_at at (Plan fault) bad = absurd bad
-  table_fault_at at (Range fault) bad = absurd bad
-  table_fault_at at OutOfMemory bad = absurd bad
-  table_fault_at at (Write fault) bad = absurd bad
+pub read_fault : (graph : List ℕ) (file : Option (List ℕ)) (fault : ReadFault) → Fails fault (graph_in graph) → IsFaultIn graph file (of_read fault)
+read_fault graph file read.NotJson is = is
+read_fault graph file (read.Shape path) is = is
+read_fault graph file (read.BadName path) is = is
+read_fault graph file (read.DuplicateTask task) is = is
+read_fault graph file (read.LimitPassed path) is = is
+read_fault graph file read.OutOfMemory is = tt
 
-  pub table_fault_in : (from to : ℤ) (fault : RunFault) → IsTableFault table fault → IsFaultOfDry graph file table from to fault
-  table_fault_in from to (Table fault) bad = (is.draft, is.graph_is, bad)
-  table_fault_in from to (Plan fault) bad = absurd bad
-  table_fault_in from to (Range fault) bad = absurd bad
-  table_fault_in from to OutOfMemory bad = absurd bad
-  table_fault_in from to (Write fault) bad = absurd bad
+pub check_fault : (graph : List ℕ) (file : Option (List ℕ)) (draft : Draft) → IsFileOf graph draft → (fault : CheckFault) → IsFaultOf draft file fault → IsFaultIn graph file (of_check fault)
+check_fault graph file draft says (check.Task fault id) is = (draft, says, is)
+check_fault graph file draft says (check.Cycle ids) is = (draft, says, is)
+check_fault graph file draft says check.BadCron is = (draft, says, is)
+check_fault graph file draft says check.NeverFires is = (draft, says, is)
+check_fault graph file draft says check.BadZone is = (draft, says, is)
+check_fault graph file draft says check.OutOfMemory is = tt
 
-  module _ (entries : List TableEntry) (says : table_of table ≡ Ok entries) where
-    table_is : IsTable table
-    table_is = record { entries = entries; says = says }
+pub range_fault : (graph : List ℕ) (file : Option (List ℕ)) (from to : ℤ) (fault : IntervalFault) → HasListing graph file from to (Err fault) → IsRangeFault graph file from to (of_range fault)
+range_fault graph file from to interval.OutsideYears is = is
+range_fault graph file from to interval.RangeReversed is = is
+range_fault graph file from to interval.TooManyRuns is = is
+range_fault graph file from to interval.OutOfMemory is = tt
 
-    pub moment_fault : (at : Timestamp) → ¬ (IsInYears at.nanosecond) → IsFaultOfSingle graph file table at (Range IntervalFault.OutsideYears)
-    moment_fault at outside = (is.draft, is.graph_is, table_is, refl, outside)
+pub table_fault : (bytes : List ℕ) (fault : TableFault) → (fault ≢ table.OutOfMemory → table_of bytes ≡ Err fault) → IsTableFault bytes (of_table fault)
+table_fault bytes (table.BadTable entry) is = is (λ same. cc)
+table_fault bytes table.OutOfMemory is = tt
 
-    pub range_fault : (from to : ℤ) (fault : IntervalFault) → HasListing graph file from to (Err fault) → IsFaultOfDry graph file table from to (Range fault)
-    range_fault from to fault listing = (table_is, listing)
+wanting_by : (c : Cause) (n : ℕ) → IsWanting (of_cause c n)
+wanting_by cause.Io n = tt
+wanting_by cause.OutOfMemory n = tt
 
-    late_at : (at : Timestamp) (fault : RunFault) → IsInYears at.nanosecond → comes_late fault ≡ true → IsFaultOfSingle graph file table at fault
-    late_at at OutOfMemory inside late = (is.draft, is.graph_is)
-    late_at at (Write fault) inside late = (is.draft, is.graph_is, table_is, inside)
-    late_at at (Plan fault) inside late = cc
-    late_at at (Table fault) inside late = cc
-    late_at at (Range fault) inside late = cc
+pub write_wanting : (fault : WriteFault) → IsWanting (of_write fault)
+write_wanting fault = wanting_by fault.cause fault.sent
 
-    pub late_faults_at : (at : Timestamp) (r : Result Bool RunFault) → IsInYears at.nanosecond → IfErr r (λ fault. comes_late fault ≡ true) → IfErr r (IsFaultOfSingle graph file table at)
-    late_faults_at at (Ok success) inside late = tt
-    late_faults_at at (Err fault) inside late = late_at at fault inside late
+-- ---- the faults of parts are those of commands
 
-    late_in : (from to : ℤ) (found : List Interval) (fault : RunFault) → HasListing graph file from to (Ok found) → comes_late fault ≡ true → IsFaultOfDry graph file table from to fault
-    late_in from to found OutOfMemory listing late = (is.draft, is.graph_is)
-    late_in from to found (Write fault) listing late = (table_is, found, listing)
-    late_in from to found (Plan fault) listing late = cc
-    late_in from to found (Table fault) listing late = cc
-    late_in from to found (Range fault) listing late = cc
+module _ (graph : List ℕ) (file : Option (List ℕ)) (from to : ℤ) where
+  pub list_graph : (fault : CommandFault) → IsFaultIn graph file fault → IsFaultOfList graph file from to fault
+  list_graph (Read fault) is = is
+  list_graph (Check fault) is = is
+  list_graph (Table fault) is = absurd is
+  list_graph (Range fault) is = absurd is
+  list_graph BadMoment is = absurd is
+  list_graph OutOfMemory is = tt
+  list_graph (CannotRead path) is = absurd is
+  list_graph (CannotWrite n) is = tt
 
-    pub late_faults_in : (from to : ℤ) (found : List Interval) (r : Result Bool RunFault) → HasListing graph file from to (Ok found) → IfErr r (λ fault. comes_late fault ≡ true) → IfErr r (IsFaultOfDry graph file table from to)
-    late_faults_in from to found (Ok success) listing late = tt
-    late_faults_in from to found (Err fault) listing late = late_in from to found fault listing late
+  pub list_range : (fault : CommandFault) → IsRangeFault graph file from to fault → IsFaultOfList graph file from to fault
+  list_range (Read fault) is = absurd is
+  list_range (Check fault) is = absurd is
+  list_range (Table fault) is = absurd is
+  list_range (Range fault) is = is
+  list_range BadMoment is = absurd is
+  list_range OutOfMemory is = tt
+  list_range (CannotRead path) is = absurd is
+  list_range (CannotWrite n) is = tt
+
+  pub list_wanting : (fault : CommandFault) → IsWanting fault → IsFaultOfList graph file from to fault
+  list_wanting (Read fault) is = absurd is
+  list_wanting (Check fault) is = absurd is
+  list_wanting (Table fault) is = absurd is
+  list_wanting (Range fault) is = absurd is
+  list_wanting BadMoment is = absurd is
+  list_wanting OutOfMemory is = tt
+  list_wanting (CannotRead path) is = absurd is
+  list_wanting (CannotWrite n) is = tt
+
+module _ (graph : List ℕ) (file : Option (List ℕ)) (table : List ℕ) (at : Timestamp) where
+  pub single_graph : (fault : CommandFault) → IsFaultIn graph file fault → IsFaultOfSingle graph file table at fault
+  single_graph (Read fault) is = is
+  single_graph (Check fault) is = is
+  single_graph (Table fault) is = absurd is
+  single_graph (Range fault) is = absurd is
+  single_graph BadMoment is = absurd is
+  single_graph OutOfMemory is = tt
+  single_graph (CannotRead path) is = absurd is
+  single_graph (CannotWrite n) is = tt
+
+  pub single_table : (plan : Checked) → IsPlanOf graph file plan → (fault : CommandFault) → IsTableFault table fault → IsFaultOfSingle graph file table at fault
+  single_table plan said (Read fault) is = absurd is
+  single_table plan said (Check fault) is = absurd is
+  single_table plan said (Table fault) is = (said.draft, said.graph_is, is)
+  single_table plan said (Range fault) is = absurd is
+  single_table plan said BadMoment is = absurd is
+  single_table plan said OutOfMemory is = tt
+  single_table plan said (CannotRead path) is = absurd is
+  single_table plan said (CannotWrite n) is = tt
+
+  pub single_moment : (plan : Checked) (entries : List TableEntry) → IsPlanOf graph file plan → table_of table ≡ Ok entries → ¬ (IsInYears at.nanosecond)
+      → IsFaultOfSingle graph file table at (Range IntervalFault.OutsideYears)
+  single_moment plan entries said says outside = (said.draft, said.graph_is, record { entries = entries; says = says }, refl, outside)
+
+  single_wanting : (fault : CommandFault) → IsWanting fault → IsFaultOfSingle graph file table at fault
+  single_wanting (Read fault) is = absurd is
+  single_wanting (Check fault) is = absurd is
+  single_wanting (Table fault) is = absurd is
+  single_wanting (Range fault) is = absurd is
+  single_wanting BadMoment is = absurd is
+  single_wanting OutOfMemory is = tt
+  single_wanting (CannotRead path) is = absurd is
+  single_wanting (CannotWrite n) is = tt
+
+  pub single_wanting_in : (r : Result Bool CommandFault) → IfErr r IsWanting → IfErr r (IsFaultOfSingle graph file table at)
+  single_wanting_in (Ok success) is = tt
+  single_wanting_in (Err fault) is = single_wanting fault is
+
+module _ (graph : List ℕ) (file : Option (List ℕ)) (table : List ℕ) (from to : ℤ) where
+  pub dry_graph : (fault : CommandFault) → IsFaultIn graph file fault → IsFaultOfDry graph file table from to fault
+  dry_graph (Read fault) is = is
+  dry_graph (Check fault) is = is
+  dry_graph (Table fault) is = absurd is
+  dry_graph (Range fault) is = absurd is
+  dry_graph BadMoment is = absurd is
+  dry_graph OutOfMemory is = tt
+  dry_graph (CannotRead path) is = absurd is
+  dry_graph (CannotWrite n) is = tt
+
+  pub dry_table : (plan : Checked) → IsPlanOf graph file plan → (fault : CommandFault) → IsTableFault table fault → IsFaultOfDry graph file table from to fault
+  dry_table plan said (Read fault) is = absurd is
+  dry_table plan said (Check fault) is = absurd is
+  dry_table plan said (Table fault) is = (said.draft, said.graph_is, is)
+  dry_table plan said (Range fault) is = absurd is
+  dry_table plan said BadMoment is = absurd is
+  dry_table plan said OutOfMemory is = tt
+  dry_table plan said (CannotRead path) is = absurd is
+  dry_table plan said (CannotWrite n) is = tt
+
+  pub dry_range : (entries : List TableEntry) → table_of table ≡ Ok entries → (fault : CommandFault) → IsRangeFault graph file from to fault → IsFaultOfDry graph file table from to fault
+  dry_range entries says (Read fault) is = absurd is
+  dry_range entries says (Check fault) is = absurd is
+  dry_range entries says (Table fault) is = absurd is
+  dry_range entries says (Range fault) is = (record { entries = entries; says = says }, is)
+  dry_range entries says BadMoment is = absurd is
+  dry_range entries says OutOfMemory is = tt
+  dry_range entries says (CannotRead path) is = absurd is
+  dry_range entries says (CannotWrite n) is = tt
+
+  dry_wanting : (fault : CommandFault) → IsWanting fault → IsFaultOfDry graph file table from to fault
+  dry_wanting (Read fault) is = absurd is
+  dry_wanting (Check fault) is = absurd is
+  dry_wanting (Table fault) is = absurd is
+  dry_wanting (Range fault) is = absurd is
+  dry_wanting BadMoment is = absurd is
+  dry_wanting OutOfMemory is = tt
+  dry_wanting (CannotRead path) is = absurd is
+  dry_wanting (CannotWrite n) is = tt
+
+  pub dry_wanting_in : (r : Result Bool CommandFault) → IfErr r IsWanting → IfErr r (IsFaultOfDry graph file table from to)
+  dry_wanting_in (Ok success) is = tt
+  dry_wanting_in (Err fault) is = dry_wanting fault is
+
+-- ---- what a fault leaves
+
+-- nothing went out
+module _ (Halted : Type 0) (IsDue : List ℕ → Type 0) (before : Option (List ℕ)) where
+  pub graph_leaves : (graph : List ℕ) (file : Option (List ℕ)) (fault : CommandFault) → IsFaultIn graph file fault → Leaves Halted IsDue before before fault
+  graph_leaves graph file (Read fault) is = refl
+  graph_leaves graph file (Check fault) is = refl
+  graph_leaves graph file (Table fault) is = refl
+  graph_leaves graph file (Range fault) is = refl
+  graph_leaves graph file BadMoment is = refl
+  graph_leaves graph file OutOfMemory is = refl
+  graph_leaves graph file (CannotRead path) is = refl
+  graph_leaves graph file (CannotWrite n) is = absurd is
+
+  pub table_leaves : (table : List ℕ) (fault : CommandFault) → IsTableFault table fault → Leaves Halted IsDue before before fault
+  table_leaves table (Read fault) is = refl
+  table_leaves table (Check fault) is = refl
+  table_leaves table (Table fault) is = refl
+  table_leaves table (Range fault) is = refl
+  table_leaves table BadMoment is = refl
+  table_leaves table OutOfMemory is = refl
+  table_leaves table (CannotRead path) is = refl
+  table_leaves table (CannotWrite n) is = absurd is
+
+  pub range_leaves : (graph : List ℕ) (file : Option (List ℕ)) (from to : ℤ) (fault : CommandFault) → IsRangeFault graph file from to fault → Leaves Halted IsDue before before fault
+  range_leaves graph file from to (Read fault) is = refl
+  range_leaves graph file from to (Check fault) is = refl
+  range_leaves graph file from to (Table fault) is = refl
+  range_leaves graph file from to (Range fault) is = refl
+  range_leaves graph file from to BadMoment is = refl
+  range_leaves graph file from to OutOfMemory is = refl
+  range_leaves graph file from to (CannotRead path) is = refl
+  range_leaves graph file from to (CannotWrite n) is = absurd is
+
+  pub reading_leaves : (files : Files) (paths : List (List ℕ)) (fault : CommandFault) → IsReadingFault files paths fault → Leaves Halted IsDue before before fault
+  reading_leaves files paths (Read fault) is = refl
+  reading_leaves files paths (Check fault) is = refl
+  reading_leaves files paths (Table fault) is = refl
+  reading_leaves files paths (Range fault) is = refl
+  reading_leaves files paths BadMoment is = refl
+  reading_leaves files paths OutOfMemory is = refl
+  reading_leaves files paths (CannotRead path) is = refl
+  reading_leaves files paths (CannotWrite n) is = absurd is
+
+  pub moment_leaves : (fault : CommandFault) → fault ≡ BadMoment → Leaves Halted IsDue before before fault
+  moment_leaves fault same = subst (λ (f : CommandFault). Leaves Halted IsDue before before f) (sym same) refl
+
+-- the first bytes of a text went out, or none
+sent_none : (before : Option (List ℕ)) → sent before [] ≡ before
+sent_none None = refl
+sent_none (Some bytes) = ap Some (append-nil bytes)
+
+module _ (Halted : Type 0) (IsDue : List ℕ → Type 0) (before after : Option (List ℕ)) (text : List ℕ) (due : IsDue text) where
+  left_by : (c : Cause) (n : ℕ) → (n ≤ length text) × (after ≡ sent before (take n text)) → (c ≡ cause.Io → Halted) → (c ≡ cause.OutOfMemory → n ≡ 0) → Leaves Halted IsDue before after (of_cause c n)
+  left_by cause.Io n part io memory = (io refl, text, due, part.0, part.1)
+  left_by cause.OutOfMemory n part io memory = part.1 ∙ (ap (λ k. sent before (take k text)) (memory refl) ∙ sent_none before)
+
+  pub write_leaves : (fault : WriteFault) → (fault.sent ≤ length text) × (after ≡ sent before (take fault.sent text)) → (fault.cause ≡ cause.Io → Halted) → (fault.cause ≡ cause.OutOfMemory → fault.sent ≡ 0)
+      → Leaves Halted IsDue before after (of_write fault)
+  write_leaves fault part io memory = left_by fault.cause fault.sent part io memory
+
+  pub send_leaves : (fault : WriteFault) → (fault.sent ≤ length text) × (after ≡ sent before (take fault.sent text)) → fault.cause ≡ cause.Io → Halted → Leaves Halted IsDue before after (of_write fault)
+  send_leaves fault part only halted = write_leaves fault part (λ io. halted) (λ memory. (let bad : cause.Io ≡ cause.OutOfMemory = sym only ∙ memory in cc))
+
+-- a text that is due for one reason is due for another
+module _ (Halted : Type 0) (P Q : List ℕ → Type 0) (is : (text : List ℕ) → P text → Q text) (before after : Option (List ℕ)) where
+  pub leaves_due : (fault : CommandFault) → Leaves Halted P before after fault → Leaves Halted Q before after fault
+  leaves_due (Read fault) left = left
+  leaves_due (Check fault) left = left
+  leaves_due (Table fault) left = left
+  leaves_due (Range fault) left = left
+  leaves_due BadMoment left = left
+  leaves_due OutOfMemory left = left
+  leaves_due (CannotRead path) left = left
+  leaves_due (CannotWrite n) left = (left.0, left.1, is left.1 left.2, left.3, left.4)
+
+  pub leaves_due_in : {A : Type 0} (r : Result A CommandFault) → IfErr r (Leaves Halted P before after) → IfErr r (Leaves Halted Q before after)
+  leaves_due_in (Ok x) left = tt
+  leaves_due_in (Err fault) left = leaves_due fault left
+
+-- a refusal leaves nothing
+module _ (Halted : Type 0) (IsDue : List ℕ → Type 0) (before after : Option (List ℕ)) where
+  pub refusal_leaves : (fault : CommandFault) → Leaves Halted IsDue before after fault → IsSome (number_of fault) → after ≡ before
+  refusal_leaves (Read fault) left some = left
+  refusal_leaves (Check fault) left some = left
+  refusal_leaves (Table fault) left some = left
+  refusal_leaves (Range fault) left some = left
+  refusal_leaves BadMoment left some = left
+  refusal_leaves OutOfMemory left some = left
+  refusal_leaves (CannotRead path) left some = left
+  refusal_leaves (CannotWrite n) left some = absurd (true≢false (sym some))

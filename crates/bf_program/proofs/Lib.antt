@@ -4,5 +4,7 @@ pub mod Over
 pub mod Faults
 pub mod OneList
 pub mod OneReport
+pub mod Alike
 pub mod CommandFacts
+pub mod CommandEnds
 pub mod ListedIntervals

@@ -1,5 +1,5 @@
 -- A plan, a table and data intervals leave one report.
-use Rattle.std.proofs.Common.{◌≡◌, ℕ, Bool, List, Option, length, sym, ap, ◌∙◌, subst}
+use Rattle.std.proofs.Common.{◌≡◌, ℕ, Bool, List, length, sym, ap, ◌∙◌, subst}
 use Rattle.std.specs.FinMap as finite
 use Rattle.std.specs.List.{list_all}
 use Rattle.bf_check.specs.declared.plan.Dag.{Dag}
@@ -11,21 +11,20 @@ use Rattle.bf_try.specs.Tables.{Answering}
 use Rattle.bf_core.proofs.Confluence.{tries-same}
 use Rattle.bf_report.specs.declared.report.Report.{Report}
 use Rattle.bf_report.specs.Dated.{IsDated}
-use Rattle.bf_report.specs.Device.{sent}
 use Rattle.bf_report.specs.Report.{report_text}
 use Rattle.bf_report.proofs.DatedFacts.{dated-once}
-use Rattle.bf_program.specs.OverTable.{AreAnswered, IsReportedOver, answering, is_success}
+use Rattle.bf_program.specs.OverTable.{AreAnswered, IsReportOver, answering, is_success}
 
 -- ledgers whose entries have the answers of one table are alike
 answered-alike : (over : Answering) (one two : Look) → AreAnswered over one → AreAnswered over two → AreAlike one two
 answered-alike over one two first second n d e at there given = first n d at ∙ sym (second n e there)
 
-pub one_report : (dag : Dag) → IsSound dag → (table : List TableEntry) (intervals : List Interval) (before after others : Option (List ℕ)) (success other : Bool)
-    → IsReportedOver dag table intervals before after success → IsReportedOver dag table intervals before others other → (after ≡ others) × (success ≡ other)
-one_report dag sound table intervals before after others success other a b =
+pub one_report : (dag : Dag) → IsSound dag → (table : List TableEntry) (intervals : List Interval) (text others : List ℕ) (success other : Bool)
+    → IsReportOver dag table intervals text success → IsReportOver dag table intervals others other → (text ≡ others) × (success ≡ other)
+one_report dag sound table intervals text others success other a b =
     let alike : AreAlike (finite.get a.ledger) (finite.get b.ledger) = answered-alike (answering dag table intervals) (finite.get a.ledger) (finite.get b.ledger) a.over_table.answered b.over_table.answered in
     let one : a.ledger ≡ b.ledger = tries-same dag sound (length intervals) a.ledger b.ledger a.over_table.tries b.over_table.tries alike in
     let same : a.report ≡ b.report = dated-once dag intervals (finite.get b.ledger) a.report b.report (subst (λ l. IsDated dag intervals (finite.get l) a.report) one a.dated) b.dated in (
-      a.text ∙ ap (λ (r : Report). sent before (report_text r)) same ∙ sym b.text,
+      a.text_is ∙ ap report_text same ∙ sym b.text_is,
       a.state ∙ ap (λ (r : Report). list_all (λ run. is_success run.state) r.runs) same ∙ sym b.state,
     )

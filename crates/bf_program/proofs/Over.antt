@@ -1,5 +1,5 @@
 -- Backfills over a table.
-use Rattle.std.proofs.Common.{◌≡◌, ◌<◌, ◌+◌, ◌++◌, ℕ, zero, suc, Bool, List, [], ◌∷◌, length, map, take, Option, All, sym, ap, ap₂, ◌∙◌, subst, arith, get_or}
+use Rattle.std.proofs.Common.{◌≡◌, ◌<◌, ◌+◌, ◌++◌, ℕ, zero, suc, List, [], ◌∷◌, length, map, take, All, refl, sym, ap, ap₂, ◌∙◌, subst, arith, get_or}
 use Rattle.std.specs.List.{list_all}
 use Rattle.std.proofs.lemmas.List.{map-append, take_more}
 use Rattle.std.proofs.lemmas.List.Elements.{All-push}
@@ -17,11 +17,10 @@ use Rattle.bf_core.specs.declared.ended.Ended.{Ended}
 use Rattle.bf_moment.specs.Moment.{IsShown}
 use Rattle.bf_report.specs.declared.report.Report.{Report}
 use Rattle.bf_report.specs.Dated.{IsDated, IsShownInterval}
-use Rattle.bf_report.specs.Device.{sent}
 use Rattle.bf_report.specs.Report.{report_text}
 use Rattle.bf_program.specs.Lists.{IsSince1970}
 use Rattle.bf_program.specs.OneRun.{intervals_at}
-use Rattle.bf_program.specs.OverTable.{AreAnswered, IsOver, IsReportedOver, answering, is_success}
+use Rattle.bf_program.specs.OverTable.{AreAnswered, IsOver, IsReportOver, answering, is_success}
 
 -- a grade of what the table may answer is the grade of its answer
 answered : (over : Answering) (ended : Ended) → AreGraded (λ n g raw. raw ≡ answer_of over n) over.dag (entry_in ended.state.ledger) → AreAnswered over (entry_in ended.state.ledger)
@@ -41,17 +40,16 @@ pub answering_by : (dag : Dag) (table : List TableEntry) (intervals : List Inter
 answering_by dag table intervals starts runner is same = is ∙ (λ i. record { dag = dag; dates = dates_of (same i); entries = table })
 
 -- the report of a backfill that has ended
-pub reported_over : (dag : Dag) (table : List TableEntry) (intervals : List Interval) (before after : Option (List ℕ)) (success : Bool) (ended : Ended) (report : Report)
+pub reported_over : (dag : Dag) (table : List TableEntry) (intervals : List Interval) (ended : Ended) (report : Report)
     → IsOver (answering dag table intervals) (length intervals) ended → IsDated dag intervals (entry_in ended.state.ledger) report
-    → after ≡ sent before (report_text report) → success ≡ list_all (λ run. is_success run.state) report.runs
-    → IsReportedOver dag table intervals before after success
-reported_over dag table intervals before after success ended report is dated text state = record {
+    → IsReportOver dag table intervals (report_text report) (list_all (λ run. is_success run.state) report.runs)
+reported_over dag table intervals ended report is dated = record {
   ledger = ended.state.ledger;
   report = report;
   over_table = record { tries = is.outcome.tries; answered = is.answered };
   dated = dated;
-  text = text;
-  state = state;
+  text_is = refl;
+  state = refl;
 }
 
 -- ---- moments

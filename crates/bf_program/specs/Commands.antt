@@ -1,9 +1,8 @@
 -- What the commands come to, by what the files hold that they name.
-use Rattle.std.specs.Prelude.{◌≡◌, ◌≤◌, ◌⊎◌, ℕ, ℤ, Bool, List, ◌++◌, length, Option, Some, None, IsSome, String, map, option_map, codes, decimal, string_bytes}
+use Rattle.std.specs.Prelude.{◌≡◌, ◌≢◌, ◌≤◌, ◌⊎◌, ℕ, ℤ, Bool, List, [], ◌∷◌, ◌++◌, length, take, All, Option, Some, None, String, map, option_map, codes, decimal, string_bytes}
 use Rattle.std.specs.Global.{Global}
 use Rattle.clap.specs.Words.{Kinds, Row, Text, fault_of, subcommand_of}
 use Rattle.jiff.specs.declared.timestamp.Timestamp.{Timestamp}
-use Rattle.bf_zone.specs.declared.zone.TheConstants.{MOST_FILE_BYTES}
 use Rattle.bf_moment.specs.Moment.{Spells, nearest}
 use Rattle.bf_report.specs.Device.{sent}
 use Rattle.bf_line.specs.declared.forms.Asked.{Asked}
@@ -11,19 +10,20 @@ use Rattle.bf_line.specs.declared.forms.Asked.TheVariants.{Check, Dry, List as I
 use Rattle.bf_line.specs.declared.forms.DryAsked.{DryAsked}
 use Rattle.bf_line.specs.declared.forms.GraphAsked.{GraphAsked}
 use Rattle.bf_line.specs.declared.forms.ListAsked.{ListAsked}
+use Rattle.bf_line.specs.declared.forms.RangeAsked.{RangeAsked}
 use Rattle.bf_line.specs.declared.forms.SingleAsked.{SingleAsked}
 use Rattle.bf_program.specs.declared.graphs.GraphSize.{GraphSize}
-use Rattle.bf_program.specs.declared.input.TheConstants.{LONGEST_FILE}
+use Rattle.bf_program.specs.declared.input.MomentRange.{MomentRange}
 use Rattle.bf_program.specs.declared.refusal.CommandFault.{CommandFault}
-use Rattle.bf_program.specs.declared.refusal.CommandFault.TheVariants.{Plan, Run, List as Listing, BadMoment, OutOfMemory, CannotRead, CannotWrite}
+use Rattle.bf_program.specs.declared.refusal.CommandFault.TheVariants.{BadMoment, OutOfMemory, CannotRead, CannotWrite}
 use Rattle.bf_program.specs.declared.status.Status.{Status}
 use Rattle.bf_line.specs.Asked.{IsAskedBy}
 use Rattle.bf_line.specs.CommandLine.{backfill_app}
-use Rattle.bf_program.specs.DatedRuns.{IsFaultOfDry, IsReportedIn}
+use Rattle.bf_program.specs.DatedRuns.{IsFaultOfDry, IsReportIn}
 use Rattle.bf_program.specs.Graphs.{IsFaultIn, IsSizeOf}
-use Rattle.bf_program.specs.Lists.{IsFaultOfList, IsListed}
-use Rattle.bf_program.specs.OneRun.{IsFaultOfSingle, IsReportedAt}
-use Rattle.bf_program.specs.Refusal.{number_of}
+use Rattle.bf_program.specs.Lists.{IsFaultOfList, IsListIn}
+use Rattle.bf_program.specs.OneRun.{IsFaultOfSingle, IsReportAt}
+use Rattle.bf_program.specs.Refusal.{Leaves, line_of, status_of}
 use Rattle.bf_program.specs.Status.{code_of, of_runs}
 
 -- ---- the words of a line
@@ -42,26 +42,21 @@ found_in words = subcommand_of backfill_app (map string_bytes words)
 abbrev pub Files : Type 0
 Files = List ℕ → Option (Option (List ℕ))
 
--- the file is told to hold these bytes, which are no more than it may have
-pub record IsHeld (file : Option (Option (List ℕ))) (longest : ℕ) (bytes : List ℕ) : Type 0 where
-  pub told : file ≡ Some (Some bytes)
-  pub short : length bytes ≤ longest
+-- the file is told to hold these bytes, however many they are
+abbrev pub IsHeld : Option (Option (List ℕ)) → List ℕ → Type 0
+IsHeld file bytes = file ≡ Some (Some bytes)
 
 -- the zone file, where one is named
 abbrev pub IsZoneHeld : Files → Option (List ℕ) → Option (List ℕ) → Type 0
 IsZoneHeld files None None = Unit {0}
-IsZoneHeld files (Some path) (Some bytes) = IsHeld (files path) MOST_FILE_BYTES bytes
+IsZoneHeld files (Some path) (Some bytes) = IsHeld (files path) bytes
 IsZoneHeld files None (Some bytes) = ⊥
 IsZoneHeld files (Some path) None = ⊥
 
 -- the graph file, and the zone file
 pub record AreHeld (files : Files) (asked : GraphAsked) (graph : List ℕ) (zone : Option (List ℕ)) : Type 0 where
-  pub graph_held : IsHeld (files (string_bytes asked.graph)) LONGEST_FILE graph
+  pub graph_held : IsHeld (files (string_bytes asked.graph)) graph
   pub zone_held : IsZoneHeld files (option_map string_bytes asked.zone_file) zone
-
--- the table
-abbrev pub IsTableHeld : Files → List ℕ → List ℕ → Type 0
-IsTableHeld files path table = IsHeld (files path) LONGEST_FILE table
 
 -- so it is with whatever the graph file and the zone file are told to hold
 abbrev pub OfFiles : Files → GraphAsked → (List ℕ → Option (List ℕ) → Type 0) → Type 0
@@ -70,125 +65,140 @@ OfFiles files asked P = (graph : List ℕ) (zone : Option (List ℕ)) → AreHel
 -- and with whatever the table is told to hold
 abbrev pub OfFilesAndTable : Files → GraphAsked → List ℕ → (List ℕ → Option (List ℕ) → List ℕ → Type 0) → Type 0
 OfFilesAndTable files asked path P =
-    (graph table : List ℕ) (zone : Option (List ℕ)) → AreHeld files asked graph zone → IsTableHeld files path table → P graph zone table
+    (graph table : List ℕ) (zone : Option (List ℕ)) → AreHeld files asked graph zone → IsHeld (files path) table → P graph zone table
 
--- ---- what is written then
+-- ---- files that can't be read
+
+-- it is not told that the file can't be read
+abbrev pub IsReadable : Option (Option (List ℕ)) → Type 0
+IsReadable file = file ≢ Some None
+
+-- no bytes are told of the file
+abbrev pub IsUntold : Option (Option (List ℕ)) → Type 0
+IsUntold file = (bytes : List ℕ) → file ≢ Some (Some bytes)
+
+abbrev pub AreReadable : Files → List (List ℕ) → Type 0
+AreReadable files paths = All (λ path. IsReadable (files path)) paths
+
+-- the path is one of these: no bytes are told of its file, and of none before it is told that it can't be read
+abbrev pub IsFirstUntold : Files → List (List ℕ) → List ℕ → Type 0
+IsFirstUntold files [] path = ⊥
+IsFirstUntold files (p ∷ ps) path = ((path ≡ p) × IsUntold (files p)) ⊎ (IsReadable (files p) × IsFirstUntold files ps path)
+
+abbrev pub zone_paths : Option (List ℕ) → List (List ℕ)
+zone_paths None = []
+zone_paths (Some path) = path ∷ []
+
+-- the paths of the graph file and of the zone file, in the order in which they are read
+abbrev pub graph_paths : GraphAsked → List (List ℕ)
+graph_paths asked = string_bytes asked.graph ∷ zone_paths (option_map string_bytes asked.zone_file)
+
+-- and of the table behind them
+abbrev pub run_paths : GraphAsked → List ℕ → List (List ℕ)
+run_paths asked table = graph_paths asked ++ table ∷ []
+
+-- ---- moments
 
 -- the text means this moment
 abbrev pub Means : List ℕ → Timestamp → Type 0
 Means text t = (n : ℤ) × (Spells text n × (t.nanosecond ≡ nearest n))
+
+-- the texts mean the moments of this range
+abbrev pub MeansRange : RangeAsked → MomentRange → Type 0
+MeansRange asked range = Means (string_bytes asked.from) range.from × Means (string_bytes asked.to) range.to
+
+-- no moment is spelled so
+abbrev pub IsNoMoment : List ℕ → Type 0
+IsNoMoment text = (n : ℤ) → Spells text n → ⊥
+
+-- ---- what is written, where nothing is refused and no fault comes
 
 -- the line of a graph's size; there is no singular
 abbrev pub size_text : GraphSize → List ℕ
 size_text size = codes "ok " ++ (decimal size.tasks ++ (codes " tasks, " ++ (decimal size.edges ++ codes " edges\n")))
 
 -- the size of a graph without a fault
-pub record IsCheckAnswer (files : Files) (asked : GraphAsked) (before after : Option (List ℕ)) (status : Status) : Type 0 where
+pub record IsCheckAnswer (files : Files) (asked : GraphAsked) (text : List ℕ) (status : Status) : Type 0 where
   pub success : status ≡ Status.Success
-  pub written : OfFiles files asked (λ graph zone. (size : GraphSize) × (IsSizeOf graph zone size × (after ≡ sent before (size_text size))))
+  pub readable : AreReadable files (graph_paths asked)
+  pub text_is : OfFiles files asked (λ graph zone. (size : GraphSize) × (IsSizeOf graph zone size × (text ≡ size_text size)))
 
 -- the data intervals of the range
-pub record IsListAnswer (files : Files) (asked : ListAsked) (before after : Option (List ℕ)) (status : Status) : Type 0 where
+pub record IsListAnswer (files : Files) (asked : ListAsked) (text : List ℕ) (status : Status) : Type 0 where
   pub success : status ≡ Status.Success
-  pub from : Timestamp
-  pub to : Timestamp
-  pub from_means : Means (string_bytes asked.range.from) from
-  pub to_means : Means (string_bytes asked.range.to) to
-  pub written : OfFiles files asked.graph (λ graph zone. IsListed graph zone from.nanosecond to.nanosecond before after)
+  pub range : MomentRange
+  pub means : MeansRange asked.range range
+  pub readable : AreReadable files (graph_paths asked.graph)
+  pub text_is : OfFiles files asked.graph (λ graph zone. IsListIn graph zone range.from.nanosecond range.to.nanosecond text)
 
 -- the report of one run over the table, and whether it is a success
-pub record IsSingleAnswer (files : Files) (asked : SingleAsked) (before after : Option (List ℕ)) (status : Status) : Type 0 where
+pub record IsSingleAnswer (files : Files) (asked : SingleAsked) (text : List ℕ) (status : Status) : Type 0 where
   pub at : Timestamp
-  pub at_means : Means (string_bytes asked.at) at
+  pub means : Means (string_bytes asked.at) at
   pub succeeded : Bool
   pub status_is : status ≡ of_runs succeeded
-  pub written : OfFilesAndTable files asked.graph (string_bytes asked.table) (λ graph zone table.
-      IsReportedAt graph zone table at before after succeeded)
+  pub readable : AreReadable files (run_paths asked.graph (string_bytes asked.table))
+  pub text_is : OfFilesAndTable files asked.graph (string_bytes asked.table) (λ graph zone table. IsReportAt graph zone table at text succeeded)
 
 -- the report of a run for each data interval of the range over the table, and whether each is a success
-pub record IsDryAnswer (files : Files) (asked : DryAsked) (before after : Option (List ℕ)) (status : Status) : Type 0 where
-  pub from : Timestamp
-  pub to : Timestamp
-  pub from_means : Means (string_bytes asked.range.from) from
-  pub to_means : Means (string_bytes asked.range.to) to
+pub record IsDryAnswer (files : Files) (asked : DryAsked) (text : List ℕ) (status : Status) : Type 0 where
+  pub range : MomentRange
+  pub means : MeansRange asked.range range
   pub succeeded : Bool
   pub status_is : status ≡ of_runs succeeded
-  pub written : OfFilesAndTable files asked.graph (string_bytes asked.table) (λ graph zone table.
-      IsReportedIn graph zone table from.nanosecond to.nanosecond before after succeeded)
+  pub readable : AreReadable files (run_paths asked.graph (string_bytes asked.table))
+  pub text_is : OfFilesAndTable files asked.graph (string_bytes asked.table) (λ graph zone table.
+      IsReportIn graph zone table range.from.nanosecond range.to.nanosecond text succeeded)
 
--- what a command wrote behind what was written before, and how it ended, where it was not refused and no fault came
-abbrev pub IsAnswer : Files → Asked → Option (List ℕ) → Option (List ℕ) → Status → Type 0
-IsAnswer files (Check asked) before after status = IsCheckAnswer files asked before after status
-IsAnswer files (Intervals asked) before after status = IsListAnswer files asked before after status
-IsAnswer files (Single asked) before after status = IsSingleAnswer files asked before after status
-IsAnswer files (Dry asked) before after status = IsDryAnswer files asked before after status
+-- the text that a command is to write, and how it ends then
+abbrev pub IsAnswer : Files → Asked → List ℕ → Status → Type 0
+IsAnswer files (Check asked) text status = IsCheckAnswer files asked text status
+IsAnswer files (Intervals asked) text status = IsListAnswer files asked text status
+IsAnswer files (Single asked) text status = IsSingleAnswer files asked text status
+IsAnswer files (Dry asked) text status = IsDryAnswer files asked text status
 
--- the subcommand that was found was answered so, and that is the exit status
+-- the subcommand that was found was answered so: its text is all that went out, behind what had gone out before, and that is the exit status
 pub record IsDone (files : Files) (matched : Option (Text × List Row)) (before after : Option (List ℕ)) (code : ℕ) : Type 0 where
   pub asked : Asked
   pub asks : IsAskedBy matched asked
+  pub text : List ℕ
   pub status : Status
-  pub answer : IsAnswer files asked before after status
+  pub answer : IsAnswer files asked text status
+  pub written : after ≡ sent before text
   pub code_is : code ≡ code_of status
 
 -- ---- why there is no answer
 
--- no bytes are told of the file
-abbrev pub IsUntold : Option (Option (List ℕ)) → Type 0
-IsUntold file = (bytes : List ℕ) → file ≡ Some (Some bytes) → ⊥
+-- a file can't be read, the first of those that are read in this order; or else they can be read, and have this fault; or memory is wanting
+abbrev pub IsFaultOfFiles : Files → List (List ℕ) → Type 0 → CommandFault → Type 0
+IsFaultOfFiles files paths Has (CannotRead path) = IsFirstUntold files paths path
+IsFaultOfFiles files paths Has OutOfMemory = Unit {0}
+IsFaultOfFiles files paths Has BadMoment = ⊥
+IsFaultOfFiles files paths Has fault = AreReadable files paths × Has
 
--- the path of the graph file or of the zone file, of which no bytes are told
-abbrev pub IsUntoldPath : Files → GraphAsked → List ℕ → Type 0
-IsUntoldPath files asked path =
-    ((path ≡ string_bytes asked.graph) ⊎ (Some path ≡ option_map string_bytes asked.zone_file)) × IsUntold (files path)
-
--- the table's path, of which no bytes are told
-abbrev pub IsUntoldTable : Files → List ℕ → List ℕ → Type 0
-IsUntoldTable files table path = (path ≡ table) × IsUntold (files path)
-
--- no moment is spelled so
-abbrev pub IsNoMoment : List ℕ → Type 0
-IsNoMoment text = (n : ℤ) → Spells text n → ⊥
-
--- the graph files can't be read, or memory is wanting
-abbrev pub IsReadFault : Files → GraphAsked → CommandFault → Type 0
-IsReadFault files asked (CannotRead path) = IsUntoldPath files asked path
-IsReadFault files asked OutOfMemory = Unit {0}
-IsReadFault files asked _ = ⊥
-
--- the first fault of the graph; or its files can't be read, or memory or the device is wanting
+-- the first fault of the files and of the graph
 abbrev pub IsCheckFault : Files → GraphAsked → CommandFault → Type 0
-IsCheckFault files asked (Plan fault) = OfFiles files asked (λ graph zone. IsFaultIn graph zone fault)
-IsCheckFault files asked CannotWrite = Unit {0}
-IsCheckFault files asked fault = IsReadFault files asked fault
+IsCheckFault files asked (CannotWrite n) = AreReadable files (graph_paths asked)
+IsCheckFault files asked fault = IsFaultOfFiles files (graph_paths asked) (OfFiles files asked (λ graph zone. IsFaultIn graph zone fault)) fault
 
--- the first fault of the graph and the range; or a text is no moment, the files can't be read, or memory is wanting
+-- moments come first: a text is no moment; or they mean a range, and the fault is the first of the files, the graph and the range
 abbrev pub IsListFault : Files → ListAsked → CommandFault → Type 0
-IsListFault files asked (Listing fault) = (from : Timestamp) × (to : Timestamp)
-    × Means (string_bytes asked.range.from) from × Means (string_bytes asked.range.to) to
-    × OfFiles files asked.graph (λ graph zone. IsFaultOfList graph zone from.nanosecond to.nanosecond fault)
 IsListFault files asked BadMoment = IsNoMoment (string_bytes asked.range.from) ⊎ IsNoMoment (string_bytes asked.range.to)
-IsListFault files asked fault = IsReadFault files asked.graph fault
+IsListFault files asked fault = (range : MomentRange) × MeansRange asked.range range × IsFaultOfFiles files (graph_paths asked.graph)
+    (OfFiles files asked.graph (λ graph zone. IsFaultOfList graph zone range.from.nanosecond range.to.nanosecond fault)) fault
 
--- the first fault of the graph, the table and the moment; or the text is no moment, the files can't be read, or memory is wanting
+-- the moment comes first: the text is none; or it means one, and the fault is the first of the files, the graph, the table and the moment
 abbrev pub IsSingleFault : Files → SingleAsked → CommandFault → Type 0
-IsSingleFault files asked (Run fault) = (at : Timestamp) × Means (string_bytes asked.at) at
-    × OfFilesAndTable files asked.graph (string_bytes asked.table) (λ graph zone table. IsFaultOfSingle graph zone table at fault)
 IsSingleFault files asked BadMoment = IsNoMoment (string_bytes asked.at)
-IsSingleFault files asked (CannotRead path) =
-    IsUntoldPath files asked.graph path ⊎ IsUntoldTable files (string_bytes asked.table) path
-IsSingleFault files asked fault = IsReadFault files asked.graph fault
+IsSingleFault files asked fault = (at : Timestamp) × Means (string_bytes asked.at) at × IsFaultOfFiles files (run_paths asked.graph (string_bytes asked.table))
+    (OfFilesAndTable files asked.graph (string_bytes asked.table) (λ graph zone table. IsFaultOfSingle graph zone table at fault)) fault
 
--- the first fault of the graph, the table and the range; or a text is no moment, the files can't be read, or memory is wanting
+-- moments come first: a text is no moment; or they mean a range, and the fault is the first of the files, the graph, the table and the range
 abbrev pub IsDryFault : Files → DryAsked → CommandFault → Type 0
-IsDryFault files asked (Run fault) = (from : Timestamp) × (to : Timestamp)
-    × Means (string_bytes asked.range.from) from × Means (string_bytes asked.range.to) to
-    × OfFilesAndTable files asked.graph (string_bytes asked.table) (λ graph zone table.
-    IsFaultOfDry graph zone table from.nanosecond to.nanosecond fault)
 IsDryFault files asked BadMoment = IsNoMoment (string_bytes asked.range.from) ⊎ IsNoMoment (string_bytes asked.range.to)
-IsDryFault files asked (CannotRead path) =
-    IsUntoldPath files asked.graph path ⊎ IsUntoldTable files (string_bytes asked.table) path
-IsDryFault files asked fault = IsReadFault files asked.graph fault
+IsDryFault files asked fault = (range : MomentRange) × MeansRange asked.range range × IsFaultOfFiles files (run_paths asked.graph (string_bytes asked.table))
+    (OfFilesAndTable files asked.graph (string_bytes asked.table) (λ graph zone table.
+    IsFaultOfDry graph zone table range.from.nanosecond range.to.nanosecond fault)) fault
 
 -- why a command was refused, or what fault came
 abbrev pub IsFault : Files → Asked → CommandFault → Type 0
@@ -197,14 +207,29 @@ IsFault files (Intervals asked) fault = IsListFault files asked fault
 IsFault files (Single asked) fault = IsSingleFault files asked fault
 IsFault files (Dry asked) fault = IsDryFault files asked fault
 
--- the fault is one of the subcommand that was found
-pub record IsFaulted (files : Files) (matched : Option (Text × List Row)) (fault : CommandFault) : Type 0 where
+-- the fault is one of the subcommand that was found, and this is what it leaves
+pub record IsFaulted (files : Files) (matched : Option (Text × List Row)) (Halted : Type 0) (before after : Option (List ℕ)) (fault : CommandFault) : Type 0 where
   pub asked : Asked
   pub asks : IsAskedBy matched asked
   pub is_fault : IsFault files asked fault
+  pub left : Leaves Halted (λ text. (status : Status) × IsAnswer files asked text status) before after fault
 
--- the subcommand that was found has a fault with a number
-pub record IsRefused (files : Files) (matched : Option (Text × List Row)) : Type 0 where
-  pub fault : CommandFault
-  pub faulted : IsFaulted files matched fault
-  pub numbered : IsSome (number_of fault)
+-- so it is, or memory was wanting before anything was written
+abbrev pub MayBeFaulted : Files → Option (Text × List Row) → Type 0 → Option (List ℕ) → Option (List ℕ) → CommandFault → Type 0
+MayBeFaulted files matched Halted before after OutOfMemory = after ≡ before
+MayBeFaulted files matched Halted before after fault = IsFaulted files matched Halted before after fault
+
+-- ---- what is told on standard error
+
+-- the whole line went out, or just the first bytes of it before the device halted
+abbrev pub IsTold : Type 0 → Option (List ℕ) → Option (List ℕ) → List ℕ → Type 0
+IsTold Halted before after line = (after ≡ sent before line) ⊎ (Halted × (n : ℕ) × (n ≤ length line) × (after ≡ sent before (take n line)))
+
+-- a fault is told, and that is its exit status
+pub record Tells (Halted : Type 0) (before after : Option (List ℕ)) (fault : CommandFault) (code : ℕ) : Type 0 where
+  pub told : IsTold Halted before after (line_of fault)
+  pub code_is : code ≡ code_of (status_of fault)
+
+-- the fault is told, or that there is no memory to tell it
+abbrev pub MayTell : Type 0 → Option (List ℕ) → Option (List ℕ) → CommandFault → ℕ → Type 0
+MayTell Halted before after fault code = Tells Halted before after fault code ⊎ Tells Halted before after OutOfMemory code

@@ -1,8 +1,7 @@
 -- What the bytes of a graph file say, with a zone file: a plan, or why there is none.
-use Rattle.std.specs.Prelude.{◌≡◌, ℕ, List, length, Option, Ok}
+use Rattle.std.specs.Prelude.{◌≡◌, ℕ, List, length, Option, Ok, Err}
 use Rattle.bf_read.specs.declared.draft.Draft.{Draft}
 use Rattle.bf_read.specs.Drafts.{edge_count}
-use Rattle.bf_read.specs.Gives.{Fails}
 use Rattle.bf_read.specs.Reading.{graph_in, graph_file_of}
 use Rattle.bf_check.specs.Checked.{Checked}
 use Rattle.bf_check.specs.Checking.{dag_of}
@@ -11,8 +10,8 @@ use Rattle.bf_check.specs.Schedules.{Fires, IsZoneFor}
 use Rattle.bf_cron.specs.declared.spec.CronSpec.{CronSpec}
 use Rattle.bf_zone.specs.declared.zone.Zone.{Zone}
 use Rattle.bf_program.specs.declared.graphs.GraphSize.{GraphSize}
-use Rattle.bf_program.specs.declared.graphs.PlanFault.{PlanFault}
-use Rattle.bf_program.specs.declared.graphs.PlanFault.TheVariants.{Read, Check}
+use Rattle.bf_program.specs.declared.refusal.CommandFault.{CommandFault}
+use Rattle.bf_program.specs.declared.refusal.CommandFault.TheVariants.{Read, Check, OutOfMemory}
 
 -- the graph's bytes say this
 abbrev pub IsFileOf : List ℕ → Draft → Type 0
@@ -46,7 +45,9 @@ pub record IsTimed (graph : List ℕ) (file : Option (List ℕ)) (schedule : Cro
   pub fires : Fires draft.schedule schedule
   pub zone_is : IsZoneFor draft.zone file zone
 
--- the fault is the first: those of the file go before those of the graph that it says
-abbrev pub IsFaultIn : List ℕ → Option (List ℕ) → PlanFault → Type 0
-IsFaultIn graph file (Read fault) = Fails fault (graph_in graph)
+-- the fault is the first: those of the file go before those of the graph that it says; or memory is wanting
+abbrev pub IsFaultIn : List ℕ → Option (List ℕ) → CommandFault → Type 0
+IsFaultIn graph file (Read fault) = graph_in graph ≡ Err fault
 IsFaultIn graph file (Check fault) = (draft : Draft) × IsFileOf graph draft × IsFaultOf draft file fault
+IsFaultIn graph file OutOfMemory = Unit {0}
+IsFaultIn graph file _ = ⊥

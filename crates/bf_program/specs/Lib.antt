@@ -8,3 +8,4 @@ pub mod DatedRuns
 pub mod Graphs
 pub mod Lists
 pub mod Commands
+pub mod Files

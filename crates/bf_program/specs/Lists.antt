@@ -9,11 +9,10 @@ use Rattle.bf_check.specs.Schedules.{Fires}
 use Rattle.bf_interval.specs.Intervals.{IsAnswer}
 use Rattle.bf_interval.specs.declared.fault.IntervalFault.{IntervalFault}
 use Rattle.bf_interval.specs.declared.interval.Interval.{Interval}
-use Rattle.bf_report.specs.Device.{sent}
 use Rattle.bf_moment.specs.Moment.{moment_text}
 use Rattle.bf_program.specs.Graphs.{IsGraph, IsFaultIn}
-use Rattle.bf_program.specs.declared.listing.ListFault.{ListFault}
-use Rattle.bf_program.specs.declared.listing.ListFault.TheVariants.{Plan, Range, OutOfMemory, Write}
+use Rattle.bf_program.specs.declared.refusal.CommandFault.{CommandFault}
+use Rattle.bf_program.specs.declared.refusal.CommandFault.TheVariants.{Range, OutOfMemory, CannotWrite}
 
 -- the bytes say a graph without a fault, whose schedule in its zone has this answer for the range
 pub record HasListing (graph : List ℕ) (file : Option (List ℕ)) (from to : ℤ) (answer : Result (List Interval) IntervalFault) : Type 0 where
@@ -32,18 +31,23 @@ interval_line i = moment_text i.start.nanosecond ++ 32 ∷ moment_text i.end.nan
 abbrev pub intervals_text : List Interval → List ℕ
 intervals_text intervals = flat_map interval_line intervals
 
--- what went out, behind what had gone out before, are the lines of the data intervals
-pub record IsListed (graph : List ℕ) (file : Option (List ℕ)) (from to : ℤ) (before after : Option (List ℕ)) : Type 0 where
+-- the text has the lines of the data intervals
+pub record IsListIn (graph : List ℕ) (file : Option (List ℕ)) (from to : ℤ) (text : List ℕ) : Type 0 where
   pub found : List Interval
   pub listing : HasListing graph file from to (Ok found)
-  pub text : after ≡ sent before (intervals_text found)
+  pub text_is : text ≡ intervals_text found
 
--- the fault is the first: those of the graph go before those of the range
-abbrev pub IsFaultOfList : List ℕ → Option (List ℕ) → ℤ → ℤ → ListFault → Type 0
-IsFaultOfList graph file from to (Plan fault) = IsFaultIn graph file fault
+-- the fault is the one that the range has; or memory is wanting
+abbrev pub IsRangeFault : List ℕ → Option (List ℕ) → ℤ → ℤ → CommandFault → Type 0
+IsRangeFault graph file from to (Range fault) = HasListing graph file from to (Err fault)
+IsRangeFault graph file from to OutOfMemory = Unit {0}
+IsRangeFault graph file from to _ = ⊥
+
+-- the fault is the first: those of the graph go before those of the range; or memory or the device is wanting
+abbrev pub IsFaultOfList : List ℕ → Option (List ℕ) → ℤ → ℤ → CommandFault → Type 0
 IsFaultOfList graph file from to (Range fault) = HasListing graph file from to (Err fault)
-IsFaultOfList graph file from to OutOfMemory = (found : List Interval) × HasListing graph file from to (Ok found)
-IsFaultOfList graph file from to (Write fault) = (found : List Interval) × HasListing graph file from to (Ok found)
+IsFaultOfList graph file from to (CannotWrite n) = Unit {0}
+IsFaultOfList graph file from to fault = IsFaultIn graph file fault
 
 -- neither its start nor its end lies before 1970
 abbrev pub IsSince1970 : Interval → Type 0

@@ -1,5 +1,5 @@
 -- What is reported of a backfill over a table: the recursion over dates, over what the table answers.
-use Rattle.std.specs.Prelude.{◌≡◌, ◌≢◌, ℕ, Bool, true, false, List, length, map, Option, Some, Ok, Err}
+use Rattle.std.specs.Prelude.{◌≡◌, ℕ, Bool, true, false, List, length, map, Some, Ok, Err}
 use Rattle.std.specs.List.{list_all}
 use Rattle.std.specs.FinMap as finite
 use Rattle.bf_value.specs.declared.name.JobName.{JobName}
@@ -9,7 +9,6 @@ use Rattle.bf_interval.specs.declared.interval.Interval.{Interval}
 use Rattle.bf_xcom.specs.declared.values.RunState.{RunState}
 use Rattle.bf_try.specs.declared.ledger.Entry.{Entry}
 use Rattle.bf_try.specs.declared.table.TableEntry.{TableEntry}
-use Rattle.bf_try.specs.declared.table.TableFault.{TableFault}
 use Rattle.bf_try.specs.Grades.{grade_of}
 use Rattle.bf_try.specs.Tables.{Answering, table_of, answer_of, dates_of}
 use Rattle.bf_try.specs.Tries.{Look}
@@ -18,10 +17,9 @@ use Rattle.bf_core.specs.Events.{entry_in}
 use Rattle.bf_core.specs.declared.ended.Ended.{Ended}
 use Rattle.bf_report.specs.declared.report.Report.{Report}
 use Rattle.bf_report.specs.Dated.{IsDated}
-use Rattle.bf_report.specs.Device.{sent}
 use Rattle.bf_report.specs.Report.{report_text}
-use Rattle.bf_program.specs.declared.over_table.RunFault.{RunFault}
-use Rattle.bf_program.specs.declared.over_table.RunFault.TheVariants.{Table, OutOfMemory, Write}
+use Rattle.bf_program.specs.declared.refusal.CommandFault.{CommandFault}
+use Rattle.bf_program.specs.declared.refusal.CommandFault.TheVariants.{Table, OutOfMemory, CannotWrite}
 
 -- each outcome is the grade of what the table answers
 abbrev pub AreAnswered : Answering → Look → Type 0
@@ -40,14 +38,13 @@ abbrev pub is_success : RunState → Bool
 is_success RunState.Success = true
 is_success RunState.Failed = false
 
--- what went out, behind what had gone out before, is the text of the recursion's report over the ledger of a backfill over the table; and whether
--- every run of it is a success
-pub record IsReportedOver (dag : Dag) (table : List TableEntry) (intervals : List Interval) (before after : Option (List ℕ)) (success : Bool) : Type 0 where
+-- the text is that of the recursion's report over the ledger of a backfill over the table; and whether every run of it is a success
+pub record IsReportOver (dag : Dag) (table : List TableEntry) (intervals : List Interval) (text : List ℕ) (success : Bool) : Type 0 where
   pub ledger : finite.FinMap name_cmp Entry
   pub report : Report
   pub over_table : IsLedgerOver (answering dag table intervals) (length intervals) (finite.get ledger)
   pub dated : IsDated dag intervals (finite.get ledger) report
-  pub text : after ≡ sent before (report_text report)
+  pub text_is : text ≡ report_text report
   pub state : success ≡ list_all (λ run. is_success run.state) report.runs
 
 -- the table's bytes say a table
@@ -55,16 +52,17 @@ pub record IsTable (table : List ℕ) : Type 0 where
   pub entries : List TableEntry
   pub says : table_of table ≡ Ok entries
 
--- the fault is the table's
-abbrev pub IsTableFault : List ℕ → RunFault → Type 0
-IsTableFault bytes (Table fault) = fault ≢ TableFault.OutOfMemory → table_of bytes ≡ Err fault
+-- the fault is the table's; or memory is wanting
+abbrev pub IsTableFault : List ℕ → CommandFault → Type 0
+IsTableFault bytes (Table fault) = table_of bytes ≡ Err fault
+IsTableFault bytes OutOfMemory = Unit {0}
 IsTableFault bytes _ = ⊥
 
--- the fault comes after all that is read was found right
-abbrev pub comes_late : RunFault → Bool
-comes_late OutOfMemory = true
-comes_late (Write fault) = true
-comes_late _ = false
+-- memory or the device is wanting
+abbrev pub IsWanting : CommandFault → Type 0
+IsWanting OutOfMemory = Unit {0}
+IsWanting (CannotWrite n) = Unit {0}
+IsWanting _ = ⊥
 
 -- ---- for private clauses
 

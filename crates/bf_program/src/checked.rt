@@ -1,7 +1,9 @@
 //! The command `check`: whether a graph file has a fault.
-ghost use Rattle.std.specs.Prelude.{◌≡◌, IfOk, IfErr, IsSome, string_bytes};
+ghost use Rattle.std.specs.Prelude.{◌≡◌, IfOk, IfErr, string_bytes};
+ghost use Rattle.bf_report.specs.Device.{HasHalted};
 ghost use Rattle.bf_program.specs.Commands.{IsCheckAnswer, IsCheckFault, size_text};
-ghost use Rattle.bf_program.specs.Refusal.{number_of};
+ghost use Rattle.bf_program.specs.Refusal.{Leaves, Sends};
+ghost use Rattle.bf_program.specs.declared.status.Status.{Status as StatusTerm};
 
 use crate::graphs::{GraphSize, check_graph};
 use crate::input::graph_files;
@@ -27,9 +29,12 @@ pub fn check_answered<S: Source, W: Write>(
     files: &mut S,
     out: &mut W,
 ) -> Result<Status, CommandFault>
-    ensures answer { IfOk result (IsCheckAnswer (S.file files.old) asked (W.written out.old) (W.written out.new)) }
+    ensures answer { IfOk result (λ status. Sends (λ text. IsCheckAnswer (S.file files.old) asked text status)
+        (W.written out.old) (W.written out.new)) }
     ensures fault { IfErr result (IsCheckFault (S.file files.old) asked) }
-    ensures refused { IfErr result (λ f. IsSome (number_of f) → W.written out.new ≡ W.written out.old) }
+    ensures left { IfErr result (Leaves (HasHalted (W.failures out.old) (W.failures out.new) (W.interruptions out.old) (W.interruptions out.new))
+        (λ text. (status : StatusTerm) × IsCheckAnswer (S.file files.old) asked text status)
+        (W.written out.old) (W.written out.new)) }
 {
     let files = graph_files(alloc, asked, files)?;
     let size = check_graph(alloc, &files.graph, files.zone_file())?;

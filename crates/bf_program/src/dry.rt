@@ -1,10 +1,12 @@
 //! The command `dry`: a run for each data interval of a range, answered from a table.
-ghost use Rattle.std.specs.Prelude.{◌≡◌, IfOk, IfErr, IsSome};
+ghost use Rattle.std.specs.Prelude.{IfOk, IfErr};
+ghost use Rattle.bf_report.specs.Device.{HasHalted};
 ghost use Rattle.bf_program.specs.Commands.{IsDryAnswer, IsDryFault};
-ghost use Rattle.bf_program.specs.Refusal.{number_of};
+ghost use Rattle.bf_program.specs.Refusal.{Leaves, Sends};
+ghost use Rattle.bf_program.specs.declared.status.Status.{Status as StatusTerm};
 
 use crate::dated_runs::run_dry;
-use crate::input::{LONGEST_FILE, file_bytes, graph_files, moment_of};
+use crate::input::{range_of, run_files};
 use crate::refusal::CommandFault;
 use crate::source::Source;
 use crate::status::Status;
@@ -19,21 +21,22 @@ pub fn dry_answered<S: Source, W: Write>(
     files: &mut S,
     out: &mut W,
 ) -> Result<Status, CommandFault>
-    ensures answer { IfOk result (IsDryAnswer (S.file files.old) asked (W.written out.old) (W.written out.new)) }
+    ensures answer { IfOk result (λ status. Sends (λ text. IsDryAnswer (S.file files.old) asked text status)
+        (W.written out.old) (W.written out.new)) }
     ensures fault { IfErr result (IsDryFault (S.file files.old) asked) }
-    ensures refused { IfErr result (λ f. IsSome (number_of f) → W.written out.new ≡ W.written out.old) }
+    ensures left { IfErr result (Leaves (HasHalted (W.failures out.old) (W.failures out.new) (W.interruptions out.old) (W.interruptions out.new))
+        (λ text. (status : StatusTerm) × IsDryAnswer (S.file files.old) asked text status)
+        (W.written out.old) (W.written out.new)) }
 {
-    let from = moment_of(asked.range.from.as_str())?;
-    let to = moment_of(asked.range.to.as_str())?;
-    let graph = graph_files(alloc, asked.graph, files)?;
-    let table = file_bytes(alloc, asked.table, LONGEST_FILE, files)?;
+    let range = range_of(&asked.range)?;
+    let files = run_files(alloc, asked.graph, asked.table, files)?;
+    let graph = &files.graph;
     let succeeded = run_dry(
         alloc,
         &graph.graph,
         graph.zone_file(),
-        &table,
-        from,
-        to,
+        &files.table,
+        range,
         out,
     )?;
     Ok(Status::of_runs(succeeded))

@@ -1,86 +1,61 @@
 //! What graph files plan.
-ghost use Rattle.std.specs.Prelude.{◌≡◌, ℕ, List, Option, option_map, IfOk, IfErr};
+ghost use Rattle.std.specs.Prelude.{◌≡◌, ℕ, List, Option, option_map, IfOk, IfErr, Ok};
 ghost use Rattle.bf_program.specs.Graphs.{IsFileOf, IsFaultIn, IsPlanOf, IsSizeOf, IsTimed};
-ghost use Rattle.bf_program.specs.Refusal.{read_number, plan_number};
+ghost use Rattle.bf_program.specs.Lists.{HasListing, IsRangeFault};
 
-use bf_check::{CheckFault, Plan, Zone, check};
-use bf_read::{Draft, ReadFault, read_graph};
+use crate::input::MomentRange;
+use crate::refusal::CommandFault;
+use bf_check::{Plan, Zone, check};
+use bf_interval::{Interval, intervals};
+use bf_read::{Draft, read_graph};
 use std::alloc::Global;
-use thiserror::Error;
 
-/// Why there is no plan of a graph file.
-#[derive(Debug, Drop, Error)]
-pub enum PlanFault {
-    /// The file says no graph.
-    #[error("{0}")]
-    Read(ReadFault),
-    /// The graph has a fault.
-    #[error("{0}")]
-    Check(CheckFault),
+/// The plan of a graph file, and the zone of its schedule.
+#[derive(Drop)]
+pub(crate) struct TimedPlan {
+    pub(crate) plan: Plan,
+    zone: Zone,
 }
 
-fn read_fault_number(fault: &ReadFault) -> Option<u32>
-    ensures { result ≡ read_number fault.now }
-{
-    match fault {
-        ReadFault::NotJson => Some(1),
-        ReadFault::Shape(_) => Some(2),
-        ReadFault::BadName(_) => Some(3),
-        ReadFault::DuplicateTask(_) => Some(4),
-        ReadFault::LimitPassed(_) => Some(5),
-        ReadFault::OutOfMemory => None,
-    }
-}
-
-impl PlanFault {
-    /// The number of a refusal.
-    pub fn number(&self) -> Option<u32>
-        ensures { result ≡ plan_number self.now }
+impl TimedPlan {
+    /// The data intervals of the plan's schedule that start in the range.
+    pub(crate) fn intervals(
+        &self,
+        alloc: Global,
+        range: MomentRange,
+    ) -> Result<Vec<Interval>, CommandFault>
+        ensures ok { IfOk result (λ found. (graph : List ℕ) (file : Option (List ℕ)) → IsTimed graph file self.now.plan.schedule self.now.zone
+            → HasListing graph file range.from.nanosecond range.to.nanosecond (Ok found.items)) }
+        ensures fault { IfErr result (λ f. (graph : List ℕ) (file : Option (List ℕ)) → IsTimed graph file self.now.plan.schedule self.now.zone
+            → IsRangeFault graph file range.from.nanosecond range.to.nanosecond f) }
     {
-        match self {
-            PlanFault::Read(fault) => read_fault_number(fault),
-            PlanFault::Check(fault) => fault.number(),
-        }
+        let zone = self.zone.as_time_zone();
+        let found = intervals(alloc, self.plan.schedule(), &zone, range.from, range.to)?;
+        Ok(found)
     }
 }
 
-fn draft_in(alloc: Global, graph: &[u8]) -> Result<Draft, PlanFault>
+fn draft_in(alloc: Global, graph: &[u8]) -> Result<Draft, CommandFault>
     ensures ok { IfOk result (IsFileOf graph.now) }
     ensures fault { IfErr result (λ f. (file : Option (List ℕ)) → IsFaultIn graph.now file f) }
 {
-    match read_graph(alloc, graph) {
-        Ok(draft) => Ok(draft),
-        Err(fault) => Err(PlanFault::Read(fault)),
-    }
+    let draft = read_graph(alloc, graph)?;
+    Ok(draft)
 }
 
-/// The plan of a graph file, and the zone of its schedule.
+/// The plan of a graph file, with its zone.
 pub(crate) fn timed_plan_in(
     alloc: Global,
     graph: &[u8],
     zone_file: Option<&[u8]>,
-) -> Result<(Plan, Zone), PlanFault>
-    ensures plan { IfOk result (λ timed. IsPlanOf graph.now (option_map (λ s. s.now) zone_file.entry) timed.0) }
-    ensures zone { IfOk result (λ timed. IsTimed graph.now (option_map (λ s. s.now) zone_file.entry) timed.0.schedule timed.1) }
+) -> Result<TimedPlan, CommandFault>
+    ensures plan { IfOk result (λ timed. IsPlanOf graph.now (option_map (λ s. s.now) zone_file.entry) timed.plan) }
+    ensures zone { IfOk result (λ timed. IsTimed graph.now (option_map (λ s. s.now) zone_file.entry) timed.plan.schedule timed.zone) }
     ensures fault { IfErr result (IsFaultIn graph.now (option_map (λ s. s.now) zone_file.entry)) }
 {
-    match check(alloc, draft_in(alloc, graph)?, zone_file) {
-        Ok(timed) => Ok(timed),
-        Err(fault) => Err(PlanFault::Check(fault)),
-    }
-}
-
-/// The plan of a graph file.
-pub(crate) fn plan_in(
-    alloc: Global,
-    graph: &[u8],
-    zone_file: Option<&[u8]>,
-) -> Result<Plan, PlanFault>
-    ensures plan { IfOk result (IsPlanOf graph.now (option_map (λ s. s.now) zone_file.entry)) }
-    ensures fault { IfErr result (IsFaultIn graph.now (option_map (λ s. s.now) zone_file.entry)) }
-{
-    let (plan, _zone) = timed_plan_in(alloc, graph, zone_file)?;
-    Ok(plan)
+    let draft = draft_in(alloc, graph)?;
+    let (plan, zone) = check(alloc, draft, zone_file)?;
+    Ok(TimedPlan { plan, zone })
 }
 
 /// How many tasks and distinct edges a graph has.
@@ -96,7 +71,7 @@ pub fn check_graph(
     alloc: Global,
     graph: &[u8],
     zone_file: Option<&[u8]>,
-) -> Result<GraphSize, PlanFault>
+) -> Result<GraphSize, CommandFault>
     ensures size { IfOk result (IsSizeOf graph.now (option_map (λ s. s.now) zone_file.entry)) }
     ensures fault { IfErr result (IsFaultIn graph.now (option_map (λ s. s.now) zone_file.entry)) }
 {
@@ -105,8 +80,6 @@ pub fn check_graph(
         tasks: draft.tasks.len(),
         edges: draft.edge_count(),
     };
-    match check(alloc, draft, zone_file) {
-        Ok(_plan) => Ok(size),
-        Err(fault) => Err(PlanFault::Check(fault)),
-    }
+    let _plan = check(alloc, draft, zone_file)?;
+    Ok(size)
 }

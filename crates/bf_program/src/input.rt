@@ -1,11 +1,14 @@
-//! The files that a command line names.
-ghost use Rattle.std.specs.Prelude.{◌≡◌, ◌<◌, ◌^◌, ◌⊎◌, ℕ, List, Option, IfOk, IfErr, IfSome, IsSome, option_map, string_bytes};
-ghost use Rattle.bf_program.specs.Commands.{AreHeld, IsNoMoment, IsReadFault, Means};
+//! The files and moments that a command line names.
+ghost use Rattle.std.specs.Prelude.{◌≡◌, ◌<◌, ◌^◌, ◌⊎◌, ℕ, List, [], ◌∷◌, Option, IfOk, IfErr, IfSome, OnOk, option_map, string_bytes};
+ghost use Rattle.bf_read.specs.Reading.{graph_in};
+ghost use Rattle.bf_try.specs.Tables.{table_of};
+ghost use Rattle.bf_program.specs.Commands.{AreReadable, IsHeld, IsNoMoment, IsReadable, IsZoneHeld, Means, MeansRange, OfFiles, OfFilesAndTable, graph_paths, run_paths, zone_paths};
+ghost use Rattle.bf_program.specs.Files.{AreAlike, IsReadingFault, MeanAlike, bytes_of};
 ghost use Rattle.bf_program.specs.Source.{IsWholeUpTo};
 
 use crate::refusal::CommandFault;
 use crate::source::{Source, SourceFault};
-use bf_line::GraphAsked;
+use bf_line::{GraphAsked, RangeAsked};
 use bf_report::moment_in;
 use bf_value::Text;
 use bf_zone::MOST_FILE_BYTES;
@@ -13,10 +16,10 @@ use jiff::Timestamp;
 use std::alloc::Global;
 
 /// A graph file and a table have at most this many bytes.
-pub const LONGEST_FILE: usize = 8_388_608;
+const LONGEST_FILE: usize = 8_388_608;
 
 /// The bytes of a file. Of one with more than `longest` so many and more are read that its reader sees it.
-pub fn file_bytes<S: Source>(
+fn file_bytes<S: Source>(
     alloc: Global,
     path: String,
     longest: usize,
@@ -25,16 +28,61 @@ pub fn file_bytes<S: Source>(
     requires { longest < 2 ^ 63 }
     ensures ok { IfOk result (λ bytes. IfSome (S.file files.old (string_bytes path)) (λ held.
         IsWholeUpTo longest held bytes.items)) }
-    ensures fault { IfErr result (λ f. (f ≡ CommandFault.CannotRead (string_bytes path))
-        ⊎ (f ≡ CommandFault.OutOfMemory)) }
-    ensures readable { IfErr result (λ f. IfSome (S.file files.old (string_bytes path)) (λ held.
-        IsSome held → f ≡ CommandFault.OutOfMemory)) }
+    ensures readable { OnOk result (IsReadable (S.file files.old (string_bytes path))) }
+    ensures fault { IfErr result (IsReadingFault (S.file files.old) (string_bytes path ∷ [])) }
     ensures stays { (p : List ℕ) → S.file files.new p ≡ S.file files.old p }
 {
     match files.first_bytes(alloc, path.as_str(), longest + 1) {
         Ok(bytes) => Ok(bytes),
         Err(SourceFault::CannotRead) => Err(CommandFault::CannotRead(Text::new(path))),
         Err(SourceFault::OutOfMemory) => Err(CommandFault::OutOfMemory),
+    }
+}
+
+fn graph_bytes<S: Source>(
+    alloc: Global,
+    path: String,
+    files: &mut S,
+) -> Result<Vec<u8>, CommandFault>
+    ensures says { IfOk result (λ bytes. (held : List ℕ) → IsHeld (S.file files.old (string_bytes path)) held
+        → graph_in bytes.items ≡ graph_in held) }
+    ensures readable { OnOk result (IsReadable (S.file files.old (string_bytes path))) }
+    ensures fault { IfErr result (IsReadingFault (S.file files.old) (string_bytes path ∷ [])) }
+    ensures stays { (p : List ℕ) → S.file files.new p ≡ S.file files.old p }
+{
+    file_bytes(alloc, path, LONGEST_FILE, files)
+}
+
+fn table_bytes<S: Source>(
+    alloc: Global,
+    path: String,
+    files: &mut S,
+) -> Result<Vec<u8>, CommandFault>
+    ensures says { IfOk result (λ bytes. (held : List ℕ) → IsHeld (S.file files.old (string_bytes path)) held
+        → table_of bytes.items ≡ table_of held) }
+    ensures readable { OnOk result (IsReadable (S.file files.old (string_bytes path))) }
+    ensures fault { IfErr result (IsReadingFault (S.file files.old) (string_bytes path ∷ [])) }
+{
+    file_bytes(alloc, path, LONGEST_FILE, files)
+}
+
+fn zone_bytes<S: Source>(
+    alloc: Global,
+    path: Option<String>,
+    files: &mut S,
+) -> Result<Option<Vec<u8>>, CommandFault>
+    ensures means { IfOk result (λ bytes. (held : Option (List ℕ)) → IsZoneHeld (S.file files.old) (option_map string_bytes path) held
+        → MeanAlike (bytes_of bytes) held) }
+    ensures readable { OnOk result (AreReadable (S.file files.old) (zone_paths (option_map string_bytes path))) }
+    ensures fault { IfErr result (IsReadingFault (S.file files.old) (zone_paths (option_map string_bytes path))) }
+    ensures stays { (p : List ℕ) → S.file files.new p ≡ S.file files.old p }
+{
+    match path {
+        Some(path) => {
+            let bytes = file_bytes(alloc, path, MOST_FILE_BYTES, files)?;
+            Ok(Some(bytes))
+        }
+        None => Ok(None),
     }
 }
 
@@ -48,7 +96,7 @@ pub(crate) struct GraphFiles {
 impl GraphFiles {
     /// The zone file's bytes.
     pub(crate) fn zone_file(&self) -> Option<&[u8]>
-        ensures { option_map (λ s. s.now) result ≡ option_map (λ v. v.items) self.now.zone_file }
+        ensures { option_map (λ s. s.now) result ≡ bytes_of self.now.zone_file }
     {
         match &self.zone_file {
             Some(bytes) => Some(bytes.as_slice()),
@@ -63,17 +111,38 @@ pub(crate) fn graph_files<S: Source>(
     asked: GraphAsked,
     files: &mut S,
 ) -> Result<GraphFiles, CommandFault>
-    ensures held { IfOk result (λ f. (graph : List ℕ) (zone : Option (List ℕ)) → AreHeld (S.file files.old) asked graph zone
-        → (f.graph.items ≡ graph) × (option_map (λ v. v.items) f.zone_file ≡ zone)) }
-    ensures fault { IfErr result (IsReadFault (S.file files.old) asked) }
+    ensures alike { IfOk result (λ f. OfFiles (S.file files.old) asked (λ graph zone. AreAlike f.graph.items graph (bytes_of f.zone_file) zone)) }
+    ensures readable { OnOk result (AreReadable (S.file files.old) (graph_paths asked)) }
+    ensures fault { IfErr result (IsReadingFault (S.file files.old) (graph_paths asked)) }
     ensures stays { (p : List ℕ) → S.file files.new p ≡ S.file files.old p }
 {
-    let graph = file_bytes(alloc, asked.graph, LONGEST_FILE, files)?;
-    let zone_file = match asked.zone_file {
-        Some(path) => Some(file_bytes(alloc, path, MOST_FILE_BYTES, files)?),
-        None => None,
-    };
+    let graph = graph_bytes(alloc, asked.graph, files)?;
+    let zone_file = zone_bytes(alloc, asked.zone_file, files)?;
     Ok(GraphFiles { graph, zone_file })
+}
+
+/// The files of a backfill over a table.
+#[derive(Drop)]
+pub(crate) struct RunFiles {
+    pub(crate) graph: GraphFiles,
+    pub(crate) table: Vec<u8>,
+}
+
+/// Reads the graph file, the zone file where one is named, and then the table.
+pub(crate) fn run_files<S: Source>(
+    alloc: Global,
+    asked: GraphAsked,
+    table: String,
+    files: &mut S,
+) -> Result<RunFiles, CommandFault>
+    ensures alike { IfOk result (λ f. OfFilesAndTable (S.file files.old) asked (string_bytes table) (λ graph zone held.
+        AreAlike f.graph.graph.items graph (bytes_of f.graph.zone_file) zone × (table_of f.table.items ≡ table_of held))) }
+    ensures readable { OnOk result (AreReadable (S.file files.old) (run_paths asked (string_bytes table))) }
+    ensures fault { IfErr result (IsReadingFault (S.file files.old) (run_paths asked (string_bytes table))) }
+{
+    let graph = graph_files(alloc, asked, files)?;
+    let table = table_bytes(alloc, table, files)?;
+    Ok(RunFiles { graph, table })
 }
 
 /// The moment of a text.
@@ -85,4 +154,22 @@ pub(crate) fn moment_of(text: &str) -> Result<Timestamp, CommandFault>
         Some(moment) => Ok(moment),
         None => Err(CommandFault::BadMoment),
     }
+}
+
+/// The first and the last moment at which a data interval may start.
+#[derive(Clone, Copy, Debug, PartialEq, Eq)]
+pub struct MomentRange {
+    pub from: Timestamp,
+    pub to: Timestamp,
+}
+
+/// The range of two texts.
+pub(crate) fn range_of(asked: &RangeAsked) -> Result<MomentRange, CommandFault>
+    ensures means { IfOk result (MeansRange asked.now) }
+    ensures bad { IfErr result (λ f. (f ≡ CommandFault.BadMoment)
+        × (IsNoMoment (string_bytes asked.now.from) ⊎ IsNoMoment (string_bytes asked.now.to))) }
+{
+    let from = moment_of(asked.from.as_str())?;
+    let to = moment_of(asked.to.as_str())?;
+    Ok(MomentRange { from, to })
 }

@@ -5,7 +5,7 @@ ghost use Rattle.bf_check.specs.Sound.{IsSound};
 ghost use Rattle.bf_interval.specs.declared.interval.Interval.{Interval as IntervalTerm};
 ghost use Rattle.bf_try.specs.declared.table.TableEntry.{TableEntry as TableEntryTerm};
 ghost use Rattle.bf_program.specs.Lists.{HasListing};
-ghost use Rattle.bf_program.specs.OverTable.{IsReportedOver};
+ghost use Rattle.bf_program.specs.OverTable.{IsReportOver};
 
 /// A graph file, a zone file and a range have one listing.
 pub fn one_list()
@@ -15,7 +15,7 @@ pub fn one_list()
 
 /// A plan, a table and data intervals have one report, whatever the order in which the tries ran.
 pub fn one_report()
-    ensures { (dag : DagTerm) → IsSound dag → (table : List TableEntryTerm) (intervals : List IntervalTerm) (before after others : Option (List ℕ)) (success other : Bool)
-        → IsReportedOver dag table intervals before after success → IsReportedOver dag table intervals before others other
-        → (after ≡ others) × (success ≡ other) }
+    ensures { (dag : DagTerm) → IsSound dag → (table : List TableEntryTerm) (intervals : List IntervalTerm) (one two : List ℕ) (success other : Bool)
+        → IsReportOver dag table intervals one success → IsReportOver dag table intervals two other
+        → (one ≡ two) × (success ≡ other) }
 {}

@@ -21,11 +21,11 @@ mod stored;
 
 pub use dated_runs::run_dry;
 pub use disk::Disk;
-pub use graphs::{GraphSize, PlanFault, check_graph};
+pub use graphs::{GraphSize, check_graph};
+pub use input::MomentRange;
 pub use laws::{one_list, one_report};
-pub use listing::{ListFault, run_list};
+pub use listing::run_list;
 pub use one_run::run_single;
-pub use over_table::RunFault;
 pub use program::answer;
 pub use refusal::CommandFault;
 pub use source::{Source, SourceFault};

@@ -1,9 +1,11 @@
 //! The command `list`: the data intervals of a range.
-ghost use Rattle.std.specs.Prelude.{◌≡◌, IfOk, IfErr, IsSome};
+ghost use Rattle.std.specs.Prelude.{IfOk, IfErr};
+ghost use Rattle.bf_report.specs.Device.{HasHalted};
 ghost use Rattle.bf_program.specs.Commands.{IsListAnswer, IsListFault};
-ghost use Rattle.bf_program.specs.Refusal.{number_of};
+ghost use Rattle.bf_program.specs.Refusal.{Leaves, Sends};
+ghost use Rattle.bf_program.specs.declared.status.Status.{Status as StatusTerm};
 
-use crate::input::{graph_files, moment_of};
+use crate::input::{graph_files, range_of};
 use crate::listing::run_list;
 use crate::refusal::CommandFault;
 use crate::source::Source;
@@ -19,13 +21,15 @@ pub fn list_answered<S: Source, W: Write>(
     files: &mut S,
     out: &mut W,
 ) -> Result<Status, CommandFault>
-    ensures answer { IfOk result (IsListAnswer (S.file files.old) asked (W.written out.old) (W.written out.new)) }
+    ensures answer { IfOk result (λ status. Sends (λ text. IsListAnswer (S.file files.old) asked text status)
+        (W.written out.old) (W.written out.new)) }
     ensures fault { IfErr result (IsListFault (S.file files.old) asked) }
-    ensures refused { IfErr result (λ f. IsSome (number_of f) → W.written out.new ≡ W.written out.old) }
+    ensures left { IfErr result (Leaves (HasHalted (W.failures out.old) (W.failures out.new) (W.interruptions out.old) (W.interruptions out.new))
+        (λ text. (status : StatusTerm) × IsListAnswer (S.file files.old) asked text status)
+        (W.written out.old) (W.written out.new)) }
 {
-    let from = moment_of(asked.range.from.as_str())?;
-    let to = moment_of(asked.range.to.as_str())?;
+    let range = range_of(&asked.range)?;
     let files = graph_files(alloc, asked.graph, files)?;
-    run_list(alloc, &files.graph, files.zone_file(), from, to, out)?;
+    run_list(alloc, &files.graph, files.zone_file(), range, out)?;
     Ok(Status::Success)
 }

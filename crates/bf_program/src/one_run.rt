@@ -1,10 +1,12 @@
 //! One run of a graph over a table, from bytes to bytes.
-ghost use Rattle.std.specs.Prelude.{◌≡◌, IfOk, IfErr, IsSome, option_map};
-ghost use Rattle.bf_program.specs.OneRun.{IsFaultOfSingle, IsReportedAt};
-ghost use Rattle.bf_program.specs.Refusal.{run_number};
+ghost use Rattle.std.specs.Prelude.{Bool, IfOk, IfErr, option_map};
+ghost use Rattle.bf_report.specs.Device.{HasHalted};
+ghost use Rattle.bf_program.specs.OneRun.{IsFaultOfSingle, IsReportAt};
+ghost use Rattle.bf_program.specs.Refusal.{Leaves, Sends};
 
-use crate::graphs::plan_in;
-use crate::over_table::{RunFault, run_over, table_in};
+use crate::graphs::timed_plan_in;
+use crate::over_table::{run_over, table_in};
+use crate::refusal::CommandFault;
 use bf_interval::{Interval, IntervalFault, is_in_years};
 use bf_report::Write;
 use jiff::Timestamp;
@@ -19,16 +21,19 @@ pub fn run_single<W: Write>(
     table: &[u8],
     at: Timestamp,
     out: &mut W,
-) -> Result<bool, RunFault>
-    ensures ok { IfOk result (IsReportedAt graph.now (option_map (λ s. s.now) zone_file.entry) table.now at (W.written out.old) (W.written out.new)) }
+) -> Result<bool, CommandFault>
+    ensures ok { IfOk result (λ success. Sends (λ text. IsReportAt graph.now (option_map (λ s. s.now) zone_file.entry) table.now at text success)
+        (W.written out.old) (W.written out.new)) }
     ensures fault { IfErr result (IsFaultOfSingle graph.now (option_map (λ s. s.now) zone_file.entry) table.now at) }
-    ensures refused { IfErr result (λ f. IsSome (run_number f) → W.written out.new ≡ W.written out.old) }
+    ensures left { IfErr result (Leaves (HasHalted (W.failures out.old) (W.failures out.new) (W.interruptions out.old) (W.interruptions out.new))
+        (λ text. (success : Bool) × IsReportAt graph.now (option_map (λ s. s.now) zone_file.entry) table.now at text success)
+        (W.written out.old) (W.written out.new)) }
 {
-    let plan = plan_in(alloc, graph, zone_file)?;
+    let timed = timed_plan_in(alloc, graph, zone_file)?;
     let table = table_in(alloc, table)?;
     if !is_in_years(at) {
-        return Err(RunFault::Range(IntervalFault::OutsideYears));
+        return Err(CommandFault::Range(IntervalFault::OutsideYears));
     }
     let intervals = [Interval { start: at, end: at }];
-    run_over(alloc, &plan, table, &intervals, out)
+    run_over(alloc, &timed.plan, table, &intervals, out)
 }

@@ -1,9 +1,11 @@
 //! The whole program below `main`.
-ghost use Rattle.std.specs.Prelude.{◌≡◌, ◌≢◌, ◌≤◌, ◌⊎◌, [], None, IfOk, IfErr, IsErr, IsSome};
+ghost use Rattle.std.specs.Prelude.{◌≡◌, ◌≢◌, ◌≤◌, ◌⊎◌, [], None, IfOk, IfErr, IsErr, IsSome, OnErr};
 ghost use Rattle.clap.specs.Words.{kind_of};
-ghost use Rattle.bf_program.specs.Commands.{IsDone, IsFaulted, IsRefused, found_in, wrongs_of};
+ghost use Rattle.bf_report.specs.Device.{HasHalted};
+ghost use Rattle.bf_program.specs.Commands.{IsDone, IsTold, MayBeFaulted, MayTell, Tells, found_in, wrongs_of};
 ghost use Rattle.bf_program.specs.Refusal.{number_of};
 ghost use Rattle.bf_program.specs.Status.{code_of, shown_as, EndsAs};
+ghost use Rattle.bf_program.specs.declared.refusal.CommandFault.{CommandFault as FaultTerm};
 
 use crate::checked::check_answered;
 use crate::dry::dry_answered;
@@ -36,7 +38,18 @@ pub fn answer<S: Source, W: Write, E: Write>(
     ensures line { wrongs_of words.now ≢ [] → EndsAs (wrongs_of words.now) result }
     ensures done { wrongs_of words.now ≡ [] → result ≤ 1
         → IsDone (S.file files.old) (found_in words.now) (W.written out.old) (W.written out.new) result }
-    ensures why { wrongs_of words.now ≡ [] → result ≡ 2 → IsRefused (S.file files.old) (found_in words.now) }
+
+    // Of a line that `clap` finds nothing wrong with: which fault came, and what is told of it.
+    ensures why { wrongs_of words.now ≡ [] → 2 ≤ result → (fault : FaultTerm)
+        × MayBeFaulted (S.file files.old) (found_in words.now) (HasHalted (W.failures out.old) (W.failures out.new) (W.interruptions out.old) (W.interruptions out.new))
+        (W.written out.old) (W.written out.new) fault
+        × MayTell (HasHalted (E.failures err.old) (E.failures err.new) (E.interruptions err.old) (E.interruptions err.new))
+        (E.written err.old) (E.written err.new) fault result }
+
+    // Of any line: a fault is told as one.
+    ensures fault { result ≡ 3 → (fault : FaultTerm)
+        × Tells (HasHalted (E.failures err.old) (E.failures err.new) (E.interruptions err.old) (E.interruptions err.new))
+        (E.written err.old) (E.written err.new) fault 3 }
 {
     match line_answered(alloc, words, files, out, err) {
         Ok(status) => status.code(),
@@ -55,12 +68,14 @@ fn line_answered<S: Source, W: Write, E: Write>(
     ensures answered { IfOk result (λ s. s ≢ Status.Refused → E.written err.new ≡ E.written err.old) }
     ensures wrong { IfOk result (λ s. s ≡ Status.Refused → W.written out.new ≡ W.written out.old) }
     ensures refused { IfErr result (λ f. IsSome (number_of f) → W.written out.new ≡ W.written out.old) }
+    ensures untouched { OnErr result (err.new ≡ err.old) }
     ensures line { wrongs_of words.now ≢ [] → IfOk result (λ s. EndsAs (wrongs_of words.now) (code_of s)) }
     ensures fault { wrongs_of words.now ≢ [] → IfErr result (λ f. number_of f ≡ None) }
     ensures done { wrongs_of words.now ≡ [] → IfOk result (λ s.
         IsDone (S.file files.old) (found_in words.now) (W.written out.old) (W.written out.new) (code_of s)) }
-    ensures why { wrongs_of words.now ≡ [] → IfErr result (λ f.
-        (f ≡ CommandFault.OutOfMemory) ⊎ IsFaulted (S.file files.old) (found_in words.now) f) }
+    ensures why { wrongs_of words.now ≡ [] → IfErr result (λ f. MayBeFaulted (S.file files.old) (found_in words.now)
+        (HasHalted (W.failures out.old) (W.failures out.new) (W.interruptions out.old) (W.interruptions out.new))
+        (W.written out.old) (W.written out.new) f) }
 {
     match asked(alloc, words) {
         Ok(Asked::Check(check)) => check_answered(alloc, check, files, out),
@@ -81,7 +96,9 @@ fn shown<W: Write, E: Write>(
     ensures ok { IfOk result (λ s. s ≡ shown_as (kind_of error.now)) }
     ensures memory { kind_of error.now ≡ ErrorKind.OutOfMemory → IsErr result }
     ensures wanting { kind_of error.now ≡ ErrorKind.OutOfMemory → IfErr result (λ f. f ≡ CommandFault.OutOfMemory) }
+    ensures kept { kind_of error.now ≡ ErrorKind.OutOfMemory → W.written out.new ≡ W.written out.old }
     ensures fault { IfErr result (λ f. number_of f ≡ None) }
+    ensures untouched { OnErr result (err.new ≡ err.old) }
     ensures help { IfOk result (λ s. s ≢ Status.Refused → E.written err.new ≡ E.written err.old) }
     ensures wrong { IfOk result (λ s. s ≡ Status.Refused → W.written out.new ≡ W.written out.old) }
 {
@@ -98,15 +115,29 @@ fn shown<W: Write, E: Write>(
     Ok(Status::Success)
 }
 
-/// Tells on standard error why there is no report.
+/// Tells on standard error why there is no answer, and gives the exit status of what was told.
 fn told<E: Write>(alloc: Global, fault: &CommandFault, err: &mut E) -> Status
+    ensures tells { MayTell (HasHalted (E.failures err.old) (E.failures err.new) (E.interruptions err.old) (E.interruptions err.new))
+        (E.written err.old) (E.written err.new) fault.now (code_of result) }
     ensures refused { result ≡ Status.Refused → IsSome (number_of fault.now) }
     ensures fault { (result ≡ Status.Refused) ⊎ (result ≡ Status.Fault) }
 {
-    let Ok(line) = fault.line(alloc) else {
-        let _ = send(err, b"fault: out of memory\n");
-        return Status::Fault;
-    };
-    let _ = send(err, line.as_bytes());
-    fault.status()
+    match fault.line(alloc) {
+        Ok(line) => {
+            tell(err, line.as_bytes());
+            fault.status()
+        }
+        Err(_) => {
+            tell(err, b"fault: out of memory\n");
+            Status::Fault
+        }
+    }
+}
+
+/// Writes a line to standard error. Where that fails, nothing is left to say so on.
+fn tell<E: Write>(err: &mut E, line: &[u8])
+    ensures { IsTold (HasHalted (E.failures err.old) (E.failures err.new) (E.interruptions err.old) (E.interruptions err.new))
+        (E.written err.old) (E.written err.new) line.now }
+{
+    let _ = send(err, line);
 }

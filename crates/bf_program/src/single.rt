@@ -1,9 +1,11 @@
 //! The command `single`: one run, answered from a table.
-ghost use Rattle.std.specs.Prelude.{◌≡◌, IfOk, IfErr, IsSome};
+ghost use Rattle.std.specs.Prelude.{IfOk, IfErr};
+ghost use Rattle.bf_report.specs.Device.{HasHalted};
 ghost use Rattle.bf_program.specs.Commands.{IsSingleAnswer, IsSingleFault};
-ghost use Rattle.bf_program.specs.Refusal.{number_of};
+ghost use Rattle.bf_program.specs.Refusal.{Leaves, Sends};
+ghost use Rattle.bf_program.specs.declared.status.Status.{Status as StatusTerm};
 
-use crate::input::{LONGEST_FILE, file_bytes, graph_files, moment_of};
+use crate::input::{moment_of, run_files};
 use crate::one_run::run_single;
 use crate::refusal::CommandFault;
 use crate::source::Source;
@@ -19,13 +21,23 @@ pub fn single_answered<S: Source, W: Write>(
     files: &mut S,
     out: &mut W,
 ) -> Result<Status, CommandFault>
-    ensures answer { IfOk result (IsSingleAnswer (S.file files.old) asked (W.written out.old) (W.written out.new)) }
+    ensures answer { IfOk result (λ status. Sends (λ text. IsSingleAnswer (S.file files.old) asked text status)
+        (W.written out.old) (W.written out.new)) }
     ensures fault { IfErr result (IsSingleFault (S.file files.old) asked) }
-    ensures refused { IfErr result (λ f. IsSome (number_of f) → W.written out.new ≡ W.written out.old) }
+    ensures left { IfErr result (Leaves (HasHalted (W.failures out.old) (W.failures out.new) (W.interruptions out.old) (W.interruptions out.new))
+        (λ text. (status : StatusTerm) × IsSingleAnswer (S.file files.old) asked text status)
+        (W.written out.old) (W.written out.new)) }
 {
     let at = moment_of(asked.at.as_str())?;
-    let graph = graph_files(alloc, asked.graph, files)?;
-    let table = file_bytes(alloc, asked.table, LONGEST_FILE, files)?;
-    let succeeded = run_single(alloc, &graph.graph, graph.zone_file(), &table, at, out)?;
+    let files = run_files(alloc, asked.graph, asked.table, files)?;
+    let graph = &files.graph;
+    let succeeded = run_single(
+        alloc,
+        &graph.graph,
+        graph.zone_file(),
+        &files.table,
+        at,
+        out,
+    )?;
     Ok(Status::of_runs(succeeded))
 }

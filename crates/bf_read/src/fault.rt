@@ -1,32 +1,65 @@
 //! Why a graph file is refused.
+ghost use Rattle.std.specs.Prelude.{◌≡◌};
+ghost use Rattle.bf_read.specs.Faults.{fault_number};
+
 use crate::path::Path;
 use bf_value::{OutOfMemory, Text};
 use std::alloc::AllocFailed;
-use thiserror::Error;
+use std::error::Error;
+use std::fmt;
 
 /// Why a graph file is refused.
-#[derive(Debug, Drop, Error)]
+#[derive(Debug, Drop)]
 pub enum ReadFault {
     /// The bytes are no UTF-8, or no JSON.
-    #[error("not json")]
     NotJson,
     /// A value of the wrong type, one that is missing, or an object with an unknown key.
-    #[error("shape: {0}")]
     Shape(Path),
     /// A text that is no id.
-    #[error("bad name: {0}")]
     BadName(Path),
     /// An id that an earlier task has.
-    #[error("duplicate task: {0}")]
     DuplicateTask(Text),
-    #[error("limit passed: {0}")]
     LimitPassed(Path),
-    #[error("out of memory")]
     OutOfMemory,
 }
 
+impl ReadFault {
+    /// The number of the refusal, which want of memory doesn't have.
+    pub fn number(&self) -> Option<u32>
+        ensures { result ≡ fault_number self.now }
+    {
+        match self {
+            ReadFault::NotJson => Some(1),
+            ReadFault::Shape(_) => Some(2),
+            ReadFault::BadName(_) => Some(3),
+            ReadFault::DuplicateTask(_) => Some(4),
+            ReadFault::LimitPassed(_) => Some(5),
+            ReadFault::OutOfMemory => None,
+        }
+    }
+}
+
+impl fmt::Display for ReadFault {
+    ghost use Rattle.std.specs.Prelude.{Some};
+    ghost use Rattle.bf_read.specs.Faults.{fault_text};
+
+    ghost output = { λ fault. Some (fault_text fault) };
+
+    fn fmt<W: fmt::Write>(&self, f: &mut fmt::Formatter<W>) -> fmt::Result {
+        match self {
+            ReadFault::NotJson => write!(f, "not json"),
+            ReadFault::Shape(path) => write!(f, "shape: {path}"),
+            ReadFault::BadName(path) => write!(f, "bad name: {path}"),
+            ReadFault::DuplicateTask(task) => write!(f, "duplicate task: {task}"),
+            ReadFault::LimitPassed(path) => write!(f, "limit passed: {path}"),
+            ReadFault::OutOfMemory => write!(f, "out of memory"),
+        }
+    }
+}
+
+impl Error for ReadFault {}
+
 impl From<OutOfMemory> for ReadFault {
-    ghost use Rattle.std.specs.Prelude.{◌≡◌};
     ghost use Rattle.bf_read.specs.declared.fault.ReadFault.TheVariants.{OutOfMemory as NoMemory};
 
     ghost from_gives = { λ _ e. e ≡ NoMemory };
@@ -37,7 +70,6 @@ impl From<OutOfMemory> for ReadFault {
 }
 
 impl<T: Drop> From<AllocFailed<T>> for ReadFault {
-    ghost use Rattle.std.specs.Prelude.{◌≡◌};
     ghost use Rattle.bf_read.specs.declared.fault.ReadFault.TheVariants.{OutOfMemory as NoMemory};
 
     ghost from_gives = { λ _ e. e ≡ NoMemory };

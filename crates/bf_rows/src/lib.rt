@@ -63,6 +63,4 @@ mod verdicts;
 #[cfg(test)]
 mod weights;
 #[cfg(test)]
-mod words;
-#[cfg(test)]
 mod zone_files;

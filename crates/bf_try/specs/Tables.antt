@@ -115,6 +115,11 @@ table_with (Some ds) = entries_from 0 (entries_of ds)
 unfoldable pub table_of : List ℕ → Result (List TableEntry) TableFault
 table_of bytes = table_with (option_and_then as_array (json_of_file bytes))
 
+-- the number of the refusal, which want of memory doesn't have
+abbrev pub fault_number : TableFault → Option ℕ
+fault_number (BadTable entry) = Some 19
+fault_number OutOfMemory = None
+
 -- why a table is refused, as it is printed
 abbrev pub fault_text : TableFault → List ℕ
 fault_text (BadTable (Some number)) = codes "bad table: " ++ decimal number

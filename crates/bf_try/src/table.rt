@@ -1,6 +1,6 @@
 //! Tables of answers.
 ghost use Rattle.std.specs.Prelude.{◌≡◌, ◌≢◌, IfOk, IfErr, Ok, Err};
-ghost use Rattle.bf_try.specs.Tables.{table_of};
+ghost use Rattle.bf_try.specs.Tables.{fault_number, table_of};
 
 use crate::table_reader::entries_of_file;
 use bf_value::{OutOfMemory, Sequence, Text};
@@ -46,6 +46,18 @@ pub enum TableFault {
     /// The number of the first bad entry, from 0, or none where the whole is no JSON list or is too long.
     BadTable(Option<u32>),
     OutOfMemory,
+}
+
+impl TableFault {
+    /// The number of the refusal, which want of memory doesn't have.
+    pub fn number(self) -> Option<u32>
+        ensures { result ≡ fault_number self }
+    {
+        match self {
+            TableFault::BadTable(_) => Some(19),
+            TableFault::OutOfMemory => None,
+        }
+    }
 }
 
 impl fmt::Display for TableFault {

@@ -1,35 +1,46 @@
-use Rattle.std.proofs.Common.{ℕ, List, option_map, ◌∙◌, subst}
+use Rattle.std.proofs.Common.{◌≡◌, ◌∙◌, subst, string_bytes}
 use Rattle.std.proofs.lemmas.Result.{err_from_is_err_and}
-use Rattle.bf_program.specs.DatedRuns.{IsFaultOfDry, IsReportedIn}
-use Rattle.bf_program.proofs.CommandFacts.{means_lent, of_held, table_read}
+use Rattle.bf_program.specs.Commands.{run_paths}
+use Rattle.bf_program.specs.Status.{of_runs}
+use Rattle.bf_program.proofs.CommandEnds.{dry_answer, dry_files, dry_moments, dry_reading, lent_table_alike}
+use Rattle.bf_program.proofs.Faults.{leaves_due, moment_leaves, reading_leaves}
 use Rattle.bf_program.proofs.dry.dry_answered.Goals as goal
 
-pub returns-clause-answer : goal.returns-clause-answer
-returns-clause-answer g c = record {
-  from = c.in_ok-from.from;
-  to = c.in_ok-to.to;
-  from_means = means_lent c.as_str.result.now _ c.in_ok-from.from c.as_str.ensures.value c.in_ok-from.ensures.means;
-  to_means = means_lent c.as_str-2.result.now _ c.in_ok-to.to c.as_str-2.ensures.value c.in_ok-to.ensures.means;
-  succeeded = c.in_ok-succeeded.succeeded;
-  status_is = c.of_runs.ensures;
-  written = λ graph table zone held table_held.
-      let are = c.in_ok-graph.ensures.held graph zone held in
-      let read = c.deref-2.ensures.value ∙ table_read _ _ _ c.in_ok-table.table.items table c.in_ok-graph.ensures.stays c.in_ok-table.ensures.ok table_held in
-      of_held (λ bytes file. IsReportedIn bytes file table c.in_ok-from.from.nanosecond c.in_ok-to.to.nanosecond (g.W.Write.written c.args.out.now) (g.W.Write.written c.run_dry.new.out) c.in_ok-succeeded.succeeded) c.deref.result.now graph _ zone (c.deref.ensures.value ∙ are.0) (c.zone_file.ensures ∙ are.1)
-      (subst (λ (bytes : List ℕ). IsReportedIn c.deref.result.now (option_map (λ s. s.now) c.zone_file.result) bytes c.in_ok-from.from.nanosecond c.in_ok-to.to.nanosecond (g.W.Write.written c.args.out.now) (g.W.Write.written c.run_dry.new.out) c.in_ok-succeeded.succeeded) read c.in_ok-succeeded.ensures.ok);
-}
+pub returns-in_err-range-clause-fault : goal.returns-in_err-range-clause-fault
+returns-in_err-range-clause-fault g c =
+    let p = err_from_is_err_and c.from_residual.result c.from_residual.ensures.1 in
+    rw (p.1, p.2) (dry_moments (g.S.Source.file c.args.files.now) c.args.asked _ c.in_err-range.ensures.bad)
+
+pub returns-in_err-range-clause-left : goal.returns-in_err-range-clause-left
+returns-in_err-range-clause-left g c =
+    let p = err_from_is_err_and c.from_residual.result c.from_residual.ensures.1 in
+    rw (p.1, p.2) (moment_leaves _ _ _ _ c.in_err-range.ensures.bad.0)
+
+pub returns-in_err-files-clause-fault : goal.returns-in_err-files-clause-fault
+returns-in_err-files-clause-fault g c =
+    let p = err_from_is_err_and c.from_residual-in_err-files.result c.from_residual-in_err-files.ensures.1 in
+    rw (p.1, p.2) (dry_reading (g.S.Source.file c.args.files.now) c.args.asked c.in_ok-range.range c.in_ok-range.ensures.means _ c.in_err-files.ensures.fault)
+
+pub returns-in_err-files-clause-left : goal.returns-in_err-files-clause-left
+returns-in_err-files-clause-left g c =
+    let p = err_from_is_err_and c.from_residual-in_err-files.result c.from_residual-in_err-files.ensures.1 in
+    rw (p.1, p.2) (reading_leaves _ _ _ (g.S.Source.file c.args.files.now) (run_paths c.args.asked.graph (string_bytes c.args.asked.table)) _ c.in_err-files.ensures.fault)
 
 pub returns-in_err-succeeded-clause-fault : goal.returns-in_err-succeeded-clause-fault
 returns-in_err-succeeded-clause-fault g c =
     let p = err_from_is_err_and c.from_residual-in_err-succeeded.result c.from_residual-in_err-succeeded.ensures.1 in
-    rw (p.1, p.2) (
-      c.in_ok-from.from,
-      c.in_ok-to.to,
-      means_lent c.as_str.result.now _ c.in_ok-from.from c.as_str.ensures.value c.in_ok-from.ensures.means,
-      means_lent c.as_str-2.result.now _ c.in_ok-to.to c.as_str-2.ensures.value c.in_ok-to.ensures.means,
-      λ graph table zone held table_held.
-          let are = c.in_ok-graph.ensures.held graph zone held in
-          let read = c.deref-2.ensures.value ∙ table_read _ _ _ c.in_ok-table.table.items table c.in_ok-graph.ensures.stays c.in_ok-table.ensures.ok table_held in
-          of_held (λ bytes file. IsFaultOfDry bytes file table c.in_ok-from.from.nanosecond c.in_ok-to.to.nanosecond c.in_err-succeeded.field-0.0) c.deref.result.now graph _ zone (c.deref.ensures.value ∙ are.0) (c.zone_file.ensures ∙ are.1)
-          (subst (λ (bytes : List ℕ). IsFaultOfDry c.deref.result.now (option_map (λ s. s.now) c.zone_file.result) bytes c.in_ok-from.from.nanosecond c.in_ok-to.to.nanosecond c.in_err-succeeded.field-0.0) read c.in_err-succeeded.ensures.fault),
-    )
+    let alike = lent_table_alike _ c.args.asked.graph _ c.deref.result.now _ c.deref-2.result.now _ _ _ c.deref.ensures.value c.zone_file.ensures c.deref-2.ensures.value c.in_ok-files.ensures.alike in
+    rw (p.1, p.2) (dry_files _ c.args.asked c.in_ok-range.range c.in_ok-range.ensures.means c.deref.result.now c.deref-2.result.now _ c.in_ok-files.ensures.readable alike _ c.in_err-succeeded.ensures.fault)
+
+pub returns-in_err-succeeded-clause-left : goal.returns-in_err-succeeded-clause-left
+returns-in_err-succeeded-clause-left g c =
+    let p = err_from_is_err_and c.from_residual-in_err-succeeded.result c.from_residual-in_err-succeeded.ensures.1 in
+    let alike = lent_table_alike _ c.args.asked.graph _ c.deref.result.now _ c.deref-2.result.now _ _ _ c.deref.ensures.value c.zone_file.ensures c.deref-2.ensures.value c.in_ok-files.ensures.alike in
+    rw (p.1, p.2) (leaves_due _ _ _ (λ text is. (of_runs is.0, dry_answer _ c.args.asked c.in_ok-range.range c.in_ok-range.ensures.means c.deref.result.now c.deref-2.result.now _ c.in_ok-files.ensures.readable alike text is.0 is.1)) _ _ _ c.in_err-succeeded.ensures.left)
+
+pub returns-clause-answer : goal.returns-clause-answer
+returns-clause-answer g c =
+    let alike = lent_table_alike _ c.args.asked.graph _ c.deref.result.now _ c.deref-2.result.now _ _ _ c.deref.ensures.value c.zone_file.ensures c.deref-2.ensures.value c.in_ok-files.ensures.alike in
+    let sends = c.in_ok-succeeded.ensures.ok in
+    let answer = dry_answer _ c.args.asked c.in_ok-range.range c.in_ok-range.ensures.means c.deref.result.now c.deref-2.result.now _ c.in_ok-files.ensures.readable alike sends.0 c.in_ok-succeeded.succeeded sends.1 in
+    (sends.0, rw c.of_runs.ensures answer, sends.2)

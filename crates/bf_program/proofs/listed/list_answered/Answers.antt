@@ -1,30 +1,45 @@
-use Rattle.std.proofs.Common.{refl, ◌∙◌}
+use Rattle.std.proofs.Common.{◌≡◌, ◌∙◌}
 use Rattle.std.proofs.lemmas.Result.{err_from_is_err_and}
-use Rattle.bf_program.specs.Lists.{IsFaultOfList, IsListed}
-use Rattle.bf_program.proofs.CommandFacts.{means_lent, of_held}
+use Rattle.bf_program.specs.Commands.{graph_paths}
+use Rattle.bf_program.specs.declared.status.Status.{Status}
+use Rattle.bf_program.proofs.CommandEnds.{lent_alike, list_answer, list_files, list_moments, list_reading}
+use Rattle.bf_program.proofs.Faults.{leaves_due, moment_leaves, reading_leaves}
 use Rattle.bf_program.proofs.listed.list_answered.Goals as goal
 
-pub returns-clause-answer : goal.returns-clause-answer
-returns-clause-answer g c = record {
-  success = refl;
-  from = c.in_ok-from.from;
-  to = c.in_ok-to.to;
-  from_means = means_lent c.as_str.result.now _ c.in_ok-from.from c.as_str.ensures.value c.in_ok-from.ensures.means;
-  to_means = means_lent c.as_str-2.result.now _ c.in_ok-to.to c.as_str-2.ensures.value c.in_ok-to.ensures.means;
-  written = λ graph zone held.
-      let are = c.in_ok-files.ensures.held graph zone held in
-      of_held (λ bytes file. IsListed bytes file c.in_ok-from.from.nanosecond c.in_ok-to.to.nanosecond (g.W.Write.written c.args.out.now) (g.W.Write.written c.run_list.new.out)) c.deref.result.now graph _ zone (c.deref.ensures.value ∙ are.0) (c.zone_file.ensures ∙ are.1) c.in_ok-run_list.ensures.ok;
-}
+pub returns-in_err-range-clause-fault : goal.returns-in_err-range-clause-fault
+returns-in_err-range-clause-fault g c =
+    let p = err_from_is_err_and c.from_residual.result c.from_residual.ensures.1 in
+    rw (p.1, p.2) (list_moments (g.S.Source.file c.args.files.now) c.args.asked _ c.in_err-range.ensures.bad)
+
+pub returns-in_err-range-clause-left : goal.returns-in_err-range-clause-left
+returns-in_err-range-clause-left g c =
+    let p = err_from_is_err_and c.from_residual.result c.from_residual.ensures.1 in
+    rw (p.1, p.2) (moment_leaves _ _ _ _ c.in_err-range.ensures.bad.0)
+
+pub returns-in_err-files-clause-fault : goal.returns-in_err-files-clause-fault
+returns-in_err-files-clause-fault g c =
+    let p = err_from_is_err_and c.from_residual-in_err-files.result c.from_residual-in_err-files.ensures.1 in
+    rw (p.1, p.2) (list_reading (g.S.Source.file c.args.files.now) c.args.asked c.in_ok-range.range c.in_ok-range.ensures.means _ c.in_err-files.ensures.fault)
+
+pub returns-in_err-files-clause-left : goal.returns-in_err-files-clause-left
+returns-in_err-files-clause-left g c =
+    let p = err_from_is_err_and c.from_residual-in_err-files.result c.from_residual-in_err-files.ensures.1 in
+    rw (p.1, p.2) (reading_leaves _ _ _ (g.S.Source.file c.args.files.now) (graph_paths c.args.asked.graph) _ c.in_err-files.ensures.fault)
 
 pub returns-in_err-run_list-clause-fault : goal.returns-in_err-run_list-clause-fault
 returns-in_err-run_list-clause-fault g c =
     let p = err_from_is_err_and c.from_residual-in_err-run_list.result c.from_residual-in_err-run_list.ensures.1 in
-    rw (p.1, p.2) (
-      c.in_ok-from.from,
-      c.in_ok-to.to,
-      means_lent c.as_str.result.now _ c.in_ok-from.from c.as_str.ensures.value c.in_ok-from.ensures.means,
-      means_lent c.as_str-2.result.now _ c.in_ok-to.to c.as_str-2.ensures.value c.in_ok-to.ensures.means,
-      λ graph zone held.
-          let are = c.in_ok-files.ensures.held graph zone held in
-          of_held (λ bytes file. IsFaultOfList bytes file c.in_ok-from.from.nanosecond c.in_ok-to.to.nanosecond c.in_err-run_list.field-0.0) c.deref.result.now graph _ zone (c.deref.ensures.value ∙ are.0) (c.zone_file.ensures ∙ are.1) c.in_err-run_list.ensures.fault,
-    )
+    let alike = lent_alike _ c.args.asked.graph c.deref.result.now _ _ _ c.deref.ensures.value c.zone_file.ensures c.in_ok-files.ensures.alike in
+    rw (p.1, p.2) (list_files _ c.args.asked c.in_ok-range.range c.in_ok-range.ensures.means c.deref.result.now _ c.in_ok-files.ensures.readable alike _ c.in_err-run_list.ensures.fault)
+
+pub returns-in_err-run_list-clause-left : goal.returns-in_err-run_list-clause-left
+returns-in_err-run_list-clause-left g c =
+    let p = err_from_is_err_and c.from_residual-in_err-run_list.result c.from_residual-in_err-run_list.ensures.1 in
+    let alike = lent_alike _ c.args.asked.graph c.deref.result.now _ _ _ c.deref.ensures.value c.zone_file.ensures c.in_ok-files.ensures.alike in
+    rw (p.1, p.2) (leaves_due _ _ _ (λ text is. (Status.Success, list_answer _ c.args.asked c.in_ok-range.range c.in_ok-range.ensures.means c.deref.result.now _ c.in_ok-files.ensures.readable alike text is)) _ _ _ c.in_err-run_list.ensures.left)
+
+pub returns-clause-answer : goal.returns-clause-answer
+returns-clause-answer g c =
+    let alike = lent_alike _ c.args.asked.graph c.deref.result.now _ _ _ c.deref.ensures.value c.zone_file.ensures c.in_ok-files.ensures.alike in
+    let sends = c.in_ok-run_list.ensures.ok in
+    (sends.0, list_answer _ c.args.asked c.in_ok-range.range c.in_ok-range.ensures.means c.deref.result.now _ c.in_ok-files.ensures.readable alike sends.0 sends.1, sends.2)

@@ -1,0 +1,123 @@
+-- Files that say alike have one answer, and one fault.
+use Rattle.std.proofs.Common.{◌≡◌, ℕ, ℤ, Bool, List, Option, Result, sym, ◌∙◌}
+use Rattle.jiff.specs.declared.timestamp.Timestamp.{Timestamp}
+use Rattle.bf_read.specs.declared.draft.Draft.{Draft}
+use Rattle.bf_check.specs.declared.fault.CheckFault.{CheckFault}
+use Rattle.bf_check.specs.declared.fault.CheckFault.TheVariants as check
+use Rattle.bf_check.specs.Refusals.{IsAccepted, IsFaultOf}
+use Rattle.bf_check.specs.Schedules.{IsScheduled}
+use Rattle.bf_interval.specs.declared.fault.IntervalFault.{IntervalFault}
+use Rattle.bf_interval.specs.declared.interval.Interval.{Interval}
+use Rattle.bf_try.specs.Tables.{table_of}
+use Rattle.bf_program.specs.declared.graphs.GraphSize.{GraphSize}
+use Rattle.bf_program.specs.declared.refusal.CommandFault.{CommandFault}
+use Rattle.bf_program.specs.declared.refusal.CommandFault.TheVariants.{Read, Check, Table, Range, BadMoment, OutOfMemory, CannotRead, CannotWrite}
+use Rattle.bf_program.specs.DatedRuns.{IsFaultOfDry, IsReportIn}
+use Rattle.bf_program.specs.Files.{AreAlike}
+use Rattle.bf_program.specs.Graphs.{IsFaultIn, IsFileOf, IsGraph, IsSizeOf}
+use Rattle.bf_program.specs.Lists.{HasListing, IsFaultOfList, IsListIn}
+use Rattle.bf_program.specs.OneRun.{IsFaultOfSingle, IsReportAt}
+use Rattle.bf_program.specs.OverTable.{IsTable}
+
+module _ (read held : List ℕ) (one two : Option (List ℕ)) (alike : AreAlike read held one two) where
+  scheduled : (draft : Draft) → IsScheduled draft one → IsScheduled draft two
+  scheduled draft is = record { spec = is.spec; fires = is.fires; zone = is.zone; zone_is = λ z lends. alike.means.to _ z (is.zone_is z lends) }
+
+  accepted : (draft : Draft) → IsAccepted draft one → IsAccepted draft two
+  accepted draft is = record { graph = is.graph; scheduled = scheduled draft is.scheduled }
+
+  fault_of : (draft : Draft) (fault : CheckFault) → IsFaultOf draft one fault → IsFaultOf draft two fault
+  fault_of draft (check.Task fault id) is = (is.0, is.1, λ late. scheduled draft (is.2 late))
+  fault_of draft (check.Cycle ids) is = is
+  fault_of draft check.BadCron is = is
+  fault_of draft check.NeverFires is = is
+  fault_of draft check.BadZone is = (λ z means. is.0 z (alike.means.back _ z means), is.1, is.2, is.3)
+  fault_of draft check.OutOfMemory is = tt
+
+  file_of : (draft : Draft) → IsFileOf read draft → IsFileOf held draft
+  file_of draft is = sym alike.says ∙ is
+
+  graph_of : (draft : Draft) → IsGraph read one draft → IsGraph held two draft
+  graph_of draft is = record { says = file_of draft is.says; accepted = accepted draft is.accepted }
+
+  pub fault_in : (fault : CommandFault) → IsFaultIn read one fault → IsFaultIn held two fault
+  fault_in (Read fault) is = sym alike.says ∙ is
+  fault_in (Check fault) is = (is.0, file_of is.0 is.1, fault_of is.0 fault is.2)
+  fault_in (Table fault) is = absurd is
+  fault_in (Range fault) is = absurd is
+  fault_in BadMoment is = absurd is
+  fault_in OutOfMemory is = tt
+  fault_in (CannotRead path) is = absurd is
+  fault_in (CannotWrite n) is = absurd is
+
+  pub size_of : (size : GraphSize) → IsSizeOf read one size → IsSizeOf held two size
+  size_of size is = record { draft = is.draft; graph_is = graph_of is.draft is.graph_is; size_is = is.size_is }
+
+  listing_of : (from to : ℤ) (answer : Result (List Interval) IntervalFault) → HasListing read one from to answer → HasListing held two from to answer
+  listing_of from to answer is = record {
+    draft = is.draft;
+    graph_is = graph_of is.draft is.graph_is;
+    schedule = is.schedule;
+    fires = is.fires;
+    zone = is.zone;
+    zone_is = alike.means.to _ is.zone is.zone_is;
+    answers = is.answers;
+  }
+
+  pub list_of : (from to : ℤ) (text : List ℕ) → IsListIn read one from to text → IsListIn held two from to text
+  list_of from to text is = record { found = is.found; listing = listing_of from to _ is.listing; text_is = is.text_is }
+
+  pub list_fault : (from to : ℤ) (fault : CommandFault) → IsFaultOfList read one from to fault → IsFaultOfList held two from to fault
+  list_fault from to (Read fault) is = fault_in (Read fault) is
+  list_fault from to (Check fault) is = fault_in (Check fault) is
+  list_fault from to (Table fault) is = absurd is
+  list_fault from to (Range fault) is = listing_of from to _ is
+  list_fault from to BadMoment is = absurd is
+  list_fault from to OutOfMemory is = tt
+  list_fault from to (CannotRead path) is = absurd is
+  list_fault from to (CannotWrite n) is = tt
+
+  module _ (table other : List ℕ) (same : table_of table ≡ table_of other) where
+    a_table : IsTable table → IsTable other
+    a_table is = record { entries = is.entries; says = sym same ∙ is.says }
+
+    pub report_at : (at : Timestamp) (text : List ℕ) (success : Bool) → IsReportAt read one table at text success → IsReportAt held two other at text success
+    report_at at text success is = record {
+      draft = is.draft;
+      entries = is.entries;
+      graph_is = graph_of is.draft is.graph_is;
+      table_says = sym same ∙ is.table_says;
+      in_years = is.in_years;
+      reported = is.reported;
+    }
+
+    pub report_in : (from to : ℤ) (text : List ℕ) (success : Bool) → IsReportIn read one table from to text success → IsReportIn held two other from to text success
+    report_in from to text success is = record {
+      draft = is.draft;
+      entries = is.entries;
+      found = is.found;
+      graph_is = graph_of is.draft is.graph_is;
+      table_says = sym same ∙ is.table_says;
+      listing = listing_of from to _ is.listing;
+      reported = is.reported;
+    }
+
+    pub single_fault : (at : Timestamp) (fault : CommandFault) → IsFaultOfSingle read one table at fault → IsFaultOfSingle held two other at fault
+    single_fault at (Read fault) is = fault_in (Read fault) is
+    single_fault at (Check fault) is = fault_in (Check fault) is
+    single_fault at (Table fault) is = (is.0, graph_of is.0 is.1, sym same ∙ is.2)
+    single_fault at (Range fault) is = (is.0, graph_of is.0 is.1, a_table is.2, is.3, is.4)
+    single_fault at BadMoment is = absurd is
+    single_fault at OutOfMemory is = tt
+    single_fault at (CannotRead path) is = absurd is
+    single_fault at (CannotWrite n) is = tt
+
+    pub dry_fault : (from to : ℤ) (fault : CommandFault) → IsFaultOfDry read one table from to fault → IsFaultOfDry held two other from to fault
+    dry_fault from to (Read fault) is = fault_in (Read fault) is
+    dry_fault from to (Check fault) is = fault_in (Check fault) is
+    dry_fault from to (Table fault) is = (is.0, graph_of is.0 is.1, sym same ∙ is.2)
+    dry_fault from to (Range fault) is = (a_table is.0, listing_of from to _ is.1)
+    dry_fault from to BadMoment is = absurd is
+    dry_fault from to OutOfMemory is = tt
+    dry_fault from to (CannotRead path) is = absurd is
+    dry_fault from to (CannotWrite n) is = tt
