@@ -1,10 +1,11 @@
 -- Drafts that a graph file may give: how many of each thing there are, and between which bounds.
-use Rattle.std.specs.Prelude.{◌≡◌, ◌≢◌, ℕ, ◌+◌, ◌≤◌, not, false, List, [], ◌∷◌, length, filter, All, AllPairs, map, sum_by, Option, Some, None}
+use Rattle.std.specs.Prelude.{◌≡◌, ◌≢◌, ℕ, ◌+◌, ◌≤◌, not, true, false, List, [], ◌∷◌, length, filter, All, AllPairs, map, sum_by, Option, Some, None}
 use Rattle.std.specs.List.{list_any, filter_map}
 use Rattle.std.specs.Cmp.Lexicographic.{slice_cmp}
 use Rattle.std.specs.Ordering.{nat_cmp}
 use Rattle.std.specs.declared.cmp.Ordering.TheVariants.{Less}
 use Rattle.std.specs.Str.{bytes_eq}
+use Rattle.bf_read.specs.Ids.{is_id}
 use Rattle.bf_read.specs.Limits.{most_tasks, most_edges, most_words, most_pulls, most_retries, longest_retry_delay, most_slots, greatest_weight, most_active_runs}
 use Rattle.bf_read.specs.declared.draft.PoolDraft.{PoolDraft}
 use Rattle.bf_read.specs.declared.draft.TaskDraft.{TaskDraft}
@@ -36,8 +37,9 @@ AreDistinct texts = AllPairs (λ a b. a ≢ b) texts
 abbrev pub HaveDistinctIds : List TaskDraft → Type 0
 HaveDistinctIds tasks = AreDistinct (map (λ task. task.id) tasks)
 
--- a task whose upstreams are distinct, and whose numbers and words are within their limits
+-- a task that has an id, whose upstreams are distinct, and whose numbers and words are within their limits
 pub record IsTask (task : TaskDraft) : Type 0 where
+  pub has_id : is_id task.id ≡ true
   pub distinct_upstreams : AreDistinct task.upstreams
   pub few_words : length task.command ≤ most_words
   pub few_pulls : length (pulled_in task.command) ≤ most_pulls
@@ -63,8 +65,9 @@ pub record IsPool (pool : PoolDraft) : Type 0 where
 abbrev pub StandByName : List PoolDraft → Type 0
 StandByName pools = AllPairs (λ a b. slice_cmp nat_cmp a.name b.name ≡ Less) pools
 
--- the numbers, the pools and the tasks of a draft
-pub record IsDraft (max_active_runs : ℕ) (pools : List PoolDraft) (tasks : List TaskDraft) : Type 0 where
+-- the id, the numbers, the pools and the tasks of a draft
+pub record IsDraft (dag_id : List ℕ) (max_active_runs : ℕ) (pools : List PoolDraft) (tasks : List TaskDraft) : Type 0 where
+  pub has_id : is_id dag_id ≡ true
   pub some_runs : 1 ≤ max_active_runs
   pub few_runs : max_active_runs ≤ most_active_runs
   pub are_pools : All IsPool pools

@@ -9,7 +9,7 @@ use Rattle.bf_read.specs.declared.path.Path.{Path}
 use Rattle.bf_read.specs.declared.keys.GraphKey.{GraphKey}
 use Rattle.bf_read.specs.declared.keys.TaskKey.{TaskKey}
 use Rattle.bf_read.specs.declared.draft.PoolDraft.{PoolDraft}
-use Rattle.bf_read.specs.Limits.{most_slots, longest_id}
+use Rattle.bf_read.specs.Limits.{most_slots}
 use Rattle.bf_read.specs.declared.kinds.TaskKind.{TaskKind}
 use Rattle.bf_read.specs.declared.kinds.WeightRule.{WeightRule}
 use Rattle.bf_read.specs.declared.kinds.ContextVariable.{ContextVariable}
@@ -19,6 +19,7 @@ use Rattle.bf_read.specs.declared.fields.Field.{Field}
 use Rattle.bf_read.specs.declared.fields.ObjectKind.{ObjectKind}
 use Rattle.bf_read.specs.Drafts.{distinct}
 use Rattle.bf_read.specs.Gives.{◌>>=◌}
+use Rattle.bf_read.specs.Ids.{is_id}
 use Rattle.bf_read.specs.Keys.{graph_key_name, task_key_name, is_graph_key, is_task_key}
 
 -- a value and its place, where the value may be missing
@@ -86,13 +87,6 @@ text_or default m = if_there m.value default (text_at m)
 -- the source of the items of a task, if it has one
 unfoldable pub expand_at : Member → Result (Option (List ℕ)) ReadFault
 expand_at m = if_there m.value None (text_at m >>= λ s. Ok (Some s))
-
--- an ASCII letter or digit, or one of - . _
-abbrev pub is_id_byte : ℕ → Bool
-is_id_byte b = (nat_le 97 b && nat_le b 122) || (nat_le 65 b && nat_le b 90) || (nat_le 48 b && nat_le b 57) || b == 45 || b == 46 || b == 95
-
-abbrev pub is_id : List ℕ → Bool
-is_id s = nat_le 1 (length s) && nat_le (length s) longest_id && list_all is_id_byte s
 
 -- a text that has to be an id
 unfoldable pub named_at : Path → List ℕ → Result (List ℕ) ReadFault

@@ -1,4 +1,5 @@
 pub mod Limits
+pub mod Ids
 pub mod Drafts
 pub mod Gives
 pub mod Keys

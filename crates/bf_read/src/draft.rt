@@ -57,7 +57,7 @@ pub struct Draft {
     pub pools: Sequence<PoolDraft>,
     /// In the order of the file.
     pub tasks: Sequence<TaskDraft>,
-    pub ghost within_limits: { IsDraft max_active_runs pools tasks },
+    pub ghost within_limits: { IsDraft dag_id max_active_runs pools tasks },
 }
 
 /// How many upstreams the tasks have.

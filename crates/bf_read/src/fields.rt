@@ -4,7 +4,8 @@ ghost use Rattle.std.specs.BTreeMap.{keys};
 ghost use Rattle.std.specs.List.{list_all};
 ghost use Rattle.serde_json.specs.View.{view, items_view, members_view};
 ghost use Rattle.bf_read.specs.Gives.{Gives};
-ghost use Rattle.bf_read.specs.Fields.{member_of, there as place, graph_member, task_member, text_at as text, text_or as text_unless, expand_at as expand, id_at as id, is_id_byte as id_byte, is_id as id_text, named_at as named, is_key as key, has_known_keys as has_known, object_at as object, items_at as items, flag_at as flag, whole_at as whole, within as between, count_at as count, limit as limited, members_at as members};
+ghost use Rattle.bf_read.specs.Ids.{is_id_byte as id_byte, is_id as id_text};
+ghost use Rattle.bf_read.specs.Fields.{member_of, there as place, graph_member, task_member, text_at as text, text_or as text_unless, expand_at as expand, id_at as id, named_at as named, is_key as key, has_known_keys as has_known, object_at as object, items_at as items, flag_at as flag, whole_at as whole, within as between, count_at as count, limit as limited, members_at as members};
 
 use crate::fault::ReadFault;
 use crate::keys::{GraphKey, TaskKey, is_graph_key, is_task_key};
@@ -164,6 +165,7 @@ pub fn is_id(text: &str) -> bool
 pub(crate) fn named_at(alloc: Global, path: Path, text: &str) -> Result<Text, ReadFault>
     ensures exact { Gives (λ s. s) result (named path text.now) }
     ensures same { IfOk result (λ s. s ≡ text.now) }
+    ensures id { IfOk result (λ s. id_text s ≡ true) }
 {
     if !is_id(text) {
         return Err(ReadFault::BadName(path));
@@ -174,7 +176,8 @@ pub(crate) fn named_at(alloc: Global, path: Path, text: &str) -> Result<Text, Re
 /// An id that has to be there.
 #[tactic(auto, unfolding(crate::specs::Fields::id_at))]
 pub(crate) fn id_at(alloc: Global, field: Field) -> Result<Text, ReadFault>
-    ensures { Gives (λ s. s) result (id (member_of field.entry)) }
+    ensures exact { Gives (λ s. s) result (id (member_of field.entry)) }
+    ensures id { IfOk result (λ s. id_text s ≡ true) }
 {
     let text = text_at(field)?;
     named_at(alloc, field.path, text)

@@ -1,10 +1,11 @@
 //! The tasks of a graph file.
-ghost use Rattle.std.specs.Prelude.{◌≡◌, ◌+◌, ◌≤◌, [], false, length, nat_le, IfOk, OnOk};
+ghost use Rattle.std.specs.Prelude.{◌≡◌, ◌+◌, ◌≤◌, [], true, false, length, nat_le, IfOk, OnOk};
 ghost use Rattle.std.specs.List.{list_any};
 ghost use Rattle.std.specs.Str.{bytes_eq};
 ghost use Rattle.serde_json.specs.Events.{items_len};
 ghost use Rattle.serde_json.specs.View.{view, items_view};
 ghost use Rattle.bf_read.specs.Gives.{Gives};
+ghost use Rattle.bf_read.specs.Ids.{is_id};
 ghost use Rattle.bf_read.specs.Drafts.{edge_count, pulled_in, AreDistinct, AreTasks, MayFollow};
 ghost use Rattle.bf_read.specs.Fields.{member_of, task_member, limit as limited};
 ghost use Rattle.bf_read.specs.Reading.{fresh as new, place_at as place, work_at as work, demand_at as demand, task_at as task, tasks_from, tasks_at as tasks};
@@ -67,6 +68,7 @@ fn is_seen(tasks: &[TaskDraft], id: &str) -> bool
 fn fresh(tasks: &[TaskDraft], id: Text) -> Result<Text, ReadFault>
     ensures exact { Gives (λ id. id) result (new tasks.now id) }
     ensures fresh { IfOk result (λ id. list_any (λ task. bytes_eq id task.id) tasks.now ≡ false) }
+    ensures same { IfOk result (λ fresh. fresh ≡ id) }
 {
     if is_seen(tasks, id.as_str()) {
         return Err(ReadFault::DuplicateTask(id));
@@ -79,6 +81,7 @@ fn place_of(alloc: Global, tasks: &[TaskDraft], task: TaskObject) -> Result<Task
     requires { edge_count tasks.now ≤ most_edges }
     ensures exact { Gives (λ p. p) result (place tasks.now (task_member task.entry.n (view task.entry.value.now))) }
     ensures fresh { IfOk result (λ p. list_any (λ task. bytes_eq p.id task.id) tasks.now ≡ false) }
+    ensures id { IfOk result (λ p. is_id p.id ≡ true) }
     ensures distinct { IfOk result (λ p. AreDistinct p.upstreams) }
     ensures few { IfOk result (λ p. edge_count tasks.now + length p.upstreams ≤ most_edges) }
 {

@@ -13,7 +13,7 @@ use Rattle.bf_value.specs.Plain.{IsSound}
 use Rattle.bf_value.specs.Views.{plain_of}
 use Rattle.bf_value.proofs.TextLemmas.{value_of_line-text_of}
 use Rattle.bf_value.proofs.Utf8Lemmas.{text_utf8}
-use Rattle.bf_read.specs.Fields.{is_id}
+use Rattle.bf_read.specs.Ids.{is_id}
 use Rattle.bf_graph.specs.Shape.{AreDistinct}
 use Rattle.bf_interval.specs.declared.interval.Interval.{Interval}
 use Rattle.bf_interval.specs.Runs.{IsSecondTo2208, IsOfRun}
@@ -52,7 +52,8 @@ use Rattle.bf_report.specs.Values.{IsSoundOutcome, IsSoundTask, AreSoundTasks, H
 use Rattle.bf_reader.specs.Entries.{IsShownValue, IsShownOutcome, IsShownResult, IsTries}
 use Rattle.bf_reader.specs.Rules.{IsShownTask, IsShownRun, IsShownReport, Rise}
 use Rattle.bf_reader.specs.Runs.{IsReportMoment, IsRunInterval}
-use Rattle.bf_reader.specs.Written.{IsNamed, AreOfRuns}
+use Rattle.bf_check.specs.Sound.{IsNamed}
+use Rattle.bf_reader.specs.Written.{AreOfRuns}
 
 -- ---- data intervals
 

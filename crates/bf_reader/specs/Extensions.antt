@@ -1,6 +1,6 @@
 -- Reports that begin as one does that was read so far.
 use Rattle.std.specs.Prelude.{◌≡◌, ℕ, zero, suc, true, List, [], ◌∷◌, ◌++◌, None, codes}
-use Rattle.bf_read.specs.Fields.{is_id}
+use Rattle.bf_read.specs.Ids.{is_id}
 use Rattle.bf_report.specs.declared.report.Report.{Report}
 use Rattle.bf_report.specs.Report.{report_text}
 use Rattle.bf_reader.specs.declared.beginning.Beginning.{Beginning}

@@ -1,7 +1,7 @@
 -- The rules of a report.
 use Rattle.std.specs.Prelude.{◌≡◌, ◌≤◌, ◌<ℤ◌, ℕ, true, List, [], ◌∷◌, length, Option, Some, None}
 use Rattle.std.specs.List.{AllByRecursion}
-use Rattle.bf_read.specs.Fields.{is_id}
+use Rattle.bf_read.specs.Ids.{is_id}
 use Rattle.bf_graph.specs.Shape.{AreDistinct}
 use Rattle.bf_report.specs.declared.report.TaskReport.{TaskReport}
 use Rattle.bf_report.specs.declared.report.RunReport.{RunReport}

@@ -1,6 +1,6 @@
 //! Laws of the texts of reports. These functions do nothing: their contracts are the laws.
 ghost use Rattle.std.specs.Prelude.{◌≡◌, List, length};
-ghost use Rattle.bf_check.specs.Sound.{IsSound};
+ghost use Rattle.bf_check.specs.Sound.{IsNamed, IsSound};
 ghost use Rattle.bf_core.specs.Terms.{Dag, Limits};
 ghost use Rattle.bf_core.specs.declared.event.Event.{Event};
 ghost use Rattle.bf_core.specs.declared.state.State.{State};
@@ -13,7 +13,7 @@ ghost use Rattle.bf_report.specs.Values.{HasSoundValues};
 ghost use Rattle.bf_report.specs.declared.report.Report.{Report};
 ghost use Rattle.bf_report.specs.Report.{report_text};
 ghost use Rattle.bf_reader.specs.Rules.{IsShownReport};
-ghost use Rattle.bf_reader.specs.Written.{IsNamed, AreOfRuns};
+ghost use Rattle.bf_reader.specs.Written.{AreOfRuns};
 
 /// No two reports have one text.
 pub fn no_two_reports_have_one_text()

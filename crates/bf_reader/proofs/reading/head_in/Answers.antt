@@ -1,6 +1,6 @@
 use Rattle.std.proofs.Common.{◌≡◌, ◌∷◌, ◌++◌, true≢false, codes, drop, ap, sym, subst, refl, ◌∙◌}
 use Rattle.std.specs.Str.{IsUtf8}
-use Rattle.bf_read.specs.Fields.{is_id}
+use Rattle.bf_read.specs.Ids.{is_id}
 use Rattle.bf_reader.proofs.Words.{id_utf8}
 use Rattle.bf_reader.proofs.reading.head_in.Goals as goal
 use Rattle.bf_reader.proofs.reading.head_in.Goals.{in_default-from_utf8-via-in-Ok+else-is_id, in_default-from_utf8-via-in_default-from_utf8}
