@@ -2,6 +2,7 @@
 ghost use Rattle.std.specs.Prelude.{◌≡◌, ◌≤◌, IfOk, IfSome, None, take, vec_len};
 
 use crate::source::{Source, SourceFault};
+use bf_report::Halt;
 use std::alloc::Global;
 use std::fs::File;
 use std::io;
@@ -75,7 +76,7 @@ fn first_read<R: io::Read>(
             Ok(0) => break,
             Ok(n) => bytes.extend_from_slice(&chunk[..n])?,
             Err(error) => {
-                if error.kind() != ErrorKind::Interrupted || interruptions == INTERRUPTIONS {
+                if Halt::of(&error) == Halt::Failed || interruptions == INTERRUPTIONS {
                     return Err(error.into());
                 }
                 interruptions += 1;

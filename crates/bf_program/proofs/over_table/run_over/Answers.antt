@@ -24,7 +24,7 @@ returns-in_err-write_report-clause-left g c =
     answering_by c.args.plan.now.dag c.args.table c.args.intervals.now c.deref.result.now c.in_ok-runner.runner c.in_ok-runner.ensures (c.deref.ensures.value ∙ c.in_ok-starts.ensures.starts) in
     let over : IsOver (answering c.args.plan.now.dag c.args.table c.args.intervals.now) (length c.args.intervals.now) c.in_ok-ended.ended =
     subst (λ (r : Answering). IsOver r (length c.args.intervals.now) c.in_ok-ended.ended) same c.in_ok-ended.ensures in
-    let reported = reported_over c.args.plan.now.dag c.args.table c.args.intervals.now c.in_ok-ended.ended c.in_ok-report.report over c.in_ok-report.ensures in
+    let reported = reported_over c.args.plan.now.dag c.args.table c.args.intervals.now c.in_ok-ended.ended c.in_ok-report.report over c.in_ok-report.ensures.dated in
     let p = err_from_is_err_and c.from_residual-in_err-write_report.result c.from_residual-in_err-write_report.ensures.1 in
     rw (p.1, p.2) (write_leaves _ _ _ _ (report_text c.in_ok-report.report) (_, reported) _ c.in_err-write_report.ensures.part c.in_err-write_report.ensures.io c.in_err-write_report.ensures.memory)
 
@@ -34,7 +34,7 @@ returns-clause-ok g c =
     answering_by c.args.plan.now.dag c.args.table c.args.intervals.now c.deref.result.now c.in_ok-runner.runner c.in_ok-runner.ensures (c.deref.ensures.value ∙ c.in_ok-starts.ensures.starts) in
     let over : IsOver (answering c.args.plan.now.dag c.args.table c.args.intervals.now) (length c.args.intervals.now) c.in_ok-ended.ended =
     subst (λ (r : Answering). IsOver r (length c.args.intervals.now) c.in_ok-ended.ended) same c.in_ok-ended.ensures in
-    let reported = reported_over c.args.plan.now.dag c.args.table c.args.intervals.now c.in_ok-ended.ended c.in_ok-report.report over c.in_ok-report.ensures in
+    let reported = reported_over c.args.plan.now.dag c.args.table c.args.intervals.now c.in_ok-ended.ended c.in_ok-report.report over c.in_ok-report.ensures.dated in
     let succeeded = c.all_succeeded.ensures ∙ ap (list_all (λ run. is_success run.state)) c.as_slice.ensures in (
       report_text c.in_ok-report.report,
       subst (λ (b : Bool). IsReportOver c.args.plan.now.dag c.args.table c.args.intervals.now (report_text c.in_ok-report.report) b) (sym succeeded) reported,
