@@ -1,5 +1,5 @@
 -- How lines end.
-use Rattle.std.proofs.Common.{◌≡◌, ◌≢◌, ◌≤◌, ◌⊎◌, ℕ, Bool, true, false, List, [], ◌∷◌, Option, Result, Ok, Err, IfOk, IfErr, IsErr, IsSome, OnOk, length, take, refl, sym, ◌∙◌, inl, inr, ap, subst, arith, true≢false}
+use Rattle.std.proofs.Common.{◌≡◌, ◌≢◌, ◌≤◌, ℕ, Bool, true, false, List, [], ◌∷◌, Option, Result, Ok, Err, IfOk, IfErr, IsErr, IsSome, OnOk, length, take, refl, sym, ◌∙◌, inl, inr, ap, subst, arith}
 use Rattle.clap.specs.Words.{HasKind, IsAmong, Kinds, Row, Text, kind_of}
 use Rattle.clap.specs.declared.error.Error.{Error}
 use Rattle.clap.specs.declared.error.kind.ErrorKind.{ErrorKind}
@@ -10,7 +10,7 @@ use Rattle.bf_line.specs.Asked.{IsAskedBy}
 use Rattle.bf_report.specs.Device.{sent}
 use Rattle.bf_report.specs.declared.sending.WriteFault.{WriteFault}
 use Rattle.bf_program.specs.Commands.{Files, IsAnswer, IsDone, IsFault, IsFaulted, IsTold, MayBeFaulted, MayTell, Tells}
-use Rattle.bf_program.specs.Refusal.{Leaves, Sends, line_of, number_of, status_of}
+use Rattle.bf_program.specs.Refusal.{Leaves, Sends, number_of}
 use Rattle.bf_program.specs.Status.{EndsAs, code_of, of_runs, shown_as}
 use Rattle.bf_program.specs.declared.refusal.CommandFault.{CommandFault}
 use Rattle.bf_program.specs.declared.refusal.CommandFault.TheVariants.{Read, Check, Table, Range, BadMoment, OutOfMemory, CannotRead, CannotWrite}

@@ -1,5 +1,5 @@
 -- The faults of commands over bytes, and what they leave.
-use Rattle.std.proofs.Common.{◌≡◌, ◌≢◌, ◌≤◌, ℕ, ℤ, List, [], Bool, Option, Some, None, Result, Ok, Err, IfErr, IfOk, OnOk, IsSome, ◌++◌, length, take, refl, sym, ◌∙◌, ap, append-nil, subst, true≢false}
+use Rattle.std.proofs.Common.{◌≡◌, ◌≢◌, ◌≤◌, ℕ, ℤ, List, [], Bool, Option, Some, None, Result, Ok, Err, IfErr, IsSome, length, take, refl, sym, ◌∙◌, ap, append-nil, subst, true≢false}
 use Rattle.jiff.specs.declared.timestamp.Timestamp.{Timestamp}
 use Rattle.bf_read.specs.declared.draft.Draft.{Draft}
 use Rattle.bf_read.specs.declared.fault.ReadFault.{ReadFault}
@@ -30,7 +30,7 @@ use Rattle.bf_program.specs.Files.{IsReadingFault}
 use Rattle.bf_program.specs.Graphs.{IsFaultIn, IsFileOf, IsPlanOf}
 use Rattle.bf_program.specs.Lists.{HasListing, IsFaultOfList, IsRangeFault}
 use Rattle.bf_program.specs.OneRun.{IsFaultOfSingle, IsReportAt, intervals_at}
-use Rattle.bf_program.specs.OverTable.{IsReportOver, IsTable, IsTableFault, IsWanting}
+use Rattle.bf_program.specs.OverTable.{IsReportOver, IsTableFault, IsWanting}
 use Rattle.bf_program.specs.Refusal.{Leaves, of_cause, of_check, of_range, of_read, of_table, of_write, number_of}
 
 -- ---- the whole

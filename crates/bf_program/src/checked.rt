@@ -32,7 +32,8 @@ pub fn check_answered<S: Source, W: Write>(
     ensures answer { IfOk result (λ status. Sends (λ text. IsCheckAnswer (S.file files.old) asked text status)
         (W.written out.old) (W.written out.new)) }
     ensures fault { IfErr result (IsCheckFault (S.file files.old) asked) }
-    ensures left { IfErr result (Leaves (HasHalted (W.failures out.old) (W.failures out.new) (W.interruptions out.old) (W.interruptions out.new))
+    ensures left { IfErr result (Leaves (HasHalted (W.failures out.old) (W.failures out.new)
+        (W.interruptions out.old) (W.interruptions out.new))
         (λ text. (status : StatusTerm) × IsCheckAnswer (S.file files.old) asked text status)
         (W.written out.old) (W.written out.new)) }
 {

@@ -26,7 +26,8 @@ pub fn run_dry<W: Write>(
         IsReportIn graph.now (option_map (λ s. s.now) zone_file.entry) table.now range.from.nanosecond range.to.nanosecond text success)
         (W.written out.old) (W.written out.new)) }
     ensures fault { IfErr result (IsFaultOfDry graph.now (option_map (λ s. s.now) zone_file.entry) table.now range.from.nanosecond range.to.nanosecond) }
-    ensures left { IfErr result (Leaves (HasHalted (W.failures out.old) (W.failures out.new) (W.interruptions out.old) (W.interruptions out.new))
+    ensures left { IfErr result (Leaves (HasHalted (W.failures out.old) (W.failures out.new)
+        (W.interruptions out.old) (W.interruptions out.new))
         (λ text. (success : Bool)
         × IsReportIn graph.now (option_map (λ s. s.now) zone_file.entry) table.now range.from.nanosecond range.to.nanosecond text success)
         (W.written out.old) (W.written out.new)) }

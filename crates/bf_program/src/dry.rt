@@ -24,7 +24,8 @@ pub fn dry_answered<S: Source, W: Write>(
     ensures answer { IfOk result (λ status. Sends (λ text. IsDryAnswer (S.file files.old) asked text status)
         (W.written out.old) (W.written out.new)) }
     ensures fault { IfErr result (IsDryFault (S.file files.old) asked) }
-    ensures left { IfErr result (Leaves (HasHalted (W.failures out.old) (W.failures out.new) (W.interruptions out.old) (W.interruptions out.new))
+    ensures left { IfErr result (Leaves (HasHalted (W.failures out.old) (W.failures out.new)
+        (W.interruptions out.old) (W.interruptions out.new))
         (λ text. (status : StatusTerm) × IsDryAnswer (S.file files.old) asked text status)
         (W.written out.old) (W.written out.new)) }
 {

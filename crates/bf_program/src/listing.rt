@@ -44,7 +44,8 @@ pub fn run_list<W: Write>(
     ensures ok { OnOk result (Sends (IsListIn graph.now (option_map (λ s. s.now) zone_file.entry) range.from.nanosecond range.to.nanosecond)
         (W.written out.old) (W.written out.new)) }
     ensures fault { IfErr result (IsFaultOfList graph.now (option_map (λ s. s.now) zone_file.entry) range.from.nanosecond range.to.nanosecond) }
-    ensures left { IfErr result (Leaves (HasHalted (W.failures out.old) (W.failures out.new) (W.interruptions out.old) (W.interruptions out.new))
+    ensures left { IfErr result (Leaves (HasHalted (W.failures out.old) (W.failures out.new)
+        (W.interruptions out.old) (W.interruptions out.new))
         (IsListIn graph.now (option_map (λ s. s.now) zone_file.entry) range.from.nanosecond range.to.nanosecond)
         (W.written out.old) (W.written out.new)) }
 {

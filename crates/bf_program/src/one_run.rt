@@ -25,7 +25,8 @@ pub fn run_single<W: Write>(
     ensures ok { IfOk result (λ success. Sends (λ text. IsReportAt graph.now (option_map (λ s. s.now) zone_file.entry) table.now at text success)
         (W.written out.old) (W.written out.new)) }
     ensures fault { IfErr result (IsFaultOfSingle graph.now (option_map (λ s. s.now) zone_file.entry) table.now at) }
-    ensures left { IfErr result (Leaves (HasHalted (W.failures out.old) (W.failures out.new) (W.interruptions out.old) (W.interruptions out.new))
+    ensures left { IfErr result (Leaves (HasHalted (W.failures out.old) (W.failures out.new)
+        (W.interruptions out.old) (W.interruptions out.new))
         (λ text. (success : Bool) × IsReportAt graph.now (option_map (λ s. s.now) zone_file.entry) table.now at text success)
         (W.written out.old) (W.written out.new)) }
 {

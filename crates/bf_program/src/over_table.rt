@@ -85,7 +85,8 @@ pub(crate) fn run_over<W: Write>(
     ensures ok { IfOk result (λ success. Sends (λ text. IsReportOver plan.now.dag table intervals.now text success)
         (W.written out.old) (W.written out.new)) }
     ensures wanting { IfErr result IsWanting }
-    ensures left { IfErr result (Leaves (HasHalted (W.failures out.old) (W.failures out.new) (W.interruptions out.old) (W.interruptions out.new))
+    ensures left { IfErr result (Leaves (HasHalted (W.failures out.old) (W.failures out.new)
+        (W.interruptions out.old) (W.interruptions out.new))
         (λ text. (success : Bool) × IsReportOver plan.now.dag table intervals.now text success)
         (W.written out.old) (W.written out.new)) }
 {

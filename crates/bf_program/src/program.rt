@@ -41,14 +41,17 @@ pub fn answer<S: Source, W: Write, E: Write>(
 
     // Of a line that `clap` finds nothing wrong with: which fault came, and what is told of it.
     ensures why { wrongs_of words.now ≡ [] → 2 ≤ result → (fault : FaultTerm)
-        × MayBeFaulted (S.file files.old) (found_in words.now) (HasHalted (W.failures out.old) (W.failures out.new) (W.interruptions out.old) (W.interruptions out.new))
+        × MayBeFaulted (S.file files.old) (found_in words.now) (HasHalted (W.failures out.old) (W.failures out.new)
+        (W.interruptions out.old) (W.interruptions out.new))
         (W.written out.old) (W.written out.new) fault
-        × MayTell (HasHalted (E.failures err.old) (E.failures err.new) (E.interruptions err.old) (E.interruptions err.new))
+        × MayTell (HasHalted (E.failures err.old) (E.failures err.new)
+        (E.interruptions err.old) (E.interruptions err.new))
         (E.written err.old) (E.written err.new) fault result }
 
     // Of any line: a fault is told as one.
     ensures fault { result ≡ 3 → (fault : FaultTerm)
-        × Tells (HasHalted (E.failures err.old) (E.failures err.new) (E.interruptions err.old) (E.interruptions err.new))
+        × Tells (HasHalted (E.failures err.old) (E.failures err.new)
+        (E.interruptions err.old) (E.interruptions err.new))
         (E.written err.old) (E.written err.new) fault 3 }
 {
     match line_answered(alloc, words, files, out, err) {
@@ -74,7 +77,8 @@ fn line_answered<S: Source, W: Write, E: Write>(
     ensures done { wrongs_of words.now ≡ [] → IfOk result (λ s.
         IsDone (S.file files.old) (found_in words.now) (W.written out.old) (W.written out.new) (code_of s)) }
     ensures why { wrongs_of words.now ≡ [] → IfErr result (λ f. MayBeFaulted (S.file files.old) (found_in words.now)
-        (HasHalted (W.failures out.old) (W.failures out.new) (W.interruptions out.old) (W.interruptions out.new))
+        (HasHalted (W.failures out.old) (W.failures out.new)
+        (W.interruptions out.old) (W.interruptions out.new))
         (W.written out.old) (W.written out.new) f) }
 {
     match asked(alloc, words) {
@@ -117,7 +121,8 @@ fn shown<W: Write, E: Write>(
 
 /// Tells on standard error why there is no answer, and gives the exit status of what was told.
 fn told<E: Write>(alloc: Global, fault: &CommandFault, err: &mut E) -> Status
-    ensures tells { MayTell (HasHalted (E.failures err.old) (E.failures err.new) (E.interruptions err.old) (E.interruptions err.new))
+    ensures tells { MayTell (HasHalted (E.failures err.old) (E.failures err.new)
+        (E.interruptions err.old) (E.interruptions err.new))
         (E.written err.old) (E.written err.new) fault.now (code_of result) }
     ensures refused { result ≡ Status.Refused → IsSome (number_of fault.now) }
     ensures fault { (result ≡ Status.Refused) ⊎ (result ≡ Status.Fault) }
@@ -136,7 +141,8 @@ fn told<E: Write>(alloc: Global, fault: &CommandFault, err: &mut E) -> Status
 
 /// Writes a line to standard error. Where that fails, nothing is left to say so on.
 fn tell<E: Write>(err: &mut E, line: &[u8])
-    ensures { IsTold (HasHalted (E.failures err.old) (E.failures err.new) (E.interruptions err.old) (E.interruptions err.new))
+    ensures { IsTold (HasHalted (E.failures err.old) (E.failures err.new)
+        (E.interruptions err.old) (E.interruptions err.new))
         (E.written err.old) (E.written err.new) line.now }
 {
     let _ = send(err, line);

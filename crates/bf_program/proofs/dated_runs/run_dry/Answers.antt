@@ -1,4 +1,4 @@
-use Rattle.std.proofs.Common.{◌≡◌, All, List, sym, subst}
+use Rattle.std.proofs.Common.{All, sym, subst}
 use Rattle.std.proofs.lemmas.Result.{err_from_is_err_and, IfOk-weaker}
 use Rattle.bf_program.specs.Lists.{IsSince1970}
 use Rattle.bf_program.proofs.Faults.{dry_graph, dry_range, dry_table, dry_wanting_in, graph_leaves, leaves_due_in, range_leaves, reported_in, table_leaves}

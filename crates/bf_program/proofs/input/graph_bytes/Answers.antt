@@ -1,4 +1,3 @@
-use Rattle.std.proofs.Common.{IfOk, List, ℕ}
 use Rattle.std.proofs.lemmas.Result.{IfOk-weaker}
 use Rattle.bf_program.proofs.CommandFacts.{read_of, same_graph}
 use Rattle.bf_program.proofs.input.graph_bytes.Goals as goal

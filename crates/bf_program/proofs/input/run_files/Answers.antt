@@ -1,4 +1,4 @@
-use Rattle.std.proofs.Common.{◌≡◌, ◌∙◌}
+use Rattle.std.proofs.Common.{◌∙◌}
 use Rattle.bf_program.proofs.input.run_files.Goals as goal
 
 pub returns-clause-alike : goal.returns-clause-alike

@@ -1,4 +1,3 @@
-use Rattle.std.proofs.Common.{◌≡◌, ◌∙◌}
 use Rattle.std.proofs.lemmas.Result.{err_from_is_err_and}
 use Rattle.bf_program.specs.Commands.{graph_paths}
 use Rattle.bf_program.specs.declared.status.Status.{Status}

@@ -1,4 +1,4 @@
-use Rattle.std.proofs.Common.{◌≡◌, All, ap, sym, subst, ◌∙◌}
+use Rattle.std.proofs.Common.{All, ap, sym, subst, ◌∙◌}
 use Rattle.std.proofs.lemmas.Result.{err_from_is_err_and}
 use Rattle.bf_program.specs.Lists.{IsSince1970, intervals_text}
 use Rattle.bf_program.proofs.Faults.{graph_leaves, list_graph, list_range, list_wanting, range_leaves, send_leaves, write_wanting}

@@ -1,4 +1,4 @@
-use Rattle.std.proofs.Common.{◌≡◌, All, rules, sym, subst}
+use Rattle.std.proofs.Common.{rules}
 use Rattle.std.proofs.lemmas.Result.{err_from_is_err_and, IfOk-weaker}
 use Rattle.bf_interval.specs.Years.{IsInYears}
 use Rattle.bf_program.proofs.Faults.{graph_leaves, leaves_due_in, reported_at, single_graph, single_moment, single_table, single_wanting_in, table_leaves}

@@ -1,4 +1,4 @@
-use Rattle.std.proofs.Common.{◌≤◌, ℕ, arith, subst, sym, ◌∙◌}
+use Rattle.std.proofs.Common.{ℕ, arith, subst, sym, ◌∙◌}
 use Rattle.bf_program.specs.Commands.{IsDone, found_in}
 use Rattle.bf_program.proofs.Ends.{done_low, no_three, tells_three}
 use Rattle.bf_program.proofs.program.answer.Goals as goal

@@ -1,6 +1,6 @@
-use Rattle.std.proofs.Common.{◌≡◌, ◌∙◌, subst, string_bytes}
+use Rattle.std.proofs.Common.{string_bytes}
 use Rattle.std.proofs.lemmas.Result.{err_from_is_err_and}
-use Rattle.bf_program.specs.Commands.{run_paths, IsNoMoment}
+use Rattle.bf_program.specs.Commands.{run_paths}
 use Rattle.bf_program.specs.Status.{of_runs}
 use Rattle.bf_program.proofs.CommandEnds.{single_answer, single_files, single_moment, single_reading, lent_table_alike}
 use Rattle.bf_program.proofs.CommandFacts.{means_lent, no_moment_lent}
