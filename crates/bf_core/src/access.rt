@@ -59,9 +59,10 @@ impl<'a> Core<'a> {
         Event::deciding(goes_on(self.plan.dag(), task, verdict), run, task)
     }
 
-    /// The moment for which a try waits, where it is later than now. The clock may come to it.
+    /// The moment for which a try waits, where that is later than what the clock shows. The clock may come to it.
     pub fn moment(&self, name: JobName) -> Option<i64>
-        ensures some { IfSome result (λ m. (map.get self.now.clock.moments name ≡ Some m) × MayCome self.now (EventTerm.Tick m)) }
+        ensures moment { IfSome result (λ m. map.get self.now.clock.moments name ≡ Some m) }
+        ensures may_come { IfSome result (λ m. MayCome self.now (EventTerm.Tick m)) }
         ensures none { IfNone result (IsTimely self.now.clock (EventTerm.Begin name)) }
     {
         self.clock.later(name)

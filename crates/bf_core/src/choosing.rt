@@ -1,5 +1,5 @@
 //! Which events may come now, asked by whoever chooses among them. Nothing here takes memory.
-ghost use Rattle.std.specs.Prelude.{◌≡◌, ◌<◌, ◌≤◌, ◌↔◌, length, is_some, IsTrue, IfSome, IfNone, option_copied};
+ghost use Rattle.std.specs.Prelude.{◌≡◌, ◌<◌, ◌≤◌, ◌↔◌, length, is_some, IsTrue, IfSome, IfNone, OnSome, option_copied};
 ghost use Rattle.bf_core.specs.Deciding.{after_verdict};
 ghost use Rattle.bf_core.specs.Events.{seen_in, cell_at, value_in, goes_on as goes_on_now, instance_of, place_in, given_in, IsPresent, IsDecidable, has_room};
 ghost use Rattle.bf_core.specs.Running.{running_now};
@@ -67,6 +67,7 @@ impl<'a> Core<'a> {
     pub fn never_stuck(&self)
         ensures { running_now self.now.state ≡ 0 → GoesOn self.now }
     {
+        // What a core keeps is known once it is read.
         let _fit = self.plan.limits();
     }
 
@@ -89,8 +90,9 @@ impl<'a> Core<'a> {
 
     /// The event that decides a task, where it may be decided now: by its expansion, or without.
     pub fn decision_event(&self, run: u32, task: u32) -> Option<Event>
-        ensures some { IfSome result (λ e. MayCome self.now e × (e ≡ deciding (goes_on_now self.now.dag self.now.state run task) run task)) }
-        ensures none { IfNone result (IsDecidable self.now.dag self.now.state run task → ⊥) }
+        ensures may_come { IfSome result (MayCome self.now) }
+        ensures decides { IfSome result (λ e. e ≡ deciding (goes_on_now self.now.dag self.now.state run task) run task) }
+        ensures none { IfNone result (¬ (IsDecidable self.now.dag self.now.state run task)) }
     {
         let dag = self.plan.dag();
         if !is_undecided(dag, &self.state, run, task) {
@@ -120,8 +122,9 @@ impl<'a> Core<'a> {
 
     /// The instance of a try that runs.
     pub fn running(&self, name: JobName) -> Option<&Instance>
-        ensures some { IfSome result (λ x. IsPresent self.now.dag self.now.state name PhaseTerm.Running × (given_in (cell_at self.now.state name.run name.task) (place_in self.now.dag name) ≡ x.now.given)) }
-        ensures none { IfNone result (IsPresent self.now.dag self.now.state name PhaseTerm.Running → ⊥) }
+        ensures present { OnSome result (IsPresent self.now.dag self.now.state name PhaseTerm.Running) }
+        ensures given { IfSome result (λ x. given_in (cell_at self.now.state name.run name.task) (place_in self.now.dag name) ≡ x.now.given) }
+        ensures none { IfNone result (¬ (IsPresent self.now.dag self.now.state name PhaseTerm.Running)) }
     {
         match known(self.plan.dag(), &self.state, name) {
             None => None,

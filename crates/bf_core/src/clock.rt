@@ -92,9 +92,10 @@ impl Clock {
         }
     }
 
-    /// The moment for which a try waits, where it is later than now.
+    /// The moment for which a try waits, where that is later than what the clock shows.
     pub(crate) fn later(&self, name: JobName) -> Option<i64>
-        ensures some { IfSome result (λ m. (map.get self.now.moments name ≡ Some m) × (self.now.time <ℤ m)) }
+        ensures moment { IfSome result (λ m. map.get self.now.moments name ≡ Some m) }
+        ensures later { IfSome result (λ m. self.now.time <ℤ m) }
         ensures none { IfNone result (IsTimely self.now (Event.Begin name)) }
     {
         match self.moments.get(name) {
@@ -103,7 +104,7 @@ impl Clock {
         }
     }
 
-    /// The moment that comes so many seconds after now, and none past the last.
+    /// The moment that comes so many seconds later, and none past the last.
     fn moment_after(&self, delay: u32) -> i64
         requires begun { pos 0 ≤ℤ self.now.time }
         requires within { self.now.time ≤ℤ last_moment }
@@ -118,7 +119,7 @@ impl Clock {
         self.time < moment
     }
 
-    /// Lets the next try wait as long as is asked, where that is later than now.
+    /// Lets the next try wait as long as is asked, where it is made and its moment is a later one.
     fn wait(&mut self, retry: Retry) -> Result<(), OutOfMemory>
         requires begun { pos 0 ≤ℤ self.old.time }
         requires within { self.old.time ≤ℤ last_moment }

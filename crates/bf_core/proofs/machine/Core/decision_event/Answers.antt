@@ -28,8 +28,8 @@ returns-then-awaits-clause-none c =
     decision-by dag c.dag-dag.result.now s c.args.run c.args.task c.gate-verdict.result _ c.dag-dag.ensures.dag c.gate-verdict.ensures refl in
     rw (← c.self.view_is) (λ able. able.decides (sym is ∙ c.awaits.ensures.0 c.if-awaits.true))
 
-pub returns-clause-some : goal.returns-clause-some
-returns-clause-some c =
+pub returns-clause-may_come : goal.returns-clause-may_come
+returns-clause-may_come c =
     let dag : Dag = c.self.inside.plan.now.dag in
     let s : State = c.self.inside.state in
     let now : _ = rw c.dag-dag.ensures.dag at (c.is_undecided.ensures.0 c.if-not-is_undecided.false) in
@@ -38,10 +38,14 @@ returns-clause-some c =
     decision-by dag c.dag-dag.result.now s c.args.run c.args.task c.gate-verdict.result _ c.dag-dag.ensures.dag c.gate-verdict.ensures refl in
     let named : c.deciding.result ≡ deciding (goes_on dag s c.args.run c.args.task) c.args.run c.args.task = c.deciding.ensures ∙ ap (λ g. deciding g c.args.run c.args.task) on in
     rw (← c.self.view_is, named) (
-      (
-        decide-able dag c.self.inside.plan.now.limits s c.args.run c.args.task (goes_on dag s c.args.run c.args.task) _ now refl is
-            (λ e. let f : true ≡ false = sym (c.awaits.ensures.1 e) ∙ c.if-awaits.false in cc),
-        untimed c.self.inside.clock c.args.run c.args.task (goes_on dag s c.args.run c.args.task),
-      ),
-      refl,
+      decide-able dag c.self.inside.plan.now.limits s c.args.run c.args.task (goes_on dag s c.args.run c.args.task) _ now refl is
+          (λ e. let f : true ≡ false = sym (c.awaits.ensures.1 e) ∙ c.if-awaits.false in cc),
+      untimed c.self.inside.clock c.args.run c.args.task (goes_on dag s c.args.run c.args.task),
     )
+
+pub returns-clause-decides : goal.returns-clause-decides
+returns-clause-decides c =
+    let dag : Dag = c.self.inside.plan.now.dag in
+    let s : State = c.self.inside.state in
+    let on : c.goes_on.result ≡ goes_on dag s c.args.run c.args.task = goes_on-by dag c.dag-dag.result.now s c.args.run c.args.task c.gate-verdict.result c.goes_on.result c.dag-dag.ensures.dag c.gate-verdict.ensures c.goes_on.ensures in
+    rw (← c.self.view_is) (c.deciding.ensures ∙ ap (λ g. deciding g c.args.run c.args.task) on)
