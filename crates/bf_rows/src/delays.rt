@@ -45,7 +45,11 @@ fn a_retry_begins_at_its_moment(rt: HostRuntime) -> Result<(), Fail> {
 #[test]
 fn a_retry_may_begin_at_the_last_moment(rt: HostRuntime) -> Result<(), Fail> {
     let plan = checked(rt.alloc(), RETRIED)?;
-    let events = begun_and(rt.alloc(), 1, vec![in rt.alloc(); tick(253_402_300_799), failed()]?)?;
+    let events = begun_and(
+        rt.alloc(),
+        1,
+        vec![in rt.alloc(); tick(253_402_300_799), failed()]?,
+    )?;
     let mut core = core_after(rt.alloc(), &plan, events)?;
     assert_eq!(rt; core.apply(second_try()), Ok(()));
     Ok(())
@@ -55,7 +59,8 @@ fn a_retry_may_begin_at_the_last_moment(rt: HostRuntime) -> Result<(), Fail> {
 fn a_table_waits_for_nobody(rt: HostRuntime) -> Result<(), Fail> {
     let table = br#"[{"try":1,"status":1}]"#;
     let ending = single(rt.alloc(), RETRIED.as_bytes(), table, "2024-01-01")?;
-    let report = "@backfill 1 d\n@run 2024-01-01T00:00:00Z 2024-01-01T00:00:00Z success\na -1 success 2 -\n@end 1\n";
+    let report =
+        "@backfill 1 d\n@run 2024-01-01T00:00:00Z 2024-01-01T00:00:00Z success\na -1 success 2 -\n@end 1\n";
     expect(&rt, &ending, 0, report, "");
     Ok(())
 }

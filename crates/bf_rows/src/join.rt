@@ -81,8 +81,14 @@ fn the_order_of_two_ends_is_nothing(rt: HostRuntime) -> Result<(), Fail> {
     let ledger = ledger_of(alloc, &one)?;
     assert_eq!(rt; ledger.as_str(), ledger_of(alloc, &two)?.as_str());
     assert!(rt; ledger.contains("Skipped"));
-    assert_eq!(rt; report(alloc, &plan, &one)?.as_slice(), JOIN_REPORT.as_bytes());
-    assert_eq!(rt; report(alloc, &plan, &two)?.as_slice(), JOIN_REPORT.as_bytes());
+    assert_eq!(rt;
+        report(alloc, &plan, &one)?.as_slice(),
+        JOIN_REPORT.as_bytes()
+    );
+    assert_eq!(rt;
+        report(alloc, &plan, &two)?.as_slice(),
+        JOIN_REPORT.as_bytes()
+    );
     Ok(())
 }
 

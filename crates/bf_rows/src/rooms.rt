@@ -21,7 +21,14 @@ fn end(task: u32) -> Event {
 
 /// The core after the begins of b and c.
 fn filled(alloc: Global, plan: &Plan) -> Result<Core<'_>, Fail> {
-    let decided = vec![in alloc; Event::Open, settle(0), settle(1), settle(2), begin(1), begin(2)]?;
+    let decided = vec![in alloc;
+        Event::Open,
+        settle(0),
+        settle(1),
+        settle(2),
+        begin(1),
+        begin(2),
+    ]?;
     core_after(alloc, plan, decided)
 }
 

@@ -32,6 +32,13 @@ fn strangers_are_refused(rt: HostRuntime) -> Result<(), Fail> {
     is_stranger(&rt, &mut core, Event::Begin(LATER));
     is_stranger(&rt, &mut core, Event::Begin(first_try(1)));
     is_stranger(&rt, &mut core, Event::End(LATER, Outcome::Failed));
-    is_stranger(&rt, &mut core, Event::Begin(JobName { index: 0, ..first_try(0) }));
+    is_stranger(
+        &rt,
+        &mut core,
+        Event::Begin(JobName {
+            index: 0,
+            ..first_try(0)
+        }),
+    );
     Ok(())
 }
