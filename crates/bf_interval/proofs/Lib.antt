@@ -8,4 +8,4 @@ pub mod OneListing
 mod Places
 mod Meeting
 mod OneAnswer
-mod Ending
+pub mod Ending
