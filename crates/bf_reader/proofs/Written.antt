@@ -12,7 +12,7 @@ use Rattle.bf_value.specs.declared.xval.Xval.TheVariants.{Flag, Int, Text, List 
 use Rattle.bf_value.specs.Plain.{IsSound}
 use Rattle.bf_value.specs.Views.{plain_of}
 use Rattle.bf_value.proofs.TextLemmas.{value_of_line-text_of}
-use Rattle.bf_value.proofs.Utf8Lemmas.{text_utf8}
+use Rattle.bf_value.proofs.TextLemmas.{IsUtf8-text_of}
 use Rattle.bf_read.specs.Ids.{is_id}
 use Rattle.bf_graph.specs.Shape.{AreDistinct}
 use Rattle.bf_interval.specs.declared.interval.Interval.{Interval}
@@ -71,10 +71,10 @@ run_interval i is = record { start = report_moment i.start is.start; end = repor
 
 -- what fits, with sound numbers and texts, is a value that lines have
 shown_value : (x : Xval) → IsSound (plain_of x) → is_value_of_lines (Some x) ≡ true → is_short (Some x) ≡ true → IsShownValue x
-shown_value (Flag b) sound good short = record { utf8 = text_utf8 (Flag b) sound; pushed = value_of_line-text_of (Flag b) sound (omega arith) (λ e. cc e); short = grind (arith, nat_tests, short) }
-shown_value (Int n) sound good short = record { utf8 = text_utf8 (Int n) sound; pushed = value_of_line-text_of (Int n) sound (omega arith) (λ e. cc e); short = grind (arith, nat_tests, short) }
-shown_value (Text t) sound good short = record { utf8 = text_utf8 (Text t) sound; pushed = value_of_line-text_of (Text t) sound (omega arith) (λ e. cc e); short = grind (arith, nat_tests, short) }
-shown_value (ListOf ps) sound good short = record { utf8 = text_utf8 (ListOf ps) sound; pushed = value_of_line-text_of (ListOf ps) sound (grind (arith, nat_tests, good)) (λ e. cc e); short = grind (arith, nat_tests, short) }
+shown_value (Flag b) sound good short = record { utf8 = IsUtf8-text_of (Flag b) sound; pushed = value_of_line-text_of (Flag b) sound (omega arith) (λ e. cc e); short = grind (arith, nat_tests, short) }
+shown_value (Int n) sound good short = record { utf8 = IsUtf8-text_of (Int n) sound; pushed = value_of_line-text_of (Int n) sound (omega arith) (λ e. cc e); short = grind (arith, nat_tests, short) }
+shown_value (Text t) sound good short = record { utf8 = IsUtf8-text_of (Text t) sound; pushed = value_of_line-text_of (Text t) sound (omega arith) (λ e. cc e); short = grind (arith, nat_tests, short) }
+shown_value (ListOf ps) sound good short = record { utf8 = IsUtf8-text_of (ListOf ps) sound; pushed = value_of_line-text_of (ListOf ps) sound (grind (arith, nat_tests, good)) (λ e. cc e); short = grind (arith, nat_tests, short) }
 shown_value Nil sound good short = absurd (cc good)
 
 shown_outcome : (dag : Dag) (t : ℕ) (o : Outcome) → IsSoundOutcome o → fits dag t o ≡ true → IsShownOutcome o
