@@ -134,7 +134,7 @@ const TASKS: [(&str, &str); 46] = [
         "5 limit passed: tasks[1].priority_weight",
     ),
     (r#","weight_rule":"none""#, "2 shape: tasks[1].weight_rule"),
-    (r#","retry_delay":1"#, "2 shape: tasks[1]"),
+    (r#","sla":1"#, "2 shape: tasks[1]"),
     (r#","pool":"q""#, "8 unknown pool: t"),
     (r#","pool":"p","pool_slots":3"#, "9 slots beyond pool: t"),
     (r#","pool_slots":129"#, "9 slots beyond pool: t"),
