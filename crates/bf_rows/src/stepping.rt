@@ -41,8 +41,8 @@ pub fn begun_and(alloc: Global, tasks: u32, behind: Vec<Event>) -> Result<Vec<Ev
 
 /// The core after these events, each of which it has to take.
 pub fn core_after<'a>(alloc: Global, plan: &'a Plan, events: Vec<Event>) -> Result<Core<'a>, Fail>
-    ensures dag { IfOk result (λ core. core.entry.dag ≡ plan.entry.now.dag) }
-    ensures runs { IfOk result (λ core. core.entry.runs ≡ 1) }
+    ensures dag { IfOk result (λ core. core.dag ≡ plan.entry.now.dag) }
+    ensures runs { IfOk result (λ core. core.runs ≡ 1) }
 {
     let mut core = Core::new(alloc, plan, &[EPOCH])?;
     for event in events {
