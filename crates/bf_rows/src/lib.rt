@@ -17,8 +17,6 @@ mod devices;
 #[cfg(test)]
 mod grades;
 #[cfg(test)]
-mod interruptions;
-#[cfg(test)]
 mod join;
 #[cfg(test)]
 mod limits;

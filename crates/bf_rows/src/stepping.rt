@@ -1,6 +1,4 @@
 //! Cores, driven by hand over one run.
-ghost use Rattle.std.specs.Prelude.{◌≡◌, IfOk};
-
 use crate::plans::first_try;
 use bf_check::Plan;
 use bf_core::{Core, Event};
@@ -9,8 +7,7 @@ use jiff::Timestamp;
 use std::alloc::Global;
 use std::test::Fail;
 
-/// The data interval of the run.
-pub const EPOCH: Interval = Interval {
+const EPOCH: Interval = Interval {
     start: Timestamp::UNIX_EPOCH,
     end: Timestamp::UNIX_EPOCH,
 };
@@ -40,10 +37,7 @@ pub fn begun_and(alloc: Global, tasks: u32, behind: Vec<Event>) -> Result<Vec<Ev
 }
 
 /// The core after these events, each of which it has to take.
-pub fn core_after<'a>(alloc: Global, plan: &'a Plan, events: Vec<Event>) -> Result<Core<'a>, Fail>
-    ensures dag { IfOk result (λ core. core.dag ≡ plan.entry.now.dag) }
-    ensures runs { IfOk result (λ core. core.runs ≡ 1) }
-{
+pub fn core_after<'a>(alloc: Global, plan: &'a Plan, events: Vec<Event>) -> Result<Core<'a>, Fail> {
     let mut core = Core::new(alloc, plan, &[EPOCH])?;
     for event in events {
         core.apply(event)?;
