@@ -43,12 +43,3 @@ fn a_try_waits_for_room_in_its_pool(rt: HostRuntime) -> Result<(), Fail> {
     assert_eq!(rt; core.apply(begin(0)), Ok(()));
     Ok(())
 }
-
-#[test]
-fn slots_and_events_are_told_on_the_way(rt: HostRuntime) -> Result<(), Fail> {
-    let plan = checked(rt.alloc(), NARROW)?;
-    let core = filled(rt.alloc(), &plan)?;
-    assert_eq!(rt; core.occupied(0), 2);
-    assert_eq!(rt; core.journal().len(), 6);
-    Ok(())
-}
