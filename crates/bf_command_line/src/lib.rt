@@ -4,6 +4,8 @@
 mod command;
 mod forms;
 mod reading;
+mod workers;
 
-pub use forms::{Asked, DryAsked, GraphAsked, ListAsked, RangeAsked, SingleAsked};
+pub use forms::{Asked, DryAsked, GraphAsked, ListAsked, RangeAsked, RunAsked, SingleAsked};
 pub use reading::asked;
+pub use workers::Workers;

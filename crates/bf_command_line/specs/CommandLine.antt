@@ -1,5 +1,7 @@
 -- The command line, in clap's words.
-use Rattle.std.specs.Prelude.{true, [], Some, codes}
+use Rattle.std.specs.Prelude.{true, [], Some, codes, pos}
+use Rattle.clap.specs.declared.builder.action.ArgAction.TheVariants.{SetTrue}
+use Rattle.clap.specs.declared.builder.value_parser.ValueParser.TheVariants.{Signed}
 use Rattle.clap.specs.Words.{App, Rule, new_app, new_rule, with_rule, with_subcommand}
 use Rattle.clap.specs.Simple.{new_shape}
 
@@ -27,6 +29,14 @@ from_rule = record (new_rule (codes "from")) { long = Some (codes "from"); value
 abbrev pub to_rule : Rule
 to_rule = record (new_rule (codes "to")) { long = Some (codes "to"); value_names = 1; required = true }
 
+-- `--workers N`, a number from 1 to 64
+abbrev pub workers_rule : Rule
+workers_rule = record (new_rule (codes "workers")) { long = Some (codes "workers"); value_names = 1; parser = Some (Signed (pos 1) (pos 64)) }
+
+-- `--progress`, a flag
+abbrev pub progress_rule : Rule
+progress_rule = record (new_rule (codes "progress")) { long = Some (codes "progress"); action = Some SetTrue }
+
 -- `check GRAPH [--zone-file PATH]`
 abbrev pub check_app : App
 check_app = with_rule (with_rule (new_app (codes "check")) graph_rule) zone_file_rule
@@ -39,12 +49,17 @@ list_app = with_rule (with_rule (with_rule (with_rule (new_app (codes "list")) g
 abbrev pub single_app : App
 single_app = with_rule (with_rule (with_rule (with_rule (new_app (codes "single")) graph_rule) zone_file_rule) table_rule) at_rule
 
--- `dry GRAPH TABLE --from T --to T [--zone-file PATH]`
-abbrev pub dry_table_app : App
-dry_table_app = with_rule (with_rule (with_rule (new_app (codes "dry")) graph_rule) zone_file_rule) table_rule
+-- a command with `--from T --to T [--workers N] [--progress]` behind its other arguments
+abbrev pub ranged_app : App → App
+ranged_app app = with_rule (with_rule (with_rule (with_rule app from_rule) to_rule) workers_rule) progress_rule
 
+-- `dry GRAPH TABLE --from T --to T [--workers N] [--progress] [--zone-file PATH]`
 abbrev pub dry_app : App
-dry_app = with_rule (with_rule dry_table_app from_rule) to_rule
+dry_app = ranged_app (with_rule (with_rule (with_rule (new_app (codes "dry")) graph_rule) zone_file_rule) table_rule)
+
+-- `run GRAPH --from T --to T [--workers N] [--progress] [--zone-file PATH]`
+abbrev pub run_app : App
+run_app = ranged_app (with_rule (with_rule (new_app (codes "run")) graph_rule) zone_file_rule)
 
 -- `backfill`, which wants a subcommand and without a word shows its help
 abbrev pub bare_app : App
@@ -57,8 +72,9 @@ bare_app = record {
 abbrev pub looking_app : App
 looking_app = with_subcommand (with_subcommand bare_app check_app.top) list_app.top
 
-abbrev pub running_app : App
-running_app = with_subcommand looking_app single_app.top
+-- and those that a table answers
+abbrev pub answered_app : App
+answered_app = with_subcommand (with_subcommand looking_app single_app.top) dry_app.top
 
 abbrev pub backfill_app : App
-backfill_app = with_subcommand running_app dry_app.top
+backfill_app = with_subcommand answered_app run_app.top

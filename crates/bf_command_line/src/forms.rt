@@ -1,4 +1,7 @@
 //! What a command line asks for. Files are named by path, and moments stand as they were written.
+
+use crate::workers::Workers;
+
 /// `GRAPH [--zone-file PATH]`: a graph file, and the zone file that its zone `file` means.
 #[derive(Debug, Drop)]
 pub struct GraphAsked {
@@ -28,12 +31,25 @@ pub struct SingleAsked {
     pub at: String,
 }
 
-/// `dry GRAPH TABLE --from T --to T`: a run for each data interval of a range, its tasks answered from a table.
+/// `dry GRAPH TABLE --from T --to T [--workers N] [--progress]`: a run for each data interval of a range, its tasks
+/// answered from a table.
 #[derive(Debug, Drop)]
 pub struct DryAsked {
     pub graph: GraphAsked,
     pub table: String,
     pub range: RangeAsked,
+    pub workers: Workers,
+    pub progress: bool,
+}
+
+/// `run GRAPH --from T --to T [--workers N] [--progress]`: a run for each data interval of a range, with the programs of
+/// its tasks.
+#[derive(Debug, Drop)]
+pub struct RunAsked {
+    pub graph: GraphAsked,
+    pub range: RangeAsked,
+    pub workers: Workers,
+    pub progress: bool,
 }
 
 /// A subcommand with its paths and options.
@@ -44,4 +60,5 @@ pub enum Asked {
     List(ListAsked),
     Single(SingleAsked),
     Dry(DryAsked),
+    Run(RunAsked),
 }

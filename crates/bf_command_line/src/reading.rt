@@ -1,11 +1,12 @@
 //! Reads a command line.
 ghost use Rattle.std.specs.Prelude.{◌≡◌, IfOk, map, option_map, string_bytes, Some, codes};
 ghost use Rattle.clap.specs.Words.{fault_of, FailsBy, subcommand_of, first_of, found_of, rows_of, subcommand_rows_of};
-ghost use Rattle.bf_line.specs.CommandLine.{backfill_app};
-ghost use Rattle.bf_line.specs.Asked.{IsAskedBy, IsGraphBy, IsRangeBy};
+ghost use Rattle.bf_command_line.specs.CommandLine.{backfill_app};
+ghost use Rattle.bf_command_line.specs.Asked.{IsAskedBy, IsGraphBy, IsProgressBy, IsRangeBy, IsWorkersBy};
 
 use crate::command::backfill;
-use crate::forms::{Asked, DryAsked, GraphAsked, ListAsked, RangeAsked, SingleAsked};
+use crate::forms::{Asked, DryAsked, GraphAsked, ListAsked, RangeAsked, RunAsked, SingleAsked};
+use crate::workers::Workers;
 use clap::{ArgMatches, Error};
 use std::alloc::{AllocError, Global};
 
@@ -39,6 +40,7 @@ fn subcommand_asked(alloc: Global, matches: &ArgMatches<'_>) -> Result<Asked, Al
         Some(("list", inner)) => Ok(Asked::List(list_asked(alloc, inner)?)),
         Some(("single", inner)) => Ok(Asked::Single(single_asked(alloc, inner)?)),
         Some(("dry", inner)) => Ok(Asked::Dry(dry_asked(alloc, inner)?)),
+        Some(("run", inner)) => Ok(Asked::Run(run_asked(alloc, inner)?)),
         _ => Err(AllocError),
     }
 }
@@ -59,6 +61,29 @@ fn range_asked(alloc: Global, matches: &ArgMatches<'_>) -> Result<RangeAsked, Al
         from: required(alloc, matches, "from")?,
         to: required(alloc, matches, "to")?,
     })
+}
+
+#[tactic(auto, using(crate::proofs::Rows::first_rows))]
+fn workers_asked(matches: &ArgMatches<'_>) -> Result<Workers, AllocError>
+    ensures { IfOk result (IsWorkersBy (rows_of (found_of matches.now))) }
+{
+    let Some(text) = matches.get_str("workers") else {
+        return Ok(Workers::one());
+    };
+    match text.parse::<u32>() {
+        Ok(count) => Workers::new(count).ok_or(AllocError),
+        Err(_) => Err(AllocError),
+    }
+}
+
+#[tactic(auto, using(crate::proofs::Rows::first_rows))]
+fn progress_asked(matches: &ArgMatches<'_>) -> bool
+    ensures { IsProgressBy (rows_of (found_of matches.now)) result }
+{
+    match matches.get_str("progress") {
+        Some(text) => text == "true",
+        None => false,
+    }
 }
 
 fn table_asked(alloc: Global, matches: &ArgMatches<'_>) -> Result<String, AllocError>
@@ -93,6 +118,19 @@ fn dry_asked(alloc: Global, matches: &ArgMatches<'_>) -> Result<DryAsked, AllocE
         graph: graph_asked(alloc, matches)?,
         table: table_asked(alloc, matches)?,
         range: range_asked(alloc, matches)?,
+        workers: workers_asked(matches)?,
+        progress: progress_asked(matches),
+    })
+}
+
+fn run_asked(alloc: Global, matches: &ArgMatches<'_>) -> Result<RunAsked, AllocError>
+    ensures { IfOk result (λ r. IsAskedBy (Some (codes "run", rows_of (found_of matches.now))) (Asked.Run r)) }
+{
+    Ok(RunAsked {
+        graph: graph_asked(alloc, matches)?,
+        range: range_asked(alloc, matches)?,
+        workers: workers_asked(matches)?,
+        progress: progress_asked(matches),
     })
 }
 

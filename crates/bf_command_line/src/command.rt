@@ -2,9 +2,9 @@
 ghost use Rattle.std.specs.Prelude.{◌≡◌, IfOk, false};
 ghost use Rattle.clap.specs.Words.{app_of, rule_of};
 ghost use Rattle.clap.specs.declared.builder.command.Command.TheViews.{out-Command};
-ghost use Rattle.bf_line.specs.CommandLine.{backfill_app, looking_app, check_app, dry_app, dry_table_app, list_app, running_app, single_app, graph_rule, zone_file_rule, table_rule, at_rule, from_rule, to_rule};
+ghost use Rattle.bf_command_line.specs.CommandLine.{answered_app, backfill_app, looking_app, check_app, dry_app, list_app, ranged_app, run_app, single_app, graph_rule, zone_file_rule, table_rule, at_rule, from_rule, to_rule, workers_rule, progress_rule};
 
-use clap::{Arg, Command};
+use clap::{Arg, ArgAction, Command, value_parser};
 use std::alloc::{AllocError, Global};
 
 fn graph<'a>(alloc: Global) -> Arg<'a>
@@ -70,6 +70,27 @@ fn to<'a>(alloc: Global) -> Arg<'a>
         .required(true)
 }
 
+fn workers<'a>(alloc: Global) -> Arg<'a>
+    ensures rule { rule_of result ≡ workers_rule }
+    ensures local { result.global ≡ false }
+{
+    Arg::new(alloc, "workers")
+        .long("workers")
+        .value_name("N")
+        .help("How many tries may run at once, 1 to 64; 1 where this isn't given")
+        .value_parser(value_parser!(u32).range(1..=64))
+}
+
+fn progress<'a>(alloc: Global) -> Arg<'a>
+    ensures rule { rule_of result ≡ progress_rule }
+    ensures local { result.global ≡ false }
+{
+    Arg::new(alloc, "progress")
+        .long("progress")
+        .help("Tells on standard error how far the runs are, at most once a second")
+        .action(ArgAction::SetTrue)
+}
+
 fn check<'a>(alloc: Global) -> Result<Command<'a>, AllocError>
     ensures app { IfOk result (λ c. app_of c ≡ check_app) }
     ensures local { IfOk result (λ c. (out-Command c).has_globals ≡ false) }
@@ -104,25 +125,44 @@ fn single<'a>(alloc: Global) -> Result<Command<'a>, AllocError>
         .arg(at(alloc))
 }
 
-/// `dry` without its range.
-fn dry_over_table<'a>(alloc: Global) -> Result<Command<'a>, AllocError>
-    ensures app { IfOk result (λ c. app_of c ≡ dry_table_app) }
+/// A command that goes over the data intervals of a range, with these arguments before its range.
+fn ranged<'a>(alloc: Global, command: Command<'a>) -> Result<Command<'a>, AllocError>
+    requires local { (out-Command command).has_globals ≡ false }
+    ensures app { IfOk result (λ c. app_of c ≡ ranged_app (app_of command.entry)) }
     ensures local { IfOk result (λ c. (out-Command c).has_globals ≡ false) }
 {
-    Command::new(alloc, "dry")
-        .about(
-            "Runs the graph for each data interval that starts in a range, answering each task from a table",
-        )
-        .arg(graph(alloc))?
-        .arg(zone_file(alloc))?
-        .arg(table(alloc))
+    command
+        .arg(from(alloc))?
+        .arg(to(alloc))?
+        .arg(workers(alloc))?
+        .arg(progress(alloc))
 }
 
 fn dry<'a>(alloc: Global) -> Result<Command<'a>, AllocError>
     ensures app { IfOk result (λ c. app_of c ≡ dry_app) }
     ensures local { IfOk result (λ c. (out-Command c).has_globals ≡ false) }
 {
-    dry_over_table(alloc)?.arg(from(alloc))?.arg(to(alloc))
+    let command = Command::new(alloc, "dry")
+        .about(
+            "Runs the graph for each data interval that starts in a range, answering each task from a table",
+        )
+        .arg(graph(alloc))?
+        .arg(zone_file(alloc))?
+        .arg(table(alloc))?;
+    ranged(alloc, command)
+}
+
+fn run<'a>(alloc: Global) -> Result<Command<'a>, AllocError>
+    ensures app { IfOk result (λ c. app_of c ≡ run_app) }
+    ensures local { IfOk result (λ c. (out-Command c).has_globals ≡ false) }
+{
+    let command = Command::new(alloc, "run")
+        .about(
+            "Runs the graph for each data interval that starts in a range, with the programs of its tasks",
+        )
+        .arg(graph(alloc))?
+        .arg(zone_file(alloc))?;
+    ranged(alloc, command)
 }
 
 /// The line with the commands that look at a graph alone.
@@ -137,16 +177,18 @@ fn looking<'a>(alloc: Global) -> Result<Command<'a>, AllocError>
         .subcommand(list(alloc)?)
 }
 
-/// The line with `single` too.
-fn running<'a>(alloc: Global) -> Result<Command<'a>, AllocError>
-    ensures { IfOk result (λ c. app_of c ≡ running_app) }
+/// The line with the commands that a table answers too.
+fn answered<'a>(alloc: Global) -> Result<Command<'a>, AllocError>
+    ensures { IfOk result (λ c. app_of c ≡ answered_app) }
 {
-    looking(alloc)?.subcommand(single(alloc)?)
+    looking(alloc)?
+        .subcommand(single(alloc)?)?
+        .subcommand(dry(alloc)?)
 }
 
 /// The whole command line.
 pub(crate) fn backfill<'a>(alloc: Global) -> Result<Command<'a>, AllocError>
     ensures { IfOk result (λ c. app_of c ≡ backfill_app) }
 {
-    running(alloc)?.subcommand(dry(alloc)?)
+    answered(alloc)?.subcommand(run(alloc)?)
 }

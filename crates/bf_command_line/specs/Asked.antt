@@ -1,0 +1,59 @@
+-- What the matches of a command line ask for.
+use Rattle.std.specs.Prelude.{◌≡◌, ℕ, Bool, false, List, Option, None, Some, Ok, codes, bytes_eq, option_map, string_bytes}
+use Rattle.std.specs.Str.Parse.{ParsesUnsigned}
+use Rattle.clap.specs.Words.{Row, Text, first_of}
+use Rattle.bf_command_line.specs.declared.forms.Asked.{Asked}
+use Rattle.bf_command_line.specs.declared.forms.Asked.TheVariants.{Check, Dry, List as Intervals, Run, Single}
+use Rattle.bf_command_line.specs.declared.forms.GraphAsked.{GraphAsked}
+use Rattle.bf_command_line.specs.declared.forms.RangeAsked.{RangeAsked}
+
+-- the paths of a graph file and of a zone file
+abbrev pub IsGraphBy : List Row → GraphAsked → Type 0
+IsGraphBy rows g = (first_of (codes "graph") rows ≡ Some (string_bytes g.graph))
+    × (first_of (codes "zone_file") rows ≡ option_map string_bytes g.zone_file)
+
+-- the first and the last moment of a range
+abbrev pub IsRangeBy : List Row → RangeAsked → Type 0
+IsRangeBy rows r = (first_of (codes "from") rows ≡ Some (string_bytes r.from))
+    × (first_of (codes "to") rows ≡ Some (string_bytes r.to))
+
+-- the number that the text says in decimal digits, or one where there is no text
+abbrev pub IsNumberOr1 : Option Text → ℕ → Type 0
+IsNumberOr1 None n = n ≡ 1
+IsNumberOr1 (Some text) n = ParsesUnsigned {E = Unit {0}} 32 10 text (Ok n)
+
+-- how many workers there are
+abbrev pub IsWorkersBy : List Row → ℕ → Type 0
+IsWorkersBy rows n = IsNumberOr1 (first_of (codes "workers") rows) n
+
+-- the text says yes
+abbrev pub says_true : Option Text → Bool
+says_true None = false
+says_true (Some text) = bytes_eq text (codes "true")
+
+-- whether progress is told
+abbrev pub IsProgressBy : List Row → Bool → Type 0
+IsProgressBy rows told = told ≡ says_true (first_of (codes "progress") rows)
+
+-- the subcommand's name, and the value of each of its arguments
+abbrev pub IsAskedBy : Option (Text × List Row) → Asked → Type 0
+IsAskedBy None a = ⊥
+IsAskedBy (Some (name, rows)) (Check g) = (name ≡ codes "check") × IsGraphBy rows g
+IsAskedBy (Some (name, rows)) (Intervals l) = (name ≡ codes "list")
+    × IsGraphBy rows l.graph
+    × IsRangeBy rows l.range
+IsAskedBy (Some (name, rows)) (Single s) = (name ≡ codes "single")
+    × IsGraphBy rows s.graph
+    × (first_of (codes "table") rows ≡ Some (string_bytes s.table))
+    × (first_of (codes "at") rows ≡ Some (string_bytes s.at))
+IsAskedBy (Some (name, rows)) (Dry d) = (name ≡ codes "dry")
+    × IsGraphBy rows d.graph
+    × (first_of (codes "table") rows ≡ Some (string_bytes d.table))
+    × IsRangeBy rows d.range
+    × IsWorkersBy rows d.workers
+    × IsProgressBy rows d.progress
+IsAskedBy (Some (name, rows)) (Run r) = (name ≡ codes "run")
+    × IsGraphBy rows r.graph
+    × IsRangeBy rows r.range
+    × IsWorkersBy rows r.workers
+    × IsProgressBy rows r.progress
