@@ -1,9 +1,0 @@
-use Rattle.bf_reader.proofs.Lines.{run_step, no_run}
-use Rattle.bf_reader.proofs.reading.read_run.Goals as goal
-
-pub returns-in_default : goal.returns-in_default
-returns-in_default c = no_run c.args.beginning.now c.args.text.now c.requires.ruled
-    (λ run other bare good is added. let none = c.in_default.ensures.every (run.interval, run.state) (good, is) in absurd (cc none))
-
-pub returns : goal.returns
-returns c = rw c.step_of.ensures (run_step c.args.beginning.now c.add_run.new.self c.args.text.now _ c.in_ok-add_run.field-0 c.new.ensures c.in-Some.ensures.some.0 c.requires.counted c.requires.small c.requires.ruled c.in-Some.ensures.some.1 c.in_ok-add_run.ensures)

@@ -1,0 +1,186 @@
+-- Lines, and how many there are.
+use Rattle.std.proofs.Common.{◌≡◌, ◌⊎◌, ◌≤◌, ◌+◌, ◌==◌, ◌||◌, ℕ, List, [], ◌∷◌, ◌++◌, cond, true, false, true≢false, Option, Some, None, is_some, length, inl, inr, refl, sym, ap, ◌∙◌, subst, append_assoc, append-nil, arith}
+use Rattle.std.specs.Prelude.{IfSome}
+use Rattle.std.specs.List.{list_any}
+use Rattle.std.specs.Io.KnownBytes.{prepend_known, Consumes, IsAtEnd}
+use Rattle.std.proofs.lemmas.Bool.{cases_Bool}
+use Rattle.std.proofs.lemmas.List.Sums.{sum_by-append, sum_by-cons}
+use Rattle.bf_report_reader.specs.declared.fault.ReportFault.{ReportFault}
+use Rattle.bf_report.specs.declared.report.Report.{Report}
+use Rattle.bf_report.specs.Report.{report_text}
+use Rattle.bf_report_reader.specs.Rules.{IsShownReport}
+use Rattle.bf_report_reader.proofs.HeldFacts.{nothing_first, consumes_more}
+use Rattle.bf_report_reader.specs.Faults.{IsInLine, lines_in, IsOpening, Tells, StopsAt}
+use Rattle.bf_report_reader.specs.Held.{IsNextByte}
+use Rattle.bf_report_reader.specs.declared.beginning.Beginning.{Beginning}
+use Rattle.bf_report_reader.specs.Beginning.{so_far, opening_text}
+use Rattle.bf_report_reader.specs.Steps.{ReadsOn, MayStand}
+use Rattle.bf_report_reader.specs.Extensions.{SaysDag, IsKnown}
+use Rattle.bf_report_reader.proofs.Chains.{Keeps, Goes, IsNextOf, known_goes, no_such_line, no_long_line}
+use Rattle.bf_report_reader.proofs.Reports.{head_goes, opens, opens_nothing}
+
+in_line_push : (text : List ℕ) (b : ℕ) → IsInLine text → (b == 10) ≡ false → IsInLine (text ++ b ∷ [])
+in_line_push [] b e other = rw other refl
+in_line_push (x ∷ xs) b e other = elim (cases_Bool (x == 10)) as (λ _. (x == 10 || list_any (λ b. b == 10) (xs ++ b ∷ [])) ≡ false) [
+  | inl is ↦ absurd (true≢false (rw is at e))
+  | inr not_is ↦ rw not_is (in_line_push xs b (rw not_is at e) other)
+]
+
+-- text within a line ends none
+no_lines : (text : List ℕ) → IsInLine text → lines_in text ≡ 0
+no_lines [] e = refl
+no_lines (x ∷ xs) e = elim (cases_Bool (x == 10)) as (λ _. lines_in (x ∷ xs) ≡ 0) [
+  | inl is ↦ absurd (true≢false (rw is at e))
+  | inr not_is ↦
+      let f : ℕ → ℕ = λ b. cond (b == 10) 1 0 in
+      let none : f x ≡ 0 = rw not_is refl in
+      omega (arith, sum_by-cons f x xs, none, no_lines xs (rw not_is at e))
+]
+
+pub one_line_more : (before text : List ℕ) → IsInLine text → lines_in (before ++ (text ++ 10 ∷ [])) ≡ lines_in before + 1
+one_line_more before text e =
+    let f : ℕ → ℕ = λ b. cond (b == 10) 1 0 in
+    let first = sum_by-append f before (text ++ 10 ∷ []) in
+    let second = sum_by-append f text (10 ∷ []) in
+    omega (arith, first, second, no_lines text e)
+
+pub ends_as : (a b : Option (List ℕ)) (text : List ℕ) → Consumes a b text → IsAtEnd b → IfSome a (λ bytes. bytes ≡ text)
+ends_as None b text c end = tt
+ends_as (Some xs) None text c end = absurd c
+ends_as (Some xs) (Some ys) text c end = c ∙ ap (λ l. text ++ l) end ∙ append-nil text
+
+-- what is told of the bytes to come is told of all
+pub tells_on : (a b : Option (List ℕ)) (before after : List ℕ) (fault : ReportFault) → ReadsOn a b before after → IfSome b (λ bytes. Tells (after ++ bytes) fault) → IfSome a (λ bytes. Tells (before ++ bytes) fault)
+tells_on None b before after fault on told = tt
+tells_on (Some xs) None before after fault (text, came, is) told = absurd came
+tells_on (Some xs) (Some ys) before after fault (text, came, is) told =
+    let same : after ++ ys ≡ before ++ xs = ap (λ l. l ++ ys) is ∙ append_assoc before text ys ∙ ap (λ l. before ++ l) (sym came) in
+    let P : List ℕ → Type 0 = λ l. Tells l fault in
+    subst P same told
+
+pub stops_tell : (opening : List ℕ) (Stands : Report → List ℕ → Type 0) (number : ℕ) (fault : ReportFault) (bytes : List ℕ) → IsOpening opening → Goes opening Stands → number ≡ lines_in opening + 1 → StopsAt fault number bytes
+    → Tells (opening ++ bytes) fault
+stops_tell opening Stands number (ReportFault.BadLine n) bytes opens goes place stops = absurd stops
+stops_tell opening Stands number (ReportFault.TooLong n) bytes opens goes place (same, (piece, rest, is, in_line, long)) = record {
+  opening = opening;
+  piece = piece;
+  rest = rest;
+  opens = opens;
+  bytes_are = ap (λ l. opening ++ l) is;
+  in_line = in_line;
+  long = long;
+  bad = no_long_line opening piece Stands goes in_line long;
+  place = same ∙ place;
+}
+stops_tell opening Stands number ReportFault.Truncated bytes opens goes place stops =
+    record { opening = opening; piece = bytes; opens = opens; bytes_are = refl; in_line = stops.0; short = stops.1 }
+stops_tell opening Stands number ReportFault.Io bytes opens goes place stops = tt
+stops_tell opening Stands number ReportFault.OutOfMemory bytes opens goes place stops = tt
+
+pub stops_cut : (a : Option (List ℕ)) (text : List ℕ) (number : ℕ) → IfSome a (λ bytes. bytes ≡ text) → length text ≤ 66_000 → IsInLine text → IfSome a (StopsAt ReportFault.Truncated number)
+stops_cut None text number is short in_line = tt
+stops_cut (Some xs) text number is short in_line =
+    let P : List ℕ → Type 0 = λ l. StopsAt ReportFault.Truncated number l in
+    subst P (sym is) (in_line, short)
+
+pub stops_long : (a b : Option (List ℕ)) (text : List ℕ) (number : ℕ) → Consumes a b text → length text ≡ 66_001 → IsInLine text → IfSome a (StopsAt (ReportFault.TooLong number) number)
+stops_long None b text number came long in_line = tt
+stops_long (Some xs) None text number came long in_line = absurd came
+stops_long (Some xs) (Some ys) text number came long in_line = (refl, (text, ys, came, in_line, long))
+
+pub nothing_told : (a : Option (List ℕ)) → IfSome a (λ _. Unit {0})
+nothing_told None = tt
+nothing_told (Some xs) = tt
+
+-- the first line did not come
+pub first_stops : (left : Option (List ℕ)) (bytes : List ℕ) (number : ℕ) (fault : ReportFault) → bytes ≡ [] → number ≡ 0 → IfSome (prepend_known bytes left) (StopsAt fault (number + 1)) → IfSome left (λ told. Tells told fault)
+first_stops left bytes number fault none first stops =
+    let P : Option (List ℕ) → Type 0 = λ o. IfSome o (StopsAt fault (number + 1)) in
+    go left (subst P (ap (λ l. prepend_known l left) none ∙ nothing_first left) stops)
+  where
+    go : (o : Option (List ℕ)) → IfSome o (StopsAt fault (number + 1)) → IfSome o (λ told. Tells told fault)
+    go None stops = tt
+    go (Some told) stops = stops_tell [] (λ r text. SaysDag text r.dag_id) (number + 1) fault told opens_nothing head_goes (ap (λ n. n + 1) first) stops
+
+-- a line did not come behind what was read
+pub read_stops : (a b : Option (List ℕ)) (before : List ℕ) (read : Beginning) (number : ℕ) (fault : ReportFault) → ReadsOn a b before (opening_text (so_far read)) → Keeps read → IsKnown read → number ≡ lines_in (opening_text (so_far read))
+    → IfSome b (StopsAt fault (number + 1)) → IfSome a (λ bytes. Tells (before ++ bytes) fault)
+read_stops a b before read number fault on keeps known place stops = tells_on a b before after fault on (go b stops)
+  where
+    after : List ℕ
+    after = opening_text (so_far read)
+
+    go : (o : Option (List ℕ)) → IfSome o (StopsAt fault (number + 1)) → IfSome o (λ bytes. Tells (opening_text (so_far read) ++ bytes) fault)
+    go None stops = tt
+    go (Some bytes) stops = stops_tell (opening_text (so_far read)) (IsNextOf read) (number + 1) fault bytes (opens read keeps known) (known_goes read keeps known) (ap (λ n. n + 1) place) stops
+
+-- a line came that may not stand there
+line_told : (opening text : List ℕ) (Stands : Report → List ℕ → Type 0) (number : ℕ) (b c : Option (List ℕ)) → IsOpening opening → Goes opening Stands → ((report : Report) → Stands report text → ⊥) → number ≡ lines_in opening + 1
+    → Consumes b c (text ++ 10 ∷ []) → IsInLine text → length text ≤ 66_000 → IfSome b (λ bytes. Tells (opening ++ bytes) (ReportFault.BadLine number))
+line_told opening text Stands number None c opens goes none place came in_line short = tt
+line_told opening text Stands number (Some xs) None opens goes none place came in_line short = absurd came
+line_told opening text Stands number (Some xs) (Some ys) opens goes none place came in_line short = inl (record {
+  opening = opening;
+  text = text;
+  rest = ys;
+  opens = opens;
+  bytes_are = ap (λ l. opening ++ l) came;
+  in_line = in_line;
+  short = short;
+  bad = no_such_line opening text Stands goes none in_line;
+  place = place;
+})
+
+-- as the first line
+pub first_told : (left b : Option (List ℕ)) (bytes text : List ℕ) → bytes ≡ [] → Consumes (prepend_known bytes left) b (text ++ 10 ∷ []) → IsInLine text → length text ≤ 66_000 → ((id : List ℕ) → SaysDag text id → ⊥)
+    → IfSome left (λ bytes. Tells bytes (ReportFault.BadLine 1))
+first_told left b bytes text none came in_line short other =
+    let P : Option (List ℕ) → Type 0 = λ o. Consumes o b (text ++ 10 ∷ []) in
+    line_told [] text (λ r line. SaysDag line r.dag_id) 1 left b opens_nothing head_goes (λ report. other report.dag_id) refl (subst P (ap (λ l. prepend_known l left) none ∙ nothing_first left) came) in_line short
+
+-- behind what was read
+pub line_tells : (a b c : Option (List ℕ)) (before text : List ℕ) (read : Beginning) (number : ℕ) → ReadsOn a b before (opening_text (so_far read)) → Keeps read → IsKnown read → (MayStand read text → ⊥) → number ≡ lines_in (opening_text (so_far read)) + 1
+    → Consumes b c (text ++ 10 ∷ []) → IsInLine text → length text ≤ 66_000 → IfSome a (λ bytes. Tells (before ++ bytes) (ReportFault.BadLine number))
+line_tells a b c before text read number on keeps known none place came in_line short =
+    tells_on a b before (opening_text (so_far read)) (ReportFault.BadLine number) on
+    (line_told (opening_text (so_far read)) text (IsNextOf read) number b c (opens read keeps known) (known_goes read keeps known) (λ report stands. none stands.stands) place came in_line short)
+
+-- a byte came behind a report
+pub more_tells : (a b c : Option (List ℕ)) (before : List ℕ) (report : Report) (first number : ℕ) → IsShownReport report → ReadsOn a b before (report_text report) → number ≡ lines_in (report_text report) + 1 → Consumes b c (first ∷ [])
+    → IfSome a (λ bytes. Tells (before ++ bytes) (ReportFault.BadLine number))
+more_tells a b c before report first number shown on place came = tells_on a b before (report_text report) (ReportFault.BadLine number) on (go b c came)
+  where
+    go : (o p : Option (List ℕ)) → Consumes o p (first ∷ []) → IfSome o (λ bytes. Tells (report_text report ++ bytes) (ReportFault.BadLine number))
+    go None p came = tt
+    go (Some xs) None came = absurd came
+    go (Some xs) (Some ys) came = inr (record { report = report; first = first; rest = ys; shown = shown; bytes_are = ap (λ l. report_text report ++ l) came; place = place })
+
+-- the first line is read behind nothing
+pub first_read : (left b : Option (List ℕ)) (bytes text after : List ℕ) → bytes ≡ [] → Consumes (prepend_known bytes left) b text → after ≡ text → ReadsOn left b [] after
+first_read left b bytes text after none came is =
+    let P : Option (List ℕ) → Type 0 = λ o. Consumes o b text in
+    (text, subst P (ap (λ l. prepend_known l left) none ∙ nothing_first left) came, is)
+
+pub reads_twice : (a b c : Option (List ℕ)) (x y z : List ℕ) → ReadsOn a b x y → ReadsOn b c y z → ReadsOn a c x z
+reads_twice a b c x y z (s, came, is) (t, next, then) = (s ++ t, consumes_more a b c s t came next, then ∙ ap (λ l. l ++ t) is ∙ append_assoc x s t)
+
+pub some_byte : (o : Option ℕ) (a b : Option (List ℕ)) → is_some o ≡ true → IsNextByte a b o → (x : ℕ) × Consumes a b (x ∷ [])
+some_byte None a b e next = absurd (true≢false (sym e))
+some_byte (Some x) a b e next = (x, next)
+
+-- the bytes end behind a report
+pub ends_there : (a b c : Option (List ℕ)) (text : List ℕ) (o : Option ℕ) → ReadsOn a b [] text → is_some o ≡ false → IsNextByte b c o → IfSome a (λ bytes. bytes ≡ text)
+ends_there a b c text (Some x) on none next = absurd (true≢false none)
+ends_there a b c text None (read, came, is) none next =
+    let P : List ℕ → Type 0 = λ t. IfSome a (λ bytes. bytes ≡ t) in
+    subst P (sym is) (ends_as a b read came next.0)
+
+-- a device that halts, or want of memory, says nothing of the bytes
+pub halts_stop : (a : Option (List ℕ)) (fault : ReportFault) (number : ℕ) → (fault ≡ ReportFault.Io) ⊎ (fault ≡ ReportFault.OutOfMemory) → IfSome a (StopsAt fault number)
+halts_stop None fault number why = tt
+halts_stop (Some xs) fault number (inl io) = let P : ReportFault → Type 0 = λ f. StopsAt f number xs in subst P (sym io) tt
+halts_stop (Some xs) fault number (inr memory) = let P : ReportFault → Type 0 = λ f. StopsAt f number xs in subst P (sym memory) tt
+
+pub memory_tells : (a : Option (List ℕ)) (before : List ℕ) (fault : ReportFault) → fault ≡ ReportFault.OutOfMemory → IfSome a (λ bytes. Tells (before ++ bytes) fault)
+memory_tells None before fault memory = tt
+memory_tells (Some xs) before fault memory = let P : ReportFault → Type 0 = λ f. Tells (before ++ xs) f in subst P (sym memory) tt

@@ -1,0 +1,306 @@
+-- Each report by the rules is read line by line.
+use Rattle.std.proofs.Common.{◌≡◌, ◌≢◌, ◌≤◌, ◌<◌, ◌+◌, ◌==◌, ◌<ℤ◌, ℕ, zero, suc, List, [], ◌∷◌, ◌++◌, length, get_or, slice_get, true, false, nat_lt, int_lt, cond, Option, Some, None, ℤ, codes, refl, sym, ap, ◌∙◌, subst, arith, append_assoc, append-nil, length-append, inl, inr}
+use Rattle.std.specs.List.{list_any, AllByRecursion}
+use Rattle.std.specs.Str.{bytes_eq}
+use Rattle.std.specs.Cmp.Lexicographic.{bytes_decides}
+use Rattle.std.proofs.Math.Seq.{get_or-append_seam}
+use Rattle.std.proofs.lemmas.List.{get_or_append_left}
+use Rattle.std.proofs.lemmas.Bool.{cases_Bool}
+use Rattle.std.proofs.lemmas.Bool.Decides.{nat_tests}
+use Rattle.std.proofs.lemmas.Int.{ints}
+use Rattle.bf_read.specs.Ids.{is_id}
+use Rattle.bf_graph.specs.Shape.{AreDistinct}
+use Rattle.bf_xcom.specs.declared.values.TaskResult.{TaskResult}
+use Rattle.bf_report.specs.declared.report.TaskReport.{TaskReport}
+use Rattle.bf_report.specs.declared.report.RunReport.{RunReport}
+use Rattle.bf_report.specs.declared.report.Report.{Report}
+use Rattle.bf_report_reader.specs.declared.entry.Untried.{Untried}
+use Rattle.bf_report_reader.specs.declared.entry.Entry.{Entry}
+use Rattle.bf_report_reader.specs.declared.beginning.OpenRun.{OpenRun}
+use Rattle.bf_report_reader.specs.declared.beginning.Beginning.{Beginning}
+use Rattle.bf_report_reader.specs.Entries.{IsEntry, IsShownResult, entry_text}
+use Rattle.bf_report_reader.specs.Runs.{run_words}
+use Rattle.bf_report_reader.specs.Rules.{IsShownTask, IsShownRun, Rise, IsShownReport}
+use Rattle.bf_report_reader.specs.Beginning.{tasks_in, count, closed, runs_of, run_count, so_far, is_whole_in, may_begin, is_text, is_next_in, ids_with, goes_on, with_entry}
+use Rattle.bf_report_reader.specs.Steps.{Follows}
+use Rattle.bf_report_reader.specs.Extensions.{start, Leads, Extends}
+use Rattle.bf_report_reader.proofs.Growth.{count_is}
+
+-- ---- paths
+
+Reaches : Beginning → Beginning → Type 0
+Reaches b c = (n : ℕ) × Leads n b c
+
+stays : (b c : Beginning) → b ≡ c → Reaches b c
+unfolding Reaches
+stays b c same = (zero, same)
+
+by_line : (b c d : Beginning) (text : List ℕ) → Follows b text c → Reaches c d → Reaches b d
+unfolding Reaches
+by_line b c d text follows (n, leads) = (suc n, (text, c, follows, leads))
+
+on_from : (n : ℕ) (b c d : Beginning) → Leads n b c → Reaches c d → Reaches b d
+on_from zero b c d same on = subst (λ (x : Beginning). Reaches x d) (sym same) on
+on_from (suc n) b c d (text, next, follows, leads) on = by_line b next d text follows (on_from n next c d leads on)
+
+reach_on : (b c d : Beginning) → Reaches b c → Reaches c d → Reaches b d
+unfolding Reaches
+reach_on b c d (n, leads) on = on_from n b c d leads on
+
+entry_line_of : (b c : Beginning) (id : List ℕ) (e : Entry) → IsEntry e → with_entry b id e ≡ Some c → Follows b (id ++ 32 ∷ entry_text e) c
+entry_line_of b c id e good added = inl (record { id = id; entry = e; good = good; spelled = refl; added = added })
+
+-- ---- tests that hold
+
+same_number : (n : ℕ) → (n == n) ≡ true
+same_number n = grind (arith, nat_tests)
+
+below_true : (m n : ℕ) → m < n → nat_lt m n ≡ true
+below_true m n h = grind (arith, nat_tests, h)
+
+later_true : (m n : ℤ) → m <ℤ n → int_lt m n ≡ true
+later_true m n h = grind (arith, ints, h)
+
+pub text_true : (o : Option (List ℕ)) (id : List ℕ) → o ≡ Some id → is_text o id ≡ true
+text_true o id at = ap (λ x. is_text x id) at ∙ (bytes_decides id id).1 refl
+
+get_at : (done ids : List (List ℕ)) (id : List ℕ) (n : ℕ) → n ≡ length done → slice_get (done ++ id ∷ ids) n ≡ Some id
+get_at [] ids id zero e = refl
+get_at [] ids id (suc n) e = absurd (omega (arith, e))
+get_at (d ∷ ds) ids id zero e = absurd (omega (arith, e))
+get_at (d ∷ ds) ids id (suc n) e = get_at ds ids id n (omega (arith, e))
+
+none_is : (done : List (List ℕ)) (id : List ℕ) → ((k : ℕ) (d : List ℕ) → k < length done → get_or done k d ≢ id) → list_any (λ task. bytes_eq task id) done ≡ false
+none_is [] id other = refl
+none_is (d ∷ ds) id other = elim (cases_Bool (bytes_eq d id)) as (λ _. list_any (λ task. bytes_eq task id) (d ∷ ds) ≡ false) [
+  | inl is ↦ absurd (other 0 d (omega arith) ((bytes_decides d id).0 is))
+  | inr not_is ↦ rw not_is (none_is ds id (λ k e h. other (suc k) e (omega (arith, h))))
+]
+
+not_there : (done ids : List (List ℕ)) (id : List ℕ) → AreDistinct (done ++ id ∷ ids) → list_any (λ task. bytes_eq task id) done ≡ false
+not_there done ids id distinct = none_is done id (λ k d h same.
+    distinct k (length done) d h (omega (arith, length-append done (id ∷ ids)))
+    (get_or_append_left done (id ∷ ids) d k h ∙ same ∙ sym (get_or-append_seam done id ids d)))
+
+-- ---- instances
+
+-- an expanded task that may have more instances
+abbrev expanding : Beginning → RunReport → TaskResult → List TaskResult → Beginning
+expanding b run x xs = record b { run = Some (record { run = run; instances = x ∷ xs }) }
+
+goes_on_true : (b : Beginning) (run : RunReport) (x : TaskResult) (xs : List TaskResult) (id : List ℕ) → slice_get b.tasks (length run.tasks) ≡ Some id → goes_on (expanding b run x xs) id (suc (length xs)) ≡ true
+goes_on_true b run x xs id at = rw (text_true _ id at, same_number (suc (length xs))) refl
+
+instance_added : (b : Beginning) (run : RunReport) (x : TaskResult) (xs : List TaskResult) (y : TaskResult) (id : List ℕ) → slice_get b.tasks (length run.tasks) ≡ Some id
+    → with_entry (expanding b run x xs) id (Entry.Tried (Some (suc (length xs))) y) ≡ Some (expanding b run x (xs ++ y ∷ []))
+unfolding with_entry
+instance_added b run x xs y id at = rw (goes_on_true b run x xs id at) refl
+
+instances_path : (b : Beginning) (run : RunReport) (x : TaskResult) (xs ys : List TaskResult) (id : List ℕ) → slice_get b.tasks (length run.tasks) ≡ Some id → length xs + length ys < 1_024 → AllByRecursion IsShownResult ys
+    → Reaches (expanding b run x xs) (expanding b run x (xs ++ ys))
+instances_path b run x xs [] id at few shown = stays _ _ (ap (expanding b run x) (sym (append-nil xs)))
+instances_path b run x xs (y ∷ ys) id at few shown =
+    let e : Entry = Entry.Tried (Some (suc (length xs))) y in
+    let rest = instances_path b run x (xs ++ y ∷ []) ys id at (omega (arith, few, length-append xs (y ∷ []))) shown.1 in
+    by_line (expanding b run x xs) (expanding b run x (xs ++ y ∷ [])) _ (id ++ 32 ∷ entry_text e) (entry_line_of _ _ id e (omega (arith, few), shown.0) (instance_added b run x xs y id at))
+    (subst (λ l. Reaches (expanding b run x (xs ++ y ∷ [])) (expanding b run x l)) (append_assoc xs (y ∷ []) ys) rest)
+
+-- ---- a task
+
+-- the run with one more task, and with more
+abbrev opened : OpenRun → TaskReport → OpenRun
+opened o TaskReport.NoStatus = record { run = record o.run { tasks = tasks_in o ++ TaskReport.NoStatus ∷ [] }; instances = [] }
+opened o TaskReport.Skipped = record { run = record o.run { tasks = tasks_in o ++ TaskReport.Skipped ∷ [] }; instances = [] }
+opened o TaskReport.UpstreamFailed = record { run = record o.run { tasks = tasks_in o ++ TaskReport.UpstreamFailed ∷ [] }; instances = [] }
+opened o (TaskReport.Ran r) = record { run = record o.run { tasks = tasks_in o ++ TaskReport.Ran r ∷ [] }; instances = [] }
+opened o (TaskReport.Mapped rs) = record { run = closed o; instances = rs }
+
+abbrev opened_all : OpenRun → List TaskReport → OpenRun
+opened_all o [] = o
+opened_all o (t ∷ ts) = opened_all (opened o t) ts
+
+closed_opened : (o : OpenRun) (t : TaskReport) → IsShownTask t → closed (opened o t) ≡ record o.run { tasks = tasks_in o ++ t ∷ [] }
+closed_opened o TaskReport.NoStatus shown = ap (λ ts. record o.run { tasks = ts }) (append-nil (tasks_in o ++ TaskReport.NoStatus ∷ []))
+closed_opened o TaskReport.Skipped shown = ap (λ ts. record o.run { tasks = ts }) (append-nil (tasks_in o ++ TaskReport.Skipped ∷ []))
+closed_opened o TaskReport.UpstreamFailed shown = ap (λ ts. record o.run { tasks = ts }) (append-nil (tasks_in o ++ TaskReport.UpstreamFailed ∷ []))
+closed_opened o (TaskReport.Ran r) shown = ap (λ ts. record o.run { tasks = ts }) (append-nil (tasks_in o ++ TaskReport.Ran r ∷ []))
+closed_opened o (TaskReport.Mapped []) shown = absurd (omega (arith, shown.0))
+closed_opened o (TaskReport.Mapped (r ∷ rs)) shown = refl
+
+closed_all : (o : OpenRun) (ts : List TaskReport) → AllByRecursion IsShownTask ts → closed (opened_all o ts) ≡ record o.run { tasks = tasks_in o ++ ts }
+closed_all o [] shown = ap (λ ts. record o.run { tasks = ts }) (sym (append-nil (tasks_in o)))
+closed_all o (t ∷ ts) shown =
+    let one = closed_opened o t shown.0 in
+    closed_all (opened o t) ts shown.1
+    ∙ ap (λ (r : RunReport). record r { tasks = r.tasks ++ ts }) one
+    ∙ ap (λ l. record o.run { tasks = l }) (append_assoc (tasks_in o) (t ∷ []) ts)
+
+opened_count : (o : OpenRun) (t : TaskReport) → IsShownTask t → count (opened o t) ≡ count o + 1
+opened_count o t shown = omega (arith, count_is o, count_is (opened o t), ap (λ (r : RunReport). length r.tasks) (closed_opened o t shown), length-append (tasks_in o) (t ∷ []))
+
+-- a line of a task that is next
+record IsTurn (b : Beginning) (o : OpenRun) (id : List ℕ) : Type 0 where
+  next : is_next_in b.runs b.tasks (Some o) id ≡ true
+  at : slice_get (ids_with b.runs b.tasks id) (count o) ≡ Some id
+
+abbrev turned : Beginning → OpenRun → List ℕ → OpenRun → Beginning
+turned b o id new = record b { tasks = ids_with b.runs b.tasks id; run = Some new }
+
+untried_added : (b : Beginning) (o : OpenRun) (id : List ℕ) → IsTurn b o id → (u : Untried) (t : TaskReport) → with_entry (record b { run = Some o }) id (Entry.Never u) ≡ cond (is_next_in b.runs b.tasks (Some o) id) (Some (turned b o id (opened o t))) None
+    → Reaches (record b { run = Some o }) (turned b o id (opened o t))
+untried_added b o id turn u t added =
+    by_line (record b { run = Some o }) (turned b o id (opened o t)) _ (id ++ 32 ∷ entry_text (Entry.Never u)) (entry_line_of _ _ id (Entry.Never u) tt (added ∙ rw turn.next refl)) (stays _ _ refl)
+
+task_path : (b : Beginning) (o : OpenRun) (id : List ℕ) (t : TaskReport) → IsTurn b o id → IsShownTask t → Reaches (record b { run = Some o }) (turned b o id (opened o t))
+unfolding with_entry
+task_path b o id TaskReport.NoStatus turn shown = untried_added b o id turn Untried.NoStatus TaskReport.NoStatus refl
+task_path b o id TaskReport.Skipped turn shown = untried_added b o id turn Untried.Skipped TaskReport.Skipped refl
+task_path b o id TaskReport.UpstreamFailed turn shown = untried_added b o id turn Untried.UpstreamFailed TaskReport.UpstreamFailed refl
+task_path b o id (TaskReport.Ran r) turn shown =
+    let e : Entry = Entry.Tried None r in
+    by_line (record b { run = Some o }) (turned b o id (opened o (TaskReport.Ran r))) _ (id ++ 32 ∷ entry_text e) (entry_line_of _ _ id e (tt, shown) (rw turn.next refl)) (stays _ _ refl)
+task_path b o id (TaskReport.Mapped []) turn shown = absurd (omega (arith, shown.0))
+task_path b o id (TaskReport.Mapped (r ∷ rs)) turn shown =
+    let e : Entry = Entry.Tried (Some 0) r in
+    let c : Beginning = record b { tasks = ids_with b.runs b.tasks id } in
+    by_line (record b { run = Some o }) (expanding c (closed o) r []) _ (id ++ 32 ∷ entry_text e) (entry_line_of _ _ id e (omega arith, shown.2.0) (rw turn.next refl))
+    (instances_path c (closed o) r [] rs id (ap (slice_get (ids_with b.runs b.tasks id)) (count_is o) ∙ turn.at) (omega (arith, shown.1)) shown.2.1)
+
+-- ---- the tasks of a run
+
+-- the ids that are known before a task, in the first run those of the tasks before it
+abbrev seen : List RunReport → List (List ℕ) → List (List ℕ) → List (List ℕ)
+seen [] done ids = done
+seen (r ∷ rs) done ids = done ++ ids
+
+seen_all : (runs : List RunReport) (done : List (List ℕ)) → seen runs done [] ≡ done
+seen_all [] done = refl
+seen_all (r ∷ rs) done = append-nil done
+
+seen_more : (runs : List RunReport) (done ids : List (List ℕ)) (id : List ℕ) → ids_with runs (seen runs done (id ∷ ids)) id ≡ seen runs (done ++ id ∷ []) ids
+seen_more [] done ids id = refl
+seen_more (r ∷ rs) done ids id = sym (append_assoc done (id ∷ []) ids)
+
+record AreNames (ids : List (List ℕ)) : Type 0 where
+  named : AllByRecursion (λ id. is_id id ≡ true) ids
+  distinct : AreDistinct ids
+  few : length ids ≤ 2_000
+
+name_at : (done ids : List (List ℕ)) (id : List ℕ) → AllByRecursion (λ id. is_id id ≡ true) (done ++ id ∷ ids) → is_id id ≡ true
+name_at [] ids id named = named.0
+name_at (d ∷ ds) ids id named = name_at ds ids id named.1
+
+turn_of : (b : Beginning) (o : OpenRun) (done ids : List (List ℕ)) (id : List ℕ) → b.tasks ≡ seen b.runs done (id ∷ ids) → count o ≡ length done → AreNames (done ++ id ∷ ids) → IsTurn b o id
+turn_of b o done ids id known counted names = record {
+  next = ap (λ l. is_next_in b.runs l (Some o) id) known ∙ next b.runs;
+  at = ap (λ l. slice_get (ids_with b.runs l id) (count o)) known ∙ at b.runs;
+}
+  where
+    next : (runs : List RunReport) → is_next_in runs (seen runs done (id ∷ ids)) (Some o) id ≡ true
+    next [] = rw (name_at done ids id names.named, below_true (length done) 2_000 (omega (arith, names.few, length-append done (id ∷ ids))), not_there done ids id names.distinct) refl
+    next (r ∷ rs) = text_true (slice_get (done ++ id ∷ ids) (count o)) id (get_at done ids id (count o) counted)
+
+    at : (runs : List RunReport) → slice_get (ids_with runs (seen runs done (id ∷ ids)) id) (count o) ≡ Some id
+    at [] = get_at done [] id (count o) counted
+    at (r ∷ rs) = get_at done ids id (count o) counted
+
+tasks_path : (b : Beginning) (o : OpenRun) (done ids : List (List ℕ)) (ts : List TaskReport) → b.tasks ≡ seen b.runs done ids → count o ≡ length done → length ids ≡ length ts → AreNames (done ++ ids) → AllByRecursion IsShownTask ts
+    → Reaches (record b { run = Some o }) (record b { tasks = done ++ ids; run = Some (opened_all o ts) })
+tasks_path b o done [] [] known counted same names shown =
+    stays _ _ (ap (λ l. record b { tasks = l; run = Some o }) (known ∙ seen_all b.runs done ∙ sym (append-nil done)))
+tasks_path b o done [] (t ∷ ts) known counted same names shown = absurd (omega (arith, same))
+tasks_path b o done (id ∷ ids) [] known counted same names shown = absurd (omega (arith, same))
+tasks_path b o done (id ∷ ids) (t ∷ ts) known counted same names shown =
+    let all : done ++ id ∷ ids ≡ (done ++ id ∷ []) ++ ids = sym (append_assoc done (id ∷ []) ids) in
+    let c : Beginning = record b { tasks = ids_with b.runs b.tasks id } in
+    let rest = tasks_path c (opened o t) (done ++ id ∷ []) ids ts (ap (λ l. ids_with b.runs l id) known ∙ seen_more b.runs done ids id)
+    (omega (arith, opened_count o t shown.0, counted, length-append done (id ∷ []))) (omega (arith, same)) (subst AreNames all names) shown.1 in
+    reach_on _ (turned b o id (opened o t)) _ (task_path b o id t (turn_of b o done ids id known counted names) shown.0)
+    (subst (λ l. Reaches (record c { run = Some (opened o t) }) (record c { tasks = l; run = Some (opened_all (opened o t) ts) })) (sym all) rest)
+
+-- ---- runs
+
+abbrev bare : RunReport → OpenRun
+bare r = record { run = record r { tasks = [] }; instances = [] }
+
+seen_later : (rs : List RunReport) (r : RunReport) (ids : List (List ℕ)) → seen (rs ++ r ∷ []) [] ids ≡ ids
+seen_later [] r ids = refl
+seen_later (x ∷ xs) r ids = refl
+
+-- the line of a run, and those of its tasks
+run_path : (b : Beginning) (ids : List (List ℕ)) (r : RunReport) → may_begin b r.interval ≡ true → b.tasks ≡ seen (runs_of b) [] ids → AreNames ids → IsShownRun (length ids) r
+    → Reaches b (record b { tasks = ids; runs = runs_of b; run = Some (opened_all (bare r) r.tasks) })
+run_path b ids r begins known names shown =
+    let c : Beginning = record b { runs = runs_of b } in
+    by_line b (record c { run = Some (bare r) }) _ (codes "@run" ++ 32 ∷ run_words (r.interval, r.state))
+    (inr (record { run = record r { tasks = [] }; bare = refl; good = shown.interval; spelled = refl; added = rw begins refl }))
+    (tasks_path c (bare r) [] ids r.tasks known refl (sym shown.all) names shown.each)
+
+closed_bare : (r : RunReport) → AllByRecursion IsShownTask r.tasks → closed (opened_all (bare r) r.tasks) ≡ r
+closed_bare r shown = closed_all (bare r) r.tasks shown
+
+-- the report with the runs that are left
+record Completes (b : Beginning) (report : Report) : Type 0 where
+  last : Beginning
+  path : Reaches b last
+  whole : is_whole_in last.run last.tasks ≡ true
+  is : so_far last ≡ report
+
+runs_path : (b : Beginning) (o : OpenRun) (rs : List RunReport) → count o ≡ length b.tasks → AreNames b.tasks → AllByRecursion (IsShownRun (length b.tasks)) rs → Rise (closed o ∷ rs) → length b.runs + 1 + length rs ≤ 4_096
+    → Completes (record b { run = Some o }) (record { dag_id = b.dag_id; tasks = b.tasks; runs = (b.runs ++ closed o ∷ []) ++ rs })
+runs_path b o [] whole names shown rise few = record {
+  last = record b { run = Some o };
+  path = stays _ _ refl;
+  whole = ap (λ n. n == length b.tasks) whole ∙ same_number (length b.tasks);
+  is = ap (λ l. record { dag_id = b.dag_id; tasks = b.tasks; runs = l }) (sym (append-nil (b.runs ++ closed o ∷ [])));
+}
+runs_path b o (r ∷ rs) whole names shown rise few =
+    let before : Beginning = record b { run = Some o } in
+    let c : Beginning = record b { runs = b.runs ++ closed o ∷ [] } in
+    let p = opened_all (bare r) r.tasks in
+    let same : closed p ≡ r = closed_bare r shown.0.each in
+    let begins : may_begin before r.interval ≡ true =
+    rw (ap (λ n. n == length b.tasks) whole ∙ same_number (length b.tasks), below_true (run_count before) 4_096 (omega (arith, few)), later_true _ _ rise.0) refl in
+    let path = run_path before b.tasks r begins (sym (seen_later b.runs (closed o) b.tasks)) names shown.0 in
+    let counted : count p ≡ length b.tasks = sym (count_is p) ∙ ap (λ (x : RunReport). length x.tasks) same ∙ shown.0.all in
+    let rest = runs_path c p rs counted names shown.1 (subst (λ x. Rise (x ∷ rs)) (sym same) rise.1) (omega (arith, few, length-append b.runs (closed o ∷ []))) in
+    record {
+      last = rest.last;
+      path = reach_on _ _ _ path rest.path;
+      whole = rest.whole;
+      is = rest.is ∙ ap (λ l. record { dag_id = b.dag_id; tasks = b.tasks; runs = l })
+          (ap (λ x. ((b.runs ++ closed o ∷ []) ++ x ∷ []) ++ rs) same ∙ append_assoc (b.runs ++ closed o ∷ []) (r ∷ []) rs);
+    }
+
+-- ---- the whole report
+
+all_path : (report : Report) → IsShownReport report → Completes (start report.dag_id) report
+all_path report shown = go report.runs refl
+  where
+    go : (runs : List RunReport) → report.runs ≡ runs → Completes (start report.dag_id) report
+    go [] none = record {
+      last = start report.dag_id;
+      path = stays _ _ refl;
+      whole = refl;
+      is = λ k. record { dag_id = report.dag_id; tasks = sym (shown.known none) k; runs = sym none k };
+    }
+    go (r ∷ rs) some =
+        let names : AreNames report.tasks = record { named = shown.ids; distinct = shown.distinct; few = shown.few_tasks } in
+        let each = subst (AllByRecursion (IsShownRun (length report.tasks))) some shown.runs in
+        let p = opened_all (bare r) r.tasks in
+        let same : closed p ≡ r = closed_bare r each.0.each in
+        let b : Beginning = record { dag_id = report.dag_id; tasks = report.tasks; runs = []; run = None } in
+        let counted : count p ≡ length report.tasks = sym (count_is p) ∙ ap (λ (x : RunReport). length x.tasks) same ∙ each.0.all in
+        let rest = runs_path b p rs counted names each.1 (subst (λ x. Rise (x ∷ rs)) (sym same) (subst Rise some shown.rise)) (omega (arith, shown.few_runs, ap length some)) in
+        record {
+          last = rest.last;
+          path = reach_on _ _ _ (run_path (start report.dag_id) report.tasks r refl refl names each.0) rest.path;
+          whole = rest.whole;
+          is = rest.is ∙ (λ k. record { dag_id = report.dag_id; tasks = report.tasks; runs = (ap (λ x. x ∷ rs) same ∙ sym some) k });
+        }
+
+pub starts : (report : Report) → IsShownReport report → Extends (start report.dag_id) report
+unfolding Reaches
+starts report shown =
+    let all = all_path report shown in
+    record { lines = all.path.0; last = all.last; leads = all.path.1; whole = all.whole; is = all.is }

@@ -1,0 +1,201 @@
+-- Texts of reports: how they begin, and that each is one report's.
+use Rattle.std.proofs.Common.{◌≡◌, ◌<◌, ℕ, zero, suc, List, [], ◌∷◌, ◌++◌, length, get_or, drop, true, false, true≢false, Option, Some, None, codes, decimal, refl, sym, ap, ◌∙◌, ◌⊎◌, subst, arith, append_assoc, append-nil, inl, inr}
+use Rattle.std.specs.Prelude.{IfSome, IfErr, Result, Ok, Err}
+use Rattle.std.specs.List.{flat_map, enumerate_from, zip}
+use Rattle.std.proofs.lemmas.List.{append_cancel_left}
+use Rattle.std.proofs.lemmas.Option.{slice_get-get_or}
+use Rattle.std.proofs.lemmas.Bool.{cases_Bool, eqb-false}
+use Rattle.bf_read.specs.Ids.{is_id}
+use Rattle.bf_xcom.specs.declared.values.TaskResult.{TaskResult}
+use Rattle.bf_report.specs.declared.report.TaskReport.{TaskReport}
+use Rattle.bf_report.specs.declared.report.RunReport.{RunReport}
+use Rattle.bf_report.specs.declared.report.Report.{Report}
+use Rattle.bf_report.specs.Report.{run_line, run_text, task_text, tasks_text, instance_line, report_text}
+use Rattle.bf_report_reader.specs.declared.entry.Untried.{Untried}
+use Rattle.bf_report_reader.specs.declared.entry.Entry.{Entry}
+use Rattle.bf_report_reader.specs.declared.fault.ReportFault.{ReportFault}
+use Rattle.bf_report_reader.specs.declared.beginning.OpenRun.{OpenRun}
+use Rattle.bf_report_reader.specs.declared.beginning.Beginning.{Beginning}
+use Rattle.bf_report_reader.specs.Entries.{entry_text}
+use Rattle.bf_report_reader.specs.Runs.{run_words}
+use Rattle.bf_report_reader.specs.Rules.{IsShownReport}
+use Rattle.bf_report_reader.specs.Beginning.{count, so_far, opening_text, is_whole_in, is_next_in, ids_with, put_task, with_entry, IsCountedIn, room}
+use Rattle.bf_report_reader.specs.Extensions.{SaysDag, start, Extends, IsKnown}
+use Rattle.bf_report_reader.specs.Faults.{IsInLine, AreLines, Begins, IsOpening, IsReportText, IsFromOutside, Tells}
+use Rattle.bf_report_reader.proofs.Splits.{cut_once, none_stands, tails}
+use Rattle.bf_report_reader.proofs.Words.{id_lacks, id_short}
+use Rattle.bf_report_reader.proofs.Ruled.{report_ruled}
+use Rattle.bf_report_reader.proofs.StepFacts.{entry_next}
+use Rattle.bf_report_reader.proofs.Chains.{Keeps, Goes, IsNextOf, known_goes, not_yet, end_of, keeps_next, one_report}
+use Rattle.bf_report_reader.proofs.Paths.{starts, text_true}
+
+-- ---- the head line
+
+abbrev head_of : List ℕ → List ℕ
+head_of id = codes "@backfill" ++ 32 ∷ (codes "1" ++ 32 ∷ id)
+
+abbrev behind_head : Report → List ℕ
+behind_head r = flat_map (run_text r.tasks) r.runs ++ end_of r
+
+pub head_first : (r : Report) → report_text r ≡ (head_of r.dag_id ++ 10 ∷ []) ++ behind_head r
+head_first r = append_assoc (head_of r.dag_id ++ 10 ∷ []) (flat_map (run_text r.tasks) r.runs) (end_of r)
+
+head_in_line : (id : List ℕ) → is_id id ≡ true → IsInLine (head_of id)
+head_in_line id good = id_lacks 10 id (omega arith) good
+
+pub head_goes : Goes [] (λ r text. SaysDag text r.dag_id)
+head_goes report more shown is = record {
+  next = head_of report.dag_id;
+  more = behind_head report;
+  text = head_first report;
+  in_line = head_in_line report.dag_id shown.dag_id;
+  short = omega (arith, id_short report.dag_id shown.dag_id);
+  stands = (shown.dag_id, refl);
+}
+
+-- texts that begin with one head line are those of one dag
+same_dag : (id other more rest : List ℕ) → is_id id ≡ true → is_id other ≡ true → (head_of id ++ 10 ∷ []) ++ more ≡ (head_of other ++ 10 ∷ []) ++ rest → id ≡ other
+same_dag id other more rest good too e =
+    ap (drop 12) (cut_once 10 (head_of id) (head_of other) more rest (head_in_line id good) (head_in_line other too)
+    (sym (append_assoc (head_of id) (10 ∷ []) more) ∙ e ∙ append_assoc (head_of other) (10 ∷ []) rest)).0
+
+pub start_text : (id : List ℕ) → opening_text (so_far (start id)) ≡ head_of id ++ 10 ∷ []
+start_text id = append-nil (head_of id ++ 10 ∷ [])
+
+pub known_start : (id : List ℕ) → is_id id ≡ true → IsKnown (start id)
+known_start id good report more shown is =
+    let same : report.dag_id ≡ id = same_dag report.dag_id id (behind_head report) more shown.dag_id good (sym (head_first report) ∙ is ∙ ap (λ l. l ++ more) (start_text id)) in
+    subst (λ i. Extends (start i) report) same (starts report shown)
+
+pub keeps_start : (id : List ℕ) → is_id id ≡ true → Keeps (start id)
+keeps_start id good = record {
+  counted = refl;
+  small = omega arith;
+  ruled = record { dag_id = good; ids = tt; distinct = λ i j d h k. absurd (omega (arith, k)); runs = tt; last = tt; few_runs = omega arith; rise = tt };
+}
+
+-- ---- one report to a text
+
+-- no report's text goes on as another's
+pub one_text_each : (one two : Report) (more : List ℕ) → IsShownReport one → IsShownReport two → report_text two ≡ report_text one ++ more → one ≡ two
+one_text_each one two more shown too is =
+    let same : two.dag_id ≡ one.dag_id = same_dag two.dag_id one.dag_id (behind_head two) (behind_head one ++ more) too.dag_id shown.dag_id
+    (sym (head_first two) ∙ is ∙ ap (λ l. l ++ more) (head_first one) ∙ append_assoc (head_of one.dag_id ++ 10 ∷ []) (behind_head one) more) in
+    one_report (suc (room (start one.dag_id))) (start one.dag_id) one two more (omega arith) (keeps_start one.dag_id shown.dag_id) (starts one shown) (subst (λ i. Extends (start i) two) same (starts two too)) is
+
+-- ---- a report is filled up
+
+lacks_task : (runs : List RunReport) (ids : List (List ℕ)) (run : Option OpenRun) → IsCountedIn runs ids run → is_whole_in run ids ≡ false → (id : List ℕ) × (is_next_in runs ids run id ≡ true)
+lacks_task runs ids None counted short = absurd (true≢false short)
+lacks_task [] ids (Some o) counted short = absurd (eqb-false (count o) (length ids) short counted)
+lacks_task (r ∷ rs) ids (Some o) counted short =
+    let below : count o < length ids = omega (arith, counted, eqb-false (count o) (length ids) short) in
+    (get_or ids (count o) [], text_true _ _ (slice_get-get_or ids (count o) [] below))
+
+filled : (b : Beginning) (id : List ℕ) → is_next_in b.runs b.tasks b.run id ≡ true
+    → with_entry b id (Entry.Never Untried.NoStatus) ≡ Some (record b { tasks = ids_with b.runs b.tasks id; run = put_task b.run TaskReport.NoStatus })
+unfolding with_entry
+filled b id next = rw next refl
+
+begins_by : (fuel : ℕ) (b : Beginning) → room b < fuel → Keeps b → Begins (opening_text (so_far b))
+begins_by zero b less keeps = absurd (omega (arith, less))
+begins_by (suc fuel) b less keeps = elim (cases_Bool (is_whole_in b.run b.tasks)) [
+  | inl whole ↦ record { report = so_far b; more = end_of (so_far b); shown = report_ruled b keeps.counted keeps.small keeps.ruled whole; text_is = refl }
+  | inr short ↦
+      let (id, next) = lacks_task b.runs b.tasks b.run keeps.counted short in
+      let e : Entry = Entry.Never Untried.NoStatus in
+      let c : Beginning = record b { tasks = ids_with b.runs b.tasks id; run = put_task b.run TaskReport.NoStatus } in
+      let text = id ++ 32 ∷ entry_text e in
+      let step = entry_next b c id text e keeps.counted keeps.small keeps.ruled tt refl (filled b id next) in
+      let rest = begins_by fuel c (omega (arith, less, step.shrinks)) (keeps_next b c text step) in
+      record {
+        report = rest.report;
+        more = (text ++ 10 ∷ []) ++ rest.more;
+        shown = rest.shown;
+        text_is = rest.text_is ∙ ap (λ l. l ++ rest.more) step.read ∙ append_assoc (opening_text (so_far b)) (text ++ 10 ∷ []) rest.more;
+      }
+]
+
+-- ---- whole lines
+
+lines_append : (xs ys : List ℕ) → AreLines xs → AreLines ys → AreLines (xs ++ ys)
+lines_append xs ys a (inl none) = subst AreLines (sym (append-nil xs) ∙ ap (λ l. xs ++ l) (sym none)) a
+lines_append xs ys a (inr (front, is)) = inr (xs ++ front, ap (λ l. xs ++ l) is ∙ sym (append_assoc xs front (10 ∷ [])))
+
+lines_flat : {X : Type 0} (f : X → List ℕ) (xs : List X) → ((x : X) → AreLines (f x)) → AreLines (flat_map f xs)
+lines_flat f [] each = inl refl
+lines_flat f (x ∷ xs) each = lines_append (f x) (flat_map f xs) (each x) (lines_flat f xs each)
+
+task_lines : (id : List ℕ) (t : TaskReport) → AreLines (task_text id t)
+task_lines id TaskReport.NoStatus = inr (_, refl)
+task_lines id TaskReport.Skipped = inr (_, refl)
+task_lines id TaskReport.UpstreamFailed = inr (_, refl)
+task_lines id (TaskReport.Ran r) = inr (_, refl)
+task_lines id (TaskReport.Mapped rs) = lines_flat (λ (p : ℕ × TaskResult). instance_line id (decimal p.0) p.1) (enumerate_from 0 rs) (λ p. inr (_, refl))
+
+run_lines : (ids : List (List ℕ)) (r : RunReport) → AreLines (run_text ids r)
+run_lines ids r = lines_append (run_line r) (tasks_text ids r.tasks) (inr (codes "@run" ++ 32 ∷ run_words (r.interval, r.state), refl)) (lines_flat (λ (p : List ℕ × TaskReport). task_text p.0 p.1) (zip ids r.tasks) (λ p. task_lines p.0 p.1))
+
+pub opens : (b : Beginning) → Keeps b → IsKnown b → IsOpening (opening_text (so_far b))
+opens b keeps known = record {
+  lines = lines_append (head_of b.dag_id ++ 10 ∷ []) (flat_map (run_text b.tasks) (so_far b).runs) (inr (head_of b.dag_id, refl)) (lines_flat (run_text b.tasks) (so_far b).runs (run_lines b.tasks));
+  begins = begins_by (suc (room b)) b (omega arith) keeps;
+  unfinished = not_yet (opening_text (so_far b)) (IsNextOf b) (known_goes b keeps known);
+}
+
+pub opens_nothing : IsOpening []
+opens_nothing =
+    let begins = begins_by (suc (room (start (codes "a")))) (start (codes "a")) (omega arith) (keeps_start (codes "a") refl) in
+    record {
+      lines = inl refl;
+      begins = record { report = begins.report; more = report_text begins.report; shown = begins.shown; text_is = refl };
+      unfinished = not_yet [] (λ r text. SaysDag text r.dag_id) head_goes;
+    }
+
+-- ---- faults
+
+-- what ends in a byte does so in its last part, or that part is nothing
+ends_behind : (s : ℕ) (xs ys front : List ℕ) → xs ++ ys ≡ front ++ s ∷ [] → (ys ≡ []) ⊎ ((back : List ℕ) × (ys ≡ back ++ s ∷ []))
+ends_behind s [] ys front e = inr (front, e)
+ends_behind s (x ∷ xs) ys [] e = inl (nothing_behind xs ys (tails x s (xs ++ ys) [] e).1)
+  where
+    nothing_behind : (one two : List ℕ) → one ++ two ≡ [] → two ≡ []
+    nothing_behind [] two none = none
+    nothing_behind (x ∷ one) two none = absurd (cc none)
+ends_behind s (x ∷ xs) ys (f ∷ front) e = ends_behind s xs ys front (tails x f (xs ++ ys) (front ++ s ∷ []) e).1
+
+-- an unfinished report with a piece of its next line is none
+no_cut_report : (opening piece : List ℕ) → ¬ (IsReportText opening) → IsInLine piece → IsReportText (opening ++ piece) → ⊥
+no_cut_report opening piece unfinished in_line whole =
+    let r = whole.report in
+    let last : List ℕ = codes "@end" ++ 32 ∷ decimal (length r.runs) in
+    let ends : report_text r ≡ (opening_text r ++ last) ++ 10 ∷ [] = sym (append_assoc (opening_text r) last (10 ∷ [])) in
+    elim (ends_behind 10 opening piece (opening_text r ++ last) (sym whole.text_is ∙ ends)) [
+      | inl none ↦ unfinished (record { report = r; shown = whole.shown; text_is = whole.text_is ∙ ap (λ l. opening ++ l) none ∙ append-nil opening })
+      | inr (back, is) ↦ none_stands 10 piece back [] in_line is
+    ]
+
+-- of the text of a report no line is told
+pub no_fault : (bytes : List ℕ) (fault : ReportFault) → Tells bytes fault → IsReportText bytes → IsFromOutside fault
+no_fault bytes (ReportFault.BadLine n) (inl told) whole =
+    absurd (told.bad (record { report = whole.report; more = told.rest; shown = whole.shown; text_is = whole.text_is ∙ told.bytes_are ∙ sym (append_assoc told.opening (told.text ++ 10 ∷ []) told.rest) }))
+no_fault bytes (ReportFault.BadLine n) (inr told) whole =
+    let rest = told.first ∷ told.rest in
+    let same = one_text_each told.report whole.report rest told.shown whole.shown (whole.text_is ∙ told.bytes_are) in
+    let none : [] ≡ rest = append_cancel_left (report_text whole.report) [] rest
+    (append-nil (report_text whole.report) ∙ whole.text_is ∙ told.bytes_are ∙ ap (λ (r : Report). report_text r ++ rest) same) in
+    absurd (cc none)
+no_fault bytes (ReportFault.TooLong n) told whole =
+    absurd (told.bad (record { report = whole.report; more = told.rest; shown = whole.shown; text_is = whole.text_is ∙ told.bytes_are ∙ sym (append_assoc told.opening told.piece told.rest) }))
+no_fault bytes ReportFault.Truncated told whole =
+    absurd (no_cut_report told.opening told.piece told.opens.unfinished told.in_line (record { report = whole.report; shown = whole.shown; text_is = whole.text_is ∙ told.bytes_are }))
+no_fault bytes ReportFault.Io told whole = inl refl
+no_fault bytes ReportFault.OutOfMemory told whole = inr refl
+
+pub reads_whole : (a : Option (List ℕ)) (fault : ReportFault) → IfSome a (λ bytes. Tells bytes fault) → IfSome a (λ bytes. IsReportText bytes → IsFromOutside fault)
+reads_whole None fault told = tt
+reads_whole (Some bytes) fault told = no_fault bytes fault told
+
+pub reads_if_err : {X : Type 0} (a : Option (List ℕ)) (r : Result X ReportFault) → IfErr r (λ fault. IfSome a (λ bytes. Tells bytes fault)) → IfErr r (λ fault. IfSome a (λ bytes. IsReportText bytes → IsFromOutside fault))
+reads_if_err a (Ok x) told = tt
+reads_if_err a (Err fault) told = reads_whole a fault told

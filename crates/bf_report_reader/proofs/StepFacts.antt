@@ -1,0 +1,70 @@
+-- What comes of a line.
+use Rattle.std.proofs.Common.{◌≡◌, ℕ, List, [], ◌∷◌, ◌++◌, length, Option, Some, None, codes, sym, ap, ◌∙◌, append_assoc, append-nil, length-append, inl, inr}
+use Rattle.std.specs.Io.KnownBytes.{prepend_known, Consumes, IsAtEnd}
+use Rattle.std.specs.Prelude.{IfSome}
+use Rattle.bf_report.specs.declared.report.RunReport.{RunReport}
+use Rattle.bf_report.specs.Report.{run_line}
+use Rattle.bf_report_reader.specs.declared.entry.Entry.{Entry}
+use Rattle.bf_report_reader.specs.declared.beginning.Beginning.{Beginning}
+use Rattle.bf_report_reader.specs.Entries.{IsEntry, entry_text}
+use Rattle.bf_report_reader.specs.Runs.{run_words, IsRunInterval}
+use Rattle.bf_report_reader.specs.Rules.{IsRuled}
+use Rattle.bf_report_reader.specs.Beginning.{runs_of, run_count, last_run, so_far, opening_text, with_run, with_entry, IsCounted, IsSmall, entry_line}
+use Rattle.bf_report_reader.specs.Steps.{Follows, IsNext, ReadsOn}
+use Rattle.bf_report_reader.proofs.Growth.{entry_grows, run_grows}
+use Rattle.bf_report_reader.proofs.Ruled.{entry_ruled, run_ruled}
+use Rattle.bf_report_reader.proofs.Rooms.{entry_room, run_room}
+use Rattle.bf_report_reader.proofs.HeldFacts.{consumes_more}
+
+pub entry_next : (b c : Beginning) (id line : List ℕ) (e : Entry) → IsCounted b → IsSmall b → IsRuled b → IsEntry e → line ≡ id ++ 32 ∷ entry_text e → with_entry b id e ≡ Some c → IsNext b line c
+entry_next b c id line e counted small ruled good spelled added =
+    let grows = entry_grows b c id e counted added in
+    let (few, less) = entry_room b c id e counted small good added in
+    let same : entry_line id e ≡ line ++ 10 ∷ [] = ap (λ l. l ++ 10 ∷ []) (sym spelled) in
+    record {
+      counted = grows.counted;
+      small = few;
+      ruled = entry_ruled b c id e good ruled added;
+      shrinks = less;
+      follows = inl (record { id = id; entry = e; good = good; spelled = spelled; added = added });
+      read = grows.read ∙ ap (λ l. opening_text (so_far b) ++ l) same;
+    }
+
+pub run_next : (b c : Beginning) (line : List ℕ) (run : RunReport) → run.tasks ≡ [] → IsRunInterval run.interval → IsCounted b → IsSmall b → IsRuled b → line ≡ codes "@run" ++ 32 ∷ run_words (run.interval, run.state)
+    → with_run b run ≡ Some c → IsNext b line c
+run_next b c line run bare good counted small ruled spelled added =
+    let grows = run_grows b c run bare counted added in
+    let (few, less) = run_room b c run bare small added in
+    let same : run_line run ≡ line ++ 10 ∷ [] = ap (λ l. l ++ 10 ∷ []) (sym spelled) in
+    record {
+      counted = grows.counted;
+      small = few;
+      ruled = run_ruled b c run bare good counted ruled added;
+      shrinks = less;
+      follows = inr (record { run = run; bare = bare; good = good; spelled = spelled; added = added });
+      read = grows.read ∙ ap (λ l. opening_text (so_far b) ++ l) same;
+    }
+
+pub follows_next : (b c : Beginning) (line : List ℕ) → IsCounted b → IsSmall b → IsRuled b → Follows b line c → IsNext b line c
+follows_next b c line counted small ruled (inl one) = entry_next b c one.id line one.entry counted small ruled one.good one.spelled one.added
+follows_next b c line counted small ruled (inr one) = run_next b c line one.run one.bare one.good counted small ruled one.spelled one.added
+
+pub counted_runs : (b : Beginning) → length (runs_of b) ≡ run_count b
+counted_runs b = length-append b.runs (last_run b.run)
+
+-- ---- bytes that come line by line
+
+pub reads_more : (a b c : Option (List ℕ)) (before mid after line : List ℕ) → ReadsOn a b before mid → Consumes b c line → after ≡ mid ++ line → ReadsOn a c before after
+reads_more a b c before mid after line (text, came, is) next e =
+    (text ++ line, consumes_more a b c text line came next, e ∙ ap (λ t. t ++ line) is ∙ append_assoc before text line)
+
+-- all bytes of a device are the head and what came behind it
+pub whole : (left a b : Option (List ℕ)) (head text : List ℕ) → Consumes (prepend_known [] left) a head → Consumes a b text → IsAtEnd b → IfSome left (λ bytes. bytes ≡ head ++ text)
+whole None a b head text p q end = tt
+whole (Some xs) None b head text p q end = absurd p
+whole (Some xs) (Some xa) None head text p q end = absurd q
+whole (Some xs) (Some xa) (Some xb) head text p q end = p ∙ ap (λ l. head ++ l) (q ∙ ap (λ l. text ++ l) end ∙ append-nil text)
+
+pub head_opens : (b : Beginning) (id text : List ℕ) → b ≡ record { dag_id = id; tasks = []; runs = []; run = None } → text ≡ codes "@backfill" ++ 32 ∷ (codes "1" ++ 32 ∷ id)
+    → opening_text (so_far b) ≡ text ++ 10 ∷ []
+head_opens b id text is said = ap (λ (x : Beginning). opening_text (so_far x)) is ∙ append-nil ((codes "@backfill" ++ 32 ∷ (codes "1" ++ 32 ∷ id)) ++ 10 ∷ []) ∙ ap (λ l. l ++ 10 ∷ []) (sym said)

@@ -1,0 +1,110 @@
+-- Why bytes are no report, and at which line.
+use Rattle.std.specs.Prelude.{◌≡◌, ◌≤◌, ◌+◌, ◌==◌, ◌⊎◌, ℕ, false, List, [], ◌∷◌, ◌++◌, length, Option, IfSome}
+use Rattle.std.specs.List.{list_any, count_by}
+use Rattle.std.specs.Io.KnownBytes.{Consumes}
+use Rattle.bf_report.specs.declared.report.Report.{Report}
+use Rattle.bf_report.specs.Report.{report_text}
+use Rattle.bf_report_reader.specs.declared.fault.ReportFault.{ReportFault}
+use Rattle.bf_report_reader.specs.declared.line.LineEnd.{LineEnd}
+use Rattle.bf_report_reader.specs.Rules.{IsShownReport}
+
+-- text within one line
+abbrev pub IsInLine : List ℕ → Type 0
+IsInLine text = list_any (λ b. b == 10) text ≡ false
+
+-- how many lines end in a text
+abbrev pub lines_in : List ℕ → ℕ
+lines_in text = count_by (λ b. b == 10) text
+
+-- nothing, or text that ends in a line feed
+abbrev pub AreLines : List ℕ → Type 0
+AreLines text = (text ≡ []) ⊎ ((front : List ℕ) × (text ≡ front ++ 10 ∷ []))
+
+-- the bytes are the text of a report by the rules
+pub record IsReportText (bytes : List ℕ) : Type 0 where
+  pub report : Report
+  pub shown : IsShownReport report
+  pub text_is : report_text report ≡ bytes
+
+-- a report by the rules begins with these bytes
+pub record Begins (bytes : List ℕ) : Type 0 where
+  pub report : Report
+  pub more : List ℕ
+  pub shown : IsShownReport report
+  pub text_is : report_text report ≡ bytes ++ more
+
+-- a report begins with these lines, and goes on behind them
+pub record IsOpening (bytes : List ℕ) : Type 0 where
+  pub lines : AreLines bytes
+  pub begins : Begins bytes
+  pub unfinished : ¬ (IsReportText bytes)
+
+-- the bytes end before the line feed of the next line, which isn't too long so far
+pub record IsCut (bytes : List ℕ) : Type 0 where
+  pub opening : List ℕ
+  pub piece : List ℕ
+  pub opens : IsOpening opening
+  pub bytes_are : bytes ≡ opening ++ piece
+  pub in_line : IsInLine piece
+  pub short : length piece ≤ 66_000
+
+-- the line of that number has more bytes than a line may have, and stands in no report
+pub record HasLongLine (bytes : List ℕ) (number : ℕ) : Type 0 where
+  pub opening : List ℕ
+  pub piece : List ℕ
+  pub rest : List ℕ
+  pub opens : IsOpening opening
+  pub bytes_are : bytes ≡ opening ++ (piece ++ rest)
+  pub in_line : IsInLine piece
+  pub long : length piece ≡ 66_001
+  pub bad : ¬ (Begins (opening ++ piece))
+  pub place : number ≡ lines_in opening + 1
+
+-- a report begins with the lines before the line of that number, which isn't too long, and none with that line too
+pub record HasLine (bytes : List ℕ) (number : ℕ) : Type 0 where
+  pub opening : List ℕ
+  pub text : List ℕ
+  pub rest : List ℕ
+  pub opens : IsOpening opening
+  pub bytes_are : bytes ≡ opening ++ ((text ++ 10 ∷ []) ++ rest)
+  pub in_line : IsInLine text
+  pub short : length text ≤ 66_000
+  pub bad : ¬ (Begins (opening ++ (text ++ 10 ∷ [])))
+  pub place : number ≡ lines_in opening + 1
+
+-- more stands behind a report, in the line of that number
+pub record HasMore (bytes : List ℕ) (number : ℕ) : Type 0 where
+  pub report : Report
+  pub first : ℕ
+  pub rest : List ℕ
+  pub shown : IsShownReport report
+  pub bytes_are : bytes ≡ report_text report ++ first ∷ rest
+  pub place : number ≡ lines_in (report_text report) + 1
+
+-- the device failed, or memory was wanting
+abbrev pub IsFromOutside : ReportFault → Type 0
+IsFromOutside fault = (fault ≡ ReportFault.Io) ⊎ (fault ≡ ReportFault.OutOfMemory)
+
+-- what the fault says of the bytes
+abbrev pub Tells : List ℕ → ReportFault → Type 0
+Tells bytes (ReportFault.BadLine number) = HasLine bytes number ⊎ HasMore bytes number
+Tells bytes (ReportFault.TooLong number) = HasLongLine bytes number
+Tells bytes ReportFault.Truncated = IsCut bytes
+Tells bytes ReportFault.Io = Unit {0}
+Tells bytes ReportFault.OutOfMemory = Unit {0}
+
+-- ---- of one line
+
+-- what came off a device by a line, and what followed it
+abbrev pub Came : LineEnd → Option (List ℕ) → Option (List ℕ) → List ℕ → Type 0
+Came LineEnd.LineFeed old new text = Consumes old new (text ++ 10 ∷ []) × (length text ≤ 66_000)
+Came LineEnd.Nothing old new text = IfSome old (λ bytes. bytes ≡ text) × (length text ≤ 66_000)
+Came LineEnd.TooMuch old new text = Consumes old new text × (length text ≡ 66_001)
+
+-- why no line of that number came off these bytes
+abbrev pub StopsAt : ReportFault → ℕ → List ℕ → Type 0
+StopsAt (ReportFault.BadLine n) number bytes = ⊥
+StopsAt (ReportFault.TooLong n) number bytes = (n ≡ number) × ((piece : List ℕ) × (rest : List ℕ) × (bytes ≡ piece ++ rest) × IsInLine piece × (length piece ≡ 66_001))
+StopsAt ReportFault.Truncated number bytes = IsInLine bytes × (length bytes ≤ 66_000)
+StopsAt ReportFault.Io number bytes = Unit {0}
+StopsAt ReportFault.OutOfMemory number bytes = Unit {0}

@@ -1,0 +1,137 @@
+//! What a line says of a task, behind the task's id.
+ghost use Rattle.std.specs.Prelude.{◌≡◌, ℕ, List, IfOk, IfSome, IfNone, decimal};
+ghost use Rattle.bf_report_reader.specs.Reads.{Spells, Finds, AreFields};
+ghost use Rattle.bf_report_reader.specs.Entries.{IsIndex, index_text, IsEntry, entry_text, never_word, SaysNever, IsTries, SaysResult};
+
+use crate::field::{number_in, split_field};
+use crate::value::outcome_in;
+use bf_value::OutOfMemory;
+use bf_xcom::TaskResult;
+use std::alloc::Global;
+
+/// Why a task has no try.
+#[derive(Clone, Copy, Debug, PartialEq, Eq)]
+pub(crate) enum Untried {
+    NoStatus,
+    Skipped,
+    UpstreamFailed,
+}
+
+/// A task or an instance of one: without a try, or with the map index, which only instances of expanded tasks have,
+/// and what came of the tries.
+#[derive(Drop)]
+pub(crate) enum Entry {
+    Never(Untried),
+    Tried(Option<u32>, TaskResult),
+}
+
+/// How many instances an expanded task may have.
+const MOST_INSTANCES: u32 = 1_024;
+
+/// How many tries an instance may have.
+const MOST_TRIES: u32 = 101;
+
+/// Index, state, tries and value.
+type Fields<'a> = (&'a [u8], &'a [u8], &'a [u8], &'a [u8]);
+
+/// The four fields of a text.
+fn fields_of(text: &[u8]) -> Option<Fields<'_>>
+    ensures some { IfSome result (λ f. AreFields text.now f.0.now f.1.now f.2.now f.3.now) }
+    ensures none { IfNone result ((index state tries value : List ℕ) →
+        ¬ (AreFields text.now index state tries value)) }
+{
+    let (index, rest) = split_field(text)?;
+    let (state, rest) = split_field(rest)?;
+    let (tries, value) = split_field(rest)?;
+    Some((index, state, tries, value))
+}
+
+/// A map index, or `-1` for none.
+fn index_in(text: &[u8]) -> Option<Option<u32>>
+    ensures some { IfSome result (Spells IsIndex index_text text.now) }
+    ensures every { Finds (Spells IsIndex index_text text.now) result }
+{
+    if text == b"-1".as_slice() {
+        return Some(None);
+    }
+    let index = number_in(text)?;
+    if index >= MOST_INSTANCES {
+        return None;
+    }
+    Some(Some(index))
+}
+
+/// The state of a task without a try.
+fn untried_state_in(state: &[u8]) -> Option<Untried>
+    ensures some { IfSome result (λ u. state.now ≡ never_word u) }
+    ensures every { Finds (λ u. state.now ≡ never_word u) result }
+{
+    match state {
+        b"no_status" => Some(Untried::NoStatus),
+        b"skipped" => Some(Untried::Skipped),
+        b"upstream_failed" => Some(Untried::UpstreamFailed),
+        _ => None,
+    }
+}
+
+/// A task without a try.
+fn untried_in(index: &[u8], state: &[u8], tries: &[u8], value: &[u8]) -> Option<Untried>
+    ensures some { IfSome result (SaysNever index.now state.now tries.now value.now) }
+    ensures every { Finds (SaysNever index.now state.now tries.now value.now) result }
+{
+    if index == b"-1".as_slice() && tries == b"0".as_slice() && value == b"-".as_slice() {
+        return untried_state_in(state);
+    }
+    None
+}
+
+/// The number of an instance's last try.
+fn tries_in(text: &[u8]) -> Option<u32>
+    ensures some { IfSome result (Spells IsTries decimal text.now) }
+    ensures every { Finds (Spells IsTries decimal text.now) result }
+{
+    let tries = number_in(text)?;
+    if tries == 0 || tries > MOST_TRIES {
+        return None;
+    }
+    Some(tries)
+}
+
+/// What came of an instance with at least one try.
+fn result_in(
+    alloc: Global,
+    state: &[u8],
+    tries: &[u8],
+    value: &[u8],
+) -> Result<Option<TaskResult>, OutOfMemory>
+    ensures some { IfOk result (λ o. IfSome o (SaysResult state.now tries.now value.now)) }
+    ensures every { IfOk result (Finds (SaysResult state.now tries.now value.now)) }
+{
+    let Some(tries) = tries_in(tries) else {
+        return Ok(None);
+    };
+    match outcome_in(alloc, state, value)? {
+        Some(outcome) => Ok(Some(TaskResult { outcome, tries })),
+        None => Ok(None),
+    }
+}
+
+/// What a text says of a task.
+pub(crate) fn entry_in(alloc: Global, text: &[u8]) -> Result<Option<Entry>, OutOfMemory>
+    ensures some { IfOk result (λ o. IfSome o (Spells IsEntry entry_text text.now)) }
+    ensures every { IfOk result (Finds (Spells IsEntry entry_text text.now)) }
+{
+    let Some((index, state, tries, value)) = fields_of(text) else {
+        return Ok(None);
+    };
+    if let Some(untried) = untried_in(index, state, tries, value) {
+        return Ok(Some(Entry::Never(untried)));
+    }
+    let Some(index) = index_in(index) else {
+        return Ok(None);
+    };
+    match result_in(alloc, state, tries, value)? {
+        Some(instance) => Ok(Some(Entry::Tried(index, instance))),
+        None => Ok(None),
+    }
+}

@@ -1,0 +1,39 @@
+//! The fields of a line.
+ghost use Rattle.std.specs.Prelude.{◌≡◌, ◌==◌, ◌<◌, ◌^◌, ◌++◌, ◌∷◌, ℕ, IfSome, IfNone, Some, decimal, position};
+ghost use Rattle.bf_report_reader.specs.Reads.{IsWord};
+
+use itoa::Buffer;
+
+/// Where the first space stands.
+fn space_in(text: &[u8]) -> Option<usize>
+    ensures { result ≡ position (λ b. b == 32) text.now }
+{
+    text.iter().position(|byte| *byte == b' ')
+}
+
+/// The first field of a text, and what stands behind the space after it.
+pub(crate) fn split_field(text: &[u8]) -> Option<(&[u8], &[u8])>
+    ensures some { IfSome result (λ p. text.now ≡ p.0.now ++ 32 ∷ p.1.now) }
+    ensures word { IfSome result (λ p. IsWord p.0.now) }
+    ensures none { IfNone result (IsWord text.now) }
+{
+    let at = space_in(text)?;
+    Some((&text[..at], &text[at + 1..]))
+}
+
+/// The number that a text spells.
+pub(crate) fn number_in(text: &[u8]) -> Option<u32>
+    ensures some { IfSome result (λ n. text.now ≡ decimal n) }
+    ensures every { (n : ℕ) → n < 2 ^ 32 → text.now ≡ decimal n → result ≡ Some n }
+{
+    let Ok(digits) = std::str::from_utf8(text) else {
+        return None;
+    };
+    let Ok(number) = digits.parse::<u32>() else {
+        return None;
+    };
+    if Buffer::new().format(number).as_bytes() != text {
+        return None;
+    }
+    Some(number)
+}

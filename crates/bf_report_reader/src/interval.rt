@@ -1,0 +1,61 @@
+//! What the line of a run says.
+ghost use Rattle.std.specs.Prelude.{◌≡◌, IfSome};
+ghost use Rattle.bf_report.specs.Report.{run_state_word};
+ghost use Rattle.bf_report_reader.specs.Reads.{Spells, Finds};
+ghost use Rattle.bf_report_reader.specs.Runs.{IsReportMoment, spelled_moment, IsRunWords, run_words};
+
+use crate::field::split_field;
+use bf_interval::{Interval, is_in_years};
+use bf_moment::moment_in;
+use bf_xcom::RunState;
+use jiff::Timestamp;
+
+/// The last moment of a report: the end of the year 2208, where the last data interval ends at the latest.
+pub const LAST_NANOSECOND: i128 = 7_542_115_199_000_000_000;
+
+/// How many bytes a moment has.
+const MOMENT_LEN: usize = 20;
+
+/// The moment that a text spells.
+fn report_moment_in(text: &[u8]) -> Option<Timestamp>
+    ensures some { IfSome result (Spells IsReportMoment spelled_moment text.now) }
+    ensures every { Finds (Spells IsReportMoment spelled_moment text.now) result }
+{
+    let Ok(text) = std::str::from_utf8(text) else {
+        return None;
+    };
+    if text.len() != MOMENT_LEN {
+        return None;
+    }
+    let moment = moment_in(text)?;
+    if !(0..=LAST_NANOSECOND).contains(&moment.as_nanosecond()) {
+        return None;
+    }
+    Some(moment)
+}
+
+fn run_state_in(text: &[u8]) -> Option<RunState>
+    ensures some { IfSome result (λ state. text.now ≡ run_state_word state) }
+    ensures every { Finds (λ state. text.now ≡ run_state_word state) result }
+{
+    match text {
+        b"success" => Some(RunState::Success),
+        b"failed" => Some(RunState::Failed),
+        _ => None,
+    }
+}
+
+/// The data interval and the state of a run.
+pub(crate) fn run_in(text: &[u8]) -> Option<(Interval, RunState)>
+    ensures some { IfSome result (Spells IsRunWords run_words text.now) }
+    ensures every { Finds (Spells IsRunWords run_words text.now) result }
+{
+    let (start, rest) = split_field(text)?;
+    let (end, state) = split_field(rest)?;
+    let (start, end) = (report_moment_in(start)?, report_moment_in(end)?);
+    let state = run_state_in(state)?;
+    if start > end || !is_in_years(start) {
+        return None;
+    }
+    Some((Interval { start, end }, state))
+}

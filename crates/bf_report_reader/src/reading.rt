@@ -1,0 +1,244 @@
+//! Reports from devices.
+ghost use Rattle.std.specs.Prelude.{◌≡◌, ◌≢◌, ◌<◌, ◌≤◌, ◌+◌, ◌++◌, ◌∷◌, [], List, ℕ, length, IfOk, OnOk, IfErr, IfSome, IfNone, codes, if◌then◌else◌};
+ghost use Rattle.std.specs.Io.KnownBytes.{Consumes};
+ghost use Rattle.bf_report.specs.Device.{HasHalted};
+ghost use Rattle.bf_report.specs.Report.{report_text};
+ghost use Rattle.bf_report_reader.specs.Reads.{IsWord, Finds};
+ghost use Rattle.bf_report_reader.specs.Held.{held_bytes, ahead, Tallies, Breaks};
+ghost use Rattle.bf_report_reader.specs.Beginning.{IsCounted, IsSmall, so_far, opening_text};
+ghost use Rattle.bf_report_reader.specs.Rules.{IsRuled, IsShownReport};
+ghost use Rattle.bf_report_reader.specs.Faults.{IsInLine, StopsAt, Tells, IsReportText, IsFromOutside, lines_in};
+ghost use Rattle.bf_report_reader.specs.Steps.{Steps, EntrySteps, EndsBy, ReadsOn};
+ghost use Rattle.bf_report_reader.specs.Extensions.{SaysDag, IsKnown};
+
+use crate::beginning::Beginning;
+use crate::entry::entry_in;
+use crate::fault::ReportFault;
+use crate::field::{number_in, split_field};
+use crate::held::Held;
+use crate::interval::run_in;
+use crate::line::{LineEnd, next_line};
+use bf_read::is_id;
+use bf_report::{Read, Report, RunReport};
+use bf_value::{OutOfMemory, Sequence, Text};
+use std::alloc::Global;
+
+/// The bytes of a device, the line that was read last, and its number.
+#[derive(Drop)]
+struct Lines {
+    held: Held,
+    line: Vec<u8>,
+    number: u64,
+}
+
+impl Lines {
+    fn new(alloc: Global) -> Result<Lines, OutOfMemory>
+        ensures { IfOk result (λ lines.
+            (held_bytes lines.held ≡ []) × (lines.held.interruptions ≡ 0) × (lines.number ≡ 0)) }
+    {
+        Ok(Lines {
+            held: Held::new(alloc)?,
+            line: Vec::new(alloc),
+            number: 0,
+        })
+    }
+
+    /// Reads the next line.
+    fn read<R: Read>(&mut self, device: &mut R) -> Result<(), ReportFault>
+        requires { self.old.number < 30_000_000_000 }
+        ensures line { OnOk result (Consumes (ahead self.old.held (R.left device.old))
+            (ahead self.new.held (R.left device.new)) (self.new.line.items ++ 10 ∷ [])) }
+        ensures in_line { OnOk result (IsInLine self.new.line.items) }
+        ensures short { OnOk result (length self.new.line.items ≤ 66_000) }
+        ensures stops { IfErr result (λ fault.
+            IfSome (ahead self.old.held (R.left device.old)) (StopsAt fault (self.old.number + 1))) }
+        ensures number { OnOk result (self.new.number ≡ self.old.number + 1) }
+        ensures tallied { OnOk result (Tallies
+            self.old.held.interruptions (R.interruptions device.old) (R.failures device.old)
+            self.new.held.interruptions (R.interruptions device.new) (R.failures device.new)) }
+        ensures halted { IfErr result (λ fault. fault ≡ ReportFault.Io
+            → Breaks self.old.held.interruptions
+            (R.interruptions device.old) (R.failures device.old)
+            (R.interruptions device.new) (R.failures device.new)) }
+    {
+        self.number += 1;
+        match next_line(&mut self.held, device, &mut self.line)? {
+            LineEnd::LineFeed => Ok(()),
+            LineEnd::Nothing => Err(ReportFault::Truncated),
+            LineEnd::TooMuch => Err(ReportFault::TooLong(self.number)),
+        }
+    }
+}
+
+/// What stands behind a word and a space.
+fn after_word<'a>(text: &'a [u8], word: &[u8]) -> Option<&'a [u8]>
+    ensures some { IfSome result (λ rest. text.now ≡ word.now ++ 32 ∷ rest.now) }
+    ensures none { IfNone result (IsWord word.now →
+        (rest : List ℕ) → text.now ≢ word.now ++ 32 ∷ rest) }
+{
+    let (first, rest) = split_field(text)?;
+    if first == word { Some(rest) } else { None }
+}
+
+/// The dag id that the first line says.
+fn head_in(alloc: Global, line: &[u8]) -> Result<Option<Text>, OutOfMemory>
+    ensures some { IfOk result (λ o. IfSome o (SaysDag line.now)) }
+    ensures every { IfOk result (Finds (SaysDag line.now)) }
+{
+    let Some(rest) = after_word(line, b"@backfill".as_slice()) else {
+        return Ok(None);
+    };
+    let Some(id) = after_word(rest, b"1".as_slice()) else {
+        return Ok(None);
+    };
+    match std::str::from_utf8(id) {
+        Ok(id) if is_id(id) => Ok(Some(Text::copied(alloc, id)?)),
+        _ => Ok(None),
+    }
+}
+
+/// What a line behind the head is.
+#[derive(Clone, Copy, Debug, PartialEq, Eq)]
+enum Step {
+    Taken,
+    End,
+    /// It may not stand in its place.
+    Refused,
+}
+
+fn step_of(taken: bool) -> Step
+    ensures { result ≡ (if taken then Step.Taken else Step.Refused) }
+{
+    if taken { Step::Taken } else { Step::Refused }
+}
+
+fn read_run(alloc: Global, beginning: &mut Beginning, text: &[u8]) -> Result<Step, OutOfMemory>
+    requires counted { IsCounted beginning.old }
+    requires small { IsSmall beginning.old }
+    requires ruled { IsRuled beginning.old }
+    ensures { IfOk result (λ step.
+        Steps step beginning.old (codes "@run" ++ 32 ∷ text.now) beginning.new) }
+{
+    let Some((interval, state)) = run_in(text) else {
+        return Ok(Step::Refused);
+    };
+    let run = RunReport {
+        interval,
+        state,
+        tasks: Sequence::new(alloc),
+    };
+    Ok(step_of(beginning.add_run(alloc, run)?))
+}
+
+fn read_task(
+    alloc: Global,
+    beginning: &mut Beginning,
+    id: &[u8],
+    text: &[u8],
+) -> Result<Step, OutOfMemory>
+    requires counted { IsCounted beginning.old }
+    requires small { IsSmall beginning.old }
+    requires ruled { IsRuled beginning.old }
+    ensures { IfOk result (λ step. EntrySteps step beginning.old id.now text.now beginning.new) }
+{
+    let Ok(id) = std::str::from_utf8(id) else {
+        return Ok(Step::Refused);
+    };
+    match entry_in(alloc, text)? {
+        Some(entry) => Ok(step_of(beginning.add_entry(alloc, id, entry)?)),
+        None => Ok(Step::Refused),
+    }
+}
+
+/// Whether the report may end here, with this number of runs.
+fn read_end(beginning: &Beginning, text: &[u8]) -> Step
+    requires ruled { IsRuled beginning.now }
+    ensures { EndsBy result beginning.now text.now }
+{
+    match number_in(text) {
+        Some(count) if beginning.is_whole() && count as usize == beginning.run_count() => Step::End,
+        _ => Step::Refused,
+    }
+}
+
+/// Adds what a line says to the report, where it may stand next.
+fn read_line(alloc: Global, beginning: &mut Beginning, line: &[u8]) -> Result<Step, OutOfMemory>
+    requires counted { IsCounted beginning.old }
+    requires small { IsSmall beginning.old }
+    requires ruled { IsRuled beginning.old }
+    ensures { IfOk result (λ step. Steps step beginning.old line.now beginning.new) }
+{
+    let Some((first, text)) = split_field(line) else {
+        return Ok(Step::Refused);
+    };
+    if first == b"@run".as_slice() {
+        return read_run(alloc, beginning, text);
+    }
+    if first == b"@end".as_slice() {
+        return Ok(read_end(beginning, text));
+    }
+    read_task(alloc, beginning, first, text)
+}
+
+/// Reads the lines behind the head, up to the end.
+fn read_lines<R: Read>(
+    alloc: Global,
+    lines: &mut Lines,
+    device: &mut R,
+    beginning: &mut Beginning,
+) -> Result<(), ReportFault>
+    requires counted { IsCounted beginning.old }
+    requires small { IsSmall beginning.old }
+    requires ruled { IsRuled beginning.old }
+    requires known { IsKnown beginning.old }
+    requires second { lines.old.number ≡ 1 }
+    requires place { lines_in (opening_text (so_far beginning.old)) ≡ 1 }
+    ensures ok { OnOk result (ReadsOn
+        (ahead lines.old.held (R.left device.old)) (ahead lines.new.held (R.left device.new))
+        (opening_text (so_far beginning.old)) (report_text (so_far beginning.new))) }
+    ensures rules { OnOk result (IsShownReport (so_far beginning.new)) }
+    ensures tells { IfErr result (λ fault. IfSome (ahead lines.old.held (R.left device.old))
+        (λ bytes. Tells (opening_text (so_far beginning.old) ++ bytes) fault)) }
+    ensures place { OnOk result (lines.new.number ≡ lines_in (report_text (so_far beginning.new))) }
+    ensures number { OnOk result (lines.new.number < 30_000_000_000) }
+    ensures tallied { OnOk result (Tallies
+        lines.old.held.interruptions (R.interruptions device.old) (R.failures device.old)
+        lines.new.held.interruptions (R.interruptions device.new) (R.failures device.new)) }
+    ensures halted { IfErr result (λ fault. fault ≡ ReportFault.Io
+        → Breaks lines.old.held.interruptions (R.interruptions device.old) (R.failures device.old)
+        (R.interruptions device.new) (R.failures device.new)) }
+{
+    loop {
+        lines.read(device)?;
+        match read_line(alloc, beginning, lines.line.as_slice())? {
+            Step::Taken => {}
+            Step::End => return Ok(()),
+            Step::Refused => return Err(ReportFault::BadLine(lines.number)),
+        }
+    }
+}
+
+/// Reads a report from a device, up to its last byte. After a fault what was read is lost.
+pub fn read_report<R: Read>(alloc: Global, device: &mut R) -> Result<Report, ReportFault>
+    ensures ok { IfOk result (λ report.
+        IfSome (R.left device.old) (λ bytes. bytes ≡ report_text report)) }
+    ensures rules { IfOk result IsShownReport }
+    ensures err { IfErr result (λ fault. IfSome (R.left device.old) (λ bytes. Tells bytes fault)) }
+    ensures reads { IfErr result (λ fault.
+        IfSome (R.left device.old) (λ bytes. IsReportText bytes → IsFromOutside fault)) }
+    ensures io { IfErr result (λ fault. fault ≡ ReportFault.Io → HasHalted
+        (R.failures device.old) (R.failures device.new)
+        (R.interruptions device.old) (R.interruptions device.new)) }
+{
+    let mut lines = Lines::new(alloc)?;
+    lines.read(device)?;
+    let Some(dag_id) = head_in(alloc, lines.line.as_slice())? else {
+        return Err(ReportFault::BadLine(1));
+    };
+    let mut beginning = Beginning::new(alloc, dag_id);
+    read_lines(alloc, &mut lines, device, &mut beginning)?;
+    if lines.held.next_byte(device)?.is_some() {
+        return Err(ReportFault::BadLine(lines.number + 1));
+    }
+    Ok(beginning.into_report(alloc)?)
+}

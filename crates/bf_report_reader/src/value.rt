@@ -1,0 +1,76 @@
+//! What a line says of how an instance ended.
+ghost use Rattle.std.specs.Prelude.{◌≡◌, ◌≢◌, IfOk, IfSome, codes};
+ghost use Rattle.bf_value.specs.Json.{text_of as text_by};
+ghost use Rattle.bf_report_reader.specs.Reads.{Spells, Finds};
+ghost use Rattle.bf_report_reader.specs.Entries.{IsShownValue, SaysOutcome};
+
+use bf_value::{LineFault, OutOfMemory, Xval, read_line, text_of};
+use bf_xcom::Outcome;
+use std::alloc::Global;
+
+/// How many bytes the text of a value may have.
+pub(crate) const LONGEST_VALUE: usize = 65_536;
+
+/// The value that has this compact JSON text.
+fn value_in(alloc: Global, text: &[u8]) -> Result<Option<Xval>, OutOfMemory>
+    ensures some { IfOk result (λ o. IfSome o (Spells IsShownValue text_by text.now)) }
+    ensures every { IfOk result (Finds (Spells IsShownValue text_by text.now)) }
+{
+    if text.len() > LONGEST_VALUE {
+        return Ok(None);
+    }
+    match read_line(alloc, text) {
+        Ok(Some(value)) => {
+            if text_of(alloc, &value)?.as_bytes() == text {
+                Ok(Some(value))
+            } else {
+                Ok(None)
+            }
+        }
+        Ok(None) | Err(LineFault::NotUtf8) => Ok(None),
+        Err(LineFault::OutOfMemory) => Err(OutOfMemory),
+    }
+}
+
+/// How an instance ended that pushed nothing.
+fn bare_outcome_in(state: &[u8]) -> Option<Outcome>
+    ensures some { IfSome result (SaysOutcome state.now (codes "-")) }
+    ensures every { Finds (SaysOutcome state.now (codes "-")) result }
+{
+    match state {
+        b"success" => Some(Outcome::Success(None)),
+        b"failed" => Some(Outcome::Failed),
+        b"skipped" => Some(Outcome::Skipped),
+        _ => None,
+    }
+}
+
+/// How an instance ended that pushed a value.
+fn pushing_outcome_in(alloc: Global, value: &[u8]) -> Result<Option<Outcome>, OutOfMemory>
+    ensures some { IfOk result (λ o. IfSome o (SaysOutcome (codes "success") value.now)) }
+    ensures every { IfOk result (λ o.
+        value.now ≢ codes "-" → Finds (SaysOutcome (codes "success") value.now) o) }
+{
+    match value_in(alloc, value)? {
+        Some(value) => Ok(Some(Outcome::Success(Some(value)))),
+        None => Ok(None),
+    }
+}
+
+/// How an instance ended, by its state and what it pushed.
+pub(crate) fn outcome_in(
+    alloc: Global,
+    state: &[u8],
+    value: &[u8],
+) -> Result<Option<Outcome>, OutOfMemory>
+    ensures some { IfOk result (λ o. IfSome o (SaysOutcome state.now value.now)) }
+    ensures every { IfOk result (Finds (SaysOutcome state.now value.now)) }
+{
+    if value == b"-".as_slice() {
+        return Ok(bare_outcome_in(state));
+    }
+    if state == b"success".as_slice() {
+        return pushing_outcome_in(alloc, value);
+    }
+    Ok(None)
+}
