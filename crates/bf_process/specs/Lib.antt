@@ -1,0 +1,4 @@
+pub mod Device
+pub mod Input
+pub mod Output
+pub mod Words

@@ -1,0 +1,44 @@
+//! The device over a reader of std.
+ghost use Rattle.std.specs.Prelude.{◌≡◌};
+ghost use Rattle.bf_process.specs.Input.{interrupted_reads, failed_reads};
+
+use crate::device::{Halt, Halts, Read};
+use std::io;
+
+/// A reader of std, as the pipe from a program. It tells what that reader tells.
+#[derive(Drop)]
+pub struct Input<R: io::Read + Drop> {
+    pub inner: R,
+    halts: Halts,
+}
+
+impl<R: io::Read + Drop> Input<R> {
+    /// A device that passes on what a reader gives.
+    pub fn new(inner: R) -> Self
+        ensures { result.inner ≡ inner }
+    {
+        Input {
+            inner,
+            halts: Halts::none(),
+        }
+    }
+}
+
+impl<R: io::Read + Drop> Read for Input<R> {
+    ghost left = { λ i. R.remaining i.inner };
+
+    ghost interruptions = { λ i. interrupted_reads i };
+
+    ghost failures = { λ i. failed_reads i };
+
+    fn read(&mut self, room: &mut [u8]) -> Result<usize, Halt> {
+        match self.inner.read(room) {
+            Ok(count) => Ok(count),
+            Err(error) => {
+                let halt = Halt::of(&error);
+                self.halts.count(halt);
+                Err(halt)
+            }
+        }
+    }
+}

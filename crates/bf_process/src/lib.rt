@@ -1,0 +1,26 @@
+//! Tries run as programs of the system.
+//!
+//! `ProcessRunner` starts the words of a try's command in the thread that calls it, without a shell. The program has an empty
+//! standard input and the runner's own standard error. What it writes on its standard output is read by `line_of`, at most
+//! 1,048,576 bytes of it; then the pipe is closed and the program waited for, whatever was read, and where memory was
+//! wanting too. A command without words starts nothing and answers code 0 with an empty line.
+//!
+//! Between the runner and the machine stands the trait `Starter`, so that a test can put something else there. Its two
+//! relations say what may be heard of the words that it is handed; so a runner's contract says that the words which are
+//! started for a try are those of its command.
+//!
+//! A program may start others that hold its output open: then its try ends when the last of them closes it.
+#![tactic(auto)]
+
+mod device;
+mod input;
+mod line;
+mod program;
+mod runner;
+mod starter;
+
+pub use device::{Halt, Halts, Read};
+pub use input::Input;
+pub use line::{LONGEST_OUTPUT, line_of};
+pub use runner::ProcessRunner;
+pub use starter::Starter;

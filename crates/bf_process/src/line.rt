@@ -1,0 +1,53 @@
+//! The last line of an output, which is read up to a limit.
+ghost use Rattle.std.specs.Prelude.{◌≡◌, IfOk, IfSome};
+ghost use Rattle.bf_try.specs.declared.answers.Line.{Line as LineTerm};
+ghost use Rattle.bf_process.specs.Device.{HasHalted};
+ghost use Rattle.bf_process.specs.Output.{IsLineOf};
+
+use crate::device::{Halt, Read};
+use bf_try::Line;
+use bf_value::{OutOfMemory, Sequence, last_line};
+use std::alloc::Global;
+
+/// How many bytes an output may have.
+pub const LONGEST_OUTPUT: usize = 1_048_576;
+
+/// How often one call goes on after an interruption.
+const MOST_INTERRUPTIONS: u32 = 1_000;
+
+/// How many bytes one read may give.
+const ROOM: usize = 8_192;
+
+/// Reads to the end of what a device gives, or past the limit, and takes the last line. It gives up where a read fails, and at
+/// the 1,001st interruption.
+pub fn line_of<R: Read>(alloc: Global, device: &mut R) -> Result<Line, OutOfMemory>
+    ensures line { IfOk result (λ line. IfSome (R.left device.old) (λ output. IsLineOf output line)) }
+    ensures halted { IfOk result (λ line. line ≡ LineTerm.ReadFault →
+        HasHalted (R.failures device.old) (R.failures device.new)
+        (R.interruptions device.old) (R.interruptions device.new)) }
+{
+    let mut bytes = Vec::new(alloc);
+    let mut room = [0; ROOM];
+    let mut interruptions = 0;
+    loop {
+        match device.read(&mut room) {
+            Ok(0) => {
+                let line = last_line(bytes.as_slice()).to_vec(alloc)?;
+                return Ok(Line::Bytes(Sequence::from_vec(line)));
+            }
+            Ok(count) => {
+                if count > LONGEST_OUTPUT - bytes.len() {
+                    return Ok(Line::TooMuch);
+                }
+                bytes.extend_from_slice(&room[..count])?;
+            }
+            Err(Halt::Again) => {
+                if interruptions == MOST_INTERRUPTIONS {
+                    return Ok(Line::ReadFault);
+                }
+                interruptions += 1;
+            }
+            Err(Halt::Failed) => return Ok(Line::ReadFault),
+        }
+    }
+}
