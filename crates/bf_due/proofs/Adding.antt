@@ -1,0 +1,266 @@
+-- Adding steps to an agenda, of several kinds in turn.
+use Rattle.std.proofs.Common.{◌≡◌, ◌⊎◌, ℕ, zero, suc, ◌+◌, ◌<◌, ◌≤◌, Bool, true, false, List, [], ◌∷◌, length, get_or, slice_set, Some, Contains, refl, sym, ap, ◌∙◌, subst, subst₂, inl, inr, arith}
+use Rattle.std.specs.List.Sorted.{IsStrictlyIncreasing}
+use Rattle.bf_graph.specs.Edges.{IsRank, IsUpstream}
+use Rattle.bf_graph.specs.Lookups.{IsRisingListOf}
+use Rattle.bf_check.specs.Plans.{shape_of}
+use Rattle.bf_pool.proofs.WeightFacts.{tasks_there}
+use Rattle.bf_core.specs.Terms.{Dag}
+use Rattle.bf_core.specs.declared.event.Event.{Event}
+use Rattle.bf_core.specs.Events.{IsDecidable, goes_on}
+use Rattle.bf_core.specs.Cores.{Backfill, MayCome, deciding}
+use Rattle.bf_core.proofs.Enabling.{able-decidable}
+use Rattle.bf_core.proofs.Shape.{open-run}
+use Rattle.bf_due.specs.declared.agenda.Step.{Step}
+use Rattle.bf_due.specs.declared.agenda.Turn.{Turn}
+use Rattle.bf_due.specs.declared.progress.Progress.{Progress}
+use Rattle.bf_due.specs.Dues.{Asks, AsksAll, HasAdded, IsAround, IsBelow, IsCloseOf, IsDue, IsOfFirst, IsOfRun, IsOfRunBelow, IsOfTask, IsOpening, IsRanked, IsUnder}
+use Rattle.bf_due.proofs.Reached.{below-or, held-at, row-put}
+
+module _ (b : Backfill) where
+  -- nothing is added where none of these may come
+  pub none-added : (P : Step → Type 0) (old : List Step) → ((x : Step) → P x → IsDue b x → ⊥) → HasAdded b P old old
+  none-added P old none = record { kept = λ x c. c; added = λ x p due. absurd (none x p due); ranked = λ h. h }
+
+  -- those of one kind, and then those of another
+  pub then-added : (P Q R : Step → Type 0) (old mid new : List Step) → ((x : Step) → R x → IsDue b x → P x ⊎ Q x) → HasAdded b P old mid → HasAdded b Q mid new → HasAdded b R old new
+  then-added P Q R old mid new split first second = record {
+    kept = λ x c. second.kept x (first.kept x c);
+    added = λ x r due. elim (split x r due) [ inl p ↦ second.kept x (first.added x p due) | inr q ↦ second.added x q due ];
+    ranked = λ h. second.ranked (first.ranked h);
+  }
+
+  -- one step was added, and no other of these may come
+  pub one-added : (P : Step → Type 0) (step : Step) (old new : List Step) → IsRanked b.dag step → ((x : Step) → P x → IsDue b x → x ≡ step) → Contains new step →
+      ((x : Step) → Contains old x → Contains new x) → ((x : Step) → Contains new x → (x ≡ step) ⊎ Contains old x) → HasAdded b P old new
+  one-added P step old new is_ranked only there kept from = record {
+    kept = kept;
+    added = λ x p due. subst (λ (y : Step). Contains new y) (sym (only x p due)) there;
+    ranked = λ h x c. elim (from x c) [ inl same ↦ subst (λ (y : Step). IsRanked b.dag y) (sym same) is_ranked | inr before ↦ h x before ];
+  }
+
+-- ---- the step of a task
+
+pub one-rank : (ups : List (List ℕ)) (t q r : ℕ) → IsRank ups t q → IsRank ups t r → q ≡ r
+one-rank ups t q r a b = let x : q ≤ r = b.longest q a.path in let y : r ≤ q = a.longest r b.path in omega arith
+
+is-turn : (ups : List (List ℕ)) (k t r : ℕ) (y : Turn) → IsRank ups t r → (y.run ≡ k) × (y.task ≡ t) → IsRank ups y.task y.rank → y ≡ record { run = k; rank = r; task = t }
+is-turn ups k t r y is of ranked =
+    let same : y.rank ≡ r = one-rank ups t y.rank r (subst (λ (u : ℕ). IsRank ups u y.rank) of.1 ranked) is in
+    λ i. record { run = of.0 i; rank = same i; task = of.1 i }
+
+-- the step that decides a task by its expansion, or without
+abbrev pub step_of : Bool → Turn → Step
+step_of true x = Step.Expand x
+step_of false x = Step.Settle x
+
+goes-by : (b : Backfill) (k t : ℕ) (g : Bool) → MayCome b (deciding g k t) → goes_on b.dag b.state k t ≡ g
+goes-by b k t g may = (able-decidable b.dag b.limits b.state k t g may.0).1
+
+same-way : (b : Backfill) (k t : ℕ) (y : Turn) → (y.run ≡ k) × (y.task ≡ t) → (g h : Bool) → MayCome b (deciding g k t) → goes_on b.dag b.state y.run y.task ≡ h → g ≡ h
+same-way b k t y of g h may e = sym (goes-by b k t g may) ∙ subst₂ (λ (j u : ℕ). goes_on b.dag b.state j u ≡ h) of.0 of.1 e
+
+-- of the steps of a task that may come there is one
+pub only-one : (b : Backfill) (k t r : ℕ) → IsRank (shape_of b.dag).upstreams t r → (g : Bool) → MayCome b (deciding g k t) → (x : Step) → IsOfTask k t x → IsDue b x → x ≡ step_of g (record { run = k; rank = r; task = t })
+only-one b k t r is g may (Step.Close j) of due = absurd of
+only-one b k t r is g may Step.Open of due = absurd of
+only-one b k t r is g may (Step.Settle y) of due =
+    ap Step.Settle (is-turn (shape_of b.dag).upstreams k t r y is of due.0) ∙ ap (λ (h : Bool). step_of h (record { run = k; rank = r; task = t })) (sym (same-way b k t y of g false may due.1.0.1))
+only-one b k t r is g may (Step.Expand y) of due =
+    ap Step.Expand (is-turn (shape_of b.dag).upstreams k t r y is of due.0) ∙ ap (λ (h : Bool). step_of h (record { run = k; rank = r; task = t })) (sym (same-way b k t y of g true may due.1.0.1))
+
+-- where the task may not be decided, no step of it may come
+pub none-decides : (b : Backfill) (k t : ℕ) → ¬ (IsDecidable b.dag b.state k t) → (x : Step) → IsOfTask k t x → IsDue b x → ⊥
+none-decides b k t none (Step.Close j) of due = absurd of
+none-decides b k t none Step.Open of due = absurd of
+none-decides b k t none (Step.Settle y) of due = none (subst₂ (λ (j u : ℕ). IsDecidable b.dag b.state j u) of.0 of.1 due.1.0.0)
+none-decides b k t none (Step.Expand y) of due = none (subst₂ (λ (j u : ℕ). IsDecidable b.dag b.state j u) of.0 of.1 due.1.0.0)
+
+-- ---- the steps of several tasks
+
+at-any : (xs : List ℕ) (i d : ℕ) → i < length xs → get_or xs i d ≡ get_or xs i 0
+at-any [] i d l = absurd (omega (arith, l))
+at-any (x ∷ xs) zero d l = refl
+at-any (x ∷ xs) (suc i) d l = at-any xs i d (omega arith)
+
+any-of : (xs : List ℕ) (u : ℕ) → Contains xs u → (i : ℕ) × (i < length xs) × (get_or xs i 0 ≡ u)
+any-of xs u c = (c.0, c.1, sym (at-any xs c.0 u c.1) ∙ c.2)
+
+-- numbers below n that rise are at most n
+at-least : (xs : List ℕ) → IsStrictlyIncreasing xs → (i : ℕ) → i < length xs → i ≤ get_or xs i 0
+at-least xs rising zero l = omega arith
+at-least xs rising (suc i) l =
+    let here : i ≤ get_or xs i 0 = at-least xs rising i (omega arith) in
+    let more : get_or xs i 0 < get_or xs (i + 1) 0 = rising i (omega (arith, l)) in
+    let same : get_or xs (i + 1) 0 ≡ get_or xs (suc i) 0 = ap (λ j. get_or xs j 0) (omega arith) in
+    omega (arith, here, more, same)
+
+pub few-rising : (xs : List ℕ) (n : ℕ) → IsStrictlyIncreasing xs → ((i : ℕ) → i < length xs → get_or xs i 0 < n) → length xs ≤ n
+few-rising [] n rising below = omega arith
+few-rising (x ∷ xs) n rising below =
+    let last : length xs < length (x ∷ xs) = omega arith in
+    let a : length xs ≤ get_or (x ∷ xs) (length xs) 0 = at-least (x ∷ xs) rising (length xs) last in
+    let b : get_or (x ∷ xs) (length xs) 0 < n = below (length xs) last in
+    omega (arith, a, b)
+
+downstream-there : (ups : List (List ℕ)) (u d : ℕ) → IsUpstream ups u d → d < length ups
+downstream-there [] u d c = absurd (omega (arith, c.1))
+downstream-there (us ∷ ups) u zero c = omega arith
+downstream-there (us ∷ ups) u (suc d) c = let h : d < length ups = downstream-there ups u d c in omega (arith, h)
+
+-- what is listed below a task is a task
+pub below-there : (dag : Dag) (u : ℕ) (ds : List ℕ) → IsRisingListOf (IsUpstream (shape_of dag).upstreams u) ds → (i : ℕ) → i < length ds → get_or ds i 0 < length dag.tasks
+below-there dag u ds rising i l =
+    let listed : Contains ds (get_or ds i 0) = (i, l, at-any ds i (get_or ds i 0) l) in
+    let there : get_or ds i 0 < length (shape_of dag).upstreams = downstream-there (shape_of dag).upstreams u (get_or ds i 0) ((rising.exact (get_or ds i 0)).0 listed) in
+    omega (arith, there, tasks_there dag)
+
+-- a step of one of the first n + 1 is one of the first n or of that one
+first-more : (k : ℕ) (ts : List ℕ) (n : ℕ) (x : Step) → IsOfFirst k ts (n + 1) x → IsOfFirst k ts n x ⊎ IsOfTask k (get_or ts n 0) x
+first-more k ts n x of = elim (below-or of.0 n of.1) [
+  | inl less ↦ inl (of.0, less, of.2)
+  | inr same ↦ inr (subst (λ (i : ℕ). IsOfTask k (get_or ts i 0) x) same of.2)
+]
+
+-- the same, of tasks by number
+below-more : (k n : ℕ) (x : Step) → IsBelow k (n + 1) x → IsBelow k n x ⊎ IsOfTask k n x
+below-more k n (Step.Close j) of = absurd of
+below-more k n Step.Open of = absurd of
+below-more k n (Step.Settle y) of = elim (below-or y.task n of.1) [ inl l ↦ inl (of.0, l) | inr e ↦ inr (of.0, e) ]
+below-more k n (Step.Expand y) of = elim (below-or y.task n of.1) [ inl l ↦ inl (of.0, l) | inr e ↦ inr (of.0, e) ]
+
+none-below-zero : (k : ℕ) (x : Step) → IsBelow k 0 x → ⊥
+none-below-zero k (Step.Close j) of = of
+none-below-zero k Step.Open of = of
+none-below-zero k (Step.Settle y) of = omega (arith, of.1)
+none-below-zero k (Step.Expand y) of = omega (arith, of.1)
+
+-- ---- the steps of runs
+
+run-split : (b : Backfill) (k : ℕ) (x : Step) → IsOfRun k x → IsDue b x → IsBelow k (length b.dag.tasks) x ⊎ IsCloseOf k x
+run-split b k (Step.Close j) of due = inr of
+run-split b k Step.Open of due = absurd of
+run-split b k (Step.Settle y) of due = inl (of, due.1.0.0.is_task)
+run-split b k (Step.Expand y) of due = inl (of, due.1.0.0.is_task)
+
+runs-more : (n : ℕ) (x : Step) → IsOfRunBelow (n + 1) x → IsOfRunBelow n x ⊎ IsOfRun n x
+runs-more n (Step.Close j) of = below-or j n of
+runs-more n Step.Open of = absurd of
+runs-more n (Step.Settle y) of = below-or y.run n of
+runs-more n (Step.Expand y) of = below-or y.run n of
+
+pub one-run-more : (b : Backfill) (n : ℕ) (old mid new : List Step) → HasAdded b (IsOfRunBelow n) old mid → HasAdded b (IsOfRun n) mid new → HasAdded b (IsOfRunBelow (n + 1)) old new
+one-run-more b n old mid new before here = then-added b _ _ _ old mid new (λ x of due. runs-more n x of) before here
+
+none-run-below : (x : Step) → IsOfRunBelow 0 x → ⊥
+none-run-below (Step.Close j) of = omega (arith, of)
+none-run-below Step.Open of = of
+none-run-below (Step.Settle y) of = omega (arith, of)
+none-run-below (Step.Expand y) of = omega (arith, of)
+
+pub no-runs : (b : Backfill) (old : List Step) → HasAdded b (IsOfRunBelow 0) old old
+no-runs b old = none-added b _ old (λ x of due. none-run-below x of)
+
+-- a step under a task: of the tasks below it, or the close of the run
+under-split : (b : Backfill) (j u : ℕ) (ds : List ℕ) → IsRisingListOf (IsUpstream (shape_of b.dag).upstreams u) ds → (x : Step) → IsUnder b.dag j u x → IsOfFirst j ds (length ds) x ⊎ IsCloseOf j x
+under-split b j u ds rising (Step.Close k) of = inr of
+under-split b j u ds rising Step.Open of = absurd of
+under-split b j u ds rising (Step.Settle y) of = let at : _ = any-of ds y.task ((rising.exact y.task).1 of.1) in inl (at.0, at.1, (of.0, sym at.2))
+under-split b j u ds rising (Step.Expand y) of = let at : _ = any-of ds y.task ((rising.exact y.task).1 of.1) in inl (at.0, at.1, (of.0, sym at.2))
+
+-- a step around a task: under it, or of the same task in the next run
+around-split : (b : Backfill) (j u : ℕ) (x : Step) → IsAround b.dag j u x → IsUnder b.dag j u x ⊎ IsOfTask (j + 1) u x
+around-split b j u (Step.Close k) of = inl of
+around-split b j u Step.Open of = absurd of
+around-split b j u (Step.Settle y) of = of
+around-split b j u (Step.Expand y) of = of
+
+-- ---- single steps
+
+pub just-this : (a x : Step) → Some a ≡ Some x → x ≡ a
+just-this a x e = cc
+
+pub is-close : (k : ℕ) (x : Step) → IsCloseOf k x → x ≡ Step.Close k
+is-close k (Step.Close j) of = ap Step.Close of
+is-close k Step.Open of = absurd of
+is-close k (Step.Settle y) of = absurd of
+is-close k (Step.Expand y) of = absurd of
+
+pub is-opening : (x : Step) → IsOpening x → x ≡ Step.Open
+is-opening (Step.Close j) of = absurd of
+is-opening Step.Open of = refl
+is-opening (Step.Settle y) of = absurd of
+is-opening (Step.Expand y) of = absurd of
+
+-- ---- with what is noted
+
+pub asks-none : (b : Backfill) (k : ℕ) (P : Step → Type 0) (row : Progress) (old : List Step) → ((x : Step) → P x → IsDue b x → ⊥) → Asks b k P row row old old
+asks-none b k P row old none = λ is. (is, none-added b P old none)
+
+-- those of one kind, and then those of another
+then-asks : (b : Backfill) (k : ℕ) (P Q R : Step → Type 0) (first second third : Progress) (old mid new : List Step) → ((x : Step) → R x → IsDue b x → P x ⊎ Q x) →
+    Asks b k P first second old mid → Asks b k Q second third mid new → Asks b k R first third old new
+then-asks b k P Q R first second third old mid new split p q = λ is.
+    let here : _ = p is in
+    let there : _ = q here.0 in
+    (there.0, then-added b P Q R old mid new split here.1 there.1)
+
+pub one-asked : (b : Backfill) (k : ℕ) (ts : List ℕ) (n : ℕ) (first second third : Progress) (old mid new : List Step) →
+    Asks b k (IsOfFirst k ts n) first second old mid → Asks b k (IsOfTask k (get_or ts n 0)) second third mid new → Asks b k (IsOfFirst k ts (n + 1)) first third old new
+one-asked b k ts n first second third old mid new = then-asks b k _ _ _ first second third old mid new (λ x of due. first-more k ts n x of)
+
+pub none-asked : (b : Backfill) (k : ℕ) (ts : List ℕ) (row : Progress) (old : List Step) → Asks b k (IsOfFirst k ts 0) row row old old
+none-asked b k ts row old = asks-none b k _ row old (λ x of due. omega (arith, of.1))
+
+pub below-asked : (b : Backfill) (k n : ℕ) (first second third : Progress) (old mid new : List Step) →
+    Asks b k (IsBelow k n) first second old mid → Asks b k (IsOfTask k n) second third mid new → Asks b k (IsBelow k (n + 1)) first third old new
+below-asked b k n first second third old mid new = then-asks b k _ _ _ first second third old mid new (λ x of due. below-more k n x of)
+
+pub none-below : (b : Backfill) (k : ℕ) (row : Progress) (old : List Step) → Asks b k (IsBelow k 0) row row old old
+none-below b k row old = asks-none b k _ row old (λ x of due. none-below-zero k x of)
+
+pub run-asked : (b : Backfill) (k : ℕ) (first second third : Progress) (old mid new : List Step) →
+    Asks b k (IsBelow k (length b.dag.tasks)) first second old mid → Asks b k (IsCloseOf k) second third mid new → Asks b k (IsOfRun k) first third old new
+run-asked b k first second third old mid new = then-asks b k _ _ _ first second third old mid new (run-split b k)
+
+pub under-asked : (b : Backfill) (k u : ℕ) (ds : List ℕ) → IsRisingListOf (IsUpstream (shape_of b.dag).upstreams u) ds → (first second third : Progress) (old mid new : List Step) →
+    Asks b k (IsOfFirst k ds (length ds)) first second old mid → Asks b k (IsCloseOf k) second third mid new → Asks b k (IsUnder b.dag k u) first third old new
+under-asked b k u ds rising first second third old mid new = then-asks b k _ _ _ first second third old mid new (λ x of due. under-split b k u ds rising x of)
+
+-- a run is asked by its row
+pub row-asked : (b : Backfill) (k : ℕ) (P : Step → Type 0) (rows : List Progress) (row after : Progress) (old new : List Step) → k < length rows → row ≡ get_or rows k row → Asks b k P row after old new →
+    AsksAll b P rows (slice_set rows k after) old new
+row-asked b k P rows row after old new l at asks = λ reached.
+    let r : _ = asks (reached k row (held-at rows k row l at)) in
+    (row-put b rows k after reached r.0, r.1)
+
+pub around-asked : (b : Backfill) (j u : ℕ) (first second third : List Progress) (old mid new : List Step) →
+    AsksAll b (IsUnder b.dag j u) first second old mid → AsksAll b (IsOfTask (j + 1) u) second third mid new → AsksAll b (IsAround b.dag j u) first third old new
+around-asked b j u first second third old mid new p q = λ reached.
+    let here : _ = p reached in
+    let there : _ = q here.0 in
+    (there.0, then-added b _ _ _ old mid new (λ x of due. around-split b j u x of) here.1 there.1)
+
+-- ---- where there is none
+
+pub no-close : (b : Backfill) (k : ℕ) → ¬ (MayCome b (Event.Close k)) → (x : Step) → IsCloseOf k x → IsDue b x → ⊥
+no-close b k none (Step.Close j) of due = none (subst (λ (i : ℕ). MayCome b (Event.Close i)) of due.1)
+no-close b k none Step.Open of due = of
+no-close b k none (Step.Settle y) of due = of
+no-close b k none (Step.Expand y) of due = of
+
+-- a run without a row is not there, so none of its steps may come
+pub no-run : (b : Backfill) (k n : ℕ) → length b.state.runs ≤ n → n ≤ k → (x : Step) → IsOfRun k x → IsDue b x → ⊥
+no-run b k n few l (Step.Close j) of due = let there : j < length b.state.runs = open-run b.state j due.1.0.0 in omega (arith, few, l, of, there)
+no-run b k n few l Step.Open of due = of
+no-run b k n few l (Step.Settle y) of due = let there : y.run < length b.state.runs = open-run b.state y.run due.1.0.0.run_is_open in omega (arith, few, l, of, there)
+no-run b k n few l (Step.Expand y) of due = let there : y.run < length b.state.runs = open-run b.state y.run due.1.0.0.run_is_open in omega (arith, few, l, of, there)
+
+pub no-task : (b : Backfill) (k t n : ℕ) → length b.state.runs ≤ n → n ≤ k → (x : Step) → IsOfTask k t x → IsDue b x → ⊥
+no-task b k t n few l (Step.Close j) of due = of
+no-task b k t n few l Step.Open of due = of
+no-task b k t n few l (Step.Settle y) of due = no-run b k n few l (Step.Settle y) of.0 due
+no-task b k t n few l (Step.Expand y) of due = no-run b k n few l (Step.Expand y) of.0 due
+
+pub skipped : (b : Backfill) (P : Step → Type 0) (rows : List Progress) (old : List Step) → ((x : Step) → P x → IsDue b x → ⊥) → AsksAll b P rows rows old old
+skipped b P rows old none = λ reached. (reached, none-added b P old none)

@@ -1,0 +1,121 @@
+-- Agendas: what is in them after a change, and that the top comes first.
+use Rattle.std.proofs.Common.{◌≡◌, ◌⊎◌, ℕ, zero, suc, ◌<◌, ◌≤◌, false, Ordering, Less, Equal, Greater, List, [], ◌∷◌, length, map, slice_get, slice_index_or, Option, None, Some, refl, sym, ◌∙◌, subst, inl, inr, arith}
+use Rattle.std.specs.List.{Contains}
+use Rattle.std.specs.Prelude.{IfSome}
+use Rattle.std.specs.List.Sorted.{IsPermutation}
+use Rattle.std.specs.Ordering.{nat_cmp, ordering_then, is_lt}
+use Rattle.std.specs.BinaryHeap.{IsUpperBound}
+use Rattle.std.specs.declared.cmp.Reverse.{Reverse}
+use Rattle.std.proofs.lemmas.Cmp.{ranked}
+use Rattle.std.proofs.lemmas.List.Sorted.{Contains-permutation, IsPermutation-map, IsPermutation-sym}
+use Rattle.bf_due.specs.declared.agenda.Step.{Step}
+use Rattle.bf_due.specs.declared.agenda.Turn.{Turn}
+use Rattle.bf_due.specs.contracts.agenda.StepOrd.TheImpl as by_step
+use Rattle.bf_due.specs.contracts.agenda.TurnOrd.TheImpl as by_turn
+use Rattle.bf_due.specs.Agendas.{Comes, TurnComes, reverse_cmp}
+
+-- ---- the order
+
+no-later : (a b : ℕ) → is_lt (nat_cmp b a) ≡ false → a ≤ b
+no-later a b e = go (nat_cmp b a) refl e
+  where
+    go : (r : Ordering) → r ≡ nat_cmp b a → is_lt r ≡ false → a ≤ b
+    go Less is e = cc
+    go Equal is e = let h : b ≡ a = ranked b a Equal is in omega arith
+    go Greater is e = let h : a < b = ranked b a Greater is in omega arith
+
+-- of two numbers compared before the rest: the first is less, or both are equal and the rest decides
+first-then : (a b : ℕ) (rest : Ordering) → is_lt (ordering_then (nat_cmp b a) rest) ≡ false → (a < b) ⊎ ((a ≡ b) × (is_lt rest ≡ false))
+first-then a b rest e = go (nat_cmp b a) refl e
+  where
+    go : (r : Ordering) → r ≡ nat_cmp b a → is_lt (ordering_then r rest) ≡ false → (a < b) ⊎ ((a ≡ b) × (is_lt rest ≡ false))
+    go Less is e = cc
+    go Equal is e = let h : b ≡ a = ranked b a Equal is in inr (sym h, e)
+    go Greater is e = let h : a < b = ranked b a Greater is in inl h
+
+turn-comes : (x y : Turn) → is_lt (by_turn.ghosts.cmp y x) ≡ false → TurnComes x y
+turn-comes x y e = elim (first-then x.run y.run _ e) [
+  | inl l ↦ inl l
+  | inr same_run ↦ elim (first-then x.rank y.rank _ same_run.1) [
+    | inl l ↦ inr (same_run.0, inl l)
+    | inr same_rank ↦ inr (same_run.0, inr (same_rank.0, no-later x.task y.task same_rank.1))
+  ]
+]
+
+comes : (x y : Step) → is_lt (by_step.ghosts.cmp y x) ≡ false → Comes x y
+comes (Step.Close j) (Step.Close k) e = no-later j k e
+comes (Step.Close j) Step.Open e = omega arith
+comes (Step.Close j) (Step.Settle y) e = omega arith
+comes (Step.Close j) (Step.Expand y) e = omega arith
+comes Step.Open (Step.Close k) e = cc
+comes Step.Open Step.Open e = tt
+comes Step.Open (Step.Settle y) e = omega arith
+comes Step.Open (Step.Expand y) e = omega arith
+comes (Step.Settle x) (Step.Close k) e = cc
+comes (Step.Settle x) Step.Open e = cc
+comes (Step.Settle x) (Step.Settle y) e = turn-comes x y e
+comes (Step.Settle x) (Step.Expand y) e = omega arith
+comes (Step.Expand x) (Step.Close k) e = cc
+comes (Step.Expand x) Step.Open e = cc
+comes (Step.Expand x) (Step.Settle y) e = cc
+comes (Step.Expand x) (Step.Expand y) e = turn-comes x y e
+
+-- ---- what is in a list
+
+abbrev pub unwrapped : List (Reverse Step) → List Step
+unwrapped xs = map (λ (r : Reverse Step). r.0) xs
+
+here : (x : Step) (ys : List Step) → Contains (x ∷ ys) x
+here x ys = (0, omega arith, refl)
+
+later : (x : Step) (ys : List Step) (y : Step) → Contains ys y → Contains (x ∷ ys) y
+later x ys y c = (suc c.0, omega (arith, c.1), c.2)
+
+either : (x : Step) (ys : List Step) (y : Step) → Contains (x ∷ ys) y → (y ≡ x) ⊎ Contains ys y
+either x ys y c = go c.0 c.1 c.2
+  where
+    go : (k : ℕ) → k < length (x ∷ ys) → slice_index_or (x ∷ ys) k y ≡ y → (y ≡ x) ⊎ Contains ys y
+    go zero l e = inl (sym e)
+    go (suc k) l e = inr (k, omega arith, e)
+
+pub top-in : (xs : List Step) (x : Step) → Some x ≡ slice_get xs 0 → Contains xs x
+top-in [] x e = cc
+top-in (y ∷ ys) x e = let same : y ≡ x = cc in (0, omega arith, same)
+
+pub no-items : (xs : List Step) → None ≡ slice_get xs 0 → (x : Step) → Contains xs x → ⊥
+no-items [] e x c = omega (arith, c.1)
+no-items (y ∷ ys) e x c = cc
+
+-- ---- a heap
+
+-- the top comes before all
+pub bounded : (top : Reverse Step) (xs : List (Reverse Step)) → IsUpperBound reverse_cmp top xs → (y : Step) → Contains (unwrapped xs) y → Comes top.0 y
+bounded top [] b y c = absurd (omega (arith, c.1))
+bounded top (z ∷ zs) b y c = elim (either z.0 (unwrapped zs) y c) [
+  | inl same ↦ subst (λ (w : Step). Comes top.0 w) (sym same) (comes top.0 z.0 b.0)
+  | inr more ↦ bounded top zs b.1 y more
+]
+
+pub added : (x : Reverse Step) (old new : List (Reverse Step)) → IsPermutation (x ∷ old) new → Contains (unwrapped new) x.0
+added x old new p = Contains-permutation (unwrapped (x ∷ old)) (unwrapped new) x.0 (IsPermutation-map (λ (r : Reverse Step). r.0) (x ∷ old) new p) (here x.0 (unwrapped old))
+
+pub kept-added : (x : Reverse Step) (old new : List (Reverse Step)) → IsPermutation (x ∷ old) new → (y : Step) → Contains (unwrapped old) y → Contains (unwrapped new) y
+kept-added x old new p y c = Contains-permutation (unwrapped (x ∷ old)) (unwrapped new) y (IsPermutation-map (λ (r : Reverse Step). r.0) (x ∷ old) new p) (later x.0 (unwrapped old) y c)
+
+pub only-added : (x : Reverse Step) (old new : List (Reverse Step)) → IsPermutation (x ∷ old) new → (y : Step) → Contains (unwrapped new) y → (y ≡ x.0) ⊎ Contains (unwrapped old) y
+only-added x old new p y c = either x.0 (unwrapped old) y (Contains-permutation (unwrapped new) (unwrapped (x ∷ old)) y (IsPermutation-map (λ (r : Reverse Step). r.0) new (x ∷ old) (IsPermutation-sym (x ∷ old) new p)) c)
+
+pub kept-taken : (x : Reverse Step) (old new : List (Reverse Step)) → IsPermutation old (x ∷ new) → (y : Step) → Contains (unwrapped old) y → (y ≡ x.0) ⊎ Contains (unwrapped new) y
+kept-taken x old new p y c = either x.0 (unwrapped new) y (Contains-permutation (unwrapped old) (unwrapped (x ∷ new)) y (IsPermutation-map (λ (r : Reverse Step). r.0) old (x ∷ new) p) c)
+
+-- what is not the step that was taken out is still there
+pub still-there : (r : Option Step) (old new : List Step) (step x : Step) → r ≡ slice_get old 0 → Some step ≡ slice_get old 0 →
+    IfSome r (λ z. (y : Step) → Contains old y → (y ≡ z) ⊎ Contains new y) → (x ≡ step → ⊥) → Contains old x → Contains new x
+still-there None old new step x e f kept other c = let g : None ≡ Some step = e ∙ sym f in cc
+still-there (Some z) old new step x e f kept other c =
+    let g : Some z ≡ Some step = e ∙ sym f in
+    let same : z ≡ step = cc in
+    elim (kept x c) [ inl h ↦ absurd (other (h ∙ same)) | inr h ↦ h ]
+
+pub taken-fewer : (x : Reverse Step) (old new : List (Reverse Step)) → IsPermutation old (x ∷ new) → (y : Step) → Contains (unwrapped new) y → Contains (unwrapped old) y
+taken-fewer x old new p y c = Contains-permutation (unwrapped (x ∷ new)) (unwrapped old) y (IsPermutation-map (λ (r : Reverse Step). r.0) (x ∷ new) old (IsPermutation-sym old (x ∷ new) p)) (later x.0 (unwrapped new) y c)

@@ -1,0 +1,205 @@
+-- What is kept stays up to date over an event, and its first step is the next.
+use Rattle.std.proofs.Common.{◌≡◌, ◌⊎◌, ℕ, ◌+◌, ◌<◌, true, false, List, [], length, slice_get, None, Some, IfSome, Contains, refl, sym, ap, ◌∙◌, subst, inl, inr, arith}
+use Rattle.bf_graph.specs.Edges.{IsRank}
+use Rattle.bf_graph.specs.Ranks.{Ranking}
+use Rattle.bf_check.specs.Plans.{shape_of}
+use Rattle.bf_pool.proofs.WeightFacts.{tasks_there}
+use Rattle.bf_core.specs.Terms.{Dag}
+use Rattle.bf_core.specs.declared.state.State.{State}
+use Rattle.bf_core.specs.declared.state.Phase.{Phase}
+use Rattle.bf_core.specs.declared.event.Event.{Event}
+use Rattle.bf_core.specs.Events.{after, next_run}
+use Rattle.bf_core.specs.Cores.{Backfill, IsReplay, MayCome, moved}
+use Rattle.bf_core.proofs.Enabling.{present-there}
+use Rattle.bf_core.proofs.Kept.{replay-rows, replay-shaped}
+use Rattle.bf_core.proofs.Shape.{open-run}
+use Rattle.bf_due.specs.declared.agenda.Step.{Step}
+use Rattle.bf_due.specs.declared.agenda.Turn.{Turn}
+use Rattle.bf_due.specs.Steps.{ComesBefore, IsEarlier, IsNextStep, IsStep}
+use Rattle.bf_due.specs.Agendas.{Comes, TurnComes, event_of}
+use Rattle.bf_due.specs.declared.progress.Progress.{Progress}
+use Rattle.bf_due.specs.Cursors.{AreReached}
+use Rattle.bf_due.specs.Dues.{AsksAll, Concerns, HasAdded, IsCleaned, IsOfRunBelow, IsOpening, IsRanked, IsUpToDate, Kept, SpeaksOfTask, opens}
+use Rattle.bf_due.proofs.Adding.{one-rank}
+use Rattle.bf_due.proofs.AgendaFacts.{top-in, no-items}
+use Rattle.bf_due.proofs.Newly.{newly-due}
+use Rattle.bf_due.proofs.Reached.{none-reached, reached-stays}
+use Rattle.bf_due.proofs.Opened.{next-after, next_of, open-before}
+
+-- ---- an event
+
+-- there are as many runs after the event as before
+same-runs : (b now : Backfill) (e : Event) → IsReplay b → IsReplay now → now ≡ moved b e → length now.state.runs ≡ length b.state.runs
+same-runs b now e is was same =
+    let runs : now.runs ≡ b.runs = ap (λ (n : Backfill). n.runs) same in
+    (replay-shaped now was).count ∙ (runs ∙ sym (replay-shaped b is).count)
+
+speaks-before : (b : Backfill) → IsReplay b → (e : Event) → MayCome b e → SpeaksOfTask b.dag b.state e
+speaks-before b is Event.Open able = tt
+speaks-before b is (Event.Settle k t) able = (open-run b.state k able.0.0.run_is_open, able.0.0.is_task)
+speaks-before b is (Event.Expand k t) able = (open-run b.state k able.0.0.run_is_open, able.0.0.is_task)
+speaks-before b is (Event.Begin n) able = tt
+speaks-before b is (Event.End n o) able = present-there b.dag b.state (replay-rows b is) n Phase.Running able.0.0
+speaks-before b is (Event.Close k) able = tt
+speaks-before b is (Event.Tick m) able = tt
+
+speaks-as : (d e : Dag) (r s : State) → d ≡ e → length r.runs ≡ length s.runs → (x : Event) → SpeaksOfTask e s x → SpeaksOfTask d r x
+speaks-as d e r s dags count Event.Open h = tt
+speaks-as d e r s dags count (Event.Settle k t) h = (omega (arith, count, h.0), rw dags h.1)
+speaks-as d e r s dags count (Event.Expand k t) h = (omega (arith, count, h.0), rw dags h.1)
+speaks-as d e r s dags count (Event.Begin n) h = tt
+speaks-as d e r s dags count (Event.End n o) h = (omega (arith, count, h.0), rw dags h.1)
+speaks-as d e r s dags count (Event.Close k) h = tt
+speaks-as d e r s dags count (Event.Tick m) h = tt
+
+-- what an event that could come speaks of is there
+pub speaks : (b now : Backfill) (e : Event) → IsReplay b → IsReplay now → MayCome b e → now ≡ moved b e → SpeaksOfTask now.dag now.state e
+speaks b now e is was able same = speaks-as now.dag b.dag now.state b.state (ap (λ (n : Backfill). n.dag) same) (same-runs b now e is was same) e (speaks-before b is e able)
+
+-- the next run to open is the one that was counted
+next-is : (b now : Backfill) (e : Event) → IsReplay b → IsReplay now → MayCome b e → now ≡ moved b e → (old new : ℕ) → old ≡ next_run b.state →
+    (opens e ≡ true → old < length now.state.runs → new ≡ old + 1) → (opens e ≡ false → new ≡ old) → new ≡ next_run now.state
+next-is b now e is was able same old new old_is up stays =
+    by e able (ap (λ (n : Backfill). next_run n.state) same ∙ next-after b.dag b.runs b.limits b.state (replay-shaped b is) e able.0) up stays
+  where
+    count : length now.state.runs ≡ length b.state.runs
+    count = same-runs b now e is was same
+
+    by : (x : Event) → MayCome b x → next_run now.state ≡ next_of x (next_run b.state) → (opens x ≡ true → old < length now.state.runs → new ≡ old + 1) → (opens x ≡ false → new ≡ old) → new ≡ next_run now.state
+    by Event.Open may n u d = omega (arith, n, old_is, u refl (omega (arith, old_is, count, may.0.0)))
+    by (Event.Settle k t) may n u d = omega (arith, n, old_is, d refl)
+    by (Event.Expand k t) may n u d = omega (arith, n, old_is, d refl)
+    by (Event.Begin m) may n u d = omega (arith, n, old_is, d refl)
+    by (Event.End m o) may n u d = omega (arith, n, old_is, d refl)
+    by (Event.Close k) may n u d = omega (arith, n, old_is, d refl)
+    by (Event.Tick m) may n u d = omega (arith, n, old_is, d refl)
+
+-- what is kept is up to date after the event, where it was so before it
+pub keeps : (b now : Backfill) (e : Event) → IsReplay now → MayCome b e → now ≡ moved b e → (old : Kept) → IsUpToDate b old → (rows after : List Progress) (mid new : List Step) →
+    AsksAll now (Concerns now.dag old.next e) old.progress rows old.steps mid → ((n : Backfill) → AreReached n rows → AreReached n after) → IsCleaned now mid new → (room next : ℕ) → (opens e ≡ true → old.next < length now.state.runs → next ≡ old.next + 1) → (opens e ≡ false → next ≡ old.next) → IsUpToDate now (record { steps = new; room = room; next = next; progress = after })
+keeps b now e was able same old is rows after mid new asks forgets cleaned room next up stays = record {
+  replayed = was;
+  ranking = subst (λ (d : Dag). Ranking (shape_of d).upstreams) (sym dags) is.ranking;
+  holds = λ x due. cleaned.kept x (elim (newly-due b is.replayed e able x (subst (λ (n : Backfill). MayCome n (event_of x)) same due.1)) [
+    | inl before ↦ added.kept x (is.holds x (subst (λ (d : Dag). IsRanked d x) dags due.0, before))
+    | inr c ↦ added.added x (subst (λ (d : Dag). Concerns d old.next e x) (sym dags) (subst (λ (n : ℕ). Concerns b.dag n e x) (sym is.next_is) c)) due
+  ]) due.1;
+  ranked = λ x c. added.ranked (λ y h. subst (λ (d : Dag). IsRanked d y) (sym dags) (is.ranked y h)) x (cleaned.fewer x c);
+  live = cleaned.live;
+  next_is = next-is b now e is.replayed was able same old.next next is.next_is up stays;
+  reached = forgets now (asks reached).0;
+}
+  where
+    reached : AreReached now old.progress
+    reached = reached-stays b now e able same old.progress is.reached
+
+    added : HasAdded now (Concerns now.dag old.next e) old.steps mid
+    added = (asks reached).1
+
+    dags : now.dag ≡ b.dag
+    dags = ap (λ (n : Backfill). n.dag) same
+
+-- room that was made, and rows that were made, leave it up to date
+pub room-made : (b : Backfill) (old new : Kept) → new.steps ≡ old.steps → new.next ≡ old.next → (AreReached b old.progress → AreReached b new.progress) → IsUpToDate b old → IsUpToDate b new
+room-made b old new steps next rows is = record {
+  replayed = is.replayed;
+  ranking = is.ranking;
+  holds = λ x due. subst (λ (xs : List Step). Contains xs x) (sym steps) (is.holds x due);
+  ranked = λ x c. is.ranked x (subst (λ (xs : List Step). Contains xs x) steps c);
+  live = subst (λ (xs : List Step). IfSome (slice_get xs 0) (λ y. MayCome b (event_of y))) (sym steps) is.live;
+  next_is = next ∙ is.next_is;
+  reached = rows is.reached;
+}
+
+-- there are as many runs in the state as in the backfill
+pub runs-are : (b : Backfill) → IsReplay b → length b.state.runs ≡ b.runs
+runs-are b is = (replay-shaped b is).count
+
+-- ---- a look at the whole
+
+opened-step : (b : Backfill) → IsReplay b → (x : Step) → MayCome b (event_of x) → IsOfRunBelow (next_run b.state) x ⊎ IsOpening x
+opened-step b is (Step.Close k) may = inl (open-before b.dag b.runs b.state (replay-shaped b is) k may.0.0)
+opened-step b is Step.Open may = inr tt
+opened-step b is (Step.Settle x) may = inl (open-before b.dag b.runs b.state (replay-shaped b is) x.run may.0.0.run_is_open)
+opened-step b is (Step.Expand x) may = inl (open-before b.dag b.runs b.state (replay-shaped b is) x.run may.0.0.run_is_open)
+
+-- the steps of the opened runs, and then the opening of the next
+pub starts : (b : Backfill) → IsReplay b → Ranking (shape_of b.dag).upstreams → (next : ℕ) → next ≡ next_run b.state → (first second new : List Step) →
+    HasAdded b (IsOfRunBelow next) [] first → HasAdded b IsOpening first second → IsCleaned b second new → (room : ℕ) (rows : List Progress) → rows ≡ [] → IsUpToDate b (record { steps = new; room = room; next = next; progress = rows })
+starts b is ranking next next_is first second new runs opening cleaned room rows no_rows = record {
+  replayed = is;
+  ranking = ranking;
+  holds = λ x due. cleaned.kept x (elim (opened-step b is x due.1) [
+    | inl l ↦ opening.kept x (runs.added x (subst (λ (n : ℕ). IsOfRunBelow n x) (sym next_is) l) due)
+    | inr o ↦ opening.added x o due
+  ]) due.1;
+  ranked = λ x c. opening.ranked (runs.ranked (λ y h. absurd (omega (arith, h.1)))) x (cleaned.fewer x c);
+  live = cleaned.live;
+  next_is = next_is;
+  reached = none-reached b rows no_rows;
+}
+
+-- ---- the first step
+
+-- a step that may come is on the agenda
+listed : (b : Backfill) (kept : Kept) → IsUpToDate b kept → (f : Event) → IsStep f → MayCome b f → (x : Step) × Contains kept.steps x × (event_of x ≡ f)
+listed b kept is (Event.Close k) step may = (Step.Close k, is.holds (Step.Close k) (tt, may), refl)
+listed b kept is Event.Open step may = (Step.Open, is.holds Step.Open (tt, may), refl)
+listed b kept is (Event.Settle k t) step may =
+    let rank : _ = is.ranking.is_rank t (omega (arith, tasks_there b.dag, may.0.0.is_task)) in
+    (Step.Settle (record { run = k; rank = is.ranking.rank t; task = t }), is.holds (Step.Settle (record { run = k; rank = is.ranking.rank t; task = t })) (rank, may), refl)
+listed b kept is (Event.Expand k t) step may =
+    let rank : _ = is.ranking.is_rank t (omega (arith, tasks_there b.dag, may.0.0.is_task)) in
+    (Step.Expand (record { run = k; rank = is.ranking.rank t; task = t }), is.holds (Step.Expand (record { run = k; rank = is.ranking.rank t; task = t })) (rank, may), refl)
+listed b kept is (Event.Begin n) step may = absurd (omega (arith, step))
+listed b kept is (Event.End n o) step may = absurd (omega (arith, step))
+listed b kept is (Event.Tick m) step may = absurd (omega (arith, step))
+
+-- turns that hold their tasks' ranks come as their tasks do
+earlier : (dag : Dag) (x y : Turn) → IsRank (shape_of dag).upstreams x.task x.rank → IsRank (shape_of dag).upstreams y.task y.rank → TurnComes x y → IsEarlier dag x.run x.task y.run y.task
+earlier dag x y rank_x rank_y (inl l) = inl l
+earlier dag x y rank_x rank_y (inr h) = inr (
+  h.0,
+  λ q r is_q is_r.
+      let a : q ≡ x.rank = one-rank (shape_of dag).upstreams x.task q x.rank is_q rank_x in
+      let b : r ≡ y.rank = one-rank (shape_of dag).upstreams y.task r y.rank is_r rank_y in
+      elim h.1 [ inl l ↦ inl (omega (arith, a, b, l)) | inr e ↦ inr (omega (arith, a, b, e.0), e.1) ],
+)
+
+comes-before : (dag : Dag) (x y : Step) → IsRanked dag x → IsRanked dag y → Comes x y → ComesBefore dag (event_of x) (event_of y)
+comes-before dag (Step.Close j) (Step.Close k) a b c = c
+comes-before dag (Step.Close j) Step.Open a b c = c
+comes-before dag (Step.Close j) (Step.Settle y) a b c = c
+comes-before dag (Step.Close j) (Step.Expand y) a b c = c
+comes-before dag Step.Open (Step.Close k) a b c = c
+comes-before dag Step.Open Step.Open a b c = c
+comes-before dag Step.Open (Step.Settle y) a b c = c
+comes-before dag Step.Open (Step.Expand y) a b c = c
+comes-before dag (Step.Settle x) (Step.Close k) a b c = c
+comes-before dag (Step.Settle x) Step.Open a b c = c
+comes-before dag (Step.Settle x) (Step.Settle y) a b c = earlier dag x y a b c
+comes-before dag (Step.Settle x) (Step.Expand y) a b c = c
+comes-before dag (Step.Expand x) (Step.Close k) a b c = c
+comes-before dag (Step.Expand x) Step.Open a b c = c
+comes-before dag (Step.Expand x) (Step.Settle y) a b c = c
+comes-before dag (Step.Expand x) (Step.Expand y) a b c = earlier dag x y a b c
+
+is-step : (x : Step) → IsStep (event_of x)
+is-step (Step.Close k) = omega arith
+is-step Step.Open = omega arith
+is-step (Step.Settle x) = omega arith
+is-step (Step.Expand x) = omega arith
+
+-- where the agenda is empty no step may come
+pub none-next : (b : Backfill) (kept : Kept) → IsUpToDate b kept → None ≡ slice_get kept.steps 0 → IsNextStep b None
+none-next b kept is e f step may = let x : _ = listed b kept is f step may in no-items kept.steps e x.0 x.1
+
+-- the first step on the agenda is the next
+pub first-next : (b : Backfill) (kept : Kept) → IsUpToDate b kept → (x : Step) → Some x ≡ slice_get kept.steps 0 → ((y : Step) → Contains kept.steps y → Comes x y) → IsNextStep b (Some (event_of x))
+first-next b kept is x e first = record {
+  is_step = is-step x;
+  may_come = rw (← e) at is.live;
+  first = λ f step may.
+      let y : _ = listed b kept is f step may in
+      subst (λ (g : Event). ComesBefore b.dag (event_of x) g) y.2 (comes-before b.dag x y.0 (is.ranked x (top-in kept.steps x e)) (is.ranked y.0 y.1) (first y.0 y.1));
+}

@@ -1,0 +1,313 @@
+-- What an event changes of what may be decided: nothing but at its own task, at those that look at it, and at the tasks
+-- of a run that it opens or closes.
+use Rattle.std.proofs.Common.{◌≡◌, ◌≢◌, ℕ, suc, zero, ◌⊎◌, ◌&&◌, Bool, true, false, List, [], ◌∷◌, slice_get, Option, None, Some, is_some, option_map, refl, sym, ap, ap₂, ◌∙◌, arith, inl, inr, subst}
+use Rattle.std.specs.List.{list_all, list_any}
+use Rattle.bf_core.specs.Terms.{Dag, Limits, Task, task_of, Verdict, TaskResult, TaskValue, Xval, Items, items, IsOneOf, IsSound, add}
+use Rattle.bf_core.specs.declared.state.State.{State}
+use Rattle.bf_core.specs.declared.state.Cell.{Cell}
+use Rattle.bf_core.specs.declared.state.Instance.{Instance}
+use Rattle.bf_core.specs.declared.state.Phase.{Phase}
+use Rattle.bf_core.specs.declared.state.RunPhase.{RunPhase}
+use Rattle.bf_core.specs.declared.event.Event.{Event}
+use Rattle.bf_core.specs.declared.deciding.Decision.{Decision}
+use Rattle.bf_core.specs.Deciding.{Seen, lets_decide, branch_is, branch_skips, is_blocked, counts_over, ruling, and_then_past, gate, pulled, instances, mapped, after_verdict, decision}
+use Rattle.bf_core.specs.Events.{cell_at, phase_of, results, cons_result, counts_of_instance, counts_of_instances, seen_in, before_in, decision_in, goes_on, is_run, instance_of, change_at, change_instance, begun, place_in, next_run, put, after, IsDecidable, IsEnabled}
+use Rattle.bf_core.proofs.Reading.{put-cases, with_phase-cell}
+use Rattle.bf_core.proofs.Instances.{IsUnfinished}
+use Rattle.bf_core.proofs.Shape.{put-phase, phase-cases}
+use Rattle.bf_core.proofs.Decisions.{and_left, and_right}
+
+-- ---- of bf_core, where these are not open to other crates
+
+not_yet : (a : ℕ) (p : Phase) (rs : Option (List TaskResult)) → IsUnfinished p → cons_result a p rs ≡ None
+not_yet a Phase.Waiting rs h = refl
+not_yet a Phase.Running rs h = refl
+not_yet a (Phase.Finished o) rs h = absurd h
+
+mapped-not : (pulls : List (Option Xval)) (xs : Items) → mapped pulls xs ≢ Decision.Wait
+mapped-not pulls Items.Missing = λ e. cc
+mapped-not pulls (Items.List []) = λ e. cc
+mapped-not pulls (Items.List (x ∷ xs)) = λ e. cc
+
+ruled : (dag : Dag) (seen : ℕ → Seen) (t : ℕ) → list_all (lets_decide dag (task_of dag t) seen) (task_of dag t).upstreams ≡ false → ruling dag seen t ≡ Verdict.Wait
+unfolding ruling
+ruled dag seen t e = rw e
+
+lets : (dag : Dag) (k : ℕ) (seen : ℕ → Seen) (p : Option TaskValue) (t : ℕ) → gate dag k seen p t ≢ Verdict.Wait →
+    list_all (lets_decide dag (task_of dag t) seen) (task_of dag t).upstreams ≡ true
+unfolding gate
+lets dag k seen p t decides = go (list_all (lets_decide dag (task_of dag t) seen) (task_of dag t).upstreams) refl
+  where
+    go : (b : Bool) → list_all (lets_decide dag (task_of dag t) seen) (task_of dag t).upstreams ≡ b → list_all (lets_decide dag (task_of dag t) seen) (task_of dag t).upstreams ≡ true
+    go true e = e
+    go false e = absurd (decides (ap (and_then_past dag k p t) (ruled dag seen t e)))
+
+-- ---- what a decision looks at
+
+-- of each of these tasks the same is known
+abbrev pub AlikeOn : (ℕ → Seen) → (ℕ → Seen) → List ℕ → Type 0
+AlikeOn a b us = (u : ℕ) → IsOneOf us u → a u ≡ b u
+
+all-alike : (dag : Dag) (task : Task) (a b : ℕ → Seen) (us : List ℕ) → AlikeOn a b us → list_all (lets_decide dag task a) us ≡ list_all (lets_decide dag task b) us
+all-alike dag task a b [] h = refl
+all-alike dag task a b (u ∷ us) h = rw (h u (inl refl), all-alike dag task a b us (λ v g. h v (inr g)))
+
+any-alike : (dag : Dag) (p : ℕ → TaskValue → Bool) (a b : ℕ → Seen) (us : List ℕ) → AlikeOn a b us →
+    list_any (λ u. branch_is dag (p u) u (a u).value) us ≡ list_any (λ u. branch_is dag (p u) u (b u).value) us
+any-alike dag p a b [] h = refl
+any-alike dag p a b (u ∷ us) h = rw (h u (inl refl), any-alike dag p a b us (λ v g. h v (inr g)))
+
+counts-alike : (a b : ℕ → Seen) (us : List ℕ) → AlikeOn a b us → counts_over a us ≡ counts_over b us
+counts-alike a b [] h = refl
+counts-alike a b (u ∷ us) h = rw (h u (inl refl), counts-alike a b us (λ v g. h v (inr g)))
+
+pub ruling-alike : (dag : Dag) (a b : ℕ → Seen) (t : ℕ) → AlikeOn a b (task_of dag t).upstreams → ruling dag a t ≡ ruling dag b t
+unfolding ruling
+ruling-alike dag a b t h =
+    rw (
+      all-alike dag (task_of dag t) a b (task_of dag t).upstreams h,
+      any-alike dag (λ u. branch_skips dag t u) a b (task_of dag t).upstreams h,
+      any-alike dag (λ u. is_blocked) a b (task_of dag t).upstreams h,
+      counts-alike a b (task_of dag t).upstreams h,
+    )
+
+pub gate-alike : (dag : Dag) (k : ℕ) (a b : ℕ → Seen) (p q : Option TaskValue) (t : ℕ) → AlikeOn a b (task_of dag t).upstreams → p ≡ q → gate dag k a p t ≡ gate dag k b q t
+unfolding gate
+gate-alike dag k a b p q t h e = rw (e, ruling-alike dag a b t h)
+
+-- what comes of a task that goes on, by its source's value
+from : (dag : Dag) → List (Option Xval) → ℕ → Option TaskValue → Decision
+from dag pulls source None = Decision.Wait
+from dag pulls source (Some v) = mapped pulls (items (task_of dag source) v)
+
+from-alike : (dag : Dag) (pa pb : List (Option Xval)) (source : ℕ) (x y : Option TaskValue) → x ≡ y → from dag pa source x ≢ Decision.Wait → from dag pb source y ≢ Decision.Wait
+unfolding from
+from-alike dag pa pb source x None e n = absurd (n (rw e))
+from-alike dag pa pb source x (Some v) e n = mapped-not pb _
+
+-- whether it waits does not rest on what it pulls
+waits-alike : (dag : Dag) (a b : ℕ → Seen) (t : ℕ) (v : Verdict) → ((s : ℕ) → (task_of dag t).expand ≡ Some s → a s ≡ b s) → after_verdict dag a t v ≢ Decision.Wait → after_verdict dag b t v ≢ Decision.Wait
+unfolding from
+waits-alike dag a b t Verdict.Wait same n = n
+waits-alike dag a b t Verdict.Blocked same n = λ e. cc
+waits-alike dag a b t Verdict.Skip same n = λ e. cc
+waits-alike dag a b t Verdict.UpstreamFailed same n = λ e. cc
+waits-alike dag a b t Verdict.Run same n = go (task_of dag t).expand same n
+  where
+    go : (x : Option ℕ) → ((s : ℕ) → x ≡ Some s → a s ≡ b s) → instances dag a (pulled dag a t) x ≢ Decision.Wait → instances dag b (pulled dag b t) x ≢ Decision.Wait
+    go None same n = λ e. cc
+    go (Some s) same n = from-alike dag (pulled dag a t) (pulled dag b t) s (a s).value (b s).value (ap (λ (x : Seen). x.value) (same s refl)) n
+
+-- a decision that does not wait doesn't, wherever the same is known of the upstreams and of the past
+pub decision-alike : (dag : Dag) → IsSound dag → (k : ℕ) (a b : ℕ → Seen) (p q : Option TaskValue) (t : ℕ) → AlikeOn a b (task_of dag t).upstreams → p ≡ q →
+    decision dag k a p t ≢ Decision.Wait → decision dag k b q t ≢ Decision.Wait
+unfolding decision
+decision-alike dag sound k a b p q t h e n =
+    subst (λ (v : Verdict). after_verdict dag b t v ≢ Decision.Wait) (gate-alike dag k a b p q t h e)
+    (waits-alike dag a b t (gate dag k a p t) (λ s x. h s (sound.source_is_upstream t s x)) n)
+
+-- what is looked at when the task t is decided in the run k is the same in both states
+pub record LooksAlike (dag : Dag) (r s : State) (k t : ℕ) : Type 0 where
+  pub phase : phase_of r k ≡ phase_of s k
+  pub cell : cell_at r k t ≡ Cell.Undecided → cell_at s k t ≡ Cell.Undecided
+  pub upstreams : (u : ℕ) → IsOneOf (task_of dag t).upstreams u → seen_in (cell_at r k u) ≡ seen_in (cell_at s k u)
+  pub past : before_in r k t ≡ before_in s k t
+
+pub decidable-alike : (dag : Dag) → IsSound dag → (r s : State) (k t : ℕ) → LooksAlike dag r s k t → IsDecidable dag r k t → IsDecidable dag s k t
+unfolding decision_in
+decidable-alike dag sound r s k t alike able = record {
+  run_is_open = sym alike.phase ∙ able.run_is_open;
+  is_task = able.is_task;
+  undecided = alike.cell able.undecided;
+  decides = decision-alike dag sound k (λ u. seen_in (cell_at r k u)) (λ u. seen_in (cell_at s k u)) (before_in r k t) (before_in s k t) t alike.upstreams alike.past able.decides;
+}
+
+-- ---- what an event changes
+
+-- the event settles something of the task u in the run j, or may do so
+abbrev pub Touches : Event → ℕ → ℕ → Type 0
+Touches (Event.Settle k t) j u = (j ≡ k) × (u ≡ t)
+Touches (Event.Expand k t) j u = (j ≡ k) × (u ≡ t)
+Touches (Event.End n o) j u = (j ≡ n.run) × (u ≡ n.task)
+Touches _ j u = ⊥
+
+-- the event opens or closes the run j
+abbrev pub Turns : State → Event → ℕ → Type 0
+Turns s Event.Open j = j ≡ next_run s
+Turns s (Event.Close k) j = j ≡ k
+Turns s _ j = ⊥
+
+-- a change of an instance that is unfinished before and after is not seen
+unseen-counts : (p q : Phase) → IsUnfinished p → IsUnfinished q → counts_of_instance q ≡ counts_of_instance p
+unseen-counts Phase.Waiting Phase.Waiting a b = refl
+unseen-counts Phase.Waiting Phase.Running a b = refl
+unseen-counts Phase.Running Phase.Waiting a b = refl
+unseen-counts Phase.Running Phase.Running a b = refl
+unseen-counts (Phase.Finished o) q a b = absurd a
+unseen-counts p (Phase.Finished o) a b = absurd b
+
+counts-unseen : (f : Instance → Instance) (xs : List Instance) (i : ℕ) (x : Instance) → slice_get xs i ≡ Some x → IsUnfinished x.phase → IsUnfinished (f x).phase → counts_of_instances (change_at f xs i) ≡ counts_of_instances xs
+counts-unseen f [] i x e a b = cc
+counts-unseen f (y ∷ ys) zero x e a b = let same : x ≡ y = cc in ap (λ c. add c (counts_of_instances ys)) (unseen-counts y.phase (f y).phase (rw (← same) a) (rw (← same) b))
+counts-unseen f (y ∷ ys) (suc i) x e a b = ap (add (counts_of_instance y.phase)) (counts-unseen f ys i x e a b)
+
+results-unseen : (f : Instance → Instance) (xs : List Instance) (i : ℕ) (x : Instance) → slice_get xs i ≡ Some x → IsUnfinished x.phase → IsUnfinished (f x).phase → results (change_at f xs i) ≡ results xs
+results-unseen f [] i x e a b = cc
+results-unseen f (y ∷ ys) zero x e a b = let same : x ≡ y = cc in not_yet (f y).attempt (f y).phase (results ys) (rw (← same) b) ∙ sym (not_yet y.attempt y.phase (results ys) (rw (← same) a))
+results-unseen f (y ∷ ys) (suc i) x e a b = ap (cons_result y.attempt y.phase) (results-unseen f ys i x e a b)
+
+pub change-unseen : (f : Instance → Instance) (c : Cell) (i : ℕ) (x : Instance) → instance_of c i ≡ Some x → IsUnfinished x.phase → IsUnfinished (f x).phase → seen_in (change_instance f c i) ≡ seen_in c
+change-unseen f (Cell.Ran xs) i x e a b = λ j. record { counts = counts-unseen f xs i x e a b j; value = option_map TaskValue.Ran (results-unseen f xs i x e a b j) }
+change-unseen f Cell.Undecided i x e a b = refl
+change-unseen f Cell.Blocked i x e a b = refl
+change-unseen f Cell.Skipped i x e a b = refl
+change-unseen f Cell.UpstreamFailed i x e a b = refl
+
+put-seen : (s : State) (k t : ℕ) (c : Cell) (j u : ℕ) → seen_in c ≡ seen_in (cell_at s k t) → seen_in (cell_at (put s k t c) j u) ≡ seen_in (cell_at s j u)
+put-seen s k t c j u same = elim (put-cases s k t c j u) [ inl p ↦ ap seen_in p.2 ∙ (same ∙ ap₂ (λ x y. seen_in (cell_at s x y)) (sym p.0) (sym p.1)) | inr e ↦ ap seen_in e ]
+
+put-elsewhere : (s : State) (k t : ℕ) (c : Cell) (j u : ℕ) → ((j ≡ k) × (u ≡ t) → ⊥) → seen_in (cell_at (put s k t c) j u) ≡ seen_in (cell_at s j u)
+put-elsewhere s k t c j u n = elim (put-cases s k t c j u) [ inl p ↦ absurd (n (p.0, p.1)) | inr e ↦ ap seen_in e ]
+
+-- what is known of a task stays the same but where the event touches it
+pub seen-kept : (dag : Dag) (limits : Limits) (s : State) (e : Event) → IsEnabled dag limits s e → (j u : ℕ) → (Touches e j u → ⊥) → seen_in (cell_at (after dag s e) j u) ≡ seen_in (cell_at s j u)
+unfolding after
+seen-kept dag limits s Event.Open able j u n = ap seen_in (with_phase-cell s (next_run s) RunPhase.Open j u)
+seen-kept dag limits s (Event.Settle k t) able j u n = put-elsewhere s k t _ j u n
+seen-kept dag limits s (Event.Expand k t) able j u n = put-elsewhere s k t _ j u n
+seen-kept dag limits s (Event.Begin m) able j u n = put-seen s m.run m.task _ j u (change-unseen begun _ (place_in dag m) able.0.held able.0.is_held (rw able.0.in_phase tt) tt)
+seen-kept dag limits s (Event.End m o) able j u n = put-elsewhere s m.run m.task _ j u n
+seen-kept dag limits s (Event.Close k) able j u n = ap seen_in (with_phase-cell s k RunPhase.Closed j u)
+seen-kept dag limits s (Event.Tick m) able j u n = refl
+
+-- a run's phase stays but where the event opens or closes it
+pub phase-kept : (dag : Dag) (s : State) (e : Event) (j : ℕ) → (Turns s e j → ⊥) → phase_of (after dag s e) j ≡ phase_of s j
+unfolding after
+phase-kept dag s Event.Open j n = elim (phase-cases s (next_run s) RunPhase.Open j) [ inl p ↦ absurd (n p.0) | inr e ↦ e ]
+phase-kept dag s (Event.Settle k t) j n = put-phase s k t _ j
+phase-kept dag s (Event.Expand k t) j n = put-phase s k t _ j
+phase-kept dag s (Event.Begin m) j n = put-phase s m.run m.task _ j
+phase-kept dag s (Event.End m o) j n = put-phase s m.run m.task _ j
+phase-kept dag s (Event.Close k) j n = elim (phase-cases s k RunPhase.Closed j) [ inl p ↦ absurd (n p.0) | inr e ↦ e ]
+phase-kept dag s (Event.Tick m) j n = refl
+
+changed-undecided : (f : Instance → Instance) (c : Cell) (i : ℕ) → change_instance f c i ≡ Cell.Undecided → c ≡ Cell.Undecided
+changed-undecided f (Cell.Ran xs) i e = cc
+changed-undecided f Cell.Undecided i e = refl
+changed-undecided f Cell.Blocked i e = cc
+changed-undecided f Cell.Skipped i e = cc
+changed-undecided f Cell.UpstreamFailed i e = cc
+
+put-undecided : (s : State) (k t : ℕ) (c : Cell) (j u : ℕ) → (c ≡ Cell.Undecided → cell_at s k t ≡ Cell.Undecided) → cell_at (put s k t c) j u ≡ Cell.Undecided → cell_at s j u ≡ Cell.Undecided
+put-undecided s k t c j u back h = elim (put-cases s k t c j u) [ inl p ↦ rw (p.0, p.1) (back (sym p.2 ∙ h)) | inr e ↦ sym e ∙ h ]
+
+-- what is decided stays decided
+pub undecided-back : (dag : Dag) (limits : Limits) (s : State) (e : Event) → IsEnabled dag limits s e → (j u : ℕ) → cell_at (after dag s e) j u ≡ Cell.Undecided → cell_at s j u ≡ Cell.Undecided
+unfolding after
+undecided-back dag limits s Event.Open able j u h = sym (with_phase-cell s (next_run s) RunPhase.Open j u) ∙ h
+undecided-back dag limits s (Event.Settle k t) able j u h = put-undecided s k t _ j u (λ x. able.0.undecided) h
+undecided-back dag limits s (Event.Expand k t) able j u h = put-undecided s k t _ j u (λ x. able.0.undecided) h
+undecided-back dag limits s (Event.Begin m) able j u h = put-undecided s m.run m.task _ j u (changed-undecided begun _ (place_in dag m)) h
+undecided-back dag limits s (Event.End m o) able j u h = put-undecided s m.run m.task _ j u (changed-undecided _ _ (place_in dag m)) h
+undecided-back dag limits s (Event.Close k) able j u h = sym (with_phase-cell s k RunPhase.Closed j u) ∙ h
+undecided-back dag limits s (Event.Tick m) able j u h = h
+
+-- ---- what becomes due
+
+abbrev pub PastTouched : Event → ℕ → ℕ → Type 0
+PastTouched e zero u = ⊥
+PastTouched e (suc j) u = Touches e j u
+
+-- the event may make the task u in the run j due: it touches an upstream, or the past, or it opens the run
+pub data IsStirred (dag : Dag) (s : State) (e : Event) (j u : ℕ) : Type 0 where
+  ByUpstream : (v : ℕ) → IsOneOf (task_of dag u).upstreams v → Touches e j v → IsStirred dag s e j u
+  ByPast : PastTouched e j u → IsStirred dag s e j u
+  ByRun : Turns s e j → IsStirred dag s e j u
+
+same? : (a b : ℕ) → (a ≡ b) ⊎ (a ≡ b → ⊥)
+same? a b = grind arith
+
+both? : (a b c d : ℕ) → ((a ≡ b) × (c ≡ d)) ⊎ ((a ≡ b) × (c ≡ d) → ⊥)
+both? a b c d = elim (same? a b) [ inr n ↦ inr (λ p. n p.0) | inl p ↦ elim (same? c d) [ inl q ↦ inl (p, q) | inr n ↦ inr (λ q. n q.1) ] ]
+
+touches? : (e : Event) (j u : ℕ) → Touches e j u ⊎ (Touches e j u → ⊥)
+touches? Event.Open j u = inr (λ x. x)
+touches? (Event.Settle k t) j u = both? j k u t
+touches? (Event.Expand k t) j u = both? j k u t
+touches? (Event.Begin m) j u = inr (λ x. x)
+touches? (Event.End m o) j u = both? j m.run u m.task
+touches? (Event.Close k) j u = inr (λ x. x)
+touches? (Event.Tick m) j u = inr (λ x. x)
+
+past? : (e : Event) (j u : ℕ) → PastTouched e j u ⊎ (PastTouched e j u → ⊥)
+past? e zero u = inr (λ x. x)
+past? e (suc j) u = touches? e j u
+
+pub turns? : (s : State) (e : Event) (j : ℕ) → Turns s e j ⊎ (Turns s e j → ⊥)
+turns? s Event.Open j = same? j (next_run s)
+turns? s (Event.Settle k t) j = inr (λ x. x)
+turns? s (Event.Expand k t) j = inr (λ x. x)
+turns? s (Event.Begin m) j = inr (λ x. x)
+turns? s (Event.End m o) j = inr (λ x. x)
+turns? s (Event.Close k) j = same? j k
+turns? s (Event.Tick m) j = inr (λ x. x)
+
+any-touched : (e : Event) (j : ℕ) (us : List ℕ) → ((v : ℕ) × IsOneOf us v × Touches e j v) ⊎ ((v : ℕ) → IsOneOf us v → Touches e j v → ⊥)
+any-touched e j [] = inr (λ v h x. h)
+any-touched e j (u ∷ us) = elim (touches? e j u) [
+  | inl x ↦ inl (u, inl refl, x)
+  | inr n ↦ elim (any-touched e j us) [
+    | inl w ↦ inl (w.0, inr w.1, w.2)
+    | inr none ↦ inr (λ v h x. elim h [ inl same ↦ n (subst (λ (y : ℕ). Touches e j y) same x) | inr h ↦ none v h x ])
+  ]
+]
+
+past-kept : (dag : Dag) (limits : Limits) (s : State) (e : Event) → IsEnabled dag limits s e → (j u : ℕ) → (PastTouched e j u → ⊥) → before_in (after dag s e) j u ≡ before_in s j u
+past-kept dag limits s e able zero u n = refl
+past-kept dag limits s e able (suc j) u n = ap (λ (x : Seen). x.value) (seen-kept dag limits s e able j u n)
+
+-- the locality of an event: what is looked at when a task is decided is as it was, or the event stirs the task
+pub looks-alike : (dag : Dag) (limits : Limits) (s : State) (e : Event) → IsEnabled dag limits s e → (j u : ℕ) → LooksAlike dag (after dag s e) s j u ⊎ IsStirred dag s e j u
+looks-alike dag limits s e able j u =
+    elim (turns? s e j) [
+      | inl x ↦ inr (ByRun x)
+      | inr same_run ↦ elim (past? e j u) [
+        | inl x ↦ inr (ByPast x)
+        | inr same_past ↦ elim (any-touched e j (task_of dag u).upstreams) [
+          | inl w ↦ inr (ByUpstream w.0 w.1 w.2)
+          | inr none ↦ inl (record {
+            phase = phase-kept dag s e j same_run;
+            cell = undecided-back dag limits s e able j u;
+            upstreams = λ v h. seen-kept dag limits s e able j v (none v h);
+            past = past-kept dag limits s e able j u same_past;
+          })
+        ]
+      ]
+    ]
+
+-- what may be decided after the event could be before it, or the event stirs it
+pub newly-due : (dag : Dag) → IsSound dag → (limits : Limits) (s : State) (e : Event) → IsEnabled dag limits s e → (j u : ℕ) → IsDecidable dag (after dag s e) j u → IsDecidable dag s j u ⊎ IsStirred dag s e j u
+newly-due dag sound limits s e able j u due =
+    elim (looks-alike dag limits s e able j u) [ inl alike ↦ inl (decidable-alike dag sound (after dag s e) s j u alike due) | inr x ↦ inr x ]
+
+-- where the same is looked at, a task goes on to its expansion or doesn't as before
+pub goes_on-alike : (dag : Dag) (r s : State) (k t : ℕ) → LooksAlike dag r s k t → goes_on dag r k t ≡ goes_on dag s k t
+unfolding goes_on
+goes_on-alike dag r s k t alike =
+    ap (λ v. is_some (task_of dag t).expand && is_run v) (gate-alike dag k (λ u. seen_in (cell_at r k u)) (λ u. seen_in (cell_at s k u)) (before_in r k t) (before_in s k t) t alike.upstreams alike.past)
+
+-- ---- what a task waits for
+
+not-all : (p : ℕ → Bool) (us : List ℕ) (u : ℕ) → IsOneOf us u → p u ≡ false → list_all p us ≡ true → ⊥
+not-all p [] u h e all = h
+not-all p (v ∷ us) u h e all = elim h [
+  | inl same ↦ let yes : p v ≡ true = and_left _ _ all in let no : p v ≡ false = ap p (sym same) ∙ e in let f : true ≡ false = sym yes ∙ no in cc
+  | inr g ↦ not-all p us u g e (and_right (p v) _ all)
+]
+
+-- a task isn't due while one of its upstreams doesn't let it be decided
+pub awaits-upstream : (dag : Dag) (s : State) (k t u : ℕ) → IsOneOf (task_of dag t).upstreams u → lets_decide dag (task_of dag t) (λ v. seen_in (cell_at s k v)) u ≡ false → IsDecidable dag s k t → ⊥
+unfolding decision_in decision
+awaits-upstream dag s k t u is_upstream waits able =
+    not-all (lets_decide dag (task_of dag t) (λ v. seen_in (cell_at s k v))) (task_of dag t).upstreams u is_upstream waits
+    (lets dag k (λ v. seen_in (cell_at s k v)) (before_in s k t) t (λ e. able.decides (rw e)))

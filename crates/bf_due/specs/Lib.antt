@@ -1,0 +1,4 @@
+pub mod Steps
+pub mod Agendas
+pub mod Cursors
+pub mod Dues

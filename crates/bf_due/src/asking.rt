@@ -1,0 +1,258 @@
+//! Asking the core which steps may come, and putting those on an agenda.
+ghost use Rattle.std.specs.Prelude.{◌≡◌, ◌<◌, ◌≤◌, ◌+◌, ◌↔◌, ℕ, Bool, length, slice_index, IsTrue, IfSome, IfNone, Some};
+ghost use Rattle.bf_graph.specs.Edges.{IsUpstream};
+ghost use Rattle.bf_graph.specs.Lookups.{IsRisingListOf};
+ghost use Rattle.bf_check.specs.Plans.{shape_of};
+ghost use Rattle.bf_core.specs.Events.{IsDecidable};
+ghost use Rattle.bf_core.specs.Cores.{IsThere, MayCome, deciding};
+ghost use Rattle.bf_due.specs.declared.agenda.Step.{Step as StepTerm};
+ghost use Rattle.bf_due.specs.Agendas.{event_of};
+ghost use Rattle.bf_due.specs.Dues.{Asks, AsksAll, Concerns, HasAdded, HasRoom, IsAround, IsBelow, IsCleaned, IsCloseOf, IsDue, IsOfFirst, IsOfRun, IsOfTask, IsOpening, IsUnder, SpeaksOfTask};
+
+use crate::agenda::{Agenda, Step, Turn};
+use crate::progress::Progress;
+use bf_core::{Core, Event};
+
+fn is_expansion(event: &Event) -> bool
+    ensures { (expands : Bool) (run task : ℕ) → event.now ≡ deciding expands run task → result ≡ expands }
+{
+    matches!(event, Event::Expand { .. })
+}
+
+/// Whether a task that may be decided now goes on to its expansion.
+fn goes_on(core: &Core<'_>, run: u32, task: u32) -> Option<bool>
+    ensures some { IfSome result (λ expands. MayCome core.now (deciding expands run task)) }
+    ensures none { IfNone result (¬ (IsDecidable core.now.dag core.now.state run task)) }
+{
+    let event = core.decision_event(run, task)?;
+    Some(is_expansion(&event))
+}
+
+/// Whether a task may be decided: by its expansion, or without.
+pub fn may_decide(core: &Core<'_>, run: u32, task: u32, expands: bool) -> bool
+    ensures { IsTrue result ↔ MayCome core.now (deciding expands run task) }
+{
+    match goes_on(core, run, task) {
+        Some(goes_on) => goes_on == expands,
+        None => false,
+    }
+}
+
+/// Whether a step may come.
+fn may_come(core: &Core<'_>, step: Step) -> bool
+    ensures { IsTrue result ↔ MayCome core.now (event_of step) }
+{
+    match step {
+        Step::Close { run } => core.may_close(run),
+        Step::Open => core.may_open(),
+        Step::Settle(turn) => may_decide(core, turn.run, turn.task, false),
+        Step::Expand(turn) => may_decide(core, turn.run, turn.task, true),
+    }
+}
+
+/// The step that decides a task, where it may be decided now.
+fn decision(core: &Core<'_>, run: u32, task: u32) -> Option<Step>
+    requires { task < length core.now.dag.tasks }
+    ensures due { IfSome result (IsDue core.now) }
+    ensures each { (x : StepTerm) → IsOfTask run task x → IsDue core.now x → result ≡ Some x }
+{
+    let rank = core.plan().graph().rank(task);
+    let turn = Turn { run, rank, task };
+    match goes_on(core, run, task) {
+        Some(true) => Some(Step::Expand(turn)),
+        Some(false) => Some(Step::Settle(turn)),
+        None => None,
+    }
+}
+
+/// Adds the step that decides a task, where it may be decided now.
+fn add_decision(agenda: &mut Agenda, core: &Core<'_>, run: u32, task: u32)
+    requires task { task < length core.now.dag.tasks }
+    requires room { length agenda.old.items + 1 ≤ agenda.old.room }
+    ensures added { HasAdded core.now (IsOfTask run task) agenda.old.items agenda.new.items }
+    ensures len { length agenda.new.items ≤ length agenda.old.items + 1 }
+    ensures room { agenda.old.room ≤ agenda.new.room }
+{
+    if let Some(step) = decision(core, run, task) {
+        agenda.add(step);
+    }
+}
+
+/// Adds the close of a run, where it may be closed now.
+fn add_close(agenda: &mut Agenda, core: &Core<'_>, run: u32)
+    requires { length agenda.old.items + 1 ≤ agenda.old.room }
+    ensures added { HasAdded core.now (IsCloseOf run) agenda.old.items agenda.new.items }
+    ensures len { length agenda.new.items ≤ length agenda.old.items + 1 }
+    ensures room { agenda.old.room ≤ agenda.new.room }
+{
+    if core.may_close(run) {
+        agenda.add(Step::Close { run });
+    }
+}
+
+/// Adds the opening of the next run, where it may be opened now.
+pub(crate) fn add_open(agenda: &mut Agenda, core: &Core<'_>)
+    requires { length agenda.old.items + 1 ≤ agenda.old.room }
+    ensures { HasAdded core.now IsOpening agenda.old.items agenda.new.items }
+{
+    if core.may_open() {
+        agenda.add(Step::Open);
+    }
+}
+
+/// Adds the step that decides a task, where it may be decided now. The core is asked once no upstream is awaited.
+fn ask(agenda: &mut Agenda, row: &mut Progress, core: &Core<'_>, run: u32, task: u32)
+    requires task { task < length core.now.dag.tasks }
+    requires room { length agenda.old.items + 1 ≤ agenda.old.room }
+    ensures asks { Asks core.now run (IsOfTask run task) row.old row.new agenda.old.items agenda.new.items }
+    ensures len { length agenda.new.items ≤ length agenda.old.items + 1 }
+    ensures room { agenda.old.room ≤ agenda.new.room }
+{
+    if row.lets_be_decided(core, run, task) {
+        add_decision(agenda, core, run, task);
+    }
+}
+
+/// Adds the steps that decide these tasks, where they may be decided now.
+fn ask_each(agenda: &mut Agenda, row: &mut Progress, core: &Core<'_>, run: u32, tasks: &[u32])
+    requires tasks { (i : ℕ) → i < length tasks.now → slice_index tasks.now i < length core.now.dag.tasks }
+    requires room { length agenda.old.items + length tasks.now ≤ agenda.old.room }
+    ensures asks { Asks core.now run (IsOfFirst run tasks.now (length tasks.now)) row.old row.new agenda.old.items agenda.new.items }
+    ensures len { length agenda.new.items ≤ length agenda.old.items + length tasks.now }
+    ensures room { agenda.old.room ≤ agenda.new.room }
+{
+    for task in tasks {
+        ask(agenda, row, core, run, *task);
+    }
+}
+
+/// Adds the steps that decide the tasks of a run, where they may be decided now.
+fn ask_all(agenda: &mut Agenda, row: &mut Progress, core: &Core<'_>, run: u32)
+    requires { length agenda.old.items + length core.now.dag.tasks ≤ agenda.old.room }
+    ensures asks { Asks core.now run (IsBelow run (length core.now.dag.tasks)) row.old row.new agenda.old.items agenda.new.items }
+    ensures len { length agenda.new.items ≤ length agenda.old.items + length core.now.dag.tasks }
+    ensures room { agenda.old.room ≤ agenda.new.room }
+{
+    let _replayed = core.journal();
+    for task in 0..core.plan().dag().tasks.len() {
+        ask(agenda, row, core, run, task as u32);
+    }
+}
+
+/// Adds the close of a run, where it may be closed now. The core is asked once each task is settled.
+fn ask_close(agenda: &mut Agenda, row: &mut Progress, core: &Core<'_>, run: u32)
+    requires { length agenda.old.items + 1 ≤ agenda.old.room }
+    ensures asks { Asks core.now run (IsCloseOf run) row.old row.new agenda.old.items agenda.new.items }
+    ensures len { length agenda.new.items ≤ length agenda.old.items + 1 }
+    ensures room { agenda.old.room ≤ agenda.new.room }
+{
+    if row.is_over(core, run) {
+        add_close(agenda, core, run);
+    }
+}
+
+/// Adds the steps of a run that may come now.
+pub(crate) fn ask_run(agenda: &mut Agenda, row: &mut Progress, core: &Core<'_>, run: u32)
+    requires { HasRoom core.now.dag agenda.old.items agenda.old.room }
+    ensures { Asks core.now run (IsOfRun run) row.old row.new agenda.old.items agenda.new.items }
+{
+    ask_all(agenda, row, core, run);
+    ask_close(agenda, row, core, run);
+}
+
+/// The tasks below a task.
+fn downstreams<'a>(core: &Core<'a>, task: u32) -> &'a [u32]
+    requires { task < length core.now.dag.tasks }
+    ensures rising { IsRisingListOf (IsUpstream (shape_of core.now.dag).upstreams task) result.now }
+    ensures tasks { (i : ℕ) → i < length result.now → slice_index result.now i < length core.now.dag.tasks }
+    ensures few { length result.now ≤ length core.now.dag.tasks }
+{
+    core.plan().graph().downstreams(task)
+}
+
+/// Adds the steps of the tasks below a task, and the close of its run, where they may come now.
+fn ask_under(agenda: &mut Agenda, row: &mut Progress, core: &Core<'_>, run: u32, task: u32)
+    requires task { task < length core.now.dag.tasks }
+    requires room { HasRoom core.now.dag agenda.old.items agenda.old.room }
+    ensures asks { Asks core.now run (IsUnder core.now.dag run task) row.old row.new agenda.old.items agenda.new.items }
+    ensures len { length agenda.new.items ≤ length agenda.old.items + (length core.now.dag.tasks + 1) }
+    ensures room { agenda.old.room ≤ agenda.new.room }
+{
+    ask_each(agenda, row, core, run, downstreams(core, task));
+    ask_close(agenda, row, core, run);
+}
+
+/// Adds the step that decides a task in a run, where there is such a run and it may be decided now.
+fn ask_in(agenda: &mut Agenda, rows: &mut Vec<Progress>, core: &Core<'_>, run: u32, task: u32)
+    requires task { task < length core.now.dag.tasks }
+    requires rows { length core.now.state.runs ≤ length rows.old.items }
+    requires room { length agenda.old.items + 1 ≤ agenda.old.room }
+    ensures { AsksAll core.now (IsOfTask run task) rows.old.items rows.new.items agenda.old.items agenda.new.items }
+{
+    if (run as usize) < rows.len() {
+        let row = &mut rows[run as usize];
+        ask(agenda, row, core, run, task);
+    }
+}
+
+/// Adds the steps of a run that may come now, where there is such a run.
+fn ask_opened(agenda: &mut Agenda, rows: &mut Vec<Progress>, core: &Core<'_>, run: u32)
+    requires rows { length core.now.state.runs ≤ length rows.old.items }
+    requires room { HasRoom core.now.dag agenda.old.items agenda.old.room }
+    ensures { AsksAll core.now (IsOfRun run) rows.old.items rows.new.items agenda.old.items agenda.new.items }
+{
+    if (run as usize) < rows.len() {
+        let row = &mut rows[run as usize];
+        ask_run(agenda, row, core, run);
+    }
+}
+
+/// Adds the steps that may come now and look at a task: those of the tasks below it, that of the same task in the next
+/// run, and the close of its run.
+fn ask_around(agenda: &mut Agenda, rows: &mut Vec<Progress>, core: &Core<'_>, run: u32, task: u32)
+    requires there { IsThere core.now.dag core.now.state run task }
+    requires rows { length core.now.state.runs ≤ length rows.old.items }
+    requires room { HasRoom core.now.dag agenda.old.items agenda.old.room }
+    ensures { AsksAll core.now (IsAround core.now.dag run task) rows.old.items rows.new.items agenda.old.items agenda.new.items }
+{
+    let _few = core.runs();
+    let row = &mut rows[run as usize];
+    ask_under(agenda, row, core, run, task);
+    ask_in(agenda, rows, core, run + 1, task);
+}
+
+/// Adds the steps that an event may have made possible. `next` was the next run to open before it.
+pub(crate) fn ask_after(
+    agenda: &mut Agenda,
+    rows: &mut Vec<Progress>,
+    core: &Core<'_>,
+    event: &Event,
+    next: u32,
+)
+    requires there { SpeaksOfTask core.now.dag core.now.state event.now }
+    requires rows { length core.now.state.runs ≤ length rows.old.items }
+    requires room { HasRoom core.now.dag agenda.old.items agenda.old.room }
+    ensures { AsksAll core.now (Concerns core.now.dag next event.now) rows.old.items rows.new.items agenda.old.items agenda.new.items }
+{
+    match event {
+        Event::Settle { run, task } | Event::Expand { run, task } => {
+            ask_around(agenda, rows, core, *run, *task);
+        }
+        Event::End(name, _) => ask_around(agenda, rows, core, name.run, name.task),
+        Event::Open => ask_opened(agenda, rows, core, next),
+        Event::Close { .. } => add_open(agenda, core),
+        Event::Begin(_) | Event::Tick { .. } => {}
+    }
+}
+
+/// Takes out the first steps while they may not come.
+pub(crate) fn clean(agenda: &mut Agenda, core: &Core<'_>)
+    ensures { IsCleaned core.now agenda.old.items agenda.new.items }
+{
+    while let Some(step) = agenda.first() {
+        if may_come(core, step) {
+            return;
+        }
+        let _ = agenda.take_first();
+    }
+}

@@ -1,0 +1,245 @@
+//! The steps that are due.
+ghost use Rattle.std.specs.Prelude.{◌≡◌, ◌<◌, ◌≤◌, ◌+◌, ℕ, ◌↔◌, [], length, IsTrue, OnOk, IfOk, true, false};
+ghost use Rattle.std.specs.List.{count_by};
+ghost use Rattle.bf_graph.specs.Ranks.{Ranking};
+ghost use Rattle.bf_check.specs.Plans.{shape_of};
+ghost use Rattle.bf_core.specs.Events.{next_run};
+ghost use Rattle.bf_core.specs.Cores.{Backfill, IsReplay, IsThere, MayCome, moved};
+ghost use Rattle.bf_due.specs.declared.agenda.Step.{Step as StepTerm};
+ghost use Rattle.bf_due.specs.Steps.{IsNextStep};
+ghost use Rattle.bf_due.specs.Cursors.{AreReached};
+ghost use Rattle.bf_due.specs.Dues.{HasAdded, HasRoomFor, IsOfRunBelow, IsUpToDate, SpeaksOfTask, opens};
+
+use crate::agenda::Agenda;
+use crate::asking::{add_open, ask_after, ask_run, clean};
+use crate::progress::Progress;
+use bf_core::{Core, Event};
+use bf_value::OutOfMemory;
+use std::alloc::Global;
+use std::marker::Model;
+
+/// The steps of a backfill that may come by themselves, kept over its events. It doesn't hold the core, and is told of
+/// each event: `make_room` before the core takes it, and `on_event` afterwards.
+#[derive(Drop)]
+pub struct Due {
+    alloc: Global,
+    agenda: Agenda,
+    /// The next run to open.
+    next: u32,
+    /// How far each run has come. Nothing is noted of a run that isn't open.
+    progress: Vec<Progress>,
+}
+
+impl Model for Due {
+    ghost use Rattle.bf_due.specs.Dues.{Kept};
+    ghost use Rattle.bf_due.specs.contracts.agenda.Step as t;
+    ghost use Rattle.bf_due.specs.contracts.progress.Progress as p;
+    ghost use Rattle.std.specs.Coded.{codes};
+
+    ghost Value = { Kept };
+
+    ghost coded = { Prim.hlevel (codes, t.the_row.coded, p.the_row.coded) };
+
+    ghost view = { λ d. record { steps = d.agenda.items; room = d.agenda.room; next = d.next; progress = d.progress.items } };
+}
+
+fn is_there(core: &Core<'_>, run: u32, task: u32) -> bool
+    ensures { IsTrue result ↔ IsThere core.now.dag core.now.state run task }
+{
+    run < core.runs() && (task as usize) < core.plan().dag().tasks.len()
+}
+
+/// Whether the task that an event decides, or of which a try ends, is there.
+fn speaks_of_task(core: &Core<'_>, event: &Event) -> bool
+    ensures { IsTrue result ↔ SpeaksOfTask core.now.dag core.now.state event.now }
+{
+    match event {
+        Event::Settle { run, task } | Event::Expand { run, task } => is_there(core, *run, *task),
+        Event::End(name, _) => is_there(core, name.run, name.task),
+        Event::Open | Event::Begin(_) | Event::Close { .. } | Event::Tick { .. } => true,
+    }
+}
+
+/// How many runs were opened by these events.
+fn opened(events: &[Event]) -> usize
+    ensures { result ≡ count_by opens events.now }
+{
+    let mut opened = 0;
+    for event in events {
+        if matches!(event, Event::Open) {
+            opened += 1;
+        }
+    }
+    opened
+}
+
+/// The next run to open.
+fn next_to_open(core: &Core<'_>) -> u32
+    ensures next { result ≡ next_run core.now.state }
+    ensures few { result ≤ 4_096 }
+{
+    let _few = core.runs();
+    opened(core.journal()) as u32
+}
+
+/// The next run to open after an event.
+fn next_after(core: &Core<'_>, event: &Event, next: u32) -> u32
+    ensures opens { opens event.now ≡ true → next < length core.now.state.runs → result ≡ next + 1 }
+    ensures other { opens event.now ≡ false → result ≡ next }
+{
+    match event {
+        Event::Open if next < core.runs() => next + 1,
+        _ => next,
+    }
+}
+
+/// A law: every task has a rank.
+fn ranking(core: &Core<'_>)
+    ensures { Ranking (shape_of core.now.dag).upstreams }
+{
+    core.plan().graph().ranks();
+}
+
+/// The steps of the runs that were opened.
+fn steps_of_runs(alloc: Global, core: &Core<'_>, opened: u32) -> Result<Agenda, OutOfMemory>
+    ensures { IfOk result (λ agenda. HasAdded core.now (IsOfRunBelow opened) [] agenda.items) }
+{
+    let mut agenda = Agenda::new(alloc);
+    let most = core.plan().dag().tasks.len() + 2;
+    for run in 0..opened {
+        agenda.make_room(most)?;
+        let mut row = Progress::unknown(alloc);
+        ask_run(&mut agenda, &mut row, core, run);
+    }
+    Ok(agenda)
+}
+
+/// How many runs there are.
+fn runs(core: &Core<'_>) -> u32
+    ensures runs { result ≡ core.now.runs }
+    ensures rows { length core.now.state.runs ≡ core.now.runs }
+    ensures replayed { IsReplay core.now }
+{
+    let _replayed = core.journal();
+    core.runs()
+}
+
+/// Makes a row for each run.
+fn make_rows(alloc: Global, rows: &mut Vec<Progress>, runs: u32) -> Result<(), OutOfMemory>
+    ensures reached { (b : Backfill) → AreReached b rows.old.items → AreReached b rows.new.items }
+    ensures rows { OnOk result (runs ≤ length rows.new.items) }
+{
+    for _run in rows.len()..runs as usize {
+        rows.push(Progress::unknown(alloc))?;
+    }
+    Ok(())
+}
+
+/// The run of which an event opens, decides or settles something.
+fn run_of(event: &Event, next: u32) -> Option<u32> {
+    match event {
+        Event::Open => Some(next),
+        Event::Settle { run, .. } | Event::Expand { run, .. } => Some(*run),
+        Event::End(name, _) => Some(name.run),
+        Event::Begin(_) | Event::Close { .. } | Event::Tick { .. } => None,
+    }
+}
+
+/// Sees to it that something can be noted of the tasks of a run.
+fn prepare(
+    alloc: Global,
+    rows: &mut Vec<Progress>,
+    run: u32,
+    tasks: usize,
+) -> Result<(), OutOfMemory>
+    ensures reached { (b : Backfill) → AreReached b rows.old.items → AreReached b rows.new.items }
+    ensures len { length rows.new.items ≡ length rows.old.items }
+{
+    if (run as usize) < rows.len() && rows[run as usize].passed.is_empty() {
+        let row = Progress::new(alloc, tasks)?;
+        rows[run as usize] = row;
+    }
+    Ok(())
+}
+
+/// Makes a row for each run, in which something can be noted of the run that an event speaks of.
+fn make_rows_for(
+    alloc: Global,
+    rows: &mut Vec<Progress>,
+    core: &Core<'_>,
+    event: &Event,
+    next: u32,
+) -> Result<(), OutOfMemory>
+    ensures reached { (b : Backfill) → AreReached b rows.old.items → AreReached b rows.new.items }
+    ensures rows { OnOk result (core.now.runs ≤ length rows.new.items) }
+{
+    make_rows(alloc, rows, runs(core))?;
+    match run_of(event, next) {
+        Some(run) => prepare(alloc, rows, run, core.plan().dag().tasks.len()),
+        None => Ok(()),
+    }
+}
+
+/// Lets go of what was noted of a run that an event has closed.
+fn forget_closed(alloc: Global, rows: &mut Vec<Progress>, event: &Event)
+    ensures { (b : Backfill) → AreReached b rows.old.items → AreReached b rows.new.items }
+{
+    if let Event::Close { run } = event {
+        if (*run as usize) < rows.len() {
+            rows[*run as usize] = Progress::unknown(alloc);
+        }
+    }
+}
+
+impl Due {
+    /// The steps of a backfill that may come by themselves now.
+    pub fn new(alloc: Global, core: &Core<'_>) -> Result<Due, OutOfMemory>
+        ensures { IfOk result (λ due. IsUpToDate core.now due) }
+    {
+        let _replayed = core.journal();
+        ranking(core);
+        let next = next_to_open(core);
+        let mut agenda = steps_of_runs(alloc, core, next)?;
+        agenda.make_room(1)?;
+        add_open(&mut agenda, core);
+        clean(&mut agenda, core);
+        Ok(Due {
+            alloc,
+            agenda,
+            next,
+            progress: Vec::new(alloc),
+        })
+    }
+
+    /// Makes room for what one more event may make possible. A refusal leaves what is kept as it was.
+    pub fn make_room(&mut self, core: &Core<'_>, event: &Event) -> Result<(), OutOfMemory>
+        ensures kept { (b : Backfill) → IsUpToDate b self.old → IsUpToDate b self.new }
+        ensures room { OnOk result (HasRoomFor core.now self.new) }
+    {
+        make_rows_for(self.alloc, &mut self.progress, core, event, self.next)?;
+        self.agenda.make_room(core.plan().dag().tasks.len() + 2)
+    }
+
+    /// Takes in an event that has come, for which there is room. It takes no memory.
+    pub fn on_event(&mut self, core: &Core<'_>, event: &Event)
+        requires { HasRoomFor core.now self.old }
+        ensures { (b : Backfill) → MayCome b event.now → core.now ≡ moved b event.now → IsUpToDate b self.old → IsUpToDate core.now self.new }
+    {
+        let _runs = runs(core);
+        if speaks_of_task(core, event) {
+            ask_after(&mut self.agenda, &mut self.progress, core, event, self.next);
+            forget_closed(self.alloc, &mut self.progress, event);
+            clean(&mut self.agenda, core);
+            self.next = next_after(core, event, self.next);
+        }
+    }
+
+    /// The first step that may come by itself, by kind, and then by run, by rank and in the order of the file: of
+    /// whatever backfill it is kept for, just what a look at the whole of it finds.
+    pub fn first(&self) -> Option<Event>
+        ensures { (b : Backfill) → IsUpToDate b self.now → IsNextStep b result }
+    {
+        let step = self.agenda.first()?;
+        Some(step.event())
+    }
+}

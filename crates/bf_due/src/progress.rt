@@ -1,0 +1,198 @@
+//! How far a run has come, as far as it was looked at: cursors that pass what stays as it is, so that nothing is looked at twice.
+ghost use Rattle.std.specs.Prelude.{◌≡◌, ◌<◌, ◌≤◌, ◌↔◌, ℕ, false, is_some, length, slice_index, IsTrue, IfSome, IfOk};
+ghost use Rattle.bf_core.specs.Terms.{task_of};
+ghost use Rattle.bf_core.specs.Deciding.{lets_decide as lets};
+ghost use Rattle.bf_core.specs.Events.{IsDecidable, cell_at, seen_in, value_in};
+ghost use Rattle.bf_core.specs.Cores.{Backfill, MayCome};
+ghost use Rattle.bf_core.specs.declared.event.Event.{Event as EventTerm};
+ghost use Rattle.bf_core.specs.declared.state.Cell.{Cell as CellTerm};
+ghost use Rattle.bf_due.specs.Cursors.{AreFinished, ArePassed, Awaits, IsFinished, IsReached};
+
+use bf_core::{Cell, Core, Instance, Phase};
+use bf_value::OutOfMemory;
+use std::alloc::Global;
+
+/// What is known of how far a run has come. Where a list is too short, nothing is known of a task.
+#[derive(Drop)]
+pub struct Progress {
+    /// For each task, how many of its upstreams let it be decided, from the first on.
+    pub passed: Vec<u32>,
+    /// For each task, how many of its instances have finished, from the first on.
+    pub finished: Vec<u32>,
+    /// How many tasks are settled, from the first on.
+    pub settled: u32,
+}
+
+fn number_at(numbers: &[u32], at: u32) -> u32
+    ensures { result ≡ slice_index numbers.now at }
+{
+    match numbers.get(at as usize) {
+        Some(number) => *number,
+        None => 0,
+    }
+}
+
+fn is_finished(phase: &Phase) -> bool
+    ensures { IsTrue result ↔ IsFinished phase.now }
+{
+    matches!(phase, Phase::Finished(_))
+}
+
+/// The place of the first instance from a place on that hasn't finished, or how many there are.
+fn first_unfinished(instances: &[Instance], from: usize) -> usize
+    ensures finished { AreFinished (CellTerm.Ran instances.now) from → AreFinished (CellTerm.Ran instances.now) result }
+    ensures unfinished { result < length instances.now → is_some (value_in (CellTerm.Ran instances.now)) ≡ false }
+    ensures within { result ≤ length instances.now }
+{
+    for place in from..instances.len() {
+        if !is_finished(&instances[place].phase) {
+            return place;
+        }
+    }
+    instances.len()
+}
+
+/// The instances of a task in a run, once it has some.
+fn instances_of<'c>(core: &'c Core<'_>, run: u32, task: u32) -> Option<&'c [Instance]>
+    ensures some { IfSome result (λ xs. cell_at core.now.state run task ≡ CellTerm.Ran xs.now) }
+    ensures few { IfSome result (λ xs. length xs.now ≤ 1_024) }
+{
+    match core.cell(run, task) {
+        Some(Cell::Ran(instances)) => Some(instances.as_slice()),
+        _ => None,
+    }
+}
+
+/// The upstreams of a task.
+fn upstreams_of<'a>(core: &Core<'a>, task: u32) -> &'a [u32]
+    requires { task < length core.now.dag.tasks }
+    ensures upstreams { result.now ≡ (task_of core.now.dag task).upstreams }
+    ensures few { length result.now ≤ 20_000 }
+{
+    core.plan().dag().task(task).upstreams.as_slice()
+}
+
+impl Progress {
+    /// Nothing is known, and nothing noted of a task. It takes no memory.
+    pub fn unknown(alloc: Global) -> Progress
+        ensures { (b : Backfill) (k : ℕ) → IsReached b k result }
+    {
+        Progress {
+            passed: Vec::new(alloc),
+            finished: Vec::new(alloc),
+            settled: 0,
+        }
+    }
+
+    /// Nothing is known of so many tasks.
+    pub fn new(alloc: Global, tasks: usize) -> Result<Progress, OutOfMemory>
+        ensures { IfOk result (λ row. (b : Backfill) (k : ℕ) → IsReached b k row) }
+    {
+        Ok(Progress {
+            passed: vec![in alloc; 0; tasks]?,
+            finished: vec![in alloc; 0; tasks]?,
+            settled: 0,
+        })
+    }
+
+    /// Notes that so many instances of a task have finished.
+    fn note_finished(&mut self, task: u32, finished: u32)
+        ensures reached { (b : Backfill) (k : ℕ) → IsReached b k self.old → AreFinished (cell_at b.state k task) finished → IsReached b k self.new }
+        ensures settled { self.new.settled ≡ self.old.settled }
+    {
+        if (task as usize) < self.finished.len() {
+            self.finished[task as usize] = finished;
+        }
+    }
+
+    /// Notes that so many upstreams of a task let it be decided.
+    fn note_passed(&mut self, task: u32, passed: u32)
+        ensures { (b : Backfill) (k : ℕ) → IsReached b k self.old → ArePassed b.dag b.state k task passed → IsReached b k self.new }
+    {
+        if (task as usize) < self.passed.len() {
+            self.passed[task as usize] = passed;
+        }
+    }
+
+    /// Whether all of these instances of a task have finished.
+    fn have_finished(&mut self, instances: &[Instance], task: u32) -> bool
+        requires { length instances.now ≤ 1_024 }
+        ensures finished { (b : Backfill) (k : ℕ) → IsReached b k self.old → cell_at b.state k task ≡ CellTerm.Ran instances.now → result ≡ is_some (value_in (CellTerm.Ran instances.now)) }
+        ensures reached { (b : Backfill) (k : ℕ) → IsReached b k self.old → cell_at b.state k task ≡ CellTerm.Ran instances.now → IsReached b k self.new }
+        ensures settled { self.new.settled ≡ self.old.settled }
+    {
+        let from = number_at(self.finished.as_slice(), task);
+        let finished = first_unfinished(instances, from as usize);
+        self.note_finished(task, finished as u32);
+        instances.len() <= finished
+    }
+
+    /// Whether a task is settled.
+    fn is_settled(&mut self, core: &Core<'_>, run: u32, task: u32) -> bool
+        ensures settled { IsReached core.now run self.old → result ≡ is_some (value_in (cell_at core.now.state run task)) }
+        ensures reached { IsReached core.now run self.old → IsReached core.now run self.new }
+        ensures same { self.new.settled ≡ self.old.settled }
+    {
+        match instances_of(core, run, task) {
+            Some(instances) => self.have_finished(instances, task),
+            None => core.is_settled(run, task),
+        }
+    }
+
+    /// Whether a task can be decided as far as one of its upstreams goes.
+    fn lets_decide(&mut self, core: &Core<'_>, run: u32, task: u32, upstream: u32) -> bool
+        requires { task < length core.now.dag.tasks }
+        ensures lets { IsReached core.now run self.old → result ≡ lets core.now.dag (task_of core.now.dag task) (λ u. seen_in (cell_at core.now.state run u)) upstream }
+        ensures reached { IsReached core.now run self.old → IsReached core.now run self.new }
+    {
+        let dag = core.plan().dag();
+        self.is_settled(core, run, upstream)
+            || (!dag.task(task).rule.waits() && !dag.is_branch(upstream))
+    }
+
+    /// The place of the first upstream of a task, from a place on, that doesn't let it be decided, or how many there are.
+    fn first_awaited(&mut self, core: &Core<'_>, run: u32, task: u32, from: usize) -> usize
+        requires { task < length core.now.dag.tasks }
+        ensures passed { IsReached core.now run self.old → ArePassed core.now.dag core.now.state run task from → ArePassed core.now.dag core.now.state run task result }
+        ensures awaits { IsReached core.now run self.old → result < length (task_of core.now.dag task).upstreams → Awaits core.now.dag core.now.state run task result }
+        ensures reached { IsReached core.now run self.old → IsReached core.now run self.new }
+        ensures within { result ≤ length (task_of core.now.dag task).upstreams }
+    {
+        let upstreams = upstreams_of(core, task);
+        for place in from..upstreams.len() {
+            if !self.lets_decide(core, run, task, upstreams[place]) {
+                return place;
+            }
+        }
+        upstreams.len()
+    }
+
+    /// Whether no upstream of a task keeps it from being decided.
+    pub fn lets_be_decided(&mut self, core: &Core<'_>, run: u32, task: u32) -> bool
+        requires { task < length core.now.dag.tasks }
+        ensures awaits { IsReached core.now run self.old → result ≡ false → ¬ (IsDecidable core.now.dag core.now.state run task) }
+        ensures reached { IsReached core.now run self.old → IsReached core.now run self.new }
+    {
+        let upstreams = upstreams_of(core, task);
+        let from = number_at(self.passed.as_slice(), task);
+        let passed = self.first_awaited(core, run, task, from as usize);
+        self.note_passed(task, passed as u32);
+        upstreams.len() <= passed
+    }
+
+    /// Whether each task is settled.
+    pub fn is_over(&mut self, core: &Core<'_>, run: u32) -> bool
+        ensures unsettled { IsReached core.now run self.old → result ≡ false → ¬ (MayCome core.now (EventTerm.Close run)) }
+        ensures reached { IsReached core.now run self.old → IsReached core.now run self.new }
+    {
+        let _replayed = core.journal();
+        let tasks = core.plan().dag().tasks.len() as u32;
+        for task in self.settled..tasks {
+            if !self.is_settled(core, run, task) {
+                return false;
+            }
+            self.settled = task + 1;
+        }
+        true
+    }
+}

@@ -1,0 +1,11 @@
+pub mod HeapFacts
+pub mod Moving
+pub mod Taking
+pub mod Passing
+pub mod Holding
+pub mod Places
+pub mod Each
+pub mod Leading
+pub mod Soonest
+pub mod NextTries
+pub mod FillFacts

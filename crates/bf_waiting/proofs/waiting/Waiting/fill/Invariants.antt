@@ -1,0 +1,5 @@
+use Rattle.bf_waiting.specs.Filling.{AreFilled}
+use Rattle.bf_waiting.proofs.waiting.Waiting.fill.Given as goal
+
+abbrev pub invariant-loop-run : goal.invariant-loop-run
+invariant-loop-run l = AreFilled l.core l.self l.run 0

@@ -1,0 +1,105 @@
+//! The instances of a task in a run, and how they stand.
+ghost use Rattle.std.specs.Prelude.{◌≡◌, ◌<◌, ◌≤◌, ◌↔◌, IsTrue, IfSome, IfNone, length, Some, is_some};
+ghost use Rattle.bf_check.specs.Plans.{task_of};
+ghost use Rattle.bf_core.specs.Events.{cell_at, instance_of, place_in};
+ghost use Rattle.bf_core.specs.Few.{IsFew};
+ghost use Rattle.bf_waiting.specs.Standings.{instances_in as instances_within, IsReadyAt, Stands};
+
+use bf_check::Dag;
+use bf_core::{Cell, Core, Instance, Phase, name_of};
+use bf_value::JobName;
+
+/// How an instance stands.
+#[derive(Clone, Copy)]
+pub(crate) enum Standing {
+    /// It doesn't wait, or isn't there.
+    Away,
+    /// It waits for nothing but room in its pool.
+    Ready,
+    /// It waits for a later moment, in seconds since 1970.
+    Delayed(i64),
+}
+
+/// The instances of a cell.
+fn instances_in(cell: &Cell) -> &[Instance]
+    ensures instances { result.now ≡ instances_within cell.now }
+    ensures few { IsFew cell.now → length result.now ≤ 1_024 }
+{
+    match cell {
+        Cell::Ran(instances) => instances.as_slice(),
+        _ => &[],
+    }
+}
+
+/// The instances that a task has in a run.
+#[tactic(auto, using(crate::proofs::Places::beyond_none))]
+pub fn instances_of<'c>(core: &'c Core<'_>, run: u32, task: u32) -> &'c [Instance]
+    ensures instances { result.now ≡ instances_within (cell_at core.now.state run task) }
+    ensures few { length result.now ≤ 1_024 }
+{
+    let _replayed = core.journal();
+    match core.cell(run, task) {
+        Some(cell) => instances_in(cell),
+        None => &[],
+    }
+}
+
+#[tactic(auto, unfolding(bf_check::specs::Plans::task_of))]
+fn is_expanded(dag: &Dag, task: u32) -> bool
+    ensures { result ≡ is_some (task_of dag.now task).expand }
+{
+    match dag.tasks.get(task as usize) {
+        Some(task) => task.expand.is_some(),
+        None => false,
+    }
+}
+
+/// The place of a name's instance among those of its task.
+pub(crate) fn place_of(dag: &Dag, name: JobName) -> u32
+    ensures { result ≡ place_in dag.now name }
+{
+    if is_expanded(dag, name.task) {
+        name.index.unsigned_abs()
+    } else {
+        0
+    }
+}
+
+/// How an instance that is there stands.
+fn standing_of(core: &Core<'_>, run: u32, task: u32, place: u32, instance: &Instance) -> Standing
+    requires few { place ≤ 1_024 }
+    requires held { instance_of (cell_at core.now.state run task) place ≡ Some instance.now }
+    ensures { Stands core.now run task place result }
+{
+    if !matches!(instance.phase, Phase::Waiting) {
+        return Standing::Away;
+    }
+    let name = name_of(
+        core.plan().dag(),
+        run,
+        task,
+        place as usize,
+        instance.attempt,
+    );
+    match core.moment(name) {
+        None => Standing::Ready,
+        Some(moment) => Standing::Delayed(moment),
+    }
+}
+
+/// How the instance at a place stands.
+pub(crate) fn standing_at(core: &Core<'_>, run: u32, task: u32, place: u32) -> Standing
+    ensures { Stands core.now run task place result }
+{
+    match instances_of(core, run, task).get(place as usize) {
+        None => Standing::Away,
+        Some(instance) => standing_of(core, run, task, place, instance),
+    }
+}
+
+/// Whether the instance at a place waits for nothing but room in its pool.
+pub(crate) fn is_ready(core: &Core<'_>, run: u32, task: u32, place: u32) -> bool
+    ensures { IsTrue result ↔ IsReadyAt core.now run task place }
+{
+    matches!(standing_at(core, run, task, place), Standing::Ready)
+}
