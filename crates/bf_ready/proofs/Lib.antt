@@ -1,0 +1,4 @@
+pub mod Firsts
+pub mod Present
+pub mod Bests
+pub mod Soonest

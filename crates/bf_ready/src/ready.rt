@@ -1,0 +1,133 @@
+//! A core, and what comes next of it.
+ghost use Rattle.std.specs.Prelude.{◌≡◌, Some, IfOk, IfErr, OnOk, OnErr, option_copied};
+ghost use Rattle.bf_core.specs.Agreement.{AreRunStates, IsOutcome};
+ghost use Rattle.bf_core.specs.Events.{HasEnded, entry_in};
+ghost use Rattle.bf_core.specs.Cores.{Backfill, HasCome, IsJournal, IsRefusal, IsReplay, MayCome, moved};
+ghost use Rattle.bf_core.specs.declared.event.Event.{Event as EventTerm};
+ghost use Rattle.bf_ready.specs.Choices.{IsNextMoment, IsNextStep, IsNextTry};
+
+use bf_core::{Core, Ended, Event, Illegal};
+use bf_due::Due;
+use bf_value::{JobName, OutOfMemory};
+use bf_waiting::Waiting;
+use std::alloc::Global;
+use std::marker::Model;
+
+/// A backfill as far as it has come, with what comes next of it kept over its events. Contracts see the backfill alone.
+#[derive(Drop)]
+pub struct Ready<'a> {
+    core: Core<'a>,
+    /// The steps that may come by themselves.
+    due: Due,
+    /// The tries that wait.
+    waiting: Waiting,
+}
+
+impl<'a> Model for Ready<'a> {
+    ghost use Rattle.bf_check.specs.contracts.plan.Dag as d;
+    ghost use Rattle.bf_check.specs.contracts.plan.Limits as l;
+    ghost use Rattle.bf_core.specs.contracts.state.State as s;
+    ghost use Rattle.bf_core.specs.contracts.clock.Clock as k;
+    ghost use Rattle.bf_core.specs.contracts.event.Event as e;
+    ghost use Rattle.bf_core.specs.Cores.{Backfill};
+    ghost use Rattle.bf_due.specs.Dues.{IsUpToDate};
+    ghost use Rattle.bf_waiting.specs.Kept.{KeepsTries};
+    ghost use Rattle.std.specs.Coded.{codes};
+
+    ghost Value = { Backfill };
+
+    ghost coded = { Prim.hlevel (codes, d.the_row.coded, l.the_row.coded, s.the_row.coded, k.the_row.coded, e.the_row.coded) };
+
+    ghost view = { λ r. r.core };
+
+    ghost invariant = { λ r. IsUpToDate r.core r.due × KeepsTries r.core r.waiting };
+}
+
+/// The event that came last.
+fn last_event<'c>(core: &'c Core<'_>) -> Option<&'c Event>
+    ensures { (b : Backfill) (e : EventTerm) → core.now ≡ moved b e → option_copied result ≡ Some e }
+{
+    core.journal().last()
+}
+
+impl<'a> Ready<'a> {
+    /// Of a backfill as far as it has come.
+    pub fn of(alloc: Global, core: Core<'a>) -> Result<Ready<'a>, OutOfMemory>
+        ensures { IfOk result (λ ready. ready ≡ core.entry) }
+    {
+        let due = Due::new(alloc, &core)?;
+        let waiting = Waiting::new(alloc, &core)?;
+        Ok(Ready { core, due, waiting })
+    }
+
+    /// The backfill.
+    pub fn core(&self) -> &Core<'a>
+        ensures { result.now ≡ self.now }
+    {
+        &self.core
+    }
+
+    /// The events that came so far. They led from the start to what is now.
+    pub fn journal(&self) -> &[Event]
+        ensures journal { result.now ≡ self.now.journal }
+        ensures replayed { IsReplay self.now }
+    {
+        self.core.journal()
+    }
+
+    /// Lets an event come, or refuses it and changes nothing, just as the core does.
+    pub fn apply(&mut self, event: Event) -> Result<(), Illegal>
+        ensures ok { OnOk result (HasCome self.old event self.new) }
+        ensures err { IfErr result (IsRefusal self.old event) }
+        ensures memory { MayCome self.old event → IfErr result (λ fault. fault ≡ Illegal.OutOfMemory) }
+        ensures same { OnErr result (self.new ≡ self.old) }
+    {
+        self.due.make_room(&self.core, &event)?;
+        self.waiting.make_room(&event)?;
+        self.core.apply(event)?;
+        match last_event(&self.core) {
+            Some(event) => {
+                self.due.on_event(&self.core, event);
+                self.waiting.on_event(&self.core, event);
+            }
+            None => unreachable!(),
+        }
+        Ok(())
+    }
+
+    /// The first step that may come by itself: a close, an open, a settle or an expand.
+    pub fn next_step(&self) -> Option<Event>
+        ensures { IsNextStep self.now result }
+    {
+        self.due.first()
+    }
+
+    /// Of the tries that may begin now the one of the greatest total weight, and of several the first.
+    pub fn next_try(&self) -> Option<JobName>
+        ensures { IsNextTry self.now result }
+    {
+        self.waiting.first(&self.core)
+    }
+
+    /// The least of the later moments for which tries wait, in seconds since 1970.
+    pub fn next_moment(&self) -> Option<i64>
+        ensures { IsNextMoment self.now result }
+    {
+        self.waiting.moment()
+    }
+
+    /// What the backfill came to, where it has ended; else it is handed back.
+    pub fn into_ended(self) -> Result<Ended, Ready<'a>>
+        ensures ok { IfOk result (λ ended. HasEnded self.entry.state × (ended.state ≡ self.entry.state) × (ended.journal ≡ self.entry.journal)) }
+        ensures journal { IfOk result (λ ended. IsJournal self.entry.dag self.entry.limits self.entry.runs ended.journal ended.state) }
+        ensures outcome { OnOk result (IsOutcome self.entry.dag self.entry.runs self.entry.state) }
+        ensures run_states { IfOk result (λ ended. AreRunStates self.entry.dag (entry_in self.entry.state.ledger) self.entry.runs ended.run_states) }
+        ensures back { IfErr result (λ ready. (ready ≡ self.entry) × ¬ (HasEnded self.entry.state)) }
+    {
+        let Ready { core, due, waiting } = self;
+        match core.into_ended() {
+            Ok(ended) => Ok(ended),
+            Err(core) => Err(Ready { core, due, waiting }),
+        }
+    }
+}

@@ -1,0 +1,253 @@
+//! The choice of events.
+ghost use Rattle.std.specs.Prelude.{◌≡◌, ◌≤◌, OnOk, OnErr, IfOk, IfErr};
+ghost use Rattle.bf_try.specs.Grades.{grade_of};
+ghost use Rattle.bf_core.specs.Agreement.{IsOutcome, AreRunStates};
+ghost use Rattle.bf_core.specs.Events.{HasEnded, entry_in};
+ghost use Rattle.bf_core.specs.Cores.{IsJournal, IsRefusal, MayCome, moved};
+ghost use Rattle.bf_core.specs.Running.{running_now};
+ghost use Rattle.bf_core.specs.declared.event.Event.{Event as EventTerm};
+ghost use Rattle.bf_ready.specs.Choices.{IsNextMoment};
+ghost use Rattle.bf_sched.specs.Scheduling.{HasComeTo, HasFinished, HasTicked, IsNext, IsRefused, IsSameGiven, IsTicketOf, MayFinish, moved_on};
+
+use crate::next::Next;
+use bf_core::{Core, Ended, Event, Illegal};
+use bf_ready::Ready;
+use bf_try::{Done, Outcome, Ticket, grade};
+use bf_value::{JobName, OutOfMemory};
+use std::alloc::Global;
+use std::marker::Model;
+
+/// A backfill with the choice of its events, for so many workers.
+#[derive(Drop)]
+pub struct Scheduler<'a> {
+    alloc: Global,
+    ready: Ready<'a>,
+    workers: u32,
+    /// How many tries run.
+    running: u32,
+}
+
+impl<'a> Model for Scheduler<'a> {
+    ghost use Rattle.bf_sched.specs.Scheduling.{Schedule, IsScheduler};
+    ghost use Rattle.bf_check.specs.contracts.plan.Dag as d;
+    ghost use Rattle.bf_check.specs.contracts.plan.Limits as l;
+    ghost use Rattle.bf_core.specs.contracts.state.State as s;
+    ghost use Rattle.bf_core.specs.contracts.clock.Clock as k;
+    ghost use Rattle.bf_core.specs.contracts.event.Event as e;
+    ghost use Rattle.std.specs.Coded.{codes};
+
+    ghost Value = { Schedule };
+
+    ghost coded = { Prim.hlevel (codes, d.the_row.coded, l.the_row.coded, s.the_row.coded, k.the_row.coded, e.the_row.coded) };
+
+    ghost view = { λ s. record { backfill = s.ready; workers = s.workers } };
+
+    ghost invariant = { λ s. IsScheduler s.ready s.workers s.running };
+}
+
+/// Lets an event come that may come, so that nothing but want of memory is in its way.
+fn advance(ready: &mut Ready<'_>, event: Event) -> Result<(), OutOfMemory>
+    requires { MayCome ready.old event }
+    ensures ok { OnOk result (ready.new ≡ moved ready.old event) }
+    ensures same { OnErr result (ready.new ≡ ready.old) }
+{
+    match ready.apply(event) {
+        Ok(()) => Ok(()),
+        Err(Illegal::OutOfMemory) => Err(OutOfMemory),
+        Err(_) => unreachable!(),
+    }
+}
+
+/// Lets the clock come to a moment, and says whether it may.
+fn come_to(ready: &mut Ready<'_>, moment: i64) -> Result<bool, OutOfMemory>
+    ensures ok { IfOk result (λ came. HasComeTo ready.old moment came ready.new) }
+    ensures same { OnErr result (ready.new ≡ ready.old) }
+{
+    match ready.apply(Event::Tick { moment }) {
+        Ok(()) => Ok(true),
+        Err(Illegal::OutOfMemory) => Err(OutOfMemory),
+        Err(_) => Ok(false),
+    }
+}
+
+/// Begins a try that may begin.
+fn begin(alloc: Global, ready: &mut Ready<'_>, name: JobName) -> Result<Ticket, OutOfMemory>
+    requires { MayCome ready.old (EventTerm.Begin name) }
+    ensures ticket { IfOk result (λ ticket. IsTicketOf ready.old name ticket) }
+    ensures ok { OnOk result (ready.new ≡ moved ready.old (EventTerm.Begin name)) }
+    ensures same { OnErr result (ready.new ≡ ready.old) }
+{
+    match ready.core().instance(name) {
+        None => unreachable!(),
+        Some(instance) => {
+            let given = instance.given.copy(alloc)?;
+            advance(ready, Event::Begin(name))?;
+            Ok(Ticket::issue(name, given))
+        }
+    }
+}
+
+/// The grade of an answer to a try that runs with what was given to it; else why `finish` refuses it.
+fn grade_answer(alloc: Global, core: &Core<'_>, done: &Done) -> Result<Outcome, Illegal>
+    ensures ok { IfOk result (λ o. (o ≡ grade_of core.now.dag done.now.name.task done.now.raw) × IsSameGiven core.now done.now) }
+    ensures err { IfErr result (IsRefused core.now done.now) }
+    ensures memory { MayFinish core.now done.now → IfErr result (λ fault. fault ≡ Illegal.OutOfMemory) }
+{
+    let _replayed = core.journal();
+    let name = done.name();
+    if name.task as usize >= core.plan().dag().tasks.len() {
+        return Err(Illegal::Stranger);
+    }
+    if let Some(instance) = core.running(name) {
+        if !instance.given.is_same(done.given()) {
+            return Err(Illegal::Stranger);
+        }
+    }
+    Ok(grade(alloc, core.plan(), name.task, done.raw())?)
+}
+
+impl<'a> Scheduler<'a> {
+    /// The scheduler of a backfill in which no try runs, for 1 to 64 workers.
+    pub fn new(alloc: Global, core: Core<'a>, workers: u32) -> Result<Scheduler<'a>, OutOfMemory>
+        requires some { 1 ≤ workers }
+        requires few { workers ≤ 64 }
+        requires idle { running_now core.state ≡ 0 }
+        ensures { IfOk result (λ s. s ≡ record { backfill = core.entry; workers = workers }) }
+    {
+        Ok(Scheduler {
+            alloc,
+            ready: Ready::of(alloc, core)?,
+            workers,
+            running: 0,
+        })
+    }
+
+    /// How many tries run.
+    pub fn running(&self) -> u32
+        ensures running { result ≡ running_now self.now.backfill.state }
+        ensures within { result ≤ self.now.workers }
+    {
+        self.running
+    }
+
+    /// The least of the later moments for which tries wait, in seconds since 1970.
+    pub fn pending(&self) -> Option<i64>
+        ensures { IsNextMoment self.now.backfill result }
+    {
+        self.ready.next_moment()
+    }
+
+    /// Lets the first event come that comes by itself: a close, an open, a settle or an expand; else begins the try of
+    /// the greatest total weight that fits its pool and whose moment has come, while a worker is free; else waits for a
+    /// try that runs, or, where none does, for a moment. Where nothing is left to wait for the backfill has ended.
+    pub fn next(&mut self) -> Result<Next, OutOfMemory>
+        ensures ok { IfOk result (λ next. IsNext self.old next self.new) }
+        ensures same { OnErr result (self.new ≡ self.old) }
+    {
+        let _replayed = self.ready.journal();
+        if let Some(event) = self.ready.next_step() {
+            advance(&mut self.ready, event)?;
+            return Ok(Next::Stepped);
+        }
+        if self.running < self.workers {
+            if let Some(name) = self.ready.next_try() {
+                let ticket = begin(self.alloc, &mut self.ready, name)?;
+                self.running += 1;
+                return Ok(Next::Go(ticket));
+            }
+        }
+        if self.running > 0 {
+            return Ok(Next::Wait);
+        }
+        if let Some(moment) = self.ready.next_moment() {
+            return Ok(Next::Until(moment));
+        }
+        self.ready.core().never_stuck();
+        Ok(Next::Ended)
+    }
+
+    /// Lets the clock come to a moment, in seconds since 1970: whether that is later than what it shows, and no later
+    /// than `LAST_MOMENT`.
+    pub fn tick(&mut self, moment: i64) -> Result<bool, OutOfMemory>
+        ensures ok { IfOk result (λ came. HasTicked self.old moment came self.new) }
+        ensures same { OnErr result (self.new ≡ self.old) }
+    {
+        let _replayed = self.ready.journal();
+        let came = come_to(&mut self.ready, moment)?;
+        Ok(came)
+    }
+
+    /// Ends a try.
+    fn end(&mut self, name: JobName, outcome: Outcome) -> Result<(), Illegal>
+        ensures ok { OnOk result (MayCome self.old.backfill (EventTerm.End name outcome) × (self.new ≡ moved_on self.old (EventTerm.End name outcome))) }
+        ensures err { IfErr result (IsRefusal self.old.backfill (EventTerm.End name outcome)) }
+        ensures memory { MayCome self.old.backfill (EventTerm.End name outcome) → IfErr result (λ fault. fault ≡ Illegal.OutOfMemory) }
+        ensures same { OnErr result (self.new ≡ self.old) }
+    {
+        let _replayed = self.ready.journal();
+        match self.ready.apply(Event::End(name, outcome)) {
+            Err(fault) => Err(fault),
+            Ok(()) => {
+                self.running -= 1;
+                Ok(())
+            }
+        }
+    }
+
+    /// Ends the try of an answer with its grade. Refused is what `apply` refuses, for its cause, and as a stranger an
+    /// answer to a running try that was given something else; the answer is handed back then.
+    pub fn finish(&mut self, done: Done) -> Result<(), (Done, Illegal)>
+        ensures ok { OnOk result (HasFinished self.old done self.new) }
+        ensures back { IfErr result (λ f. f.0 ≡ done) }
+        ensures err { IfErr result (λ f. IsRefused self.old.backfill done f.1) }
+        ensures memory { MayFinish self.old.backfill done → IfErr result (λ f. f.1 ≡ Illegal.OutOfMemory) }
+        ensures same { OnErr result (self.new ≡ self.old) }
+    {
+        match grade_answer(self.alloc, self.ready.core(), &done) {
+            Err(fault) => Err((done, fault)),
+            Ok(outcome) => match self.end(done.name(), outcome) {
+                Err(fault) => Err((done, fault)),
+                Ok(()) => Ok(()),
+            },
+        }
+    }
+
+    /// The backfill whose events are chosen.
+    pub fn core(&self) -> &Core<'a>
+        ensures { result.now ≡ self.now.backfill }
+    {
+        self.ready.core()
+    }
+
+    /// The events that came so far.
+    pub fn journal(&self) -> &[Event]
+        ensures { result.now ≡ self.now.backfill.journal }
+    {
+        self.ready.journal()
+    }
+
+    /// What the backfill came to, where it has ended; else the scheduler is handed back.
+    pub fn into_ended(self) -> Result<Ended, Scheduler<'a>>
+        ensures ok { IfOk result (λ ended. HasEnded self.entry.backfill.state × (ended.state ≡ self.entry.backfill.state) × (ended.journal ≡ self.entry.backfill.journal)) }
+        ensures journal { IfOk result (λ ended. IsJournal self.entry.backfill.dag self.entry.backfill.limits self.entry.backfill.runs ended.journal ended.state) }
+        ensures outcome { OnOk result (IsOutcome self.entry.backfill.dag self.entry.backfill.runs self.entry.backfill.state) }
+        ensures run_states { IfOk result (λ ended. AreRunStates self.entry.backfill.dag (entry_in self.entry.backfill.state.ledger) self.entry.backfill.runs ended.run_states) }
+        ensures back { IfErr result (λ s. (s ≡ self.entry) × ¬ (HasEnded self.entry.backfill.state)) }
+    {
+        let Scheduler {
+            alloc,
+            ready,
+            workers,
+            running,
+        } = self;
+        match ready.into_ended() {
+            Ok(ended) => Ok(ended),
+            Err(ready) => Err(Scheduler {
+                alloc,
+                ready,
+                workers,
+                running,
+            }),
+        }
+    }
+}
