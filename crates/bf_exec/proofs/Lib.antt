@@ -1,0 +1,7 @@
+pub mod Sums
+pub mod Keeping
+pub mod Members
+pub mod Turning
+pub mod Closing
+pub mod Opening
+pub mod Starts

@@ -1,0 +1,109 @@
+use Rattle.std.proofs.Common.{◌≡◌, List, refl, sym, subst, inl, inr}
+use Rattle.bf_lane.specs.Open.{Scheduled}
+use Rattle.bf_lane.specs.Rounds.{IsSubmitted}
+use Rattle.bf_sched.specs.declared.next.Next.{Next}
+use Rattle.bf_sched.specs.Scheduling.{HasBegun, HasStepped, IsNext, MustWait, WaitsUntil}
+use Rattle.bf_core.specs.Events.{HasEnded}
+use Rattle.bf_exec.specs.Turns.{AreInStep}
+use Rattle.bf_exec.proofs.Turning.{awaited, awaited_driven, awaited_in_step, begun_driven, begun_in_step, caught_up_driven, caught_up_in_step, idle_at, idle_there, must_until, must_wait, same_driven, stays_driven, stepped_driven, stepped_in_step}
+use Rattle.bf_exec.proofs.executor.Executor.turn.Goals as goal
+
+pub unreachable-requires : goal.unreachable-requires
+unreachable-requires g c =
+    let p = c.catch_up.new.scheduler in
+    let begun : HasBegun p c.in-Go.ticket c.next.new.self = subst (λ (n : Next). IsNext p n c.next.new.self) c.in-Go.is c.in_ok-next.ensures.ok in
+    let in_step = caught_up_in_step c.args.self.now _ c.args.scheduler.now p c.in_ok-catch_up.ensures.ok c.requires.in_step in
+    idle_there c.self.inside.lanes p c.next.new.self c.in-Go.ticket (subst (λ (ls : List Scheduled). AreInStep ls p) (sym c.self.view_is) in_step) begun (c.in_default.ensures {u = tt})
+
+pub submit-requires-after_bounds : goal.submit-requires-after_bounds
+submit-requires-after_bounds g c κs within = idle_at c.self.inside.lanes c.in-Some.at (c.in-Some.ensures {u = tt})
+
+pub wait-requires-clause-in_step : goal.wait-requires-clause-in_step
+wait-requires-clause-in_step g c κs within =
+    let p = c.catch_up.new.scheduler in
+    let must : MustWait p c.next.new.self = subst (λ (n : Next). IsNext p n c.next.new.self) c.in-Wait.is c.in_ok-next.ensures.ok in
+    awaited_in_step c.args.self.now _ c.args.scheduler.now p c.next.new.self c.in_ok-catch_up.ensures.ok must.new_is c.requires.in_step
+
+pub wait-requires-in-Until-clause-in_step : goal.wait-requires-in-Until-clause-in_step
+wait-requires-in-Until-clause-in_step g c κs within =
+    let p = c.catch_up.new.scheduler in
+    let must : WaitsUntil p c.in-Until.moment c.next.new.self = subst (λ (n : Next). IsNext p n c.next.new.self) c.in-Until.is c.in_ok-next.ensures.ok in
+    awaited_in_step c.args.self.now _ c.args.scheduler.now p c.next.new.self c.in_ok-catch_up.ensures.ok must.new_is c.requires.in_step
+
+pub returns-in-Stepped-clause-ok : goal.returns-in-Stepped-clause-ok
+returns-in-Stepped-clause-ok g c =
+    let p = c.catch_up.new.scheduler in
+    let stepped : HasStepped p c.next.new.self = subst (λ (n : Next). IsNext p n c.next.new.self) c.in-Stepped.is c.in_ok-next.ensures.ok in
+    inl (record { present = p; caught_up = c.in_ok-catch_up.ensures.ok; acted = inl (refl, stepped) })
+
+pub returns-in-Stepped-clause-in_step : goal.returns-in-Stepped-clause-in_step
+returns-in-Stepped-clause-in_step g c =
+    let p = c.catch_up.new.scheduler in
+    let stepped : HasStepped p c.next.new.self = subst (λ (n : Next). IsNext p n c.next.new.self) c.in-Stepped.is c.in_ok-next.ensures.ok in
+    stepped_in_step c.args.self.now p c.next.new.self stepped (caught_up_in_step c.args.self.now _ c.args.scheduler.now p c.in_ok-catch_up.ensures.ok c.requires.in_step)
+
+pub returns-in-Stepped-clause-driven : goal.returns-in-Stepped-clause-driven
+returns-in-Stepped-clause-driven g c =
+    let may = g.K.Service.answers in
+    let p = c.catch_up.new.scheduler in
+    let stepped : HasStepped p c.next.new.self = subst (λ (n : Next). IsNext p n c.next.new.self) c.in-Stepped.is c.in_ok-next.ensures.ok in
+    stays_driven may c.args.scheduler.now p c.next.new.self (caught_up_driven may _ c.args.scheduler.now p c.in_ok-catch_up.ensures.ok) (stepped_driven may p c.next.new.self stepped)
+
+pub returns-in-Some-clause-ok : goal.returns-in-Some-clause-ok
+returns-in-Some-clause-ok g c =
+    let p = c.catch_up.new.scheduler in
+    let begun : HasBegun p c.in-Go.ticket c.next.new.self = subst (λ (n : Next). IsNext p n c.next.new.self) c.in-Go.is c.in_ok-next.ensures.ok in
+    let sent : IsSubmitted c.args.self.now c.submit.new.self c.in-Some.at c.in-Go.ticket = rw (← c.self.view_is) c.submit.ensures in
+    inl (record { present = p; caught_up = c.in_ok-catch_up.ensures.ok; acted = inr (record { at = c.in-Some.at; ticket = c.in-Go.ticket; sent = sent; begun = begun }) })
+
+pub returns-in-Some-clause-in_step : goal.returns-in-Some-clause-in_step
+returns-in-Some-clause-in_step g c =
+    let p = c.catch_up.new.scheduler in
+    let begun : HasBegun p c.in-Go.ticket c.next.new.self = subst (λ (n : Next). IsNext p n c.next.new.self) c.in-Go.is c.in_ok-next.ensures.ok in
+    let sent : IsSubmitted c.args.self.now c.submit.new.self c.in-Some.at c.in-Go.ticket = rw (← c.self.view_is) c.submit.ensures in
+    begun_in_step c.args.self.now c.submit.new.self p c.next.new.self c.in-Some.at c.in-Go.ticket begun sent
+    (caught_up_in_step c.args.self.now _ c.args.scheduler.now p c.in_ok-catch_up.ensures.ok c.requires.in_step)
+
+pub returns-in-Some-clause-driven : goal.returns-in-Some-clause-driven
+returns-in-Some-clause-driven g c =
+    let may = g.K.Service.answers in
+    let p = c.catch_up.new.scheduler in
+    let begun : HasBegun p c.in-Go.ticket c.next.new.self = subst (λ (n : Next). IsNext p n c.next.new.self) c.in-Go.is c.in_ok-next.ensures.ok in
+    stays_driven may c.args.scheduler.now p c.next.new.self (caught_up_driven may _ c.args.scheduler.now p c.in_ok-catch_up.ensures.ok) (begun_driven may p c.next.new.self c.in-Go.ticket begun)
+
+pub returns-in_ok-wait-in-Wait-clause-ok : goal.returns-in_ok-wait-in-Wait-clause-ok
+returns-in_ok-wait-in-Wait-clause-ok g c =
+    let p = c.catch_up.new.scheduler in
+    let must : MustWait p c.next.new.self = subst (λ (n : Next). IsNext p n c.next.new.self) c.in-Wait.is c.in_ok-next.ensures.ok in
+    inr (awaited _ _ c.args.self.now c.wait.new.self c.args.scheduler.now p c.next.new.self c.wait.new.scheduler c.in_ok-catch_up.ensures.ok must.new_is (must_wait p c.next.new.self must) c.in_ok-wait-in-Wait.ensures.ok)
+
+pub returns-in_ok-wait-in-Wait-clause-driven : goal.returns-in_ok-wait-in-Wait-clause-driven
+returns-in_ok-wait-in-Wait-clause-driven g c =
+    let p = c.catch_up.new.scheduler in
+    let must : MustWait p c.next.new.self = subst (λ (n : Next). IsNext p n c.next.new.self) c.in-Wait.is c.in_ok-next.ensures.ok in
+    awaited_driven g.K.Service.answers _ c.args.scheduler.now p c.next.new.self c.wait.new.scheduler c.in_ok-catch_up.ensures.ok must.new_is c.in_ok-wait-in-Wait.ensures.driven
+
+pub returns-in_ok-wait-in-Until-clause-ok : goal.returns-in_ok-wait-in-Until-clause-ok
+returns-in_ok-wait-in-Until-clause-ok g c =
+    let p = c.catch_up.new.scheduler in
+    let must : WaitsUntil p c.in-Until.moment c.next.new.self = subst (λ (n : Next). IsNext p n c.next.new.self) c.in-Until.is c.in_ok-next.ensures.ok in
+    inr (awaited _ _ c.args.self.now c.wait-in-Until.new.self c.args.scheduler.now p c.next.new.self c.wait-in-Until.new.scheduler c.in_ok-catch_up.ensures.ok must.new_is (must_until p c.next.new.self c.in-Until.moment must) c.in_ok-wait-in-Until.ensures.ok)
+
+pub returns-in_ok-wait-in-Until-clause-driven : goal.returns-in_ok-wait-in-Until-clause-driven
+returns-in_ok-wait-in-Until-clause-driven g c =
+    let p = c.catch_up.new.scheduler in
+    let must : WaitsUntil p c.in-Until.moment c.next.new.self = subst (λ (n : Next). IsNext p n c.next.new.self) c.in-Until.is c.in_ok-next.ensures.ok in
+    awaited_driven g.K.Service.answers _ c.args.scheduler.now p c.next.new.self c.wait-in-Until.new.scheduler c.in_ok-catch_up.ensures.ok must.new_is c.in_ok-wait-in-Until.ensures.driven
+
+pub returns-in-Ended-clause-in_step : goal.returns-in-Ended-clause-in_step
+returns-in-Ended-clause-in_step g c =
+    let p = c.catch_up.new.scheduler in
+    let ended : HasEnded p.backfill.state × (c.next.new.self ≡ p) = subst (λ (n : Next). IsNext p n c.next.new.self) c.in-Ended.is c.in_ok-next.ensures.ok in
+    awaited_in_step c.args.self.now _ c.args.scheduler.now p c.next.new.self c.in_ok-catch_up.ensures.ok ended.1 c.requires.in_step
+
+pub returns-in-Ended-clause-driven : goal.returns-in-Ended-clause-driven
+returns-in-Ended-clause-driven g c =
+    let may = g.K.Service.answers in
+    let p = c.catch_up.new.scheduler in
+    let ended : HasEnded p.backfill.state × (c.next.new.self ≡ p) = subst (λ (n : Next). IsNext p n c.next.new.self) c.in-Ended.is c.in_ok-next.ensures.ok in
+    stays_driven may c.args.scheduler.now p c.next.new.self (caught_up_driven may _ c.args.scheduler.now p c.in_ok-catch_up.ensures.ok) (same_driven may p c.next.new.self ended.1)

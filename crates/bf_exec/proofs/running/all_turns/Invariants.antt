@@ -1,0 +1,7 @@
+use Rattle.bf_exec.specs.Turns.{AreInStep, StaysDriven}
+use Rattle.bf_exec.proofs.running.all_turns.Given as goal
+
+abbrev pub invariant-loop : goal.invariant-loop
+invariant-loop g l =
+    (goal.iterator-loop g).can_next l.iterator' × (goal.iterator-loop g).is_finite l.iterator'
+    × AreInStep l.executor l.scheduler × StaysDriven g.K.Service.answers l.fn.scheduler l.scheduler

@@ -1,0 +1,144 @@
+-- What a turn of the executor does.
+use Rattle.std.specs.Prelude.{◌≡◌, ◌⊎◌, ℕ, ℤ, ◌≤ℤ◌, Bool, true, false, List, Option, None, Some}
+use Rattle.std.specs.Int.{int_min}
+use Rattle.bf_try.specs.Asked.{Asked, Answered}
+use Rattle.bf_try.specs.declared.answers.Raw.{Raw}
+use Rattle.bf_try.specs.declared.runner.RunnerFault.TheVariants.{GaveUp}
+use Rattle.bf_core.specs.Terms.{Dag, Given, JobName, Limits}
+use Rattle.bf_core.specs.Clocks.{last_moment}
+use Rattle.bf_core.specs.Cores.{Backfill}
+use Rattle.bf_core.specs.Driven.{IsDriven}
+use Rattle.bf_core.specs.Events.{HasEnded}
+use Rattle.bf_ready.specs.Choices.{IsFirstMoment}
+use Rattle.bf_sched.specs.Scheduling.{HasBegun, HasFinished, HasStepped, HasTicked, MayFinish, MustWait, Schedule, WaitsUntil}
+use Rattle.bf_lane.specs.declared.messages.Answer.TheVariants.{Done, Gave}
+use Rattle.bf_lane.specs.Open.{Scheduled}
+use Rattle.bf_lane.specs.Rounds.{IsGathered, IsSubmitted}
+use Rattle.bf_exec.specs.Accounts.{IsInStep}
+use Rattle.bf_exec.specs.declared.halt.Halt.{Halt}
+
+-- ---- what comes in a turn
+
+-- the clock of the backfill has come to the present moment, where that is later than what it showed
+pub record HasCaughtUp (now : ℤ) (s t : Schedule) : Type 0 where
+  pub came : Bool
+  pub ticked : HasTicked s (int_min now last_moment) came t
+
+-- a try has begun, and its ticket was submitted
+pub record HasSubmitted (lanes after : List Scheduled) (s t : Schedule) : Type 0 where
+  pub at : ℕ
+  pub ticket : Asked
+  pub sent : IsSubmitted lanes after at ticket
+  pub begun : HasBegun s ticket t
+
+-- the clock has caught up, and the try of the answer has ended by it
+pub record EndsBy (now : ℤ) (answer : Answered) (s t : Schedule) : Type 0 where
+  pub present : Schedule
+  pub caught_up : HasCaughtUp now s present
+  pub finished : HasFinished present answer t
+
+-- an answer was gathered, and its try has ended by it
+pub record HasGathered (now : ℤ) (lanes after : List Scheduled) (s t : Schedule) : Type 0 where
+  pub at : ℕ
+  pub answer : Answered
+  pub got : IsGathered lanes after at (Done answer)
+  pub ended : EndsBy now answer s t
+
+-- the first moment for which a try waits has come, and no answer before it
+pub record HasWaited (now : ℤ) (lanes after : List Scheduled) (s t : Schedule) : Type 0 where
+  pub moment : ℤ
+  pub is_first : IsFirstMoment s.backfill moment
+  pub is_past : moment ≤ℤ now
+  pub lanes_are : after ≡ lanes
+  pub schedule_is : t ≡ s
+
+-- an answer has ended its try, or the moment came before
+abbrev pub EndsWait : ℤ → List Scheduled → List Scheduled → Schedule → Schedule → Type 0
+EndsWait now lanes after s t = HasGathered now lanes after s t ⊎ HasWaited now lanes after s t
+
+-- nothing can come before an answer or a later moment
+abbrev pub MustAwait : Schedule → Type 0
+MustAwait s = MustWait s s ⊎ ((moment : ℤ) × WaitsUntil s moment s)
+
+-- ---- turns
+
+-- the clock has caught up, and then an event has come by itself, or a try has begun that was submitted
+pub record HasActed (now : ℤ) (lanes after : List Scheduled) (s t : Schedule) : Type 0 where
+  pub present : Schedule
+  pub caught_up : HasCaughtUp now s present
+  pub acted : ((after ≡ lanes) × HasStepped present t) ⊎ HasSubmitted lanes after present t
+
+-- the clock has caught up, nothing could come, and then a try has ended by its answer, or the moment has come that was waited for
+pub record HasAwaited (now : ℤ) (lanes after : List Scheduled) (s t : Schedule) : Type 0 where
+  pub before : ℤ
+  pub present : Schedule
+  pub caught_up : HasCaughtUp before s present
+  pub must : MustAwait present
+  pub awaited : EndsWait now lanes after present t
+
+-- the clock has caught up, and all has ended
+pub record FindsEnded (now : ℤ) (lanes after : List Scheduled) (s t : Schedule) : Type 0 where
+  pub caught_up : HasCaughtUp now s t
+  pub ended : HasEnded t.backfill.state
+  pub lanes_are : after ≡ lanes
+
+abbrev pub IsTurn : ℤ → List Scheduled → List Scheduled → Schedule → Schedule → Bool → Type 0
+IsTurn now lanes after s t true = HasActed now lanes after s t ⊎ HasAwaited now lanes after s t
+IsTurn now lanes after s t false = FindsEnded now lanes after s t
+
+-- a backfill that is driven stays so, with as many workers
+pub record StaysDriven (may : JobName → Given → Raw → Type 0) (s t : Schedule) : Type 0 where
+  pub so : (dag : Dag) (limits : Limits) (runs : ℕ) → IsDriven may dag limits runs s.backfill → IsDriven may dag limits runs t.backfill
+  pub workers : t.workers ≡ s.workers
+
+-- the lanes and the backfill are in step
+abbrev pub AreInStep : List Scheduled → Schedule → Type 0
+AreInStep lanes s = IsInStep lanes s.backfill s.workers
+
+-- ---- halts
+
+-- the moment that was waited for has come, where there is one
+abbrev pub IsPast : Option ℤ → ℤ → Type 0
+IsPast None now = ⊥
+IsPast (Some moment) now = moment ≤ℤ now
+
+-- no try that runs has the name of the answer, with what was given to it
+pub record IsStrange (answer : Answered) (s t : Schedule) : Type 0 where
+  pub now : ℤ
+  pub caught_up : HasCaughtUp now s t
+  pub refused : ¬ (MayFinish t.backfill answer)
+
+-- why the try of the answer didn't end
+abbrev pub IsHaltBy : Answered → Schedule → Schedule → Halt → Type 0
+IsHaltBy answer s t Halt.OutOfMemory = Unit {0}
+IsHaltBy answer s t (Halt.Runner n) = ⊥
+IsHaltBy answer s t Halt.Stranger = IsStrange answer s t
+
+-- a giving up of this try was gathered
+pub record GaveUpOn (lanes after : List Scheduled) (n : JobName) : Type 0 where
+  pub at : ℕ
+  pub asked : Asked
+  pub got : IsGathered lanes after at (Gave asked GaveUp)
+  pub is_named : asked.name ≡ n
+
+-- lanes that were in step have gathered an answer of no try that runs with what was given to it
+pub record HasStranger (lanes after : List Scheduled) : Type 0 where
+  pub at : ℕ
+  pub answer : Answered
+  pub backfill : Backfill
+  pub workers : ℕ
+  pub in_step : IsInStep lanes backfill workers
+  pub got : IsGathered lanes after at (Done answer)
+  pub refused : ¬ (MayFinish backfill answer)
+
+-- the try that is named was gathered as given up
+abbrev pub IsHaltOf : List Scheduled → List Scheduled → Halt → Type 0
+IsHaltOf lanes after Halt.OutOfMemory = Unit {0}
+IsHaltOf lanes after (Halt.Runner n) = GaveUpOn lanes after n
+IsHaltOf lanes after Halt.Stranger = HasStranger lanes after
+
+-- where a stranger came, these lanes have gathered it
+abbrev pub IsLeftBy : List Scheduled → Halt → Type 0
+IsLeftBy after Halt.OutOfMemory = Unit {0}
+IsLeftBy after (Halt.Runner n) = Unit {0}
+IsLeftBy after Halt.Stranger = (lanes : List Scheduled) × HasStranger lanes after

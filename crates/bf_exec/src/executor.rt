@@ -1,0 +1,194 @@
+//! The turns of the scheduling thread, over the lanes of the workers.
+ghost use Rattle.std.specs.Prelude.{◌≡◌, ◌⊎◌, length, IfOk, IfErr, IfSome, IfNone, OnOk, OnErr};
+ghost use Rattle.bf_ready.specs.Choices.{IsNextMoment};
+ghost use Rattle.bf_lane.specs.Closing.{ClosesAll};
+ghost use Rattle.bf_lane.specs.Lanes.{IsAllowedBy};
+ghost use Rattle.bf_lane.specs.Rounds.{IsGathered};
+ghost use Rattle.bf_exec.specs.Faults.{MayHalt};
+ghost use Rattle.bf_exec.specs.Turns.{AreInStep, EndsBy, EndsWait, HasCaughtUp, IsHaltBy, IsHaltOf, IsPast, IsTurn, StaysDriven};
+
+use crate::halt::Halt;
+use crate::watch::{Observer, Watch};
+use bf_core::{Illegal, LAST_MOMENT};
+use bf_lane::{Answer, Clock, Closed, Lanes, Service};
+use bf_sched::{Next, Scheduler};
+use bf_try::{Done, RunnerFault};
+use bf_value::OutOfMemory;
+use std::marker::Model;
+use std::sync::Wait;
+use std::thread::Threads;
+
+/// The lanes of all workers. Contracts see what each lane has submitted and gathered.
+#[derive(Drop)]
+pub struct Executor<'s, K: Service> {
+    lanes: Lanes<'s, K>,
+}
+
+impl<'s, K: Service> Model for Executor<'s, K> {
+    ghost use Rattle.std.specs.Prelude.{List};
+    ghost use Rattle.std.specs.Coded.{codes};
+    ghost use Rattle.bf_lane.specs.contracts.messages.Answer as a;
+    ghost use Rattle.bf_lane.specs.contracts.messages.Job as j;
+    ghost use Rattle.bf_lane.specs.Open.{Scheduled};
+
+    ghost Value = { List Scheduled };
+
+    ghost coded = { Prim.hlevel (codes, j.the_row.coded, a.the_row.coded) };
+
+    ghost view = { λ e. e.lanes };
+}
+
+/// Shows the observer the event that came last.
+fn show<O: Observer>(scheduler: &Scheduler<'_>, observer: &mut O) {
+    if let Some(event) = scheduler.journal().last() {
+        observer.saw(event, scheduler.core(), scheduler.running());
+    }
+}
+
+/// Lets the clock of the backfill come to the present moment, where that is later than what it shows.
+fn catch_up<C: Clock, O: Observer>(
+    scheduler: &mut Scheduler<'_>,
+    watch: &mut Watch<C, O>,
+) -> Result<(), OutOfMemory>
+    ensures ok { OnOk result (HasCaughtUp (C.last watch.new.clock) scheduler.old scheduler.new) }
+    ensures same { OnErr result (scheduler.new ≡ scheduler.old) }
+{
+    let moment = watch.clock.now().min(LAST_MOMENT);
+    if scheduler.tick(moment)? {
+        show(scheduler, &mut watch.observer);
+    }
+    Ok(())
+}
+
+/// Ends the try of an answer.
+fn end<C: Clock, O: Observer>(
+    done: Done,
+    scheduler: &mut Scheduler<'_>,
+    watch: &mut Watch<C, O>,
+) -> Result<(), Halt>
+    ensures ok { OnOk result (EndsBy (C.last watch.new.clock) done scheduler.old scheduler.new) }
+    ensures err { IfErr result (IsHaltBy done scheduler.old scheduler.new) }
+{
+    catch_up(scheduler, watch)?;
+    match scheduler.finish(done) {
+        Ok(()) => {
+            show(scheduler, &mut watch.observer);
+            Ok(())
+        }
+        Err((_, Illegal::OutOfMemory)) => Err(Halt::OutOfMemory),
+        Err(_) => Err(Halt::Stranger),
+    }
+}
+
+impl<'s, K: Service + Send + Sync + 's> Executor<'s, K> {
+    /// The executor over these lanes.
+    pub fn of(lanes: Lanes<'s, K>) -> Executor<'s, K>
+        ensures { result ≡ lanes.entry }
+    {
+        Executor { lanes }
+    }
+
+    /// How many lanes there are.
+    pub fn lanes(&self) -> usize
+        ensures { result ≡ length self.now }
+    {
+        self.lanes.len()
+    }
+
+    /// Waits for an answer, until a moment where one is given.
+    fn gather<W: Wait, C: Clock>(
+        &mut self,
+        rt: &W,
+        clock: &mut C,
+        until: Option<i64>,
+    ) -> Option<(usize, Answer)>
+        ensures some { IfSome result (λ r. IsGathered self.old self.new r.0 r.1) }
+        ensures allowed { IfSome result (λ r. IsAllowedBy K.answers K.gives_up r.1) }
+        ensures none { IfNone result (self.new ≡ self.old) }
+        ensures late { IfNone result (IsPast until (C.last clock.new)) }
+    {
+        match until {
+            Some(moment) => self.lanes.gather_until(rt, clock, moment),
+            None => Some(self.lanes.gather(rt)),
+        }
+    }
+
+    /// Waits for an answer, until a moment where one is given, and ends the try of the answer.
+    #[tactic(auto, using(crate::proofs::Turning::gathered_in_step, crate::proofs::Turning::same_driven, crate::proofs::Turning::strange_halt))]
+    fn wait<W: Wait, C: Clock, O: Observer>(
+        &mut self,
+        rt: &W,
+        until: Option<i64>,
+        scheduler: &mut Scheduler<'_>,
+        watch: &mut Watch<C, O>,
+    ) -> Result<(), Halt>
+        requires in_step { AreInStep self.old scheduler.old }
+        requires next { IsNextMoment scheduler.old.backfill until }
+        ensures ok { OnOk result (EndsWait (C.last watch.new.clock) self.old self.new scheduler.old scheduler.new) }
+        ensures in_step { OnOk result (AreInStep self.new scheduler.new) }
+        ensures driven { OnOk result (StaysDriven K.answers scheduler.old scheduler.new) }
+        ensures err { IfErr result (IsHaltOf self.old self.new) }
+        ensures fault { IfErr result (MayHalt K.gives_up) }
+    {
+        let Some((_, answer)) = self.gather(rt, &mut watch.clock, until) else {
+            return Ok(());
+        };
+        match answer {
+            Answer::Done(done) => end(done, scheduler, watch),
+            Answer::Gave(ticket, RunnerFault::GaveUp) => Err(Halt::Runner(ticket.name())),
+            Answer::Gave(_, RunnerFault::OutOfMemory) => Err(Halt::OutOfMemory),
+        }
+    }
+
+    /// One turn of the scheduling loop, in which the clock of the backfill catches up first: an event comes by itself, or a
+    /// try begins and is submitted, or where nothing can come an answer is gathered and ends its try, unless the moment comes
+    /// before for which a try waits. False where the backfill has ended. After a halt only `close` may follow.
+    pub fn turn<W: Wait, C: Clock, O: Observer>(
+        &mut self,
+        rt: &W,
+        scheduler: &mut Scheduler<'_>,
+        watch: &mut Watch<C, O>,
+    ) -> Result<bool, Halt>
+        requires in_step { AreInStep self.old scheduler.old }
+        ensures ok { IfOk result (IsTurn (C.last watch.new.clock) self.old self.new scheduler.old scheduler.new) }
+        ensures in_step { OnOk result (AreInStep self.new scheduler.new) }
+        ensures driven { OnOk result (StaysDriven K.answers scheduler.old scheduler.new) }
+        ensures err { IfErr result (IsHaltOf self.old self.new) }
+        ensures fault { IfErr result (MayHalt K.gives_up) }
+    {
+        catch_up(scheduler, watch)?;
+        match scheduler.next()? {
+            Next::Stepped => {
+                show(scheduler, &mut watch.observer);
+                Ok(true)
+            }
+            Next::Go(ticket) => {
+                show(scheduler, &mut watch.observer);
+                let Some(at) = self.lanes.idle() else {
+                    unreachable!()
+                };
+                self.lanes.submit(rt, at, ticket);
+                Ok(true)
+            }
+            Next::Wait => {
+                let until = scheduler.pending();
+                self.wait(rt, until, scheduler, watch)?;
+                Ok(true)
+            }
+            Next::Until(moment) => {
+                self.wait(rt, Some(moment), scheduler, watch)?;
+                Ok(true)
+            }
+            Next::Ended => Ok(false),
+        }
+    }
+
+    /// Stops the workers and waits until each has ended. The four lists of each lane have the same tries then, in the same
+    /// order and with the same that was given to each. It takes no memory.
+    pub fn close<W: Wait + Threads>(self, rt: &W) -> Vec<Closed<K>>
+        ensures { ClosesAll K.answers K.gives_up self.entry result.items }
+    {
+        let Executor { lanes } = self;
+        lanes.close(rt)
+    }
+}

@@ -1,0 +1,25 @@
+//! Halts of the turns.
+ghost use Rattle.std.specs.Prelude.{◌≡◌};
+
+use bf_value::{JobName, OutOfMemory};
+
+/// Why a turn did not come to its end.
+#[derive(Debug, Drop)]
+pub enum Halt {
+    OutOfMemory,
+    /// The runner gave up this try.
+    Runner(JobName),
+    /// No try that runs has the name of the answer that was gathered, with what was given to it. Once the lanes are closed,
+    /// their lists show that this has not been.
+    Stranger,
+}
+
+impl From<OutOfMemory> for Halt {
+    ghost use Rattle.bf_exec.specs.declared.halt.Halt.TheVariants.{OutOfMemory as NoMemory};
+
+    ghost from_gives = { λ _ e. e ≡ NoMemory };
+
+    fn from(_e: OutOfMemory) -> Halt {
+        Halt::OutOfMemory
+    }
+}

@@ -1,0 +1,21 @@
+//! The executor: it drives a backfill by a scheduler over worker threads.
+//!
+//! The calling thread owns the scheduler and shares nothing of it. It goes by turns: in each an event comes by itself, or a
+//! try begins and is submitted over the lane of a worker that has none, or an answer is gathered and ends its try.
+//!
+//! What runs is always what was submitted and not gathered, each try with what it is given, and never are more tries running
+//! than there are workers. That the tries in each pool fit it is said of every legal list of events, by
+//! `bf_core::legal_lists_keep_pools`. No clause says that threads are used, or how long anything takes.
+#![tactic(auto)]
+
+mod executor;
+mod halt;
+mod order;
+mod running;
+mod starting;
+mod watch;
+
+pub use executor::Executor;
+pub use halt::Halt;
+pub use running::run_backfill;
+pub use watch::{Observer, Silent, Watch};

@@ -1,0 +1,73 @@
+//! The start of the workers.
+ghost use Rattle.std.specs.Prelude.{◌≡◌, IfOk, IfErr, length, vec_len};
+ghost use Rattle.bf_lane.specs.Open.{Fulfils};
+ghost use Rattle.bf_exec.specs.Accounts.{AreUnused};
+ghost use Rattle.bf_exec.specs.Faults.{MayFail};
+ghost use Rattle.bf_exec.specs.Starting.{AreFresh};
+
+use crate::order::Planned;
+use bf_core::BackfillFault;
+use bf_lane::{Lane, Lanes, Queues, Seats, Service, fresh};
+use bf_try::TaskRunner;
+use bf_value::OutOfMemory;
+use std::alloc::Global;
+use std::sync::Wait;
+use std::thread::{Scope, Threads};
+
+/// The queues of so many lanes, and their seats.
+pub(crate) fn all_fresh<K: Service>(
+    alloc: Global,
+    workers: u32,
+) -> Result<(Vec<Queues<K>>, Vec<Seats<K>>), OutOfMemory>
+    ensures fresh { IfOk result (λ q. AreFresh q.0.items q.1.items) }
+    ensures many { IfOk result (λ q. vec_len q.1 ≡ workers) }
+{
+    let mut queues = Vec::new(alloc);
+    let mut seats = Vec::new(alloc);
+    for _made in 0..workers {
+        queues.reserve(1)?;
+        seats.reserve(1)?;
+        let (queue, seat) = fresh::<K>(alloc)?;
+        queues.push_reserved(queue);
+        seats.push_reserved(seat);
+    }
+    Ok((queues, seats))
+}
+
+/// Starts a worker for each lane. Where one can't be started, those that were are stopped, and have ended.
+pub(crate) fn all_started<'s, K, E, W, O>(
+    scope: &Scope<'s, E>,
+    rt: &'s W,
+    queues: &'s [Queues<K>],
+    seats: Vec<Seats<K>>,
+    order: &'s O,
+) -> Result<Lanes<'s, K>, BackfillFault>
+where
+    K: Service + Send + Sync + 's,
+    W: Threads + Wait + Sync,
+    O: TaskRunner + Planned + Sync,
+    requires fresh { AreFresh queues.now seats.items }
+    requires fulfils { Fulfils (O.may_answer order.now) (O.may_give_up order.now) K.answers K.gives_up }
+    ensures unused { IfOk result AreUnused }
+    ensures many { IfOk result (λ lanes. length lanes ≡ length seats.items) }
+    ensures fault { IfErr result (MayFail K.gives_up) }
+{
+    let mut lanes = Lanes::new(order.alloc(), order.answered());
+    let mut at = 0usize;
+    for seat in seats {
+        match Lane::start(scope, rt, &queues[at], seat, order.answered(), order) {
+            Ok(lane) => {
+                if lanes.push(lane, rt).is_err() {
+                    drop(lanes.close(rt));
+                    return Err(BackfillFault::OutOfMemory);
+                }
+            }
+            Err(_) => {
+                drop(lanes.close(rt));
+                return Err(BackfillFault::Start);
+            }
+        }
+        at += 1;
+    }
+    Ok(lanes)
+}
