@@ -20,7 +20,7 @@ fn main(rt: HostRuntime) -> ExitCode {
     let mut files = Disk::new(&rt);
     let mut out = Output::new(rt.stdout());
     let mut err = Output::new(rt.stderr());
-    let status = answer(rt.alloc(), &words, &mut files, &mut out, &mut err);
+    let status = answer(&rt, rt.alloc(), &words, &mut files, &mut out, &mut err);
     ExitCode::from(status)
 }
 

@@ -9,15 +9,16 @@ use Rattle.bf_check.specs.Schedules.{IsScheduled}
 use Rattle.bf_interval.specs.declared.fault.IntervalFault.{IntervalFault}
 use Rattle.bf_interval.specs.declared.interval.Interval.{Interval}
 use Rattle.bf_try.specs.Tables.{table_of}
-use Rattle.bf_program.specs.declared.graphs.GraphSize.{GraphSize}
-use Rattle.bf_program.specs.declared.refusal.CommandFault.{CommandFault}
-use Rattle.bf_program.specs.declared.refusal.CommandFault.TheVariants.{Read, Check, Table, Range, BadMoment, OutOfMemory, CannotRead, CannotWrite}
+use Rattle.bf_program.specs.declared.check.GraphSize.{GraphSize}
+use Rattle.bf_program.specs.declared.fault.CommandFault.{CommandFault}
+use Rattle.bf_program.specs.declared.fault.CommandFault.TheVariants.{Read, Check, Table, Range, BadMoment, OutOfMemory, CannotRead, CannotWrite, Stopped}
 use Rattle.bf_program.specs.DatedRuns.{IsFaultOfDry, IsReportIn}
 use Rattle.bf_program.specs.Files.{AreAlike}
 use Rattle.bf_program.specs.Graphs.{IsFaultIn, IsFileOf, IsGraph, IsSizeOf}
 use Rattle.bf_program.specs.Lists.{HasListing, IsFaultOfList, IsListIn}
 use Rattle.bf_program.specs.OneRun.{IsFaultOfSingle, IsReportAt}
 use Rattle.bf_program.specs.OverTable.{IsTable}
+use Rattle.bf_program.specs.Programs.{Hearing, Losing, IsFaultOfRun, IsRunReport}
 
 module _ (read held : List ℕ) (one two : Option (List ℕ)) (alike : AreAlike read held one two) where
   scheduled : (draft : Draft) → IsScheduled draft one → IsScheduled draft two
@@ -49,6 +50,7 @@ module _ (read held : List ℕ) (one two : Option (List ℕ)) (alike : AreAlike 
   fault_in OutOfMemory is = tt
   fault_in (CannotRead path) is = absurd is
   fault_in (CannotWrite n) is = absurd is
+  fault_in (Stopped stop) is = absurd is
 
   pub size_of : (size : GraphSize) → IsSizeOf read one size → IsSizeOf held two size
   size_of size is = record { draft = is.draft; graph_is = graph_of is.draft is.graph_is; size_is = is.size_is }
@@ -76,6 +78,21 @@ module _ (read held : List ℕ) (one two : Option (List ℕ)) (alike : AreAlike 
   list_fault from to OutOfMemory is = tt
   list_fault from to (CannotRead path) is = absurd is
   list_fault from to (CannotWrite n) is = tt
+  list_fault from to (Stopped stop) is = absurd is
+
+  pub run_report : (may_hear : Hearing) (from to : ℤ) (text : List ℕ) (success : Bool) → IsRunReport may_hear read one from to text success → IsRunReport may_hear held two from to text success
+  run_report may_hear from to text success is = record { draft = is.draft; found = is.found; graph_is = graph_of is.draft is.graph_is; listing = listing_of from to _ is.listing; reported = is.reported }
+
+  pub run_fault : (may_lose : Losing) (from to : ℤ) (fault : CommandFault) → IsFaultOfRun may_lose read one from to fault → IsFaultOfRun may_lose held two from to fault
+  run_fault may_lose from to (Read fault) is = fault_in (Read fault) is
+  run_fault may_lose from to (Check fault) is = fault_in (Check fault) is
+  run_fault may_lose from to (Table fault) is = absurd is
+  run_fault may_lose from to (Range fault) is = listing_of from to _ is
+  run_fault may_lose from to BadMoment is = absurd is
+  run_fault may_lose from to OutOfMemory is = tt
+  run_fault may_lose from to (CannotRead path) is = absurd is
+  run_fault may_lose from to (CannotWrite n) is = tt
+  run_fault may_lose from to (Stopped stop) is = (is.0, is.1, graph_of is.0 is.2, listing_of from to _ is.3, is.4)
 
   module _ (table other : List ℕ) (same : table_of table ≡ table_of other) where
     a_table : IsTable table → IsTable other
@@ -111,6 +128,7 @@ module _ (read held : List ℕ) (one two : Option (List ℕ)) (alike : AreAlike 
     single_fault at OutOfMemory is = tt
     single_fault at (CannotRead path) is = absurd is
     single_fault at (CannotWrite n) is = tt
+    single_fault at (Stopped stop) is = absurd is
 
     pub dry_fault : (from to : ℤ) (fault : CommandFault) → IsFaultOfDry read one table from to fault → IsFaultOfDry held two other from to fault
     dry_fault from to (Read fault) is = fault_in (Read fault) is
@@ -121,3 +139,4 @@ module _ (read held : List ℕ) (one two : Option (List ℕ)) (alike : AreAlike 
     dry_fault from to OutOfMemory is = tt
     dry_fault from to (CannotRead path) is = absurd is
     dry_fault from to (CannotWrite n) is = tt
+    dry_fault from to (Stopped stop) is = is

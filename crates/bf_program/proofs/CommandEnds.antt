@@ -2,27 +2,29 @@
 use Rattle.std.proofs.Common.{◌≡◌, ◌⊎◌, ℕ, Bool, List, Option, string_bytes, refl, sym, ◌∙◌, ap, subst}
 use Rattle.jiff.specs.declared.timestamp.Timestamp.{Timestamp}
 use Rattle.bf_try.specs.Tables.{table_of}
-use Rattle.bf_line.specs.declared.forms.DryAsked.{DryAsked}
-use Rattle.bf_line.specs.declared.forms.GraphAsked.{GraphAsked}
-use Rattle.bf_line.specs.declared.forms.ListAsked.{ListAsked}
-use Rattle.bf_line.specs.declared.forms.SingleAsked.{SingleAsked}
+use Rattle.bf_command_line.specs.declared.forms.DryAsked.{DryAsked}
+use Rattle.bf_command_line.specs.declared.forms.GraphAsked.{GraphAsked}
+use Rattle.bf_command_line.specs.declared.forms.ListAsked.{ListAsked}
+use Rattle.bf_command_line.specs.declared.forms.RunAsked.{RunAsked}
+use Rattle.bf_command_line.specs.declared.forms.SingleAsked.{SingleAsked}
 use Rattle.bf_report.specs.declared.sending.Cause.{Cause}
 use Rattle.bf_report.specs.declared.sending.Cause.TheVariants as cause
 use Rattle.bf_report.specs.declared.sending.WriteFault.{WriteFault}
-use Rattle.bf_program.specs.declared.graphs.GraphSize.{GraphSize}
+use Rattle.bf_program.specs.declared.check.GraphSize.{GraphSize}
 use Rattle.bf_program.specs.declared.input.MomentRange.{MomentRange}
-use Rattle.bf_program.specs.declared.refusal.CommandFault.{CommandFault}
-use Rattle.bf_program.specs.declared.refusal.CommandFault.TheVariants.{Read, Check, Table, Range, BadMoment, OutOfMemory, CannotRead, CannotWrite}
+use Rattle.bf_program.specs.declared.fault.CommandFault.{CommandFault}
+use Rattle.bf_program.specs.declared.fault.CommandFault.TheVariants.{Read, Check, Table, Range, BadMoment, OutOfMemory, CannotRead, CannotWrite, Stopped}
 use Rattle.bf_program.specs.declared.status.Status.{Status}
-use Rattle.bf_program.specs.Commands.{AreReadable, Files, IsCheckAnswer, IsCheckFault, IsDryAnswer, IsDryFault, IsListAnswer, IsListFault, IsNoMoment, IsSingleAnswer, IsSingleFault, Means, MeansRange, OfFiles, OfFilesAndTable, graph_paths, run_paths, size_text}
+use Rattle.bf_program.specs.Commands.{AreReadable, Files, IsCheckAnswer, IsCheckFault, IsDryAnswer, IsDryFault, IsListAnswer, IsListFault, IsNoMoment, IsRunAnswer, IsRunFault, IsSingleAnswer, IsSingleFault, Means, MeansRange, OfFiles, OfFilesAndTable, graph_paths, run_paths, size_text}
 use Rattle.bf_program.specs.DatedRuns.{IsFaultOfDry, IsReportIn}
 use Rattle.bf_program.specs.Files.{AreAlike, IsReadingFault}
 use Rattle.bf_program.specs.Graphs.{IsFaultIn, IsSizeOf}
 use Rattle.bf_program.specs.Lists.{IsFaultOfList, IsListIn}
 use Rattle.bf_program.specs.OneRun.{IsFaultOfSingle, IsReportAt}
+use Rattle.bf_program.specs.Programs.{Hearing, Losing, IsFaultOfRun, IsRunReport}
 use Rattle.bf_program.specs.Refusal.{of_cause, of_write}
 use Rattle.bf_program.specs.Status.{of_runs}
-use Rattle.bf_program.proofs.Alike.{dry_fault, fault_in, list_fault, list_of, report_at, report_in, single_fault, size_of}
+use Rattle.bf_program.proofs.Alike.{dry_fault, fault_in, list_fault, list_of, report_at, report_in, run_fault, run_report, single_fault, size_of}
 
 -- ---- what was lent is what was read
 
@@ -52,6 +54,7 @@ module _ (files : Files) (asked : GraphAsked) where
   check_reading OutOfMemory is = tt
   check_reading (CannotRead path) is = is
   check_reading (CannotWrite n) is = absurd is
+  check_reading (Stopped stop) is = absurd is
 
   module _ (read : List ℕ) (zone : Option (List ℕ)) (readable : AreReadable files (graph_paths asked)) (alike : OfFiles files asked (λ graph held. AreAlike read graph zone held)) where
     pub check_answer : (size : GraphSize) (text : List ℕ) → IsSizeOf read zone size → text ≡ size_text size → IsCheckAnswer files asked text Status.Success
@@ -70,6 +73,7 @@ module _ (files : Files) (asked : GraphAsked) where
     check_files OutOfMemory is = tt
     check_files (CannotRead path) is = absurd is
     check_files (CannotWrite n) is = absurd is
+    check_files (Stopped stop) is = absurd is
 
     written_by : (c : Cause) (n : ℕ) → IsCheckFault files asked (of_cause c n)
     written_by cause.Io n = readable
@@ -93,6 +97,7 @@ module _ (files : Files) (asked : ListAsked) (range : MomentRange) (means : Mean
   list_reading OutOfMemory is = (range, means, tt)
   list_reading (CannotRead path) is = (range, means, is)
   list_reading (CannotWrite n) is = absurd is
+  list_reading (Stopped stop) is = absurd is
 
   module _ (read : List ℕ) (zone : Option (List ℕ)) (readable : AreReadable files (graph_paths asked.graph)) (alike : OfFiles files asked.graph (λ graph held. AreAlike read graph zone held)) where
     pub list_answer : (text : List ℕ) → IsListIn read zone range.from.nanosecond range.to.nanosecond text → IsListAnswer files asked text Status.Success
@@ -113,6 +118,7 @@ module _ (files : Files) (asked : ListAsked) (range : MomentRange) (means : Mean
     list_files OutOfMemory is = (range, means, tt)
     list_files (CannotRead path) is = absurd is
     list_files (CannotWrite n) is = (range, means, (readable, λ graph held are. list_fault read graph zone held (alike graph held are) range.from.nanosecond range.to.nanosecond (CannotWrite n) is))
+    list_files (Stopped stop) is = absurd is
 
 -- ---- `single`
 
@@ -129,6 +135,7 @@ module _ (files : Files) (asked : SingleAsked) (at : Timestamp) (means : Means (
   single_reading OutOfMemory is = (at, means, tt)
   single_reading (CannotRead path) is = (at, means, is)
   single_reading (CannotWrite n) is = absurd is
+  single_reading (Stopped stop) is = absurd is
 
   module _ (read table : List ℕ) (zone : Option (List ℕ)) (readable : AreReadable files (run_paths asked.graph (string_bytes asked.table)))
       (alike : OfFilesAndTable files asked.graph (string_bytes asked.table) (λ graph held other. AreAlike read graph zone held × (table_of table ≡ table_of other))) where
@@ -151,6 +158,7 @@ module _ (files : Files) (asked : SingleAsked) (at : Timestamp) (means : Means (
     single_files OutOfMemory is = (at, means, tt)
     single_files (CannotRead path) is = absurd is
     single_files (CannotWrite n) is = (at, means, (readable, λ graph other held are holds. (let same = alike graph other held are holds in single_fault read graph zone held same.0 table other same.1 at (CannotWrite n) is)))
+    single_files (Stopped stop) is = absurd is
 
 -- ---- `dry`
 
@@ -167,6 +175,7 @@ module _ (files : Files) (asked : DryAsked) (range : MomentRange) (means : Means
   dry_reading OutOfMemory is = (range, means, tt)
   dry_reading (CannotRead path) is = (range, means, is)
   dry_reading (CannotWrite n) is = absurd is
+  dry_reading (Stopped stop) is = absurd is
 
   module _ (read table : List ℕ) (zone : Option (List ℕ)) (readable : AreReadable files (run_paths asked.graph (string_bytes asked.table)))
       (alike : OfFilesAndTable files asked.graph (string_bytes asked.table) (λ graph held other. AreAlike read graph zone held × (table_of table ≡ table_of other))) where
@@ -189,3 +198,49 @@ module _ (files : Files) (asked : DryAsked) (range : MomentRange) (means : Means
     dry_files OutOfMemory is = (range, means, tt)
     dry_files (CannotRead path) is = absurd is
     dry_files (CannotWrite n) is = (range, means, (readable, λ graph other held are holds. (let same = alike graph other held are holds in dry_fault read graph zone held same.0 table other same.1 range.from.nanosecond range.to.nanosecond (CannotWrite n) is)))
+    dry_files (Stopped stop) is = (range, means, (readable, λ graph other held are holds. (let same = alike graph other held are holds in dry_fault read graph zone held same.0 table other same.1 range.from.nanosecond range.to.nanosecond (Stopped stop) is)))
+
+-- ---- `run`
+
+pub run_moments : (may_lose : Losing) (files : Files) (asked : RunAsked) (fault : CommandFault) → (fault ≡ BadMoment) × (IsNoMoment (string_bytes asked.range.from) ⊎ IsNoMoment (string_bytes asked.range.to)) → IsRunFault may_lose files asked fault
+run_moments may_lose files asked fault bad = subst (IsRunFault may_lose files asked) (sym bad.0) bad.1
+
+module _ (may_hear : Hearing) (may_lose : Losing) (files : Files) (asked : RunAsked) (range : MomentRange) (means : MeansRange asked.range range) where
+  pub run_reading : (fault : CommandFault) → IsReadingFault files (graph_paths asked.graph) fault → IsRunFault may_lose files asked fault
+  run_reading (Read fault) is = absurd is
+  run_reading (Check fault) is = absurd is
+  run_reading (Table fault) is = absurd is
+  run_reading (Range fault) is = absurd is
+  run_reading BadMoment is = absurd is
+  run_reading OutOfMemory is = (range, means, tt)
+  run_reading (CannotRead path) is = (range, means, is)
+  run_reading (CannotWrite n) is = absurd is
+  run_reading (Stopped stop) is = absurd is
+
+  module _ (read : List ℕ) (zone : Option (List ℕ)) (readable : AreReadable files (graph_paths asked.graph)) (alike : OfFiles files asked.graph (λ graph held. AreAlike read graph zone held)) where
+    pub run_answer : (text : List ℕ) (success : Bool) → IsRunReport may_hear read zone range.from.nanosecond range.to.nanosecond text success → IsRunAnswer may_hear files asked text (of_runs success)
+    run_answer text success is = record {
+      range = range;
+      means = means;
+      succeeded = success;
+      status_is = refl;
+      readable = readable;
+      text_is = λ graph held are. run_report read graph zone held (alike graph held are) may_hear range.from.nanosecond range.to.nanosecond text success is;
+    }
+
+    abbrev OfRun : CommandFault → Type 0
+    OfRun fault = IsFaultOfRun may_lose read zone range.from.nanosecond range.to.nanosecond fault
+
+    held_fault : (fault : CommandFault) → OfRun fault → OfFiles files asked.graph (λ graph held. IsFaultOfRun may_lose graph held range.from.nanosecond range.to.nanosecond fault)
+    held_fault fault is graph held are = run_fault read graph zone held (alike graph held are) may_lose range.from.nanosecond range.to.nanosecond fault is
+
+    pub run_files : (fault : CommandFault) → OfRun fault → IsRunFault may_lose files asked fault
+    run_files (Read fault) is = (range, means, (readable, held_fault (Read fault) is))
+    run_files (Check fault) is = (range, means, (readable, held_fault (Check fault) is))
+    run_files (Table fault) is = absurd is
+    run_files (Range fault) is = (range, means, (readable, held_fault (Range fault) is))
+    run_files BadMoment is = absurd is
+    run_files OutOfMemory is = (range, means, tt)
+    run_files (CannotRead path) is = absurd is
+    run_files (CannotWrite n) is = (range, means, (readable, held_fault (CannotWrite n) is))
+    run_files (Stopped stop) is = (range, means, (readable, held_fault (Stopped stop) is))

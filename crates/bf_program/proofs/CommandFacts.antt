@@ -1,8 +1,11 @@
 -- What commands read of files that are told.
-use Rattle.std.proofs.Common.{◌≡◌, ◌<◌, ◌⊎◌, ℕ, List, length, Option, Some, None, IfSome, Err, ◌∙◌, refl, sym, ap, subst, inl, inr}
+use Rattle.std.proofs.Common.{◌≡◌, ◌<◌, ◌⊎◌, ℕ, List, length, Option, Some, None, IfSome, Err, pos, ◌∙◌, refl, sym, ap, subst, inl, inr, arith}
 use Rattle.std.proofs.lemmas.Bool.{lt-leb}
 use Rattle.std.proofs.lemmas.Bool.Decides.{leb_tells}
+use Rattle.std.proofs.lemmas.Int.{ints, int_min_is}
 use Rattle.jiff.specs.declared.timestamp.Timestamp.{Timestamp}
+use Rattle.bf_interval.specs.Years.{IsInYears}
+use Rattle.bf_moment.specs.Moment.{IsWhole}
 use Rattle.bf_read.specs.declared.fault.ReadFault.{ReadFault}
 use Rattle.bf_read.specs.declared.path.Path.{Path}
 use Rattle.bf_read.specs.Fields.{limit}
@@ -18,6 +21,13 @@ means_lent lent text t same is = subst (λ (x : List ℕ). Means x t) same is
 
 pub no_moment_lent : (lent text : List ℕ) → lent ≡ text → IsNoMoment lent → IsNoMoment text
 no_moment_lent lent text same none = subst (λ (x : List ℕ). IsNoMoment x) same none
+
+-- a moment of the years that a text means is a whole second
+pub whole_in_years : (text : List ℕ) (t : Timestamp) → Means text t → IsInYears t.nanosecond → IsWhole t.nanosecond
+whole_in_years text t (n, found) (first, last) =
+    let (spells, is) = found in
+    let same : t.nanosecond ≡ n = omega (arith, ints, is, last, int_min_is n (pos 253_402_207_200_999_999_999)) in
+    subst IsWhole (sym same) spells.whole
 
 -- ---- what is read of a file that is longer than it may be says what the whole file says
 

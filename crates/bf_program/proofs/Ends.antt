@@ -4,16 +4,17 @@ use Rattle.clap.specs.Words.{HasKind, IsAmong, Kinds, Row, Text, kind_of}
 use Rattle.clap.specs.declared.error.Error.{Error}
 use Rattle.clap.specs.declared.error.kind.ErrorKind.{ErrorKind}
 use Rattle.clap.specs.declared.error.kind.ErrorKind.TheVariants as kind
-use Rattle.bf_line.specs.declared.forms.Asked.{Asked}
-use Rattle.bf_line.specs.declared.forms.Asked.TheVariants as asked
-use Rattle.bf_line.specs.Asked.{IsAskedBy}
+use Rattle.bf_command_line.specs.declared.forms.Asked.{Asked}
+use Rattle.bf_command_line.specs.declared.forms.Asked.TheVariants as asked
+use Rattle.bf_command_line.specs.Asked.{IsAskedBy}
 use Rattle.bf_report.specs.Device.{sent}
 use Rattle.bf_report.specs.declared.sending.WriteFault.{WriteFault}
 use Rattle.bf_program.specs.Commands.{Files, IsAnswer, IsDone, IsFault, IsFaulted, IsTold, MayBeFaulted, MayTell, Tells}
+use Rattle.bf_program.specs.Programs.{Hearing, Losing}
 use Rattle.bf_program.specs.Refusal.{Leaves, Sends, number_of}
 use Rattle.bf_program.specs.Status.{EndsAs, code_of, of_runs, shown_as}
-use Rattle.bf_program.specs.declared.refusal.CommandFault.{CommandFault}
-use Rattle.bf_program.specs.declared.refusal.CommandFault.TheVariants.{Read, Check, Table, Range, BadMoment, OutOfMemory, CannotRead, CannotWrite}
+use Rattle.bf_program.specs.declared.fault.CommandFault.{CommandFault}
+use Rattle.bf_program.specs.declared.fault.CommandFault.TheVariants.{Read, Check, Table, Range, BadMoment, OutOfMemory, CannotRead, CannotWrite, Stopped}
 use Rattle.bf_program.specs.declared.status.Status.{Status}
 use Rattle.bf_program.proofs.Faults.{refusal_leaves}
 
@@ -41,12 +42,12 @@ among_none : (kinds : Kinds) (k : ErrorKind) → kinds ≡ [] → IsAmong k kind
 among_none kinds k none among = let is : IsAmong k [] = subst (λ (ks : Kinds). IsAmong k ks) none among in elim is [ ]
 
 -- where `clap` finds nothing wrong, memory was wanting
-pub shown_may : (files : Files) (matched : Option (Text × List Row)) (Halted : Type 0) (before after : Option (List ℕ)) (kinds : Kinds) (e : Error) (r : Result Status CommandFault) → HasKind kinds e → kinds ≡ []
-    → (kind_of e ≡ kind.OutOfMemory → IfErr r (λ f. f ≡ OutOfMemory)) → (kind_of e ≡ kind.OutOfMemory → after ≡ before) → IfErr r (MayBeFaulted files matched Halted before after)
-shown_may files matched Halted before after kinds e (Ok s) has none wanting kept = tt
-shown_may files matched Halted before after kinds e (Err f) (inl memory) none wanting kept =
-    subst (λ (x : CommandFault). MayBeFaulted files matched Halted before after x) (sym (wanting memory)) (kept memory)
-shown_may files matched Halted before after kinds e (Err f) (inr among) none wanting kept = absurd (among_none kinds (kind_of e) none among)
+pub shown_may : (may_hear : Hearing) (may_lose : Losing) (files : Files) (matched : Option (Text × List Row)) (Halted : Type 0) (before after : Option (List ℕ)) (kinds : Kinds) (e : Error) (r : Result Status CommandFault) → HasKind kinds e → kinds ≡ []
+    → (kind_of e ≡ kind.OutOfMemory → IfErr r (λ f. f ≡ OutOfMemory)) → (kind_of e ≡ kind.OutOfMemory → after ≡ before) → IfErr r (MayBeFaulted may_hear may_lose files matched Halted before after)
+shown_may may_hear may_lose files matched Halted before after kinds e (Ok s) has none wanting kept = tt
+shown_may may_hear may_lose files matched Halted before after kinds e (Err f) (inl memory) none wanting kept =
+    subst (λ (x : CommandFault). MayBeFaulted may_hear may_lose files matched Halted before after x) (sym (wanting memory)) (kept memory)
+shown_may may_hear may_lose files matched Halted before after kinds e (Err f) (inr among) none wanting kept = absurd (among_none kinds (kind_of e) none among)
 
 -- ---- answers
 
@@ -55,25 +56,26 @@ runs_low true = omega arith
 runs_low false = omega arith
 
 -- a command that answers ends with 0 or 1
-answer_low : (files : Files) (asked : Asked) (text : List ℕ) (status : Status) → IsAnswer files asked text status → code_of status ≤ 1
-answer_low files (asked.Check a) text status is = rw is.success (omega arith)
-answer_low files (asked.List a) text status is = rw is.success (omega arith)
-answer_low files (asked.Single a) text status is = rw is.status_is (runs_low is.succeeded)
-answer_low files (asked.Dry a) text status is = rw is.status_is (runs_low is.succeeded)
+answer_low : (may_hear : Hearing) (files : Files) (asked : Asked) (text : List ℕ) (status : Status) → IsAnswer may_hear files asked text status → code_of status ≤ 1
+answer_low may_hear files (asked.Check a) text status is = rw is.success (omega arith)
+answer_low may_hear files (asked.List a) text status is = rw is.success (omega arith)
+answer_low may_hear files (asked.Single a) text status is = rw is.status_is (runs_low is.succeeded)
+answer_low may_hear files (asked.Dry a) text status is = rw is.status_is (runs_low is.succeeded)
+answer_low may_hear files (asked.Run a) text status is = rw is.status_is (runs_low is.succeeded)
 
-pub done_low : (files : Files) (matched : Option (Text × List Row)) (before after : Option (List ℕ)) (code : ℕ) → IsDone files matched before after code → code ≤ 1
-done_low files matched before after code is = rw is.code_is (answer_low files is.asked is.text is.status is.answer)
+pub done_low : (may_hear : Hearing) (files : Files) (matched : Option (Text × List Row)) (before after : Option (List ℕ)) (code : ℕ) → IsDone may_hear files matched before after code → code ≤ 1
+done_low may_hear files matched before after code is = rw is.code_is (answer_low may_hear files is.asked is.text is.status is.answer)
 
 -- what a command answers is the line's answer
-module _ (files : Files) (matched : Option (Text × List Row)) (a : Asked) (asks : IsAskedBy matched a) (before after : Option (List ℕ)) where
-  pub done : (s : Status) → Sends (λ text. IsAnswer files a text s) before after → IsDone files matched before after (code_of s)
+module _ (may_hear : Hearing) (may_lose : Losing) (files : Files) (matched : Option (Text × List Row)) (a : Asked) (asks : IsAskedBy matched a) (before after : Option (List ℕ)) where
+  pub done : (s : Status) → Sends (λ text. IsAnswer may_hear files a text s) before after → IsDone may_hear files matched before after (code_of s)
   done s sends = record { asked = a; asks = asks; text = sends.0; status = s; answer = sends.1; written = sends.2; code_is = refl }
 
   module _ (Halted : Type 0) where
-    faulted : (f : CommandFault) → IsFault files a f → Leaves Halted (λ text. (status : Status) × IsAnswer files a text status) before after f → IsFaulted files matched Halted before after f
+    faulted : (f : CommandFault) → IsFault may_lose files a f → Leaves Halted (λ text. (status : Status) × IsAnswer may_hear files a text status) before after f → IsFaulted may_hear may_lose files matched Halted before after f
     faulted f is left = record { asked = a; asks = asks; is_fault = is; left = left }
 
-    may : (f : CommandFault) → IsFault files a f → Leaves Halted (λ text. (status : Status) × IsAnswer files a text status) before after f → MayBeFaulted files matched Halted before after f
+    may : (f : CommandFault) → IsFault may_lose files a f → Leaves Halted (λ text. (status : Status) × IsAnswer may_hear files a text status) before after f → MayBeFaulted may_hear may_lose files matched Halted before after f
     may OutOfMemory is left = left
     may (Read f) is left = faulted (Read f) is left
     may (Check f) is left = faulted (Check f) is left
@@ -82,9 +84,10 @@ module _ (files : Files) (matched : Option (Text × List Row)) (a : Asked) (asks
     may BadMoment is left = faulted BadMoment is left
     may (CannotRead path) is left = faulted (CannotRead path) is left
     may (CannotWrite n) is left = faulted (CannotWrite n) is left
+    may (Stopped stop) is left = faulted (Stopped stop) is left
 
-    pub may_in : (r : Result Status CommandFault) → IfErr r (IsFault files a) → IfErr r (Leaves Halted (λ text. (status : Status) × IsAnswer files a text status) before after)
-        → IfErr r (MayBeFaulted files matched Halted before after)
+    pub may_in : (r : Result Status CommandFault) → IfErr r (IsFault may_lose files a) → IfErr r (Leaves Halted (λ text. (status : Status) × IsAnswer may_hear files a text status) before after)
+        → IfErr r (MayBeFaulted may_hear may_lose files matched Halted before after)
     may_in (Ok s) is left = tt
     may_in (Err f) is left = may f is left
 

@@ -22,15 +22,18 @@ use Rattle.bf_report.specs.Device.{sent}
 use Rattle.bf_report.specs.declared.sending.Cause.{Cause}
 use Rattle.bf_report.specs.declared.sending.Cause.TheVariants as cause
 use Rattle.bf_report.specs.declared.sending.WriteFault.{WriteFault}
-use Rattle.bf_program.specs.declared.refusal.CommandFault.{CommandFault}
-use Rattle.bf_program.specs.declared.refusal.CommandFault.TheVariants.{Read, Check, Table, Range, BadMoment, OutOfMemory, CannotRead, CannotWrite}
+use Rattle.bf_program.specs.declared.fault.CommandFault.{CommandFault}
+use Rattle.bf_program.specs.declared.fault.CommandFault.TheVariants.{Read, Check, Table, Range, BadMoment, OutOfMemory, CannotRead, CannotWrite, Stopped}
 use Rattle.bf_program.specs.DatedRuns.{IsFaultOfDry, IsReportIn}
 use Rattle.bf_program.specs.Commands.{Files}
 use Rattle.bf_program.specs.Files.{IsReadingFault}
 use Rattle.bf_program.specs.Graphs.{IsFaultIn, IsFileOf, IsPlanOf}
 use Rattle.bf_program.specs.Lists.{HasListing, IsFaultOfList, IsRangeFault}
 use Rattle.bf_program.specs.OneRun.{IsFaultOfSingle, IsReportAt, intervals_at}
-use Rattle.bf_program.specs.OverTable.{IsReportOver, IsTableFault, IsWanting}
+use Rattle.bf_program.specs.OverTable.{IsReportOver, IsTableFault, IsUnsent, IsWanting, IsWantingWorkers}
+use Rattle.bf_program.specs.Programs.{Hearing, Losing, IsFaultOfRun, IsReportBy, IsRunReport, IsStopOrWanting}
+use Rattle.bf_program.specs.declared.stop.StopFault.{StopFault}
+use Rattle.bf_check.specs.declared.plan.Dag.{Dag}
 use Rattle.bf_program.specs.Refusal.{Leaves, of_cause, of_check, of_range, of_read, of_table, of_write, number_of}
 
 -- ---- the whole
@@ -94,6 +97,7 @@ module _ (graph : List ℕ) (file : Option (List ℕ)) (from to : ℤ) where
   list_graph OutOfMemory is = tt
   list_graph (CannotRead path) is = absurd is
   list_graph (CannotWrite n) is = tt
+  list_graph (Stopped stop) is = absurd is
 
   pub list_range : (fault : CommandFault) → IsRangeFault graph file from to fault → IsFaultOfList graph file from to fault
   list_range (Read fault) is = absurd is
@@ -104,6 +108,7 @@ module _ (graph : List ℕ) (file : Option (List ℕ)) (from to : ℤ) where
   list_range OutOfMemory is = tt
   list_range (CannotRead path) is = absurd is
   list_range (CannotWrite n) is = tt
+  list_range (Stopped stop) is = absurd is
 
   pub list_wanting : (fault : CommandFault) → IsWanting fault → IsFaultOfList graph file from to fault
   list_wanting (Read fault) is = absurd is
@@ -114,6 +119,7 @@ module _ (graph : List ℕ) (file : Option (List ℕ)) (from to : ℤ) where
   list_wanting OutOfMemory is = tt
   list_wanting (CannotRead path) is = absurd is
   list_wanting (CannotWrite n) is = tt
+  list_wanting (Stopped stop) is = absurd is
 
 module _ (graph : List ℕ) (file : Option (List ℕ)) (table : List ℕ) (at : Timestamp) where
   pub single_graph : (fault : CommandFault) → IsFaultIn graph file fault → IsFaultOfSingle graph file table at fault
@@ -125,6 +131,7 @@ module _ (graph : List ℕ) (file : Option (List ℕ)) (table : List ℕ) (at : 
   single_graph OutOfMemory is = tt
   single_graph (CannotRead path) is = absurd is
   single_graph (CannotWrite n) is = tt
+  single_graph (Stopped stop) is = absurd is
 
   pub single_table : (plan : Checked) → IsPlanOf graph file plan → (fault : CommandFault) → IsTableFault table fault → IsFaultOfSingle graph file table at fault
   single_table plan said (Read fault) is = absurd is
@@ -135,6 +142,7 @@ module _ (graph : List ℕ) (file : Option (List ℕ)) (table : List ℕ) (at : 
   single_table plan said OutOfMemory is = tt
   single_table plan said (CannotRead path) is = absurd is
   single_table plan said (CannotWrite n) is = tt
+  single_table plan said (Stopped stop) is = absurd is
 
   pub single_moment : (plan : Checked) (entries : List TableEntry) → IsPlanOf graph file plan → table_of table ≡ Ok entries → ¬ (IsInYears at.nanosecond)
       → IsFaultOfSingle graph file table at (Range IntervalFault.OutsideYears)
@@ -149,6 +157,7 @@ module _ (graph : List ℕ) (file : Option (List ℕ)) (table : List ℕ) (at : 
   single_wanting OutOfMemory is = tt
   single_wanting (CannotRead path) is = absurd is
   single_wanting (CannotWrite n) is = tt
+  single_wanting (Stopped stop) is = absurd is
 
   pub single_wanting_in : (r : Result Bool CommandFault) → IfErr r IsWanting → IfErr r (IsFaultOfSingle graph file table at)
   single_wanting_in (Ok success) is = tt
@@ -164,6 +173,7 @@ module _ (graph : List ℕ) (file : Option (List ℕ)) (table : List ℕ) (from 
   dry_graph OutOfMemory is = tt
   dry_graph (CannotRead path) is = absurd is
   dry_graph (CannotWrite n) is = tt
+  dry_graph (Stopped stop) is = absurd is
 
   pub dry_table : (plan : Checked) → IsPlanOf graph file plan → (fault : CommandFault) → IsTableFault table fault → IsFaultOfDry graph file table from to fault
   dry_table plan said (Read fault) is = absurd is
@@ -174,6 +184,7 @@ module _ (graph : List ℕ) (file : Option (List ℕ)) (table : List ℕ) (from 
   dry_table plan said OutOfMemory is = tt
   dry_table plan said (CannotRead path) is = absurd is
   dry_table plan said (CannotWrite n) is = tt
+  dry_table plan said (Stopped stop) is = absurd is
 
   pub dry_range : (entries : List TableEntry) → table_of table ≡ Ok entries → (fault : CommandFault) → IsRangeFault graph file from to fault → IsFaultOfDry graph file table from to fault
   dry_range entries says (Read fault) is = absurd is
@@ -184,8 +195,9 @@ module _ (graph : List ℕ) (file : Option (List ℕ)) (table : List ℕ) (from 
   dry_range entries says OutOfMemory is = tt
   dry_range entries says (CannotRead path) is = absurd is
   dry_range entries says (CannotWrite n) is = tt
+  dry_range entries says (Stopped stop) is = absurd is
 
-  dry_wanting : (fault : CommandFault) → IsWanting fault → IsFaultOfDry graph file table from to fault
+  dry_wanting : (fault : CommandFault) → IsWantingWorkers fault → IsFaultOfDry graph file table from to fault
   dry_wanting (Read fault) is = absurd is
   dry_wanting (Check fault) is = absurd is
   dry_wanting (Table fault) is = absurd is
@@ -194,10 +206,69 @@ module _ (graph : List ℕ) (file : Option (List ℕ)) (table : List ℕ) (from 
   dry_wanting OutOfMemory is = tt
   dry_wanting (CannotRead path) is = absurd is
   dry_wanting (CannotWrite n) is = tt
+  dry_wanting (Stopped StopFault.CannotStart) is = refl
+  dry_wanting (Stopped (StopFault.GaveUp task index attempt)) is = absurd is
 
-  pub dry_wanting_in : (r : Result Bool CommandFault) → IfErr r IsWanting → IfErr r (IsFaultOfDry graph file table from to)
+  pub dry_wanting_in : (r : Result Bool CommandFault) → IfErr r IsWantingWorkers → IfErr r (IsFaultOfDry graph file table from to)
   dry_wanting_in (Ok success) is = tt
   dry_wanting_in (Err fault) is = dry_wanting fault is
+
+module _ (may_lose : Losing) (graph : List ℕ) (file : Option (List ℕ)) (from to : ℤ) where
+  pub run_graph : (fault : CommandFault) → IsFaultIn graph file fault → IsFaultOfRun may_lose graph file from to fault
+  run_graph (Read fault) is = is
+  run_graph (Check fault) is = is
+  run_graph (Table fault) is = absurd is
+  run_graph (Range fault) is = absurd is
+  run_graph BadMoment is = absurd is
+  run_graph OutOfMemory is = tt
+  run_graph (CannotRead path) is = absurd is
+  run_graph (CannotWrite n) is = tt
+  run_graph (Stopped stop) is = absurd is
+
+  pub run_range : (fault : CommandFault) → IsRangeFault graph file from to fault → IsFaultOfRun may_lose graph file from to fault
+  run_range (Read fault) is = absurd is
+  run_range (Check fault) is = absurd is
+  run_range (Table fault) is = absurd is
+  run_range (Range fault) is = is
+  run_range BadMoment is = absurd is
+  run_range OutOfMemory is = tt
+  run_range (CannotRead path) is = absurd is
+  run_range (CannotWrite n) is = tt
+  run_range (Stopped stop) is = absurd is
+
+  module _ (plan : Checked) (said : IsPlanOf graph file plan) (found : List Interval) (listing : HasListing graph file from to (Ok found)) where
+    run_stop : (fault : CommandFault) → IsStopOrWanting may_lose plan.dag found fault → IsFaultOfRun may_lose graph file from to fault
+    run_stop (Read fault) is = absurd is
+    run_stop (Check fault) is = absurd is
+    run_stop (Table fault) is = absurd is
+    run_stop (Range fault) is = absurd is
+    run_stop BadMoment is = absurd is
+    run_stop OutOfMemory is = tt
+    run_stop (CannotRead path) is = absurd is
+    run_stop (CannotWrite n) is = tt
+    run_stop (Stopped stop) is = (said.draft, found, said.graph_is, listing, rw said.dag at is)
+
+    pub run_stop_in : (r : Result Bool CommandFault) → IfErr r (IsStopOrWanting may_lose plan.dag found) → IfErr r (IsFaultOfRun may_lose graph file from to)
+    run_stop_in (Ok success) is = tt
+    run_stop_in (Err fault) is = run_stop fault is
+
+pub reported_by : (may_hear : Hearing) (graph : List ℕ) (file : Option (List ℕ)) (plan : Checked) (from to : ℤ) (found : List Interval) (text : List ℕ) (success : Bool)
+    → IsPlanOf graph file plan → HasListing graph file from to (Ok found) → IsReportBy may_hear plan.dag found text success → IsRunReport may_hear graph file from to text success
+reported_by may_hear graph file plan from to found text success is listing by =
+    record { draft = is.draft; found = found; graph_is = is.graph_is; listing = listing; reported = rw is.dag at by }
+
+-- what is wanting, where programs run
+pub wanting_stop : (may_lose : Losing) (dag : Dag) (found : List Interval) (r : Result Bool CommandFault) → IfErr r IsWanting → IfErr r (IsStopOrWanting may_lose dag found)
+wanting_stop may_lose dag found (Ok success) is = tt
+wanting_stop may_lose dag found (Err OutOfMemory) is = tt
+wanting_stop may_lose dag found (Err (CannotWrite n)) is = tt
+wanting_stop may_lose dag found (Err (Read fault)) is = absurd is
+wanting_stop may_lose dag found (Err (Check fault)) is = absurd is
+wanting_stop may_lose dag found (Err (Table fault)) is = absurd is
+wanting_stop may_lose dag found (Err (Range fault)) is = absurd is
+wanting_stop may_lose dag found (Err BadMoment) is = absurd is
+wanting_stop may_lose dag found (Err (CannotRead path)) is = absurd is
+wanting_stop may_lose dag found (Err (Stopped stop)) is = absurd is
 
 -- ---- what a fault leaves
 
@@ -212,6 +283,7 @@ module _ (Halted : Type 0) (IsDue : List ℕ → Type 0) (before : Option (List 
   graph_leaves graph file OutOfMemory is = refl
   graph_leaves graph file (CannotRead path) is = refl
   graph_leaves graph file (CannotWrite n) is = absurd is
+  graph_leaves graph file (Stopped stop) is = refl
 
   pub table_leaves : (table : List ℕ) (fault : CommandFault) → IsTableFault table fault → Leaves Halted IsDue before before fault
   table_leaves table (Read fault) is = refl
@@ -222,6 +294,7 @@ module _ (Halted : Type 0) (IsDue : List ℕ → Type 0) (before : Option (List 
   table_leaves table OutOfMemory is = refl
   table_leaves table (CannotRead path) is = refl
   table_leaves table (CannotWrite n) is = absurd is
+  table_leaves table (Stopped stop) is = refl
 
   pub range_leaves : (graph : List ℕ) (file : Option (List ℕ)) (from to : ℤ) (fault : CommandFault) → IsRangeFault graph file from to fault → Leaves Halted IsDue before before fault
   range_leaves graph file from to (Read fault) is = refl
@@ -232,6 +305,7 @@ module _ (Halted : Type 0) (IsDue : List ℕ → Type 0) (before : Option (List 
   range_leaves graph file from to OutOfMemory is = refl
   range_leaves graph file from to (CannotRead path) is = refl
   range_leaves graph file from to (CannotWrite n) is = absurd is
+  range_leaves graph file from to (Stopped stop) is = refl
 
   pub reading_leaves : (files : Files) (paths : List (List ℕ)) (fault : CommandFault) → IsReadingFault files paths fault → Leaves Halted IsDue before before fault
   reading_leaves files paths (Read fault) is = refl
@@ -242,6 +316,7 @@ module _ (Halted : Type 0) (IsDue : List ℕ → Type 0) (before : Option (List 
   reading_leaves files paths OutOfMemory is = refl
   reading_leaves files paths (CannotRead path) is = refl
   reading_leaves files paths (CannotWrite n) is = absurd is
+  reading_leaves files paths (Stopped stop) is = refl
 
   pub moment_leaves : (fault : CommandFault) → fault ≡ BadMoment → Leaves Halted IsDue before before fault
   moment_leaves fault same = subst (λ (f : CommandFault). Leaves Halted IsDue before before f) (sym same) refl
@@ -274,10 +349,23 @@ module _ (Halted : Type 0) (P Q : List ℕ → Type 0) (is : (text : List ℕ) �
   leaves_due OutOfMemory left = left
   leaves_due (CannotRead path) left = left
   leaves_due (CannotWrite n) left = (left.0, left.1, is left.1 left.2, left.3, left.4)
+  leaves_due (Stopped stop) left = left
 
   pub leaves_due_in : {A : Type 0} (r : Result A CommandFault) → IfErr r (Leaves Halted P before after) → IfErr r (Leaves Halted Q before after)
   leaves_due_in (Ok x) left = tt
   leaves_due_in (Err fault) left = leaves_due fault left
+
+-- a fault before any device was called leaves all as it was
+pub unsent_leaves : (Halted : Type 0) (IsDue : List ℕ → Type 0) (before : Option (List ℕ)) (fault : CommandFault) → IsUnsent fault → Leaves Halted IsDue before before fault
+unsent_leaves Halted IsDue before (Read fault) is = refl
+unsent_leaves Halted IsDue before (Check fault) is = refl
+unsent_leaves Halted IsDue before (Table fault) is = refl
+unsent_leaves Halted IsDue before (Range fault) is = refl
+unsent_leaves Halted IsDue before BadMoment is = refl
+unsent_leaves Halted IsDue before OutOfMemory is = refl
+unsent_leaves Halted IsDue before (CannotRead path) is = refl
+unsent_leaves Halted IsDue before (CannotWrite n) is = absurd is
+unsent_leaves Halted IsDue before (Stopped stop) is = refl
 
 -- a refusal leaves nothing
 module _ (Halted : Type 0) (IsDue : List ℕ → Type 0) (before after : Option (List ℕ)) where
@@ -290,3 +378,4 @@ module _ (Halted : Type 0) (IsDue : List ℕ → Type 0) (before after : Option 
   refusal_leaves OutOfMemory left some = left
   refusal_leaves (CannotRead path) left some = left
   refusal_leaves (CannotWrite n) left some = absurd (true≢false (sym some))
+  refusal_leaves (Stopped stop) left some = left

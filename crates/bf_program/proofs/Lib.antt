@@ -1,6 +1,7 @@
 pub mod FoundFiles
 pub mod Ends
 pub mod Over
+pub mod ByPrograms
 pub mod Faults
 pub mod OneList
 pub mod OneReport

@@ -13,7 +13,8 @@ use Rattle.bf_report.specs.declared.report.Report.{Report}
 use Rattle.bf_report.specs.Dated.{IsDated}
 use Rattle.bf_report.specs.Report.{report_text}
 use Rattle.bf_report.proofs.DatedFacts.{dated-once}
-use Rattle.bf_program.specs.OverTable.{AreAnswered, IsReportOver, answering, is_success}
+use Rattle.bf_program.specs.OverTable.{AreAnswered, IsReportOver, answering}
+use Rattle.bf_program.specs.Reported.{IsReportOf, is_success}
 
 -- ledgers whose entries have the answers of one table are alike
 answered-alike : (over : Answering) (one two : Look) → AreAnswered over one → AreAnswered over two → AreAlike one two
@@ -24,7 +25,8 @@ pub one_report : (dag : Dag) → IsSound dag → (table : List TableEntry) (inte
 one_report dag sound table intervals text others success other a b =
     let alike : AreAlike (finite.get a.ledger) (finite.get b.ledger) = answered-alike (answering dag table intervals) (finite.get a.ledger) (finite.get b.ledger) a.over_table.answered b.over_table.answered in
     let one : a.ledger ≡ b.ledger = tries-same dag sound (length intervals) a.ledger b.ledger a.over_table.tries b.over_table.tries alike in
-    let same : a.report ≡ b.report = dated-once dag intervals (finite.get b.ledger) a.report b.report (subst (λ l. IsDated dag intervals (finite.get l) a.report) one a.dated) b.dated in (
-      a.text_is ∙ ap report_text same ∙ sym b.text_is,
-      a.state ∙ ap (λ (r : Report). list_all (λ run. is_success run.state) r.runs) same ∙ sym b.state,
+    let first : IsReportOf dag intervals (finite.get b.ledger) text success = subst (λ l. IsReportOf dag intervals (finite.get l) text success) one a.reported in
+    let same : first.report ≡ b.reported.report = dated-once dag intervals (finite.get b.ledger) first.report b.reported.report first.dated b.reported.dated in (
+      first.text_is ∙ ap report_text same ∙ sym b.reported.text_is,
+      first.state ∙ ap (λ (r : Report). list_all (λ run. is_success run.state) r.runs) same ∙ sym b.reported.state,
     )

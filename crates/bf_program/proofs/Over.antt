@@ -1,11 +1,12 @@
 -- Backfills over a table.
-use Rattle.std.proofs.Common.{◌≡◌, ◌<◌, ◌+◌, ◌++◌, ℕ, zero, suc, List, [], ◌∷◌, length, map, take, All, refl, sym, ap, ap₂, ◌∙◌, subst, arith, get_or}
-use Rattle.std.specs.List.{list_all}
+use Rattle.std.proofs.Common.{◌≡◌, ◌<◌, ◌+◌, ◌/◌, ◌%◌, ◌++◌, ℕ, zero, suc, ℤ, pos, negsuc, ◌<ℤ◌, Bool, List, [], ◌∷◌, length, Result, Ok, Err, IfErr, map, take, All, refl, sym, ap, ◌∙◌, subst, arith, rules, get_or}
+use Rattle.std.specs.Prelude.{AllPairs}
+use Rattle.std.proofs.lemmas.Int.{ints}
 use Rattle.std.proofs.lemmas.List.{map-append, take_more}
-use Rattle.std.proofs.lemmas.List.Elements.{All-push}
 use Rattle.jiff.specs.declared.timestamp.Timestamp.{Timestamp}
 use Rattle.bf_check.specs.declared.plan.Dag.{Dag}
 use Rattle.bf_interval.specs.declared.interval.Interval.{Interval}
+use Rattle.bf_interval.specs.Runs.{IsOfRun, IsSecondTo2208}
 use Rattle.bf_interval.specs.Years.{IsInYears}
 use Rattle.bf_try.specs.declared.table.TableEntry.{TableEntry}
 use Rattle.bf_try.specs.Grades.{grade_of}
@@ -14,13 +15,15 @@ use Rattle.bf_core.specs.Agreement.{AreRunStates, IsOutcome}
 use Rattle.bf_core.specs.Answered.{AreGraded}
 use Rattle.bf_core.specs.Events.{entry_in}
 use Rattle.bf_core.specs.declared.ended.Ended.{Ended}
-use Rattle.bf_moment.specs.Moment.{IsShown}
-use Rattle.bf_report.specs.declared.report.Report.{Report}
-use Rattle.bf_report.specs.Dated.{IsDated, IsShownInterval}
-use Rattle.bf_report.specs.Report.{report_text}
-use Rattle.bf_program.specs.Lists.{IsSince1970}
+use Rattle.bf_moment.specs.Moment.{IsShown, IsWhole}
+use Rattle.bf_report.specs.Dated.{IsShownInterval}
+use Rattle.bf_report_reader.specs.Written.{AreOfRuns}
 use Rattle.bf_program.specs.OneRun.{intervals_at}
-use Rattle.bf_program.specs.OverTable.{AreAnswered, IsOver, IsReportOver, answering, is_success}
+use Rattle.bf_program.specs.OverTable.{AreAnswered, IsOver, IsReportOver, IsWanting, IsWantingWorkers, answering}
+use Rattle.bf_program.specs.Reported.{IsReportOf}
+use Rattle.bf_program.specs.declared.fault.CommandFault.{CommandFault}
+use Rattle.bf_program.specs.declared.fault.CommandFault.TheVariants.{Read, Check, Table, Range, BadMoment, OutOfMemory, CannotRead, CannotWrite, Stopped}
+use Rattle.bf_program.specs.declared.stop.StopFault.{StopFault}
 
 -- a grade of what the table may answer is the grade of its answer
 answered : (over : Answering) (ended : Ended) → AreGraded (λ n g raw. raw ≡ answer_of over n) over.dag (entry_in ended.state.ledger) → AreAnswered over (entry_in ended.state.ledger)
@@ -39,20 +42,47 @@ pub answering_by : (dag : Dag) (table : List TableEntry) (intervals : List Inter
     → runner ≡ answering dag table intervals
 answering_by dag table intervals starts runner is same = is ∙ (λ i. record { dag = dag; dates = dates_of (same i); entries = table })
 
--- the report of a backfill that has ended
-pub reported_over : (dag : Dag) (table : List TableEntry) (intervals : List Interval) (ended : Ended) (report : Report)
-    → IsOver (answering dag table intervals) (length intervals) ended → IsDated dag intervals (entry_in ended.state.ledger) report
-    → IsReportOver dag table intervals (report_text report) (list_all (λ run. is_success run.state) report.runs)
-reported_over dag table intervals ended report is dated = record {
+-- the report over the ledger of a backfill over the table that has ended
+pub reported_over : (dag : Dag) (table : List TableEntry) (intervals : List Interval) (ended : Ended) → IsOver (answering dag table intervals) (length intervals) ended
+    → (text : List ℕ) (success : Bool) → IsReportOf dag intervals (entry_in ended.state.ledger) text success → IsReportOver dag table intervals text success
+reported_over dag table intervals ended is text success reported = record {
   ledger = ended.state.ledger;
-  report = report;
   over_table = record { tries = is.outcome.tries; answered = is.answered };
-  dated = dated;
-  text_is = refl;
-  state = refl;
+  reported = reported;
 }
 
+-- so it is where the runner has the table's answers
+pub over_as : (one two : Answering) (runs : ℕ) (ended : Ended) → one ≡ two → IsOver one runs ended → IsOver two runs ended
+over_as one two runs ended same is = subst (λ (r : Answering). IsOver r runs ended) same is
+
+-- what is wanting where a table answers
+wanting_workers : (fault : CommandFault) → IsWanting fault → IsWantingWorkers fault
+wanting_workers OutOfMemory is = tt
+wanting_workers (CannotWrite n) is = tt
+wanting_workers (Read fault) is = absurd is
+wanting_workers (Check fault) is = absurd is
+wanting_workers (Table fault) is = absurd is
+wanting_workers (Range fault) is = absurd is
+wanting_workers BadMoment is = absurd is
+wanting_workers (CannotRead path) is = absurd is
+wanting_workers (Stopped StopFault.CannotStart) is = tt
+wanting_workers (Stopped (StopFault.GaveUp task index attempt)) is = absurd is
+
+pub wanting_workers_in : {A : Type 0} (r : Result A CommandFault) → IfErr r IsWanting → IfErr r IsWantingWorkers
+wanting_workers_in (Ok x) is = tt
+wanting_workers_in (Err fault) is = wanting_workers fault is
+
 -- ---- moments
+
+-- the moments of the intervals of runs have years of four digits
+pub shown_of_runs : (intervals : List Interval) → AreOfRuns intervals → All IsShownInterval intervals
+shown_of_runs intervals are = λ k d below.
+    let is = are.each k d below in
+    let start = is.start.is in
+    let end = is.end.is in
+    let start_to = is.start.to_2208 in
+    let end_to = is.end.to_2208 in
+    ((omega (arith, ints), omega (arith, ints)), (omega (arith, ints), omega (arith, ints)))
 
 -- the starts of intervals whose moments have years of four digits
 pub starts_shown : (intervals : List Interval) → All IsShownInterval intervals → All (λ (start : Timestamp). IsShown start.nanosecond) (map (λ i. i.start) intervals)
@@ -60,19 +90,37 @@ starts_shown [] shown k d below = let none : ⊥ = omega arith in absurd none
 starts_shown (i ∷ is) shown zero d below = (shown zero i (omega arith)).0
 starts_shown (i ∷ is) shown (suc k) d below = starts_shown is (λ j e l. shown (suc j) e (omega arith)) k d (omega arith)
 
--- a run at a moment of the years neither begins nor ends before 1970
-pub since_years : (at : Timestamp) → IsInYears at.nanosecond → All IsSince1970 (intervals_at at)
-since_years at years zero d below = (years.0, years.0)
-since_years at years (suc k) d below = let none : ⊥ = omega arith in absurd none
+-- a whole second of the years
+whole_second : (n : ℤ) → IsInYears n → IsWhole n → IsSecondTo2208 n
+whole_second (pos m) years whole =
+    let none : m % 1_000_000_000 ≡ 0 = cc whole in
+    let (first, last) = years in
+    record { second = m / 1_000_000_000; is = ap pos (omega (arith, none)); to_2208 = omega (arith, ints) }
+whole_second (negsuc m) years whole = let (first, last) = years in let none : ⊥ = omega (arith, ints) in absurd none
 
--- with one interval more
-shown_take : (intervals : List Interval) (i : ℕ) (x : Interval) → i < length intervals → x ≡ get_or intervals i x → take i intervals ++ x ∷ [] ≡ take (i + 1) intervals
-shown_take intervals i x within is = sym (take_more intervals i x within ∙ ap (λ y. take i intervals ++ y ∷ []) (sym is))
+-- the one interval of a run at a whole second of the years
+pub of_run_at : (at : Timestamp) → IsInYears at.nanosecond → IsWhole at.nanosecond → AreOfRuns (intervals_at at)
+of_run_at at years whole = record {
+  few = omega arith;
+  each = each;
+  rising = rising;
+}
+  where
+    second : IsSecondTo2208 at.nanosecond
+    second = whole_second at.nanosecond years whole
 
-pub shown_more : (intervals : List Interval) (i : ℕ) (x : Interval) → i < length intervals → x ≡ get_or intervals i x → IsShownInterval x → All IsShownInterval (take i intervals) → All IsShownInterval (take (i + 1) intervals)
-shown_more intervals i x within is shown all = subst (All IsShownInterval) (shown_take intervals i x within is) (All-push IsShownInterval (take i intervals) x all shown)
+    each : All IsOfRun (intervals_at at)
+    each zero d below = record { in_years = years; in_order = omega (arith, ints); start = second; end = second }
+    each (suc k) d below = let none : ⊥ = omega arith in absurd none
 
-pub starts_more : (intervals : List Interval) (i : ℕ) (x : Interval) (start : Timestamp) (starts : List Timestamp) → i < length intervals → x ≡ get_or intervals i x → start ≡ x.start → starts ≡ map (λ j. j.start) (take i intervals) →
-    starts ++ start ∷ [] ≡ map (λ j. j.start) (take (i + 1) intervals)
-starts_more intervals i x start starts within is same so_far =
-    ap₂ (λ xs y. xs ++ y ∷ []) so_far same ∙ (sym (map-append (λ (j : Interval). j.start) (take i intervals) (x ∷ [])) ∙ ap (map (λ (j : Interval). j.start)) (shown_take intervals i x within is))
+    rising : AllPairs (λ i j. i.start.nanosecond <ℤ j.start.nanosecond) (intervals_at at)
+    rising = search rules
+
+-- so with one interval more
+taken_more : (intervals : List Interval) (i : ℕ) (x : Interval) → i < length intervals → x ≡ get_or intervals i x → take i intervals ++ x ∷ [] ≡ take (i + 1) intervals
+taken_more intervals i x within is = sym (take_more intervals i x within ∙ ap (λ y. take i intervals ++ y ∷ []) (sym is))
+
+pub starts_more : (intervals : List Interval) (i : ℕ) (x : Interval) (starts : List Timestamp) → i < length intervals → x ≡ get_or intervals i x → starts ≡ map (λ j. j.start) (take i intervals) →
+    starts ++ x.start ∷ [] ≡ map (λ j. j.start) (take (i + 1) intervals)
+starts_more intervals i x starts within is so_far =
+    ap (λ xs. xs ++ x.start ∷ []) so_far ∙ (sym (map-append (λ (j : Interval). j.start) (take i intervals) (x ∷ [])) ∙ ap (map (λ (j : Interval). j.start)) (taken_more intervals i x within is))

@@ -5,24 +5,26 @@ use Rattle.clap.specs.Words.{Kinds, Row, Text, fault_of, subcommand_of}
 use Rattle.jiff.specs.declared.timestamp.Timestamp.{Timestamp}
 use Rattle.bf_moment.specs.Moment.{Spells, nearest}
 use Rattle.bf_report.specs.Device.{sent}
-use Rattle.bf_line.specs.declared.forms.Asked.{Asked}
-use Rattle.bf_line.specs.declared.forms.Asked.TheVariants.{Check, Dry, List as Intervals, Single}
-use Rattle.bf_line.specs.declared.forms.DryAsked.{DryAsked}
-use Rattle.bf_line.specs.declared.forms.GraphAsked.{GraphAsked}
-use Rattle.bf_line.specs.declared.forms.ListAsked.{ListAsked}
-use Rattle.bf_line.specs.declared.forms.RangeAsked.{RangeAsked}
-use Rattle.bf_line.specs.declared.forms.SingleAsked.{SingleAsked}
-use Rattle.bf_program.specs.declared.graphs.GraphSize.{GraphSize}
+use Rattle.bf_command_line.specs.declared.forms.Asked.{Asked}
+use Rattle.bf_command_line.specs.declared.forms.Asked.TheVariants.{Check, Dry, List as Intervals, Run, Single}
+use Rattle.bf_command_line.specs.declared.forms.DryAsked.{DryAsked}
+use Rattle.bf_command_line.specs.declared.forms.GraphAsked.{GraphAsked}
+use Rattle.bf_command_line.specs.declared.forms.ListAsked.{ListAsked}
+use Rattle.bf_command_line.specs.declared.forms.RangeAsked.{RangeAsked}
+use Rattle.bf_command_line.specs.declared.forms.RunAsked.{RunAsked}
+use Rattle.bf_command_line.specs.declared.forms.SingleAsked.{SingleAsked}
+use Rattle.bf_program.specs.declared.check.GraphSize.{GraphSize}
 use Rattle.bf_program.specs.declared.input.MomentRange.{MomentRange}
-use Rattle.bf_program.specs.declared.refusal.CommandFault.{CommandFault}
-use Rattle.bf_program.specs.declared.refusal.CommandFault.TheVariants.{BadMoment, OutOfMemory, CannotRead, CannotWrite}
+use Rattle.bf_program.specs.declared.fault.CommandFault.{CommandFault}
+use Rattle.bf_program.specs.declared.fault.CommandFault.TheVariants.{BadMoment, OutOfMemory, CannotRead, CannotWrite}
 use Rattle.bf_program.specs.declared.status.Status.{Status}
-use Rattle.bf_line.specs.Asked.{IsAskedBy}
-use Rattle.bf_line.specs.CommandLine.{backfill_app}
+use Rattle.bf_command_line.specs.Asked.{IsAskedBy}
+use Rattle.bf_command_line.specs.CommandLine.{backfill_app}
 use Rattle.bf_program.specs.DatedRuns.{IsFaultOfDry, IsReportIn}
 use Rattle.bf_program.specs.Graphs.{IsFaultIn, IsSizeOf}
 use Rattle.bf_program.specs.Lists.{IsFaultOfList, IsListIn}
 use Rattle.bf_program.specs.OneRun.{IsFaultOfSingle, IsReportAt}
+use Rattle.bf_program.specs.Programs.{Hearing, Losing, IsFaultOfRun, IsRunReport}
 use Rattle.bf_program.specs.Refusal.{Leaves, line_of, status_of}
 use Rattle.bf_program.specs.Status.{code_of, of_runs}
 
@@ -150,20 +152,30 @@ pub record IsDryAnswer (files : Files) (asked : DryAsked) (text : List ℕ) (sta
   pub text_is : OfFilesAndTable files asked.graph (string_bytes asked.table) (λ graph zone table.
       IsReportIn graph zone table range.from.nanosecond range.to.nanosecond text succeeded)
 
+-- the report of a run for each data interval of the range with the programs of the tasks, and whether each is a success
+pub record IsRunAnswer (may_hear : Hearing) (files : Files) (asked : RunAsked) (text : List ℕ) (status : Status) : Type 0 where
+  pub range : MomentRange
+  pub means : MeansRange asked.range range
+  pub succeeded : Bool
+  pub status_is : status ≡ of_runs succeeded
+  pub readable : AreReadable files (graph_paths asked.graph)
+  pub text_is : OfFiles files asked.graph (λ graph zone. IsRunReport may_hear graph zone range.from.nanosecond range.to.nanosecond text succeeded)
+
 -- the text that a command is to write, and how it ends then
-abbrev pub IsAnswer : Files → Asked → List ℕ → Status → Type 0
-IsAnswer files (Check asked) text status = IsCheckAnswer files asked text status
-IsAnswer files (Intervals asked) text status = IsListAnswer files asked text status
-IsAnswer files (Single asked) text status = IsSingleAnswer files asked text status
-IsAnswer files (Dry asked) text status = IsDryAnswer files asked text status
+abbrev pub IsAnswer : Hearing → Files → Asked → List ℕ → Status → Type 0
+IsAnswer may_hear files (Check asked) text status = IsCheckAnswer files asked text status
+IsAnswer may_hear files (Intervals asked) text status = IsListAnswer files asked text status
+IsAnswer may_hear files (Single asked) text status = IsSingleAnswer files asked text status
+IsAnswer may_hear files (Dry asked) text status = IsDryAnswer files asked text status
+IsAnswer may_hear files (Run asked) text status = IsRunAnswer may_hear files asked text status
 
 -- the subcommand that was found was answered so: its text is all that went out, behind what had gone out before, and that is the exit status
-pub record IsDone (files : Files) (matched : Option (Text × List Row)) (before after : Option (List ℕ)) (code : ℕ) : Type 0 where
+pub record IsDone (may_hear : Hearing) (files : Files) (matched : Option (Text × List Row)) (before after : Option (List ℕ)) (code : ℕ) : Type 0 where
   pub asked : Asked
   pub asks : IsAskedBy matched asked
   pub text : List ℕ
   pub status : Status
-  pub answer : IsAnswer files asked text status
+  pub answer : IsAnswer may_hear files asked text status
   pub written : after ≡ sent before text
   pub code_is : code ≡ code_of status
 
@@ -200,24 +212,31 @@ IsDryFault files asked fault = (range : MomentRange) × MeansRange asked.range r
     (OfFilesAndTable files asked.graph (string_bytes asked.table) (λ graph zone table.
     IsFaultOfDry graph zone table range.from.nanosecond range.to.nanosecond fault)) fault
 
+-- moments come first: a text is no moment; or they mean a range, and the fault is the first of the files, the graph, the range and what stops the backfill
+abbrev pub IsRunFault : Losing → Files → RunAsked → CommandFault → Type 0
+IsRunFault may_lose files asked BadMoment = IsNoMoment (string_bytes asked.range.from) ⊎ IsNoMoment (string_bytes asked.range.to)
+IsRunFault may_lose files asked fault = (range : MomentRange) × MeansRange asked.range range × IsFaultOfFiles files (graph_paths asked.graph)
+    (OfFiles files asked.graph (λ graph zone. IsFaultOfRun may_lose graph zone range.from.nanosecond range.to.nanosecond fault)) fault
+
 -- why a command was refused, or what fault came
-abbrev pub IsFault : Files → Asked → CommandFault → Type 0
-IsFault files (Check asked) fault = IsCheckFault files asked fault
-IsFault files (Intervals asked) fault = IsListFault files asked fault
-IsFault files (Single asked) fault = IsSingleFault files asked fault
-IsFault files (Dry asked) fault = IsDryFault files asked fault
+abbrev pub IsFault : Losing → Files → Asked → CommandFault → Type 0
+IsFault may_lose files (Check asked) fault = IsCheckFault files asked fault
+IsFault may_lose files (Intervals asked) fault = IsListFault files asked fault
+IsFault may_lose files (Single asked) fault = IsSingleFault files asked fault
+IsFault may_lose files (Dry asked) fault = IsDryFault files asked fault
+IsFault may_lose files (Run asked) fault = IsRunFault may_lose files asked fault
 
 -- the fault is one of the subcommand that was found, and this is what it leaves
-pub record IsFaulted (files : Files) (matched : Option (Text × List Row)) (Halted : Type 0) (before after : Option (List ℕ)) (fault : CommandFault) : Type 0 where
+pub record IsFaulted (may_hear : Hearing) (may_lose : Losing) (files : Files) (matched : Option (Text × List Row)) (Halted : Type 0) (before after : Option (List ℕ)) (fault : CommandFault) : Type 0 where
   pub asked : Asked
   pub asks : IsAskedBy matched asked
-  pub is_fault : IsFault files asked fault
-  pub left : Leaves Halted (λ text. (status : Status) × IsAnswer files asked text status) before after fault
+  pub is_fault : IsFault may_lose files asked fault
+  pub left : Leaves Halted (λ text. (status : Status) × IsAnswer may_hear files asked text status) before after fault
 
 -- so it is, or memory was wanting before anything was written
-abbrev pub MayBeFaulted : Files → Option (Text × List Row) → Type 0 → Option (List ℕ) → Option (List ℕ) → CommandFault → Type 0
-MayBeFaulted files matched Halted before after OutOfMemory = after ≡ before
-MayBeFaulted files matched Halted before after fault = IsFaulted files matched Halted before after fault
+abbrev pub MayBeFaulted : Hearing → Losing → Files → Option (Text × List Row) → Type 0 → Option (List ℕ) → Option (List ℕ) → CommandFault → Type 0
+MayBeFaulted may_hear may_lose files matched Halted before after OutOfMemory = after ≡ before
+MayBeFaulted may_hear may_lose files matched Halted before after fault = IsFaulted may_hear may_lose files matched Halted before after fault
 
 -- ---- what is told on standard error
 

@@ -8,8 +8,9 @@ use Rattle.bf_try.specs.Tables.{table_of}
 use Rattle.bf_program.specs.Graphs.{IsGraph, IsFaultIn}
 use Rattle.bf_program.specs.Lists.{HasListing}
 use Rattle.bf_program.specs.OverTable.{IsReportOver, IsTable}
-use Rattle.bf_program.specs.declared.refusal.CommandFault.{CommandFault}
-use Rattle.bf_program.specs.declared.refusal.CommandFault.TheVariants.{Table, Range, CannotWrite}
+use Rattle.bf_program.specs.declared.fault.CommandFault.{CommandFault}
+use Rattle.bf_program.specs.declared.fault.CommandFault.TheVariants.{Table, Range, CannotWrite, Stopped}
+use Rattle.bf_program.specs.declared.stop.StopFault.{StopFault}
 
 -- the bytes say a graph, which has no fault, and a table, and the text is the report of the graph's runs in the range over that
 pub record IsReportIn (graph : List ℕ) (file : Option (List ℕ)) (table : List ℕ) (from to : ℤ) (text : List ℕ) (success : Bool) : Type 0 where
@@ -21,9 +22,10 @@ pub record IsReportIn (graph : List ℕ) (file : Option (List ℕ)) (table : Lis
   pub listing : HasListing graph file from to (Ok found)
   pub reported : IsReportOver (dag_of draft) entries found text success
 
--- the fault is the first: those of the graph go before those of the table, and those of the range come last; or memory or the device is wanting
+-- the fault is the first: those of the graph go before those of the table, and those of the range come last; or memory, a worker or the device is wanting
 abbrev pub IsFaultOfDry : List ℕ → Option (List ℕ) → List ℕ → ℤ → ℤ → CommandFault → Type 0
 IsFaultOfDry graph file table from to (Table fault) = (draft : Draft) × IsGraph graph file draft × (table_of table ≡ Err fault)
 IsFaultOfDry graph file table from to (Range fault) = IsTable table × HasListing graph file from to (Err fault)
 IsFaultOfDry graph file table from to (CannotWrite n) = Unit {0}
+IsFaultOfDry graph file table from to (Stopped stop) = stop ≡ StopFault.CannotStart
 IsFaultOfDry graph file table from to fault = IsFaultIn graph file fault

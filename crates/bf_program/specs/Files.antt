@@ -4,8 +4,8 @@ use Rattle.std.specs.Global.{Global}
 use Rattle.jiff.specs.Types.{TimeZone}
 use Rattle.bf_read.specs.Reading.{graph_in}
 use Rattle.bf_zone.specs.Zones.{Asked, IsZone}
-use Rattle.bf_program.specs.declared.refusal.CommandFault.{CommandFault}
-use Rattle.bf_program.specs.declared.refusal.CommandFault.TheVariants.{OutOfMemory, CannotRead}
+use Rattle.bf_program.specs.declared.fault.CommandFault.{CommandFault}
+use Rattle.bf_program.specs.declared.fault.CommandFault.TheVariants.{OutOfMemory, CannotRead}
 use Rattle.bf_program.specs.Commands.{Files, IsFirstUntold}
 
 -- the bytes of a zone file, where one was read

@@ -9,9 +9,9 @@ use Rattle.bf_check.specs.Refusals.{IsAccepted, IsFaultOf}
 use Rattle.bf_check.specs.Schedules.{Fires, IsZoneFor}
 use Rattle.bf_cron.specs.declared.spec.CronSpec.{CronSpec}
 use Rattle.bf_zone.specs.declared.zone.Zone.{Zone}
-use Rattle.bf_program.specs.declared.graphs.GraphSize.{GraphSize}
-use Rattle.bf_program.specs.declared.refusal.CommandFault.{CommandFault}
-use Rattle.bf_program.specs.declared.refusal.CommandFault.TheVariants.{Read, Check, OutOfMemory}
+use Rattle.bf_program.specs.declared.check.GraphSize.{GraphSize}
+use Rattle.bf_program.specs.declared.fault.CommandFault.{CommandFault}
+use Rattle.bf_program.specs.declared.fault.CommandFault.TheVariants.{Read, Check, OutOfMemory}
 
 -- the graph's bytes say this
 abbrev pub IsFileOf : List ℕ → Draft → Type 0

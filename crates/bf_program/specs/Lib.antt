@@ -2,10 +2,12 @@ pub mod Source
 pub mod Stored
 pub mod Refusal
 pub mod Status
+pub mod Reported
 pub mod OverTable
 pub mod OneRun
 pub mod DatedRuns
 pub mod Graphs
 pub mod Lists
+pub mod Programs
 pub mod Commands
 pub mod Files

@@ -11,8 +11,8 @@ use Rattle.bf_interval.specs.declared.fault.IntervalFault.{IntervalFault}
 use Rattle.bf_interval.specs.declared.interval.Interval.{Interval}
 use Rattle.bf_moment.specs.Moment.{moment_text}
 use Rattle.bf_program.specs.Graphs.{IsGraph, IsFaultIn}
-use Rattle.bf_program.specs.declared.refusal.CommandFault.{CommandFault}
-use Rattle.bf_program.specs.declared.refusal.CommandFault.TheVariants.{Range, OutOfMemory, CannotWrite}
+use Rattle.bf_program.specs.declared.fault.CommandFault.{CommandFault}
+use Rattle.bf_program.specs.declared.fault.CommandFault.TheVariants.{Range, OutOfMemory, CannotWrite}
 
 -- the bytes say a graph without a fault, whose schedule in its zone has this answer for the range
 pub record HasListing (graph : List ℕ) (file : Option (List ℕ)) (from to : ℤ) (answer : Result (List Interval) IntervalFault) : Type 0 where

@@ -10,8 +10,8 @@ use Rattle.bf_try.specs.declared.table.TableEntry.{TableEntry}
 use Rattle.bf_try.specs.Tables.{table_of}
 use Rattle.bf_program.specs.Graphs.{IsGraph, IsFaultIn}
 use Rattle.bf_program.specs.OverTable.{IsReportOver, IsTable}
-use Rattle.bf_program.specs.declared.refusal.CommandFault.{CommandFault}
-use Rattle.bf_program.specs.declared.refusal.CommandFault.TheVariants.{Table, Range, CannotWrite}
+use Rattle.bf_program.specs.declared.fault.CommandFault.{CommandFault}
+use Rattle.bf_program.specs.declared.fault.CommandFault.TheVariants.{Table, Range, CannotWrite}
 
 -- the one interval of a run at a moment
 abbrev pub intervals_at : Timestamp → List Interval

@@ -1,12 +1,10 @@
 -- What is reported of a backfill over a table: the recursion over dates, over what the table answers.
 use Rattle.std.specs.Prelude.{◌≡◌, ℕ, Bool, true, false, List, length, map, Some, Ok, Err}
-use Rattle.std.specs.List.{list_all}
 use Rattle.std.specs.FinMap as finite
 use Rattle.bf_value.specs.declared.name.JobName.{JobName}
 use Rattle.bf_value.specs.Names.{name_cmp}
 use Rattle.bf_check.specs.declared.plan.Dag.{Dag}
 use Rattle.bf_interval.specs.declared.interval.Interval.{Interval}
-use Rattle.bf_xcom.specs.declared.values.RunState.{RunState}
 use Rattle.bf_try.specs.declared.ledger.Entry.{Entry}
 use Rattle.bf_try.specs.declared.table.TableEntry.{TableEntry}
 use Rattle.bf_try.specs.Grades.{grade_of}
@@ -15,11 +13,10 @@ use Rattle.bf_try.specs.Tries.{Look}
 use Rattle.bf_core.specs.Agreement.{AreRunStates, HoldsItsTries, IsOutcome}
 use Rattle.bf_core.specs.Events.{entry_in}
 use Rattle.bf_core.specs.declared.ended.Ended.{Ended}
-use Rattle.bf_report.specs.declared.report.Report.{Report}
-use Rattle.bf_report.specs.Dated.{IsDated}
-use Rattle.bf_report.specs.Report.{report_text}
-use Rattle.bf_program.specs.declared.refusal.CommandFault.{CommandFault}
-use Rattle.bf_program.specs.declared.refusal.CommandFault.TheVariants.{Table, OutOfMemory, CannotWrite}
+use Rattle.bf_program.specs.declared.fault.CommandFault.{CommandFault}
+use Rattle.bf_program.specs.declared.fault.CommandFault.TheVariants.{Table, OutOfMemory, CannotWrite, Stopped}
+use Rattle.bf_program.specs.declared.stop.StopFault.{StopFault}
+use Rattle.bf_program.specs.Reported.{IsReportOf}
 
 -- each outcome is the grade of what the table answers
 abbrev pub AreAnswered : Answering → Look → Type 0
@@ -34,18 +31,11 @@ pub record IsLedgerOver (over : Answering) (runs : ℕ) (ledger : Look) : Type 0
 abbrev pub answering : Dag → List TableEntry → List Interval → Answering
 answering dag table intervals = record { dag = dag; dates = dates_of (map (λ i. i.start) intervals); entries = table }
 
-abbrev pub is_success : RunState → Bool
-is_success RunState.Success = true
-is_success RunState.Failed = false
-
 -- the text is that of the recursion's report over the ledger of a backfill over the table; and whether every run of it is a success
 pub record IsReportOver (dag : Dag) (table : List TableEntry) (intervals : List Interval) (text : List ℕ) (success : Bool) : Type 0 where
   pub ledger : finite.FinMap name_cmp Entry
-  pub report : Report
   pub over_table : IsLedgerOver (answering dag table intervals) (length intervals) (finite.get ledger)
-  pub dated : IsDated dag intervals (finite.get ledger) report
-  pub text_is : text ≡ report_text report
-  pub state : success ≡ list_all (λ run. is_success run.state) report.runs
+  pub reported : IsReportOf dag intervals (finite.get ledger) text success
 
 -- the table's bytes say a table
 pub record IsTable (table : List ℕ) : Type 0 where
@@ -64,7 +54,17 @@ IsWanting OutOfMemory = Unit {0}
 IsWanting (CannotWrite n) = Unit {0}
 IsWanting _ = ⊥
 
+-- so it is, or a worker's thread is wanting
+abbrev pub IsWantingWorkers : CommandFault → Type 0
+IsWantingWorkers (Stopped StopFault.CannotStart) = Unit {0}
+IsWantingWorkers fault = IsWanting fault
+
 -- ---- for private clauses
+
+-- no device was called
+abbrev pub IsUnsent : CommandFault → Type 0
+IsUnsent (CannotWrite n) = ⊥
+IsUnsent _ = Unit {0}
 
 -- a backfill that has ended, whose tries have the table's answers
 pub record IsOver (over : Answering) (runs : ℕ) (ended : Ended) : Type 0 where

@@ -1,5 +1,6 @@
 -- Why a command gave no answer, as it is numbered, printed and told by the exit status.
 use Rattle.std.specs.Prelude.{◌≡◌, ◌≤◌, ℕ, List, ◌++◌, length, take, Option, Some, None, codes, decimal}
+use Rattle.std.specs.Fmt.{signed_decimal}
 use Rattle.bf_read.specs.declared.fault.ReadFault.{ReadFault}
 use Rattle.bf_read.specs.declared.fault.ReadFault.TheVariants as read
 use Rattle.bf_read.specs.Faults as graph_file
@@ -16,8 +17,9 @@ use Rattle.bf_report.specs.declared.sending.Cause.{Cause}
 use Rattle.bf_report.specs.declared.sending.Cause.TheVariants as cause
 use Rattle.bf_report.specs.declared.sending.WriteFault.{WriteFault}
 use Rattle.bf_report.specs.Device.{sent}
-use Rattle.bf_program.specs.declared.refusal.CommandFault.{CommandFault}
-use Rattle.bf_program.specs.declared.refusal.CommandFault.TheVariants.{Read, Check, Table, Range, BadMoment, OutOfMemory, CannotRead, CannotWrite}
+use Rattle.bf_program.specs.declared.fault.CommandFault.{CommandFault}
+use Rattle.bf_program.specs.declared.fault.CommandFault.TheVariants.{Read, Check, Table, Range, BadMoment, OutOfMemory, CannotRead, CannotWrite, Stopped}
+use Rattle.bf_program.specs.declared.stop.StopFault.{StopFault}
 use Rattle.bf_program.specs.declared.status.Status.{Status}
 
 -- ---- numbers and words
@@ -32,6 +34,12 @@ number_of BadMoment = Some 28
 number_of OutOfMemory = None
 number_of (CannotRead path) = None
 number_of (CannotWrite sent) = None
+number_of (Stopped fault) = None
+
+-- why a backfill stopped
+abbrev pub stop_words : StopFault → List ℕ
+stop_words StopFault.CannotStart = codes "cannot start workers"
+stop_words (StopFault.GaveUp task index attempt) = codes "runner gave up: " ++ (task ++ (codes " " ++ (signed_decimal index ++ (codes " " ++ decimal attempt))))
 
 abbrev pub words_of : CommandFault → List ℕ
 words_of (Read fault) = graph_file.fault_text fault
@@ -42,6 +50,7 @@ words_of BadMoment = codes "bad moment"
 words_of OutOfMemory = codes "out of memory"
 words_of (CannotRead path) = codes "cannot read " ++ path
 words_of (CannotWrite sent) = codes "cannot write"
+words_of (Stopped fault) = stop_words fault
 
 -- the line of a refusal, with its number, or of a fault
 abbrev pub line_with : Option ℕ → List ℕ → List ℕ

@@ -6,9 +6,9 @@ ghost use Rattle.bf_program.specs.Commands.{AreReadable, IsHeld, IsNoMoment, IsR
 ghost use Rattle.bf_program.specs.Files.{AreAlike, IsReadingFault, MeanAlike, bytes_of};
 ghost use Rattle.bf_program.specs.Source.{IsWholeUpTo};
 
-use crate::refusal::CommandFault;
+use crate::fault::CommandFault;
 use crate::source::{Source, SourceFault};
-use bf_line::{GraphAsked, RangeAsked};
+use bf_command_line::{GraphAsked, RangeAsked};
 use bf_report::moment_in;
 use bf_value::Text;
 use bf_zone::MOST_FILE_BYTES;

@@ -5,43 +5,52 @@ ghost use Rattle.bf_report.specs.Device.{HasHalted};
 ghost use Rattle.bf_program.specs.Commands.{IsDone, IsTold, MayBeFaulted, MayTell, Tells, found_in, wrongs_of};
 ghost use Rattle.bf_program.specs.Refusal.{number_of};
 ghost use Rattle.bf_program.specs.Status.{code_of, shown_as, EndsAs};
-ghost use Rattle.bf_program.specs.declared.refusal.CommandFault.{CommandFault as FaultTerm};
+ghost use Rattle.bf_program.specs.declared.fault.CommandFault.{CommandFault as FaultTerm};
 
-use crate::checked::check_answered;
+use crate::check::check_answered;
 use crate::dry::dry_answered;
-use crate::listed::list_answered;
-use crate::refusal::CommandFault;
+use crate::fault::CommandFault;
+use crate::list::list_answered;
+use crate::run::run_answered;
+use crate::screen::Screen;
 use crate::single::single_answered;
 use crate::source::Source;
 use crate::status::Status;
-use bf_line::{Asked, asked};
+use bf_command_line::{Asked, asked};
+use bf_process::Starter;
 use bf_report::{Write, send};
 use clap::Error;
 use clap::error::ErrorKind;
 use std::alloc::Global;
+use std::sync::Wait;
+use std::thread::Threads;
+use std::time::Clock;
 
 /// Answers a command line, of which the first word is the program's own name. Files are read from `files`, the
 /// report, the size of a graph, the intervals or help goes to `out`, and why there is none to `err`. Gives the exit
 /// status: 0 where every run is a success, a graph has no fault, the intervals were listed, or help was asked for, 1
 /// where some run failed, 2 where something was refused, and 3 at a fault.
 #[tactic(auto, using(crate::proofs::Ends::fault_ends))]
-pub fn answer<S: Source, W: Write, E: Write>(
+pub fn answer<RT, S: Source, W: Write, E: Write>(
+    rt: &RT,
     alloc: Global,
     words: &[String],
     files: &mut S,
     out: &mut W,
     err: &mut E,
 ) -> u8
+where
+    RT: Starter + Screen + Threads + Wait + Clock + Sync,
     ensures range { result ≤ 3 }
     ensures answered { result ≤ 1 → E.written err.new ≡ E.written err.old }
     ensures refused { result ≡ 2 → W.written out.new ≡ W.written out.old }
     ensures line { wrongs_of words.now ≢ [] → EndsAs (wrongs_of words.now) result }
     ensures done { wrongs_of words.now ≡ [] → result ≤ 1
-        → IsDone (S.file files.old) (found_in words.now) (W.written out.old) (W.written out.new) result }
+        → IsDone (RT.may_hear rt.now) (S.file files.old) (found_in words.now) (W.written out.old) (W.written out.new) result }
 
     // Of a line that `clap` finds nothing wrong with: which fault came, and what is told of it.
     ensures why { wrongs_of words.now ≡ [] → 2 ≤ result → (fault : FaultTerm)
-        × MayBeFaulted (S.file files.old) (found_in words.now) (HasHalted (W.failures out.old) (W.failures out.new)
+        × MayBeFaulted (RT.may_hear rt.now) (RT.may_lose rt.now) (S.file files.old) (found_in words.now) (HasHalted (W.failures out.old) (W.failures out.new)
         (W.interruptions out.old) (W.interruptions out.new))
         (W.written out.old) (W.written out.new) fault
         × MayTell (HasHalted (E.failures err.old) (E.failures err.new)
@@ -54,19 +63,22 @@ pub fn answer<S: Source, W: Write, E: Write>(
         (E.interruptions err.old) (E.interruptions err.new))
         (E.written err.old) (E.written err.new) fault 3 }
 {
-    match line_answered(alloc, words, files, out, err) {
+    match line_answered(rt, alloc, words, files, out, err) {
         Ok(status) => status.code(),
         Err(fault) => told(alloc, &fault, err).code(),
     }
 }
 
-fn line_answered<S: Source, W: Write, E: Write>(
+fn line_answered<RT, S: Source, W: Write, E: Write>(
+    rt: &RT,
     alloc: Global,
     words: &[String],
     files: &mut S,
     out: &mut W,
     err: &mut E,
 ) -> Result<Status, CommandFault>
+where
+    RT: Starter + Screen + Threads + Wait + Clock + Sync,
     ensures range { IfOk result (λ s. s ≢ Status.Fault) }
     ensures answered { IfOk result (λ s. s ≢ Status.Refused → E.written err.new ≡ E.written err.old) }
     ensures wrong { IfOk result (λ s. s ≡ Status.Refused → W.written out.new ≡ W.written out.old) }
@@ -75,8 +87,8 @@ fn line_answered<S: Source, W: Write, E: Write>(
     ensures line { wrongs_of words.now ≢ [] → IfOk result (λ s. EndsAs (wrongs_of words.now) (code_of s)) }
     ensures fault { wrongs_of words.now ≢ [] → IfErr result (λ f. number_of f ≡ None) }
     ensures done { wrongs_of words.now ≡ [] → IfOk result (λ s.
-        IsDone (S.file files.old) (found_in words.now) (W.written out.old) (W.written out.new) (code_of s)) }
-    ensures why { wrongs_of words.now ≡ [] → IfErr result (λ f. MayBeFaulted (S.file files.old) (found_in words.now)
+        IsDone (RT.may_hear rt.now) (S.file files.old) (found_in words.now) (W.written out.old) (W.written out.new) (code_of s)) }
+    ensures why { wrongs_of words.now ≡ [] → IfErr result (λ f. MayBeFaulted (RT.may_hear rt.now) (RT.may_lose rt.now) (S.file files.old) (found_in words.now)
         (HasHalted (W.failures out.old) (W.failures out.new)
         (W.interruptions out.old) (W.interruptions out.new))
         (W.written out.old) (W.written out.new) f) }
@@ -85,7 +97,8 @@ fn line_answered<S: Source, W: Write, E: Write>(
         Ok(Asked::Check(check)) => check_answered(alloc, check, files, out),
         Ok(Asked::List(list)) => list_answered(alloc, list, files, out),
         Ok(Asked::Single(single)) => single_answered(alloc, single, files, out),
-        Ok(Asked::Dry(dry)) => dry_answered(alloc, dry, files, out),
+        Ok(Asked::Dry(dry)) => dry_answered(rt, alloc, dry, files, out),
+        Ok(Asked::Run(ran)) => run_answered(rt, alloc, ran, files, out),
         Err(error) => shown(alloc, &error, out, err),
     }
 }

@@ -1,10 +1,6 @@
 use Rattle.std.proofs.Common.{◌∙◌}
-use Rattle.bf_program.proofs.Over.{shown_more, starts_more}
+use Rattle.bf_program.proofs.Over.{starts_more}
 use Rattle.bf_program.proofs.over_table.starts_of.Goals as goal
 
 pub loop-interval-preserved : goal.loop-interval-preserved
-loop-interval-preserved c = (
-  c.in_ok-push.ensures.items
-      ∙ starts_more c.args.intervals.now c.loop-interval.interval-index c.interval-item.result c.start_of.result c.loop-interval.starts.items c.loop-interval-test.true c.interval-item.is c.start_of.ensures.start c.loop-interval.invariant.0,
-  shown_more c.args.intervals.now c.loop-interval.interval-index c.interval-item.result c.loop-interval-test.true c.interval-item.is c.start_of.ensures.shown c.loop-interval.invariant.1,
-)
+loop-interval-preserved c = c.in_ok-push.ensures.items ∙ starts_more c.args.intervals.now c.loop-interval.interval-index c.interval-item.result c.loop-interval.starts.items c.loop-interval-test.true c.interval-item.is c.loop-interval.invariant

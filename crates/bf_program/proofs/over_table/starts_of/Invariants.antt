@@ -1,7 +1,6 @@
-use Rattle.std.proofs.Common.{◌≡◌, All, map, take}
-use Rattle.bf_report.specs.Dated.{IsShownInterval}
+use Rattle.std.proofs.Common.{◌≡◌, map, take}
 use Rattle.bf_program.proofs.over_table.starts_of.Given as goal
 
--- the starts of the intervals before, whose moments have years of four digits
+-- the starts of the intervals before
 abbrev pub invariant-loop-interval : goal.invariant-loop-interval
-invariant-loop-interval l = (l.starts.items ≡ map (λ i. i.start) (take l.interval-index l.intervals)) × All IsShownInterval (take l.interval-index l.intervals)
+invariant-loop-interval l = l.starts.items ≡ map (λ i. i.start) (take l.interval-index l.intervals)

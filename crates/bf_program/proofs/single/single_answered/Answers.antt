@@ -3,7 +3,7 @@ use Rattle.std.proofs.lemmas.Result.{err_from_is_err_and}
 use Rattle.bf_program.specs.Commands.{run_paths}
 use Rattle.bf_program.specs.Status.{of_runs}
 use Rattle.bf_program.proofs.CommandEnds.{single_answer, single_files, single_moment, single_reading, lent_table_alike}
-use Rattle.bf_program.proofs.CommandFacts.{means_lent, no_moment_lent}
+use Rattle.bf_program.proofs.CommandFacts.{means_lent, no_moment_lent, whole_in_years}
 use Rattle.bf_program.proofs.Faults.{leaves_due, moment_leaves, reading_leaves}
 use Rattle.bf_program.proofs.single.single_answered.Goals as goal
 
@@ -49,3 +49,6 @@ returns-clause-answer g c =
     let sends = c.in_ok-succeeded.ensures.ok in
     let answer = single_answer _ c.args.asked c.in_ok-at.at lent c.deref.result.now c.deref-2.result.now _ c.in_ok-files.ensures.readable alike sends.0 c.in_ok-succeeded.succeeded sends.1 in
     (sends.0, rw c.of_runs.ensures answer, sends.2)
+
+pub run_single-requires : goal.run_single-requires
+run_single-requires g c = whole_in_years c.as_str.result.now c.in_ok-at.at c.in_ok-at.ensures.means
