@@ -19,18 +19,28 @@ cat > "$work/refuse.c" <<'C'
 
 static long made;
 
-/* Says at the end how many calls there were. */
-__attribute__((destructor)) static void count(void) {
+/* Whether this is the program itself, and none that it has started. */
+static int is_program(void) {
+    return strcmp(program_invocation_short_name, "backfill") == 0;
+}
+
+/* Says at the end how many calls there were. A program with threads ends by this call. */
+void _exit(int status) {
+    static void (*real)(int) __attribute__((noreturn));
     long calls = made;
-    FILE *file = fopen(getenv("CALL_COUNT"), "w");
-    if (file) { fprintf(file, "%ld\n", calls); fclose(file); }
+    if (is_program()) {
+        FILE *file = fopen(getenv("CALL_COUNT"), "w");
+        if (file) { fprintf(file, "%ld\n", calls); fclose(file); }
+    }
+    real = dlsym(RTLD_NEXT, "_exit");
+    real(status);
 }
 
 /* Whether this call is the one to be refused. */
 static int is_refused(const char *call) {
     const char *which = getenv("REFUSED_CALL");
     const char *number = getenv("REFUSED_NUMBER");
-    return which && number && strcmp(which, call) == 0 && ++made == atol(number);
+    return which && number && is_program() && strcmp(which, call) == 0 && __atomic_add_fetch(&made, 1, __ATOMIC_SEQ_CST) == atol(number);
 }
 
 void *malloc(size_t size) {
@@ -94,7 +104,7 @@ is_whole() {
 # Whether the run ended by the fault of a call of this kind.
 is_fault() {
     [[ $status -eq 3 ]] && case $1 in
-        memory) [[ ! -s $work/out ]] && grep -qx 'fault: out of memory' "$work/err" ;;
+        memory) [[ ! -s $work/out ]] && grep -qxE 'fault: (out of memory|cannot start workers)' "$work/err" ;;
         open | read) [[ ! -s $work/out ]] && grep -q '^fault: cannot read ' "$work/err" ;;
         write) grep -qx 'fault: cannot write' "$work/err" && cmp -s "$work/out" <(head -c "$(stat -c %s "$work/out")" "$work/whole_out") ;;
     esac
@@ -150,11 +160,14 @@ for call in memory open read write; do
     each "$call" list clock_change/graph.json --from 2024-03-31 --to 2024-03-30
     each "$call" single every_key/graph.json every_key/table.json --at 2024-01-01
     each "$call" dry every_key/graph.json every_key/table.json --from 2024-01-01 --to 2024-01-03
+    each "$call" dry every_key/graph.json every_key/table.json --from 2024-01-01 --to 2024-01-03 --workers 2
     each "$call" dry every_key/graph.json every_key/table.json --from 2024-01-03 --to 2024-01-01
     each "$call" single "$work/cycle" one_task/table.json --at 2024-01-01
     each "$call" single one_task/graph.json one_task/table.json --at 2024-02-30
     each "$call" single --help
     each "$call" single
 done
+each memory run extract_transform_load/graph.json --from 2024-01-01 --to 2024-01-02
+each memory run extract_transform_load/graph.json --from 2024-01-01 --to 2024-01-02 --workers 2
 echo "$passed passed, $failed failed"
 [[ $failed -eq 0 ]]

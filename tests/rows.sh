@@ -58,6 +58,7 @@ is_refused() {
     tells 2 "refused $1" list "$graph" --from 2024-01-01 --to 2024-01-01
     tells 2 "refused $1" single "$graph" "$table" --at 2024-01-01
     tells 2 "refused $1" dry "$graph" "$table" --from 2024-01-01 --to 2024-01-01
+    tells 2 "refused $1" run "$graph" --from 2024-01-01 --to 2024-01-01
 }
 
 # The report of one run that starts at 2024-01-01 and ends then, in this state, with the instances on standard input.
@@ -68,15 +69,17 @@ one_run() {
     echo '@end 1'
 }
 
-# The graph that was written, run at 2024-01-01 by this table and for that day, ends in this state with the instances on
+# The graph that was written, run at 2024-01-01 by this table and for that day by 1, 2 and 8 workers, ends in this state with the instances on
 # standard input.
 runs() {
-    local state=$1 status=0
+    local state=$1 status=0 workers
     echo "$2" > "$table"
     [[ $state == success ]] || status=1
     cat > "$work/instances"
     answers "$status" single "$graph" "$table" --at 2024-01-01 < <(one_run 2024-01-01T00:00:00Z "$state" < "$work/instances")
-    answers "$status" dry "$graph" "$table" --from 2024-01-01 --to 2024-01-01 < <(one_run 2024-01-02T00:00:00Z "$state" < "$work/instances")
+    for workers in 1 2 8; do
+        answers "$status" dry "$graph" "$table" --from 2024-01-01 --to 2024-01-01 --workers "$workers" < <(one_run 2024-01-02T00:00:00Z "$state" < "$work/instances")
+    done
 }
 
 # The data intervals of the graph that was written, from and to these moments, are those on standard input.
@@ -192,6 +195,53 @@ x -1 skipped 1 -
 y -1 failed 1 -
 z -1 upstream_failed 0 -
 LINES
+runs success '[{"task":"x","status":99},{"task":"y","status":0}]' <<'LINES'
+x -1 skipped 1 -
+y -1 success 1 -
+z -1 skipped 0 -
+LINES
+runs failed '[{"task":"z","status":255}]' <<'LINES'
+x -1 success 1 -
+y -1 success 1 -
+z -1 failed 1 -
+LINES
+runs success '[{"task":"z","status":99},{"task":"w","status":1},{"task":"z","status":1}]' <<'LINES'
+x -1 success 1 -
+y -1 success 1 -
+z -1 skipped 1 -
+LINES
+runs failed '[{"task":"x"},{"status":98}]' <<'LINES'
+x -1 success 1 -
+y -1 failed 1 -
+z -1 upstream_failed 0 -
+LINES
+
+# Tasks that stand in the file before their upstreams, and a diamond.
+tasks '{"id":"c","upstream":["b"]},{"id":"b","upstream":["a","a"]},{"id":"a","upstream":[]}'
+runs success '[{}]' <<'LINES'
+c -1 success 1 -
+b -1 success 1 -
+a -1 success 1 -
+LINES
+runs failed '[{"task":"a","status":2}]' <<'LINES'
+c -1 upstream_failed 0 -
+b -1 upstream_failed 0 -
+a -1 failed 1 -
+LINES
+tasks '{"id":"top"},{"id":"left","upstream":["top"]},{"id":"right","upstream":["top"]},{"upstream":["left","right"],"id":"foot"}'
+runs failed '[{"task":"left","status":1}]' <<'LINES'
+top -1 success 1 -
+left -1 failed 1 -
+right -1 success 1 -
+foot -1 upstream_failed 0 -
+LINES
+runs success '[{"task":"top","status":99},{"task":"foot","status":1}]' <<'LINES'
+top -1 skipped 1 -
+left -1 skipped 0 -
+right -1 skipped 0 -
+foot -1 skipped 0 -
+LINES
+
 tasks '{"id":"x"},{"id":"y"},{"id":"z","upstream":["x","y"],"rule":"one_success"}'
 runs success '[{"task":"x","status":99},{"task":"y","status":99}]' <<'LINES'
 x -1 skipped 1 -
@@ -202,6 +252,19 @@ runs failed '[{"task":"x","status":99},{"task":"y","status":1}]' <<'LINES'
 x -1 skipped 1 -
 y -1 failed 1 -
 z -1 upstream_failed 0 -
+LINES
+
+# A leaf that succeeds makes the run a success, whatever came before it.
+tasks '{"id":"x"},{"id":"z","upstream":["x"],"rule":"all_done"}'
+runs success '[{"task":"x","status":1}]' <<'LINES'
+x -1 failed 1 -
+z -1 success 1 -
+LINES
+# Pools bound what runs at once, and not what comes of it.
+echo '{"dag_id":"d","schedule":"@daily","max_active_runs":1,"pools":{"p":2},"tasks":[{"id":"x","pool":"p","pool_slots":2},{"id":"z","upstream":["x"],"pool":"p","rule":"one_failed"}]}' > "$graph"
+runs success '[]' <<'LINES'
+x -1 success 1 -
+z -1 skipped 0 -
 LINES
 
 tasks '{"id":"b","kind":"branch"},{"id":"p","upstream":["b"]},{"id":"join","upstream":["b","p"],"rule":"none_failed_min_one_success"}'
@@ -215,11 +278,37 @@ b -1 success 1 []
 p -1 skipped 0 -
 join -1 skipped 0 -
 LINES
+# The join alone is named: what leads to it is skipped, and its rule finds no success but the branch's.
+runs success '[{"task":"b","out":"[\"join\"]"}]' <<'LINES'
+b -1 success 1 ["join"]
+p -1 skipped 0 -
+join -1 success 1 -
+LINES
+runs success '[{"task":"b","status":99}]' <<'LINES'
+b -1 skipped 1 -
+p -1 skipped 0 -
+join -1 skipped 0 -
+LINES
+# What the branch prints is no direct downstream of it.
 tasks '{"id":"b","kind":"branch"},{"id":"m","upstream":["b"]},{"id":"e","upstream":["m"]}'
 runs failed '[{"task":"b","out":"e"}]' <<'LINES'
 b -1 failed 1 -
 m -1 upstream_failed 0 -
 e -1 upstream_failed 0 -
+LINES
+
+tasks '{"id":"b","kind":"branch"},{"id":"x","upstream":["b"]},{"id":"y","upstream":["b"]},{"id":"z","upstream":["x","y"],"rule":"one_success"}'
+runs success '[{"task":"b","out":"[\"y\",\"y\"]\n"}]' <<'LINES'
+b -1 success 1 ["y","y"]
+x -1 skipped 0 -
+y -1 success 1 -
+z -1 success 1 -
+LINES
+# A branch skips what it doesn't follow under each rule.
+tasks '{"id":"b","kind":"branch"},{"id":"z","upstream":["b"],"rule":"always"}'
+runs success '[{"task":"b"}]' <<'LINES'
+b -1 success 1 -
+z -1 skipped 0 -
 LINES
 
 # Expanded tasks.
@@ -314,6 +403,51 @@ done <<'ROWS'
 null => -
 9223372036854775808 => "9223372036854775808"
 [null,true] => [null,true]
+ROWS
+
+# The text of a pushed value has 65,536 bytes at most, its quotes among them.
+long=$(printf 'x%.0s' {1..65534})
+runs success "[{\"out\":\"$long\"}]" <<< "a -1 success 1 \"$long\""
+runs failed "[{\"out\":\"x$long\"}]" <<< 'a -1 failed 1 -'
+
+# What a table answers to one task: the first entry that matches, by the task, the map index and the run.
+
+# The graph that was written has one task, a, and each row a table and what comes of that task.
+answers_task() {
+    local row state
+    while IFS= read -r row; do
+        state=success
+        [[ ${row##* => } != failed* ]] || state=failed
+        runs "$state" "${row%% => *}" <<< "a -1 ${row##* => }"
+    done
+}
+
+answers_task <<'ROWS'
+[{"status":1},{"task":"a"}] => failed 1 -
+[{"task":"a"},{"status":1}] => success 1 -
+[{"task":"b","status":1}] => success 1 -
+[{"index":-1,"status":1}] => failed 1 -
+[{"index":0,"status":1}] => success 1 -
+[{"run":"2024-01-01T00:00:00Z","status":1}] => failed 1 -
+[{"run":"2024-01-01T00:00:01Z","status":1}] => success 1 -
+[{"run":"9999-12-31T23:59:59Z","status":1}] => success 1 -
+[{"out":"x\n7 \t\r\n"}] => success 1 7
+[{"out":"7\n\n"}] => success 1 -
+[{"out":" \t"}] => success 1 -
+[{"out":"3","status":99}] => skipped 1 -
+[{"out":"3","status":1}] => failed 1 -
+ROWS
+# And by the try.
+tasks '{"id":"a","retries":2}'
+answers_task <<'ROWS'
+[{"try":2},{"status":1}] => success 2 -
+[{"try":-9223372036854775808},{"try":4},{"status":1}] => failed 3 -
+[{"try":1,"status":1},{"try":2,"status":99}] => skipped 2 -
+[{"task":"a","index":-1,"run":"2024-01-01T00:00:00Z","try":2,"status":0,"out":"2"},{"status":1}] => success 2 2
+ROWS
+tasks '{"id":"a","retries":100,"depends_on_past":true}'
+answers_task <<'ROWS'
+[{"status":3}] => failed 101 -
 ROWS
 
 # Tables that are refused, by their first bad entry.

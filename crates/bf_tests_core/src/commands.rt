@@ -1,0 +1,78 @@
+//! The words of a command.
+use bf_check::{ContextVariable, Word};
+use bf_moment::Moment;
+use bf_value::{OutOfMemory, Sequence, Text, Values, Xval};
+use bf_xcom::{Given, JobContext, words};
+use jiff::Timestamp;
+use std::alloc::Global;
+use std::test::Fail;
+
+/// A text of the command, each variable of the context, each pull, and the item.
+const COMMAND: usize = 12;
+
+const WORDS: [&str; COMMAND] = [
+    "echo \"",
+    "1970-01-01T00:00:00Z",
+    "1970-01-01T00:00:00Z",
+    "1970-01-01T00:00:00Z",
+    "d",
+    "t",
+    "-1",
+    "1",
+    "a\"b",
+    "",
+    "[3,null,true]",
+    "null",
+];
+
+fn command(text: Text) -> [Word; COMMAND] {
+    [
+        Word::Text(text),
+        Word::Context(ContextVariable::LogicalDate),
+        Word::Context(ContextVariable::DataIntervalStart),
+        Word::Context(ContextVariable::DataIntervalEnd),
+        Word::Context(ContextVariable::DagId),
+        Word::Context(ContextVariable::TaskId),
+        Word::Context(ContextVariable::MapIndex),
+        Word::Context(ContextVariable::TryNumber),
+        Word::Pull(0),
+        Word::Pull(1),
+        Word::Pull(2),
+        Word::Item,
+    ]
+}
+
+/// A null as the item, and a text, nothing and a list as what is pulled.
+fn given(alloc: Global) -> Result<Given, OutOfMemory> {
+    let text = Xval::Text(Text::copied(alloc, "a\"b")?);
+    let list = vec![in alloc; Xval::Int(3), Xval::Nil, Xval::Flag(true)]?;
+    let list = Xval::List(Values::new(list));
+    let pulled = vec![in alloc; Some(text), None, Some(list)]?;
+    Ok(Given {
+        item: Some(Xval::Nil),
+        pulled: Sequence::from_vec(pulled),
+    })
+}
+
+fn words_given(alloc: Global, given: &Given) -> Result<Vec<String>, OutOfMemory> {
+    let context = JobContext {
+        data_interval_start: Moment::new(Timestamp::UNIX_EPOCH),
+        data_interval_end: Moment::new(Timestamp::UNIX_EPOCH),
+        dag_id: "d",
+        task_id: "t",
+        map_index: -1,
+        try_number: 1,
+    };
+    let command = command(Text::copied(alloc, "echo \"")?);
+    Ok(words(alloc, &command, &context, given)?)
+}
+
+#[test]
+fn words_of_a_first_try(rt: HostRuntime) -> Result<(), Fail> {
+    let found = words_given(rt.alloc(), &given(rt.alloc())?)?;
+    assert_eq!(rt; found.len(), WORDS.len());
+    for (word, text) in found.iter().zip(&WORDS) {
+        assert_eq!(rt; word.as_str(), *text);
+    }
+    Ok(())
+}

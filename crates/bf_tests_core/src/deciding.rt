@@ -1,0 +1,63 @@
+//! When a task is decided.
+use crate::steps::{Answered, End, Step, walk};
+use bf_core::Illegal;
+use bf_tests_graphs::job;
+use std::test::Fail;
+
+const JOIN: &str = r#"{"dag_id":"d","schedule":"@daily",
+    "tasks":[{"id":"x"},{"id":"y"},{"id":"z","upstream":["x","y"]}]}"#;
+
+const EARLY: &str = r#"{"dag_id":"d","schedule":"@daily",
+    "tasks":[{"id":"x"},{"id":"y"},{"id":"z","upstream":["x","y"],"rule":"one_success"}]}"#;
+
+/// Below a branch, a task whose rule always runs it.
+const ALWAYS: &str = r#"{"dag_id":"d","schedule":"@daily",
+    "tasks":[{"id":"b","kind":"branch"},{"id":"z","upstream":["b"],"rule":"always"}]}"#;
+
+#[test]
+fn a_waiting_rule_waits_for_the_last_upstream(rt: HostRuntime) -> Result<(), Fail> {
+    let steps: [Answered; 9] = [
+        (Step::Open, Ok(())),
+        (Step::Settle(0, 0), Ok(())),
+        (Step::Begin(job(0, -1, 1)), Ok(())),
+        (Step::Settle(0, 1), Ok(())),
+        (Step::Begin(job(1, -1, 1)), Ok(())),
+        (Step::End(job(0, -1, 1), End::Skips), Ok(())),
+        (Step::Settle(0, 2), Err(Illegal::NotEnabled)),
+        (Step::End(job(1, -1, 1), End::Fails), Ok(())),
+        (Step::Settle(0, 2), Ok(())),
+    ];
+    walk(&rt, rt.alloc(), JOIN, &steps)
+}
+
+#[test]
+fn an_early_rule_does_not_wait_for_all(rt: HostRuntime) -> Result<(), Fail> {
+    let steps: [Answered; 9] = [
+        (Step::Open, Ok(())),
+        (Step::Settle(0, 0), Ok(())),
+        (Step::Begin(job(0, -1, 1)), Ok(())),
+        (Step::Settle(0, 1), Ok(())),
+        (Step::Begin(job(1, -1, 1)), Ok(())),
+        (Step::Settle(0, 2), Err(Illegal::NotEnabled)),
+        (Step::End(job(0, -1, 1), End::Succeeds), Ok(())),
+        (Step::Settle(0, 2), Ok(())),
+        (Step::Begin(job(2, -1, 1)), Ok(())),
+    ];
+    walk(&rt, rt.alloc(), EARLY, &steps)
+}
+
+// What the branch doesn't follow is skipped, so it has no instance.
+#[test]
+fn every_rule_waits_for_a_branch(rt: HostRuntime) -> Result<(), Fail> {
+    let steps: [Answered; 8] = [
+        (Step::Open, Ok(())),
+        (Step::Settle(0, 0), Ok(())),
+        (Step::Begin(job(0, -1, 1)), Ok(())),
+        (Step::Settle(0, 1), Err(Illegal::NotEnabled)),
+        (Step::End(job(0, -1, 1), End::Succeeds), Ok(())),
+        (Step::Settle(0, 1), Ok(())),
+        (Step::Begin(job(1, -1, 1)), Err(Illegal::Stranger)),
+        (Step::Close(0), Ok(())),
+    ];
+    walk(&rt, rt.alloc(), ALWAYS, &steps)
+}

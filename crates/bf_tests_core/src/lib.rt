@@ -1,0 +1,20 @@
+//! Tests of the core and of what stands between it and graphs: pulls and words, tables, and the events of a run, chosen by
+//! hand.
+#![tactic(auto)]
+
+#[cfg(test)]
+mod commands;
+#[cfg(test)]
+mod deciding;
+#[cfg(test)]
+mod events;
+#[cfg(test)]
+mod pools;
+#[cfg(test)]
+mod pulls;
+#[cfg(test)]
+mod steps;
+#[cfg(test)]
+mod tables;
+#[cfg(test)]
+mod tries;

@@ -1,0 +1,97 @@
+//! What a try is given of what other tasks pushed.
+use crate::steps::{Answered, EPOCH, End, Step, list_of, take};
+use bf_core::Core;
+use bf_tests_graphs::{job, plan_of};
+use bf_value::{JobName, Xval};
+use std::alloc::Global;
+use std::process::Abort;
+use std::test::Fail;
+
+/// The last task pulls from the first and from the second.
+const TWO: &str = r#"{"dag_id":"d","schedule":"@daily","tasks":[{"id":"x"},{"id":"y"},
+    {"id":"sum","upstream":["x","y"],"rule":"all_done","command":["echo",{"pull":"x"},{"pull":"y"},{"pull":"x"}]}]}"#;
+
+/// A task that pulls from an expanded one.
+const EXPANDED: &str = r#"{"dag_id":"d","schedule":"@daily","tasks":[{"id":"src"},
+    {"id":"m","upstream":["src"],"expand":"src"},
+    {"id":"sum","upstream":["m"],"command":["echo",{"pull":"m"}]}]}"#;
+
+/// Requires what the ledger says that a try was given of its task's pulls.
+fn is_noted(rt: &impl Abort, core: &Core<'_>, name: JobName, pulled: &[Option<Xval>]) {
+    match core.ledger().get(name) {
+        Some(entry) => assert!(rt; entry.given.pulled.as_slice() == pulled),
+        None => assert!(rt; false, "the try has not ended"),
+    }
+}
+
+/// Requires what a try was given of its task's pulls by these steps, of which the last ends it.
+fn is_given(
+    rt: &impl Abort,
+    alloc: Global,
+    graph: &str,
+    steps: &[Answered],
+    name: JobName,
+    pulled: &[Option<Xval>],
+) -> Result<(), Fail> {
+    let plan = plan_of(alloc, graph)?;
+    let mut core = Core::new(alloc, &plan, &[EPOCH])?;
+    take(rt, alloc, &mut core, steps)?;
+    is_noted(rt, &core, name, pulled);
+    Ok(())
+}
+
+/// The steps of the graph of two, whose first tasks end so.
+fn ending(x: End, y: End) -> [Answered; 10] {
+    [
+        (Step::Open, Ok(())),
+        (Step::Settle(0, 0), Ok(())),
+        (Step::Begin(job(0, -1, 1)), Ok(())),
+        (Step::End(job(0, -1, 1), x), Ok(())),
+        (Step::Settle(0, 1), Ok(())),
+        (Step::Begin(job(1, -1, 1)), Ok(())),
+        (Step::End(job(1, -1, 1), y), Ok(())),
+        (Step::Settle(0, 2), Ok(())),
+        (Step::Begin(job(2, -1, 1)), Ok(())),
+        (Step::End(job(2, -1, 1), End::Succeeds), Ok(())),
+    ]
+}
+
+#[test]
+fn a_try_is_given_what_its_task_pulls(rt: HostRuntime) -> Result<(), Fail> {
+    let steps = ending(End::PushesList(&[3, 1]), End::Pushes(7));
+    let pulled = [Some(list_of(rt.alloc(), &[3, 1])?), Some(Xval::Int(7))];
+    is_given(&rt, rt.alloc(), TWO, &steps, job(2, -1, 1), &pulled)
+}
+
+#[test]
+fn nothing_is_pulled_from_a_failure_and_from_a_skip(rt: HostRuntime) -> Result<(), Fail> {
+    let steps = ending(End::Fails, End::Skips);
+    is_given(&rt, rt.alloc(), TWO, &steps, job(2, -1, 1), &[None, None])
+}
+
+// The instances end in the order 2, 0, 1, and the second pushes nothing.
+#[test]
+fn what_instances_pushed_is_pulled_by_map_index(rt: HostRuntime) -> Result<(), Fail> {
+    let steps: [Answered; 15] = [
+        (Step::Open, Ok(())),
+        (Step::Settle(0, 0), Ok(())),
+        (Step::Begin(job(0, -1, 1)), Ok(())),
+        (
+            Step::End(job(0, -1, 1), End::PushesList(&[3, 1, 2])),
+            Ok(()),
+        ),
+        (Step::Expand(0, 1), Ok(())),
+        (Step::Begin(job(1, 0, 1)), Ok(())),
+        (Step::Begin(job(1, 1, 1)), Ok(())),
+        (Step::Begin(job(1, 2, 1)), Ok(())),
+        (Step::End(job(1, 2, 1), End::Pushes(2)), Ok(())),
+        (Step::End(job(1, 0, 1), End::Pushes(3)), Ok(())),
+        (Step::End(job(1, 1, 1), End::Succeeds), Ok(())),
+        (Step::Settle(0, 2), Ok(())),
+        (Step::Begin(job(2, -1, 1)), Ok(())),
+        (Step::End(job(2, -1, 1), End::Succeeds), Ok(())),
+        (Step::Close(0), Ok(())),
+    ];
+    let pulled = [Some(list_of(rt.alloc(), &[3, 2])?)];
+    is_given(&rt, rt.alloc(), EXPANDED, &steps, job(2, -1, 1), &pulled)
+}

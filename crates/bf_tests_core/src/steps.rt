@@ -1,0 +1,94 @@
+//! Cores, driven by hand over one run.
+use bf_core::{Core, Event, Illegal};
+use bf_interval::Interval;
+use bf_tests_graphs::plan_of;
+use bf_try::Outcome;
+use bf_value::{JobName, OutOfMemory, Values, Xval};
+use jiff::Timestamp;
+use std::alloc::Global;
+use std::process::Abort;
+use std::test::Fail;
+
+/// The data interval of the run.
+pub const EPOCH: Interval = Interval {
+    start: Timestamp::UNIX_EPOCH,
+    end: Timestamp::UNIX_EPOCH,
+};
+
+/// How a try ends.
+#[derive(Clone, Copy)]
+pub enum End {
+    /// It succeeds, and pushes nothing.
+    Succeeds,
+    Pushes(i64),
+    PushesList(&'static [i64]),
+    Fails,
+    Skips,
+}
+
+/// An event. It is settled and expanded by run and task, and closed by run.
+#[derive(Clone, Copy)]
+pub enum Step {
+    Open,
+    Settle(u32, u32),
+    Expand(u32, u32),
+    Begin(JobName),
+    End(JobName, End),
+    Close(u32),
+    Tick(i64),
+}
+
+/// A step, and the answer of the core.
+pub type Answered = (Step, Result<(), Illegal>);
+
+/// A list of numbers.
+pub fn list_of(alloc: Global, numbers: &[i64]) -> Result<Xval, OutOfMemory> {
+    let mut items = Vec::new(alloc);
+    for number in numbers {
+        items.push(Xval::Int(*number))?;
+    }
+    Ok(Xval::List(Values::new(items)))
+}
+
+fn outcome_of(alloc: Global, end: End) -> Result<Outcome, OutOfMemory> {
+    match end {
+        End::Succeeds => Ok(Outcome::Success(None)),
+        End::Pushes(number) => Ok(Outcome::Success(Some(Xval::Int(number)))),
+        End::PushesList(numbers) => Ok(Outcome::Success(Some(list_of(alloc, numbers)?))),
+        End::Fails => Ok(Outcome::Failed),
+        End::Skips => Ok(Outcome::Skipped),
+    }
+}
+
+fn event_of(alloc: Global, step: Step) -> Result<Event, OutOfMemory> {
+    match step {
+        Step::Open => Ok(Event::Open),
+        Step::Settle(run, task) => Ok(Event::Settle { run, task }),
+        Step::Expand(run, task) => Ok(Event::Expand { run, task }),
+        Step::Begin(name) => Ok(Event::Begin(name)),
+        Step::End(name, end) => Ok(Event::End(name, outcome_of(alloc, end)?)),
+        Step::Close(run) => Ok(Event::Close { run }),
+        Step::Tick(moment) => Ok(Event::Tick { moment }),
+    }
+}
+
+/// Takes the steps in turn, each of which the core has to answer so.
+pub fn take(
+    rt: &impl Abort,
+    alloc: Global,
+    core: &mut Core<'_>,
+    steps: &[Answered],
+) -> Result<(), Fail> {
+    for (place, (step, answer)) in steps.iter().enumerate() {
+        let event = event_of(alloc, *step)?;
+        assert_eq!(rt; core.apply(event), *answer, "of step {place}");
+    }
+    Ok(())
+}
+
+/// Takes the steps from the start of a run of a graph.
+pub fn walk(rt: &impl Abort, alloc: Global, graph: &str, steps: &[Answered]) -> Result<(), Fail> {
+    let plan = plan_of(alloc, graph)?;
+    let mut core = Core::new(alloc, &plan, &[EPOCH])?;
+    take(rt, alloc, &mut core, steps)
+}

@@ -1,0 +1,16 @@
+//! Tests of the program: command lines, the files that it reads, the order of its faults, its devices, and whole backfills.
+//! What it prints of small graphs is compared by tests/rows.sh.
+#![tactic(auto)]
+
+#[cfg(test)]
+mod calling;
+#[cfg(test)]
+mod command_line;
+#[cfg(test)]
+mod devices;
+#[cfg(test)]
+mod files;
+#[cfg(test)]
+mod order_of_looking;
+#[cfg(test)]
+mod programs;

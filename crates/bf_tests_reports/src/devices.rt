@@ -1,0 +1,233 @@
+//! Devices that halt: those of this project, and readers and writers of std that raise errors.
+use crate::reports::{FULL, ONE};
+use bf_report::{
+    Bytes, Cause, Halt, Halting, Input, Memory, Output, Report, WriteFault, write_report,
+};
+use bf_report_reader::{ReportFault, read_report};
+use std::alloc::Global;
+use std::io;
+use std::test::Fail;
+
+/// Why a device gives up after so many bytes.
+const fn halted_after(sent: u64) -> Result<(), WriteFault> {
+    Err(WriteFault {
+        sent,
+        cause: Cause::Io,
+    })
+}
+
+fn report_of(alloc: Global, text: &str) -> Result<Report, Fail> {
+    let mut device = Bytes::new(text.as_bytes().to_vec(alloc)?);
+    Ok(read_report(alloc, &mut device)?)
+}
+
+/// Writes a report to a device that takes one byte a call and halts at some. Gives the answer, and what was written.
+fn write_halting(
+    alloc: Global,
+    report: &Report,
+    halt: Halt,
+    first: usize,
+    times: u64,
+) -> (Result<(), WriteFault>, Vec<u8>) {
+    let mut out = Halting::new(Memory::new(alloc), halt, first as u64, times);
+    let answer = write_report(alloc, report, &mut out);
+    (answer, out.into_inner().into_vec())
+}
+
+/// Reads a report from a device that gives one byte a call and halts at some. Gives the fault.
+fn read_halting(
+    alloc: Global,
+    text: &str,
+    halt: Halt,
+    first: usize,
+    times: u64,
+) -> Result<Option<ReportFault>, Fail> {
+    let bytes = Bytes::new(text.as_bytes().to_vec(alloc)?);
+    let mut device = Halting::new(bytes, halt, first as u64, times);
+    Ok(read_report(alloc, &mut device).err())
+}
+
+#[test]
+fn a_write_that_halts_for_good_is_a_fault(rt: HostRuntime) -> Result<(), Fail> {
+    let report = report_of(rt.alloc(), ONE)?;
+    for (halt, times) in [(Halt::Failed, 1), (Halt::Again, 1_001)] {
+        for call in 0..ONE.len() {
+            let (answer, written) = write_halting(rt.alloc(), &report, halt, call, times);
+            assert_eq!(rt; answer, halted_after(call as u64));
+            assert_eq!(rt; written.as_slice(), &ONE.as_bytes()[..call]);
+        }
+    }
+    Ok(())
+}
+
+#[test]
+fn a_thousand_interruptions_of_a_write_are_nothing(rt: HostRuntime) -> Result<(), Fail> {
+    let report = report_of(rt.alloc(), ONE)?;
+    for call in 0..ONE.len() {
+        let (answer, written) = write_halting(rt.alloc(), &report, Halt::Again, call, 1_000);
+        assert_eq!(rt; answer, Ok(()));
+        assert_eq!(rt; written.as_slice(), ONE.as_bytes());
+    }
+    Ok(())
+}
+
+#[test]
+fn a_read_that_halts_for_good_is_a_fault(rt: HostRuntime) -> Result<(), Fail> {
+    for (halt, times) in [(Halt::Failed, 1), (Halt::Again, 1_001)] {
+        for call in 0..=FULL.len() {
+            let fault = read_halting(rt.alloc(), FULL, halt, call, times)?;
+            assert_eq!(rt; fault, Some(ReportFault::Io));
+        }
+    }
+    Ok(())
+}
+
+#[test]
+fn a_thousand_interruptions_of_a_read_are_nothing(rt: HostRuntime) -> Result<(), Fail> {
+    for call in 0..=FULL.len() {
+        assert_eq!(rt;
+            read_halting(rt.alloc(), FULL, Halt::Again, call, 1_000)?,
+            None
+        );
+    }
+    Ok(())
+}
+
+// The byte behind the end is looked for once, and then no more.
+#[test]
+fn a_report_is_not_read_past_its_end(rt: HostRuntime) -> Result<(), Fail> {
+    let fault = read_halting(rt.alloc(), FULL, Halt::Failed, FULL.len() + 1, 1)?;
+    assert_eq!(rt; fault, None);
+    Ok(())
+}
+
+#[test]
+fn an_earlier_bad_line_comes_before_a_read_that_fails(rt: HostRuntime) -> Result<(), Fail> {
+    for (call, fault) in [(6, ReportFault::Io), (7, ReportFault::BadLine(1))] {
+        let found = read_halting(rt.alloc(), "@end 0\n", Halt::Failed, call, 1)?;
+        assert_eq!(rt; found, Some(fault));
+    }
+    Ok(())
+}
+
+/// An error that is raised so often before anything is given or taken.
+#[derive(Clone, Copy)]
+struct Errors {
+    kind: io::ErrorKind,
+    left: u32,
+}
+
+impl Errors {
+    fn raise(&mut self) -> io::Result<()> {
+        if self.left == 0 {
+            return Ok(());
+        }
+        self.left -= 1;
+        Err(io::Error::from(self.kind))
+    }
+}
+
+/// A reader of bytes that raises errors at its first calls.
+#[derive(Drop)]
+struct RaisingReader {
+    errors: Errors,
+    bytes: &'static [u8],
+}
+
+impl io::Read for RaisingReader {
+    fn read(&mut self, room: &mut [u8]) -> io::Result<usize> {
+        self.errors.raise()?;
+        self.bytes.read(room)
+    }
+}
+
+/// A writer to memory that raises errors at its first calls.
+#[derive(Drop)]
+struct RaisingWriter {
+    errors: Errors,
+    bytes: Vec<u8>,
+}
+
+impl io::Write for RaisingWriter {
+    fn write(&mut self, bytes: &[u8]) -> io::Result<usize> {
+        self.errors.raise()?;
+        self.bytes.write(bytes)
+    }
+
+    fn flush(&mut self) -> io::Result<()> {
+        Ok(())
+    }
+}
+
+/// Errors, and whether a call goes on after them: an interruption is no failure, but the 1,001st is one too many.
+const ERRORS: [(io::ErrorKind, u32, bool); 8] = [
+    (io::ErrorKind::Interrupted, 0, true),
+    (io::ErrorKind::Interrupted, 1, true),
+    (io::ErrorKind::Interrupted, 1_000, true),
+    (io::ErrorKind::Interrupted, 1_001, false),
+    (io::ErrorKind::WouldBlock, 1, false),
+    (io::ErrorKind::TimedOut, 1, false),
+    (io::ErrorKind::BrokenPipe, 1, false),
+    (io::ErrorKind::Other, 1, false),
+];
+
+fn read_raising(alloc: Global, errors: Errors) -> Option<ReportFault> {
+    let mut device = Input::new(RaisingReader {
+        errors,
+        bytes: FULL.as_bytes(),
+    });
+    read_report(alloc, &mut device).err()
+}
+
+/// Writes a report to a writer that raises errors. Gives the answer, and what was written.
+fn write_raising(
+    alloc: Global,
+    report: &Report,
+    errors: Errors,
+) -> (Result<(), WriteFault>, Vec<u8>) {
+    let bytes = Vec::new(alloc);
+    let mut out = Output::new(RaisingWriter { errors, bytes });
+    let answer = write_report(alloc, report, &mut out);
+    let RaisingWriter { errors: _, bytes } = out.into_inner();
+    (answer, bytes)
+}
+
+#[test]
+fn a_reader_of_std_is_read_on_after_interruptions(rt: HostRuntime) {
+    for (kind, left, goes_on) in ERRORS {
+        let fault = read_raising(rt.alloc(), Errors { kind, left });
+        let wanted = if goes_on { None } else { Some(ReportFault::Io) };
+        assert_eq!(rt; fault, wanted);
+    }
+}
+
+#[test]
+fn a_writer_of_std_is_written_on_after_interruptions(rt: HostRuntime) -> Result<(), Fail> {
+    let report = report_of(rt.alloc(), FULL)?;
+    for (kind, left, goes_on) in ERRORS {
+        let (answer, written) = write_raising(rt.alloc(), &report, Errors { kind, left });
+        let (wanted, text) = if goes_on {
+            (Ok(()), FULL)
+        } else {
+            (halted_after(0), "")
+        };
+        assert_eq!(rt; answer, wanted);
+        assert_eq!(rt; written.as_slice(), text.as_bytes());
+    }
+    Ok(())
+}
+
+#[test]
+fn a_writer_of_std_that_takes_nothing_is_a_fault(rt: HostRuntime) -> Result<(), Fail> {
+    let report = report_of(rt.alloc(), ONE)?;
+    for room in 0..ONE.len() {
+        let mut bytes = vec![in rt.alloc(); b'.'; room]?;
+        let mut out = Output::new(bytes.as_mut_slice());
+        assert_eq!(rt;
+            write_report(rt.alloc(), &report, &mut out),
+            halted_after(room as u64)
+        );
+        assert_eq!(rt; bytes.as_slice(), &ONE.as_bytes()[..room]);
+    }
+    Ok(())
+}

@@ -1,0 +1,9 @@
+//! Tests of reports: their text, what is read of it, and the devices that they go to and come from.
+#![tactic(auto)]
+
+#[cfg(test)]
+mod devices;
+#[cfg(test)]
+mod reading;
+#[cfg(test)]
+mod reports;

@@ -1,0 +1,163 @@
+//! Reading a report: which lines may stand where, and which fault comes first.
+use crate::reports::{FULL, ONE};
+use bf_report::Bytes;
+use bf_report_reader::{ReportFault, read_report};
+use bf_value::OutOfMemory;
+use std::alloc::Global;
+use std::process::Abort;
+use std::test::Fail;
+
+/// Texts whose last line may not stand where it stands, and the number of that line. A bar is a line feed.
+const BAD: &str = r#"| => 1
+@backfill 2 d| => 1
+@backfill 1| => 1
+@backfill 1 | => 1
+@backfill 1 a b| => 1
+@backfill 1 d | => 1
+@backfill  1 d| => 1
+@end 0| => 1
+@backfill 1 d|| => 2
+@backfill 1 d|@end 1| => 2
+@backfill 1 d|@end 00| => 2
+@backfill 1 d|@end +0| => 2
+@backfill 1 d|@end 0 | => 2
+@backfill 1 d|@end| => 2
+@backfill 1 d|@end 0|| => 3
+@backfill 1 d|@end 0|@end 0| => 3
+@backfill 1 d|a -1 success 1 -| => 2
+@backfill 1 d|@run 2024-01-01 2024-01-02T00:00:00Z success| => 2
+@backfill 1 d|@run 2024-01-01T00:00:60Z 2024-01-02T00:00:00Z success| => 2
+@backfill 1 d|@run 2024-02-30T00:00:00Z 2024-03-02T00:00:00Z success| => 2
+@backfill 1 d|@run 2024-01-02T00:00:00Z 2024-01-01T00:00:00Z success| => 2
+@backfill 1 d|@run 1969-12-31T23:59:59Z 2024-01-01T00:00:00Z success| => 2
+@backfill 1 d|@run 2200-01-01T00:00:00Z 2200-01-01T00:00:00Z success| => 2
+@backfill 1 d|@run 2199-01-01T00:00:00Z 2209-01-01T00:00:00Z success| => 2
+@backfill 1 d|@run 2024-01-01T00:00:00Z 2024-01-02T00:00:00Z skipped| => 2
+@backfill 1 d|@run 2024-01-01T00:00:00Z 2024-01-02T00:00:00Z success | => 2
+R|@run 2024-01-01T00:00:00Z 2024-01-03T00:00:00Z success| => 3
+R|@run 2023-12-31T00:00:00Z 2024-01-03T00:00:00Z success| => 3
+R|a -1 success 1| => 3
+R|a -1 success 1 - | => 3
+R|a -1 success 01 -| => 3
+R|a -1 success 0 -| => 3
+R|a -1 success 102 -| => 3
+R|a -1 running 1 -| => 3
+R|a -1 failed 1 1| => 3
+R|a -1 failed 0 -| => 3
+R|a -1 skipped 1 null| => 3
+R|a -1 no_status 1 -| => 3
+R|a 0 no_status 0 -| => 3
+R|a 0 skipped 0 -| => 3
+R|a 1 success 1 -| => 3
+R|a -0 success 1 -| => 3
+R|a 00 success 1 -| => 3
+R|a -1 success 1 null| => 3
+R|a -1 success 1 a| => 3
+R|a -1 success 1 1.5| => 3
+R|a -1 success 1 [1, 2]| => 3
+R|a -1 success 1 {}| => 3
+R|a -1 success 1 "\/"| => 3
+R|@ -1 success 1 -| => 3
+R| -1 success 1 -| => 3
+R|a/ -1 success 1 -| => 3
+R|a -1 success 1 -|a -1 success 1 -| => 4
+R|a 0 success 1 -|a 2 success 1 -| => 4
+R|a 0 success 1 -|a 0 success 1 -| => 4
+R|a 0 success 1 -|b 1 success 1 -| => 4
+R|a -1 success 1 -|a 1 success 1 -| => 4
+R|a -1 success 1 -|S|@end 2| => 5
+R|a -1 success 1 -|S|b -1 success 1 -| => 5
+R|a 0 success 1 -|S|a -1 success 1 -|b -1 success 1 -| => 6"#;
+
+/// A text in which `R` stands for a head and a run, `S` for a later run, and a bar for a line feed.
+fn spelled_out(alloc: Global, text: &str) -> Result<Vec<u8>, OutOfMemory> {
+    let mut bytes = Vec::new(alloc);
+    for byte in text.as_bytes() {
+        let part: &[u8] = match byte {
+            b'R' => b"@backfill 1 d\n@run 2024-01-01T00:00:00Z 2024-01-02T00:00:00Z success",
+            b'|' => b"\n",
+            b'S' => b"@run 2024-01-02T00:00:00Z 2024-01-03T00:00:00Z success",
+            _ => std::slice::from_ref(byte),
+        };
+        bytes.extend_from_slice(part)?;
+    }
+    Ok(bytes)
+}
+
+/// Why bytes are no report.
+fn fault_of(alloc: Global, bytes: &[u8]) -> Result<Option<ReportFault>, Fail> {
+    let mut device = Bytes::new(bytes.to_vec(alloc)?);
+    Ok(read_report(alloc, &mut device).err())
+}
+
+/// The head and the run of a report, and a line of so many bytes.
+fn with_line(alloc: Global, len: usize, end: &[u8]) -> Result<Vec<u8>, OutOfMemory> {
+    let mut bytes = spelled_out(alloc, "R|")?;
+    bytes.extend_from_slice(vec![in alloc; b'a'; len]?.as_slice())?;
+    bytes.extend_from_slice(end)?;
+    Ok(bytes)
+}
+
+/// Requires which line of a row is told, with more behind it.
+fn line_is_told(rt: &impl Abort, alloc: Global, row: &str) -> Result<(), Fail> {
+    let (text, line) = row.split_once(" => ").ok_or("a row has an arrow")?;
+    let mut bytes = spelled_out(alloc, text)?;
+    bytes.extend_from_slice(b"?\n")?;
+    let Some(ReportFault::BadLine(found)) = fault_of(alloc, &bytes)? else {
+        return Err(Fail::from("it has no bad line"));
+    };
+    assert_eq!(rt; format!(in alloc; "{found}")?.as_str(), line, "{text}");
+    Ok(())
+}
+
+#[test]
+fn the_first_bad_line_is_told(rt: HostRuntime) -> Result<(), Fail> {
+    for row in BAD.lines() {
+        line_is_told(&rt, rt.alloc(), row)?;
+    }
+    Ok(())
+}
+
+#[test]
+fn a_line_ends_with_a_line_feed_alone(rt: HostRuntime) -> Result<(), Fail> {
+    let fault = fault_of(rt.alloc(), b"@backfill 1 d\r\n@end 0\n")?;
+    assert_eq!(rt; fault, Some(ReportFault::BadLine(1)));
+    Ok(())
+}
+
+#[test]
+fn each_beginning_is_truncated(rt: HostRuntime) -> Result<(), Fail> {
+    for length in 0..FULL.len() {
+        let fault = fault_of(rt.alloc(), &FULL.as_bytes()[..length])?;
+        assert_eq!(rt; fault, Some(ReportFault::Truncated));
+    }
+    Ok(())
+}
+
+#[test]
+fn a_byte_behind_the_end_is_a_bad_line(rt: HostRuntime) -> Result<(), Fail> {
+    for count in [1, 70_001] {
+        let mut bytes = ONE.as_bytes().to_vec(rt.alloc())?;
+        bytes.resize(ONE.len() + count, b' ')?;
+        assert_eq!(rt;
+            fault_of(rt.alloc(), &bytes)?,
+            Some(ReportFault::BadLine(5))
+        );
+    }
+    Ok(())
+}
+
+#[test]
+fn a_line_has_66000_bytes_at_most(rt: HostRuntime) -> Result<(), Fail> {
+    let lines: [(usize, &[u8], ReportFault); 4] = [
+        (66_000, b"\n", ReportFault::BadLine(3)),
+        (66_000, b"", ReportFault::Truncated),
+        (66_001, b"\n", ReportFault::TooLong(3)),
+        (66_001, b"", ReportFault::TooLong(3)),
+    ];
+    for (length, end, fault) in lines {
+        let bytes = with_line(rt.alloc(), length, end)?;
+        assert_eq!(rt; fault_of(rt.alloc(), &bytes)?, Some(fault));
+    }
+    Ok(())
+}

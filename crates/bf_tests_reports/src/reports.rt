@@ -1,0 +1,70 @@
+//! Reports: their text, and the words of what is told of a bad one.
+use bf_report::{Bytes, Memory, write_report};
+use bf_report_reader::{ReportFault, read_report};
+use std::alloc::Global;
+use std::test::Fail;
+
+/// One run, which ends where it starts.
+pub const ONE: &str = "@backfill 1 d\n\
+    @run 2024-01-01T00:00:00Z 2024-01-01T00:00:00Z success\n\
+    a -1 success 1 -\n\
+    @end 1\n";
+
+/// Three runs of five tasks, with every state and every kind of value.
+pub const FULL: &str = "@backfill 1 full-graph_1.0\n\
+    @run 1970-01-01T00:00:00Z 1970-01-01T00:00:00Z failed\n\
+    src -1 success 101 [3,1,[2,null,true,\"a b\"]]\n\
+    m 0 success 1 3\n\
+    m 1 failed 7 -\n\
+    m 2 skipped 1 -\n\
+    sum -1 upstream_failed 0 -\n\
+    other -1 success 1 \"-\"\n\
+    last -1 no_status 0 -\n\
+    @run 2199-12-31T23:59:58Z 2199-12-31T23:59:59Z success\n\
+    src -1 skipped 0 -\n\
+    m -1 skipped 2 -\n\
+    sum 0 success 1 -9223372036854775808\n\
+    other -1 success 1 \"\\u0000\\n\"\n\
+    last -1 success 1 -\n\
+    @run 2199-12-31T23:59:59Z 2208-12-31T23:59:59Z success\n\
+    src -1 failed 1 -\n\
+    m -1 success 1 []\n\
+    sum -1 success 1 false\n\
+    other 0 success 1 \"1.5\"\n\
+    other 1 success 100 -\n\
+    last -1 success 1 -\n\
+    @end 3\n";
+
+/// Reads a report and writes it again.
+fn written_again(alloc: Global, text: &str) -> Result<Vec<u8>, Fail> {
+    let mut device = Bytes::new(text.as_bytes().to_vec(alloc)?);
+    let report = read_report(alloc, &mut device)?;
+    let mut out = Memory::new(alloc);
+    write_report(alloc, &report, &mut out)?;
+    Ok(out.into_vec())
+}
+
+#[test]
+fn reports_come_back(rt: HostRuntime) -> Result<(), Fail> {
+    for text in [ONE, FULL, "@backfill 1 d\n@end 0\n"] {
+        assert_eq!(rt;
+            written_again(rt.alloc(), text)?.as_slice(),
+            text.as_bytes()
+        );
+    }
+    Ok(())
+}
+
+#[test]
+fn faults_have_their_words(rt: HostRuntime) -> Result<(), Fail> {
+    for (fault, words) in [
+        (ReportFault::BadLine(5), "bad line: 5"),
+        (ReportFault::TooLong(3), "line too long: 3"),
+        (ReportFault::Truncated, "truncated"),
+        (ReportFault::Io, "cannot read"),
+        (ReportFault::OutOfMemory, "out of memory"),
+    ] {
+        assert_eq!(rt; format!(in rt.alloc(); "{fault}")?.as_str(), words);
+    }
+    Ok(())
+}

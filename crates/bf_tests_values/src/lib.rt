@@ -1,0 +1,15 @@
+//! Tests of what stands below graphs: values, moments, schedules, zones and data intervals.
+#![tactic(auto)]
+
+#[cfg(test)]
+mod data_intervals;
+#[cfg(test)]
+mod expansion;
+#[cfg(test)]
+mod moments;
+#[cfg(test)]
+mod schedules;
+#[cfg(test)]
+mod value_of_a_line;
+#[cfg(test)]
+mod zones;
