@@ -1,7 +1,6 @@
 //! What comes next in a backfill: the first step that may come by itself, the try that begins, and the moment to wait for.
 //!
-//! `Ready` keeps it over the events that come. The functions beside it find the same by a look at the whole backfill; tests
-//! compare the two.
+//! `Ready` keeps it over the events that come. The functions beside it find the same by a look at the whole backfill.
 #![tactic(auto)]
 
 mod moments;
