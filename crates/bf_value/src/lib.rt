@@ -2,7 +2,7 @@
 //! contracts see as lists.
 //!
 //! A value is what a task pushes by the last line of its output. `read_line` reads it from that line, and
-//! `text_of` writes it as compact JSON, which reads back as the same value.
+//! `text_of` writes it as compact JSON, which reads back as the same value: as a line, and by `read_text`.
 #![tactic(auto)]
 
 mod line;
@@ -17,7 +17,7 @@ mod xval;
 pub use line::last_line;
 pub use memory::OutOfMemory;
 pub use name::JobName;
-pub use reading::{LineFault, read_line, text_of, text_reads_back};
+pub use reading::{LineFault, read_line, read_text, text_of, text_reads_back};
 pub use sequence::Sequence;
 pub use text::Text;
 pub use xval::{Values, Xval};
