@@ -10,7 +10,7 @@ use Rattle.bf_core.proofs.Placing.{any-default}
 use Rattle.bf_core.proofs.Decisions.{and_left, and_right}
 use Rattle.bf_core.specs.Words.{is_failed_phase, is_failed_instance, instances_fail}
 use Rattle.bf_core.proofs.Sums.{some-results}
-use Rattle.bf_core.proofs.Numbers.{last-or}
+use Rattle.bf_core.proofs.Numbers.{below-or}
 
 failed-cons : (a : ℕ) (p : Phase) (o : Option (List TaskResult)) (b : Bool) → ((rs : List TaskResult) → o ≡ Some rs → list_any (λ r. is_failed r.outcome) rs ≡ b) →
     (rs : List TaskResult) → cons_result a p o ≡ Some rs → list_any (λ r. is_failed r.outcome) rs ≡ (is_failed_phase p || b)
@@ -46,7 +46,7 @@ ran_fails leaf xs = fails-of leaf (results xs) _ _ (some-results xs) (failed-res
 
 pub any-at : (n t : ℕ) (p : ℕ → Bool) → t < n → p t ≡ true → any_below n p ≡ true
 any-at zero t p l e = absurd (omega (arith, l))
-any-at (suc n) t p l e = elim (last-or t n (omega (arith, l))) [ inl same ↦ ap (λ b. b || any_below n p) (ap p (sym same) ∙ e) | inr less ↦ or-true (p n) (any-at n t p less e) ]
+any-at (suc n) t p l e = elim (below-or t n (omega (arith, l))) [ inl less ↦ or-true (p n) (any-at n t p less e) | inr same ↦ ap (λ b. b || any_below n p) (ap p (sym same) ∙ e) ]
   where
     or-true : (b : Bool) {c : Bool} → c ≡ true → (b || c) ≡ true
     or-true true h = refl
@@ -98,9 +98,9 @@ set-there (x ∷ xs) (suc i) v (suc k) l = set-there xs i v k (omega arith)
 pub written-more : (states : List RunState) (i : ℕ) (v : RunState) (f : ℕ → RunState) → i < length states → ((k : ℕ) → k < i → slice_get states k ≡ Some (f k)) → v ≡ f i →
     (k : ℕ) → k < i + 1 → slice_get (slice_set states i v) k ≡ Some (f k)
 written-more states i v f there before is k l =
-    elim (last-or k i (omega arith)) [
-      | inl same ↦ ap (λ n. slice_get (slice_set states i v) n) same ∙ set-here states i v there ∙ ap Some is ∙ ap (λ n. Some (f n)) (sym same)
-      | inr less ↦ set-there states i v k less ∙ before k less
+    elim (below-or k i (omega arith)) [
+      | inl less ↦ set-there states i v k less ∙ before k less
+      | inr same ↦ ap (λ n. slice_get (slice_set states i v) n) same ∙ set-here states i v there ∙ ap Some is ∙ ap (λ n. Some (f n)) (sym same)
     ]
 
 -- the state of a row is that of its place

@@ -10,9 +10,6 @@ use Rattle.bf_core.specs.Agreement.{results_of, final_cell, finished_from, Holds
 use Rattle.bf_core.proofs.Attempts.{last_try-same, last_try-from}
 use Rattle.bf_core.proofs.Depth.{decision-cong, out-is, pick, pull-below}
 
-alike-back : (one two : Ledger) → AreAlike one two → AreAlike two one
-alike-back one two alike n d e f g h = sym (alike n e d g f (sym h))
-
 ancestor-in : (dag : Dag) (sound : IsSound dag) (t a : ℕ) → IsSettledAncestor dag t a → a < length dag.tasks
 ancestor-in dag sound t a (Direct w h) = sound.in_range t a h
 ancestor-in dag sound t a (Above {u = u} w h above) = ancestor-in dag sound u a above
@@ -182,23 +179,32 @@ all-kept dag = record { up = λ k t u a b. tt; back = λ k t a b. tt }
 everywhere : (dag : Dag) (one two : Ledger) → AreAlike one two → (k t : ℕ) → Unit {0} → AreAlikeAt dag one two k t
 everywhere dag one two alike k t kept i a d e p q g = alike _ d e p q g
 
--- two ledgers that hold their tries, and are alike, have equal entries
-entries-same : (dag : Dag) → IsSound dag → (runs : ℕ) (one two : Ledger) → HoldsItsTries dag runs one → HoldsItsTries dag runs two → AreAlike one two → (n : JobName) → one n ≡ two n
-entries-same dag sound runs one two first second alike n = go (one n) refl (two n) refl
+-- the same the other way round
+alike-at-back : (dag : Dag) (one two : Ledger) (k t : ℕ) → AreAlikeAt dag one two k t → AreAlikeAt dag two one k t
+alike-at-back dag one two k t alike i a d e first second given = sym (alike i a e d second first (sym given))
+
+-- two ledgers that hold their tries, and are alike within a closed set, have equal entries there
+pub entries-same : (dag : Dag) → IsSound dag → (runs : ℕ) (one two : Ledger) (Kept : ℕ → ℕ → Type 0) → IsClosed dag Kept → ((k t : ℕ) → Kept k t → AreAlikeAt dag one two k t) →
+    HoldsItsTries dag runs one → HoldsItsTries dag runs two → (n : JobName) → Kept n.run n.task → one n ≡ two n
+entries-same dag sound runs one two Kept closed alike first second n kept = go (one n) refl (two n) refl
   where
+    back : (k t : ℕ) → Kept k t → AreAlikeAt dag two one k t
+    back k t h = alike-at-back dag one two k t (alike k t h)
+
     go : (a : Option Entry) → one n ≡ a → (b : Option Entry) → two n ≡ b → one n ≡ two n
     go None e None f = e ∙ sym f
     go (Some d) e b f =
         let a : _ = first.asked n d e in
-        e ∙ sym (entry-alike dag sound runs one two (λ k t. Unit {0}) (all-kept dag) (everywhere dag _ _ alike) first.defined second.defined n d tt a.0 a.1 a.2 a.3 e)
+        e ∙ sym (entry-alike dag sound runs one two Kept closed alike first.defined second.defined n d kept a.0 a.1 a.2 a.3 e)
     go None e (Some d) f =
         let a : _ = second.asked n d f in
-        entry-alike dag sound runs two one (λ k t. Unit {0}) (all-kept dag) (everywhere dag _ _ (alike-back _ _ alike)) second.defined first.defined n d tt a.0 a.1 a.2 a.3 f ∙ sym f
+        entry-alike dag sound runs two one Kept closed back second.defined first.defined n d kept a.0 a.1 a.2 a.3 f ∙ sym f
 
 -- and are one
 pub tries-same : (dag : Dag) → IsSound dag → (runs : ℕ) (one two : map.FinMap name_cmp Entry) → HoldsItsTries dag runs (map.get one) → HoldsItsTries dag runs (map.get two) → AreAlike (map.get one) (map.get two) → one ≡ two
 tries-same dag sound runs one two first second alike =
-    map.same_map name_cmp_total name_cmp-IsAntisymmetric one two (entries-same dag sound runs (map.get one) (map.get two) first second alike)
+    map.same_map name_cmp_total name_cmp-IsAntisymmetric one two
+    (λ n. entries-same dag sound runs (map.get one) (map.get two) (λ k t. Unit {0}) (all-kept dag) (everywhere dag _ _ alike) first second n tt)
 
 -- two states that are outcomes of one plan, and whose ledgers are alike, have one ledger
 pub ledgers-same : (dag : Dag) → IsSound dag → (runs : ℕ) (s t : State) → IsOutcome dag runs s → IsOutcome dag runs t → AreAlike (entry_in s.ledger) (entry_in t.ledger) →

@@ -8,5 +8,5 @@ le-from a b e = grind (arith, nat_tests)
 pub lt-from : (a b : ℕ) → nat_le a b ≡ false → b < a
 lt-from a b e = grind (arith, nat_tests)
 
-pub last-or : (j n : ℕ) → j < n + 1 → (j ≡ n) ⊎ (j < n)
-last-or j n l = grind arith
+pub below-or : (i n : ℕ) → i < n + 1 → (i < n) ⊎ (i ≡ n)
+below-or i n l = grind arith

@@ -8,7 +8,7 @@ use Rattle.bf_check.specs.Sound.{AreLimits}
 use Rattle.bf_try.specs.Asked.{Asked}
 use Rattle.bf_core.specs.Terms.{Dag, task_of, Limits, Given, Outcome, JobName, State, Run, RunPhase, Cell, Instance, Phase, Event, name_cmp, name_of, Entry, demand_of, pool_size}
 use Rattle.bf_core.specs.Deciding.{Decision}
-use Rattle.bf_core.specs.Events.{no_run, cell_at, cell_in, put, put_in, phase_put_in, with_phase, next_run, instance_of, change_at, change_instance, begun, ended, fresh, cell_of, decision_in, given_in, given_of, place_in, one_running, running_in, held_by, held_from, occupied, has_room, IsPresent, IsDecidable, IsEnabled, after}
+use Rattle.bf_core.specs.Events.{no_run, cell_at, cell_in, put, put_in, phase_put_in, with_phase, next_run, instance_of, change_at, change_instance, begun, ended, fresh, cell_of, decision_in, given_in, given_of, place_in, one_running, running_in, held_by, held_from, occupied, has_room, IsPresent, IsDecidable, IsEnabled, after, empty_runs, start, undecided_cells}
 use Rattle.bf_core.specs.Running.{running_by_place, running_now, running_tries, sum_by_place, sum_of_running, while_running}
 use Rattle.bf_core.specs.Cores.{Backfill, GoesOn, IsReplay}
 use Rattle.bf_core.proofs.Steps.{decided-held}
@@ -246,3 +246,20 @@ idle-moves b is fit e =
 -- no try runs at the end of an event but one that ran or begins
 pub ends-run : (s : State) → running_now s ≡ 0 → (dag : Dag) (n : JobName) → IsPresent dag s n Phase.Running → ⊥
 ends-run s e dag n at = none-runs (cell_at s n.run n.task) (place_in dag n) at.held (cell-idle s e n.run n.task) at.is_held at.in_phase
+
+-- ---- the start
+
+idle-row : (f : ℕ → ℕ → Instance → ℕ) (n : ℕ) → sum_by_place (λ t c. running_by_place (f t) c) (undecided_cells n) ≡ 0
+idle-row f zero = refl
+idle-row f (suc n) = let rest : _ = idle-row (λ t. f (suc t)) n in omega (arith, rest)
+
+idle-rows : (f : ℕ → ℕ → ℕ → Instance → ℕ) (tasks n : ℕ) → sum_by_place (λ k (r : Run). sum_by_place (λ t c. running_by_place (f k t) c) r.cells) (empty_runs tasks n) ≡ 0
+idle-rows f tasks zero = refl
+idle-rows f tasks (suc n) =
+    let first : _ = idle-row (f 0) tasks in
+    let rest : _ = idle-rows (λ k. f (suc k)) tasks n in
+    omega (arith, first, rest)
+
+-- at the start no try runs
+pub start-idle : (dag : Dag) (runs : ℕ) (f : ℕ → ℕ → ℕ → Instance → ℕ) → sum_of_running f (start dag runs) ≡ 0
+start-idle dag runs f = idle-rows f (length dag.tasks) runs

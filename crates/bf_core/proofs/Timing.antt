@@ -18,7 +18,7 @@ equal-is Less e = cc
 equal-is Equal e = refl
 equal-is Greater e = cc
 
-same-name : (a b : JobName) → eq_by_cmp name_cmp a b ≡ true → a ≡ b
+pub same-name : (a b : JobName) → eq_by_cmp name_cmp a b ≡ true → a ≡ b
 same-name a b e = name_cmp-IsAntisymmetric a b (equal-is _ e)
 
 next-one : (a b : JobName) → next_try a ≡ next_try b → a ≡ b

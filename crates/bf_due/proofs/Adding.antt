@@ -11,11 +11,12 @@ use Rattle.bf_core.specs.Events.{IsDecidable, goes_on}
 use Rattle.bf_core.specs.Cores.{Backfill, MayCome, deciding}
 use Rattle.bf_core.proofs.Enabling.{able-decidable}
 use Rattle.bf_core.proofs.Shape.{open-run}
+use Rattle.bf_core.proofs.Numbers.{below-or}
 use Rattle.bf_due.specs.declared.agenda.Step.{Step}
 use Rattle.bf_due.specs.declared.agenda.Turn.{Turn}
 use Rattle.bf_due.specs.declared.progress.Progress.{Progress}
 use Rattle.bf_due.specs.Dues.{Asks, AsksAll, HasAdded, IsAround, IsBelow, IsCloseOf, IsDue, IsOfFirst, IsOfRun, IsOfRunBelow, IsOfTask, IsOpening, IsRanked, IsUnder}
-use Rattle.bf_due.proofs.Reached.{below-or, held-at, row-put}
+use Rattle.bf_due.proofs.Reached.{held-at, row-put}
 
 module _ (b : Backfill) where
   -- nothing is added where none of these may come

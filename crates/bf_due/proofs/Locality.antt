@@ -13,34 +13,11 @@ use Rattle.bf_core.specs.declared.deciding.Decision.{Decision}
 use Rattle.bf_core.specs.Deciding.{Seen, lets_decide, branch_is, branch_skips, is_blocked, counts_over, ruling, and_then_past, gate, pulled, instances, mapped, after_verdict, decision}
 use Rattle.bf_core.specs.Events.{cell_at, phase_of, results, cons_result, counts_of_instance, counts_of_instances, seen_in, before_in, decision_in, goes_on, is_run, instance_of, change_at, change_instance, begun, place_in, next_run, put, after, IsDecidable, IsEnabled}
 use Rattle.bf_core.proofs.Reading.{put-cases, with_phase-cell}
-use Rattle.bf_core.proofs.Instances.{IsUnfinished}
+use Rattle.bf_core.proofs.Instances.{IsUnfinished, not_yet}
+use Rattle.bf_core.proofs.Steps.{lets}
+use Rattle.bf_core.proofs.Taken.{mapped-not}
 use Rattle.bf_core.proofs.Shape.{put-phase, phase-cases}
 use Rattle.bf_core.proofs.Decisions.{and_left, and_right}
-
--- ---- of bf_core, where these are not open to other crates
-
-not_yet : (a : ℕ) (p : Phase) (rs : Option (List TaskResult)) → IsUnfinished p → cons_result a p rs ≡ None
-not_yet a Phase.Waiting rs h = refl
-not_yet a Phase.Running rs h = refl
-not_yet a (Phase.Finished o) rs h = absurd h
-
-mapped-not : (pulls : List (Option Xval)) (xs : Items) → mapped pulls xs ≢ Decision.Wait
-mapped-not pulls Items.Missing = λ e. cc
-mapped-not pulls (Items.List []) = λ e. cc
-mapped-not pulls (Items.List (x ∷ xs)) = λ e. cc
-
-ruled : (dag : Dag) (seen : ℕ → Seen) (t : ℕ) → list_all (lets_decide dag (task_of dag t) seen) (task_of dag t).upstreams ≡ false → ruling dag seen t ≡ Verdict.Wait
-unfolding ruling
-ruled dag seen t e = rw e
-
-lets : (dag : Dag) (k : ℕ) (seen : ℕ → Seen) (p : Option TaskValue) (t : ℕ) → gate dag k seen p t ≢ Verdict.Wait →
-    list_all (lets_decide dag (task_of dag t) seen) (task_of dag t).upstreams ≡ true
-unfolding gate
-lets dag k seen p t decides = go (list_all (lets_decide dag (task_of dag t) seen) (task_of dag t).upstreams) refl
-  where
-    go : (b : Bool) → list_all (lets_decide dag (task_of dag t) seen) (task_of dag t).upstreams ≡ b → list_all (lets_decide dag (task_of dag t) seen) (task_of dag t).upstreams ≡ true
-    go true e = e
-    go false e = absurd (decides (ap (and_then_past dag k p t) (ruled dag seen t e)))
 
 -- ---- what a decision looks at
 

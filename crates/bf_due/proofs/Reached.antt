@@ -15,7 +15,7 @@ use Rattle.bf_core.proofs.Reading.{put-cases, set-read, with_phase-cell}
 use Rattle.bf_core.proofs.Steps.{decided-held, settled-kept}
 use Rattle.bf_core.specs.Words.{is_finished}
 use Rattle.bf_core.proofs.Decisions.{both}
-use Rattle.bf_core.proofs.Numbers.{le-from, lt-from}
+use Rattle.bf_core.proofs.Numbers.{below-or, le-from, lt-from}
 use Rattle.bf_core.proofs.Sums.{finished_settled}
 use Rattle.bf_due.proofs.Locality.{awaits-upstream}
 use Rattle.bf_due.specs.declared.progress.Progress.{Progress}
@@ -125,9 +125,6 @@ finished-noted b k t n old new is here passed finished settled = record {
   ];
   settled = λ u l. is.settled u (omega (arith, l, settled));
 }
-
-pub below-or : (i n : ℕ) → i < n + 1 → (i < n) ⊎ (i ≡ n)
-below-or i n l = grind arith
 
 pub settled-noted : (b : Backfill) (k : ℕ) (old new : Progress) → IsReached b k old → is_some (value_in (cell_at b.state k old.settled)) ≡ true → new.passed.items ≡ old.passed.items → new.finished.items ≡ old.finished.items → new.settled ≡ old.settled + 1 → IsReached b k new
 settled-noted b k old new is here passed finished settled = record {

@@ -13,6 +13,7 @@ use Rattle.bf_core.specs.Events.{IsPresent, cell_at, instance_of, place_in}
 use Rattle.bf_core.specs.Cores.{Backfill, IsReplay}
 use Rattle.bf_core.proofs.Kept.{replay-invariant}
 use Rattle.bf_core.proofs.Stuck.{placed-in}
+use Rattle.bf_waiting.proofs.Taking.{held-in}
 use Rattle.bf_ready.specs.Looks.{IsTryAt, IsTryBelow, IsTryBefore, IsTryOf, instances_in}
 
 -- ---- names
@@ -51,13 +52,6 @@ module _ (b : Backfill) (replayed : IsReplay b) (k t i : ℕ) (x : Instance) (is
   phase-at m is p at = ap (λ (y : Instance). y.phase) (sym (held-at m is p at)) ∙ at.in_phase
 
 -- ---- places
-
-held-in : (c : Cell) (i : ℕ) (x : Instance) → instance_of c i ≡ Some x → slice_get (instances_in c) i ≡ Some x
-held-in (Cell.Ran xs) i x e = e
-held-in Cell.Undecided i x e = cc
-held-in Cell.Blocked i x e = cc
-held-in Cell.Skipped i x e = cc
-held-in Cell.UpstreamFailed i x e = cc
 
 pub in-held : (c : Cell) (i : ℕ) (x : Instance) → slice_get (instances_in c) i ≡ Some x → instance_of c i ≡ Some x
 in-held (Cell.Ran xs) i x e = e

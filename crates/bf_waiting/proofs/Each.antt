@@ -12,6 +12,7 @@ use Rattle.bf_core.specs.Clocks.{IsMove}
 use Rattle.bf_core.specs.Cores.{Backfill, IsReplay, MayCome, deciding, moved}
 use Rattle.bf_core.proofs.Enabling.{present-there}
 use Rattle.bf_core.proofs.Kept.{replay-event, replay-rows}
+use Rattle.bf_core.proofs.Numbers.{below-or}
 use Rattle.bf_waiting.specs.declared.batches.Batch.{Batch}
 use Rattle.bf_waiting.specs.declared.delays.Delay.{Delay}
 use Rattle.bf_waiting.specs.Classes.{HasBatch, HasRoom, Waits, delay_of}
@@ -121,9 +122,6 @@ pub record AreKeptTo (e : Event) (now : Backfill) (weights : List ℕ) (i : ℕ)
 
 pub none-yet : (e : Event) (now : Backfill) (weights : List ℕ) (old : List Waits) → AreKeptTo e now weights 0 old old
 none-yet e now weights old = record { done = λ j c l h. absurd (omega (arith, l)); rest = λ j l. refl }
-
-below-or : (j i : ℕ) → j < i + 1 → (j < i) ⊎ (j ≡ i)
-below-or j i l = grind arith
 
 -- one more is kept
 pub one-more : (e : Event) (now : Backfill) (weights : List ℕ) (i : ℕ) (old mid : List Waits) (c d : Waits) → AreKeptTo e now weights i old mid → slice_get mid i ≡ Some c → d.task ≡ c.task → ((class_of : List ℕ) → KeepsOver e now weights class_of i c d) →

@@ -4,6 +4,7 @@ use Rattle.std.proofs.lemmas.Option.{slice_get_within}
 use Rattle.bf_check.specs.declared.plan.Dag.{Dag}
 use Rattle.bf_check.specs.declared.plan.Limits.{Limits}
 use Rattle.bf_core.specs.Cores.{Backfill, IsReplay}
+use Rattle.bf_core.proofs.Numbers.{below-or}
 use Rattle.bf_waiting.specs.declared.batches.Batch.{Batch}
 use Rattle.bf_waiting.specs.declared.delays.Delay.{Delay}
 use Rattle.bf_waiting.specs.declared.waiting.Waiting.{Waiting}
@@ -19,9 +20,6 @@ use Rattle.bf_waiting.proofs.Places.{not-beyond}
 -- before the next task there are those before this one, and this one
 last-task : (j u k t : ℕ) → IsEarlier j (u + 1) k t → IsEarlier j u k t ⊎ ((k ≡ j) × (t ≡ u))
 last-task j u k t h = elim h [ inl l ↦ inl (inl l) | inr e ↦ elim (below-or t u e.1) [ inl l ↦ inl (inr (e.0, l)) | inr same ↦ inr (e.0, same) ] ]
-  where
-    below-or : (t u : ℕ) → t < u + 1 → (t < u) ⊎ (t ≡ u)
-    below-or t u l = grind arith
 
 module _ (b : Backfill) (weights class_of : List ℕ) where
   -- a class takes up a task of its own
@@ -65,11 +63,8 @@ module _ (b : Backfill) (weights class_of : List ℕ) where
     live = keeps.live;
   }
     where
-      below-or : (k : ℕ) → k < j + 1 → (k < j) ⊎ (k ≡ j)
-      below-or k l = grind arith
-
       earlier : (k t : ℕ) → IsEarlier (j + 1) 0 k t → t < length b.dag.tasks → IsEarlier j u k t
-      earlier k t early task = elim early [ inl l ↦ elim (below-or k l) [ inl less ↦ inl less | inr same ↦ inr (same, omega (arith, task, end)) ] | inr e ↦ absurd (omega (arith, e.1)) ]
+      earlier k t early task = elim early [ inl l ↦ elim (below-or k j l) [ inl less ↦ inl less | inr same ↦ inr (same, omega (arith, task, end)) ] | inr e ↦ absurd (omega (arith, e.1)) ]
 
   -- after the last run all are kept
   all-runs : (j class : ℕ) (c : Waits) → IsReplay b → length b.state.runs ≤ j → KeepsEarlier b weights class_of j 0 class c → KeepsWaiting b weights class_of class c
@@ -171,12 +166,9 @@ pub classed-more : (dag : Dag) (limits : Limits) (n j : ℕ) (class_of : List �
     AreClassedTo dag limits (suc n) (class_of ++ j ∷ []) new
 classed-more dag limits n j class_of old new is kept found empty = record {
   count = length-end class_of j ∙ ap suc is.count;
-  classed = λ t l. elim (before-or t n (omega (arith, l))) [
+  classed = λ t l. elim (below-or t n (omega (arith, l))) [
     | inl less ↦ subst (λ (i : ℕ). IsClassOf dag limits new i t) (sym (at-front class_of j t 0 (let count : length class_of ≡ n = is.count in omega (arith, less, count)))) (kept (slice_index class_of t) t (is.classed t less))
     | inr same ↦ subst₂ (λ (i u : ℕ). IsClassOf dag limits new i u) (sym (ap (λ (i : ℕ). slice_index_or (class_of ++ j ∷ []) i 0) (same ∙ sym is.count) ∙ at-end class_of j 0)) (sym same) found
   ];
   empty = empty;
 }
-  where
-    before-or : (t u : ℕ) → t < u + 1 → (t < u) ⊎ (t ≡ u)
-    before-or t u l = grind arith

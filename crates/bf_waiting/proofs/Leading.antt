@@ -1,6 +1,7 @@
 -- The batch that leads all others.
 use Rattle.std.proofs.Common.{◌≡◌, ◌⊎◌, ℕ, ◌+◌, ◌<◌, ◌≤◌, List, [], ◌∷◌, length, slice_get, Option, None, Some, IfSome, IfNone, Contains, sym, ap, ◌∙◌, subst, inl, inr, arith}
 use Rattle.bf_core.specs.Cores.{Backfill}
+use Rattle.bf_core.proofs.Numbers.{below-or}
 use Rattle.bf_waiting.specs.declared.batches.Batch.{Batch}
 use Rattle.bf_waiting.specs.Classes.{Waits}
 use Rattle.bf_waiting.specs.Heaps.{Leads, StandsFirst}
@@ -30,9 +31,6 @@ leads-over x y z p q = elim p [
 pub none-top : {X : Type 0} (xs : List X) → slice_get xs 0 ≡ None → (y : X) → Contains xs y → ⊥
 none-top [] e y c = omega (arith, c.1)
 none-top (x ∷ xs) e y c = cc
-
-pub below-or : (j i : ℕ) → j < i + 1 → (j < i) ⊎ (j ≡ i)
-below-or j i l = grind arith
 
 module _ (b : Backfill) (classes : List Waits) where
   pub none-best : IsBestTo b 0 classes None

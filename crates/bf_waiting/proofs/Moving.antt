@@ -24,16 +24,13 @@ use Rattle.bf_core.specs.Clocks.{AreTimely, IsMove, IsReached, IsTimely, KeepsTi
 use Rattle.bf_core.specs.Cores.{Backfill, IsReplay, MayCome, moved}
 use Rattle.bf_core.specs.Events.{IsPresent, after, begun, cell_at, cell_of, change_at, change_instance, decision_in, ended, entry_in, instance_of, next_run, place_in, put, replay, start}
 use Rattle.bf_core.proofs.Instances.{instance-here, new-fresh}
-use Rattle.bf_core.proofs.Kept.{replay-invariant}
+use Rattle.bf_core.proofs.Kept.{replay-in-time, replay-invariant}
 use Rattle.bf_core.proofs.Reading.{put-cases, put-here, with_phase-cell}
 use Rattle.bf_core.proofs.Stuck.{placed-in}
-use Rattle.bf_core.proofs.Timing.{keeps-time, start-keeps-time}
+use Rattle.bf_core.proofs.Timing.{keeps-time, same-name, start-keeps-time}
 use Rattle.bf_waiting.specs.Standings.{IsDelayedAt, IsReadyAt}
 
 -- ---- moments
-
-same-name : (a b : JobName) → eq_by_cmp name_cmp a b ≡ true → a ≡ b
-same-name a b e = name_cmp-IsAntisymmetric a b ((Equal-is (name_cmp a b)).0 e)
 
 -- a name that was taken out has nothing, and the others have what they had
 removed : {X : Type 0} → (ms : map.FinMap name_cmp X) (n q : JobName) → ((q ≡ n) × (map.get (map.remove ms n) q ≡ None)) ⊎ (map.get (map.remove ms n) q ≡ map.get ms q)
@@ -76,18 +73,10 @@ ended-time c next true delay = go (int_lt c.time m)
     go true = refl
     go false = refl
 
-replay-keeps : (dag : Dag) (limits : Limits) (c : Clock) (s : State) (es : List Event) → AreTimely dag limits c es → KeepsTime c (entry_in s.ledger) → KeepsTime (clock_of dag limits c es) (entry_in (replay dag s es).ledger)
-replay-keeps dag limits c s [] timely is = is
-replay-keeps dag limits c s (e ∷ es) timely is = replay-keeps dag limits (clock_after dag limits c e) (after dag s e) es timely.1 (keeps-time dag limits c s e timely.0 is)
-
--- what a core keeps of its clock, the clock of a replay has
-in-time : (b : Backfill) → IsReplay b → KeepsTime b.clock (entry_in b.state.ledger)
-in-time b is = subst₂ (λ (c : Clock) (s : State). KeepsTime c (entry_in s.ledger)) is.by_clock is.by_journal.led_to (replay-keeps b.dag b.limits start_clock (start b.dag b.runs) b.journal is.by_journal.timely start-keeps-time)
-
 -- no first try waits for a moment
 never-first : (b : Backfill) → IsReplay b → (k t i : ℕ) (m : ℤ) → map.get b.clock.moments (name_of b.dag k t i 1) ≡ Some m → ⊥
 unfolding name_of
-never-first b is k t i m e = go (entry_in b.state.ledger n) refl ((in-time b is).after_one n (rw e refl))
+never-first b is k t i m e = go (entry_in b.state.ledger n) refl ((replay-in-time b is).after_one n (rw e refl))
   where
     n : JobName
     n = record { run = k; task = t; index = map_index (task_of b.dag t) i; attempt = 0 }

@@ -5,7 +5,7 @@ use Rattle.std.specs.Int.{int_min}
 use Rattle.bf_waiting.specs.declared.delays.Delay.{Delay}
 use Rattle.bf_waiting.specs.Classes.{Waits}
 use Rattle.bf_waiting.specs.Looks.{IsSoonestTo, sooner_of}
-use Rattle.bf_waiting.proofs.Leading.{below-or}
+use Rattle.bf_core.proofs.Numbers.{below-or}
 
 no-item : (d : Delay) (xs : List Delay) → xs ≡ [] → Contains xs d → ⊥
 no-item d xs e c = let none : Contains [] d = subst (λ (ys : List Delay). Contains ys d) e c in absurd (omega (arith, none.1))

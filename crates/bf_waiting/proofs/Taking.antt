@@ -6,6 +6,7 @@ use Rattle.bf_core.specs.declared.state.Cell.{Cell}
 use Rattle.bf_core.specs.declared.state.Instance.{Instance}
 use Rattle.bf_core.specs.Cores.{Backfill}
 use Rattle.bf_core.specs.Events.{cell_at, instance_of}
+use Rattle.bf_core.proofs.Numbers.{below-or}
 use Rattle.bf_waiting.specs.declared.batches.Batch.{Batch}
 use Rattle.bf_waiting.specs.declared.delays.Delay.{Delay}
 use Rattle.bf_waiting.specs.Classes.{batch_of, batch_to, delay_of}
@@ -73,9 +74,6 @@ none-delayed b k t p old none = record { kept = λ d h. h; no_more = λ d h. inl
 
 -- ---- the delayed instances of a task, one place after the other
 
-before-or : (i p : ℕ) → i < p + 1 → (i < p) ⊎ (i ≡ p)
-before-or i p l = grind arith
-
 pub none-before : (b : Backfill) (k t : ℕ) (old : List Delay) → HasDelayed b k t (Before 0) old old
 none-before b k t old = record { kept = λ d h. h; no_more = λ d h. inl h; delayed = λ i m at d. absurd (omega (arith, at)) }
 
@@ -83,7 +81,7 @@ pub one-more-place : (b : Backfill) (k t p : ℕ) (old mid new : List Delay) →
 one-more-place b k t p old mid new one two = record {
   kept = λ d h. two.kept d (one.kept d h);
   no_more = λ d h. elim (two.no_more d h) [ inl m ↦ one.no_more d m | inr n ↦ inr n ];
-  delayed = λ i m at d. elim (before-or i p at) [ inl less ↦ two.kept (delay_of k t i m) (one.delayed i m less d) | inr same ↦ two.delayed i m same d ];
+  delayed = λ i m at d. elim (below-or i p at) [ inl less ↦ two.kept (delay_of k t i m) (one.delayed i m less d) | inr same ↦ two.delayed i m same d ];
 }
 
 pub all-places : (b : Backfill) (k t p : ℕ) (old new : List Delay) → length (instances_in (cell_at b.state k t)) ≤ p → HasDelayed b k t (Before p) old new → HasDelayed b k t Anywhere old new

@@ -1,0 +1,32 @@
+-- A try that has begun: it runs, has what it was given, and may end.
+use Rattle.std.proofs.Common.{◌≡◌, ℕ, true, Some, refl, sym, ap, ◌∙◌}
+use Rattle.bf_core.specs.Terms.{JobName, Outcome, fits}
+use Rattle.bf_core.specs.declared.event.Event.{Event}
+use Rattle.bf_core.specs.declared.state.Instance.{Instance}
+use Rattle.bf_core.specs.declared.state.Phase.{Phase}
+use Rattle.bf_core.specs.declared.state.State.{State}
+use Rattle.bf_core.specs.Cores.{Backfill, MayCome, moved}
+use Rattle.bf_core.specs.Events.{IsPresent, after, begun, cell_at, change_instance, given_in, given_of, instance_of, place_in, put}
+use Rattle.bf_core.proofs.Instances.{instance-here}
+use Rattle.bf_core.proofs.Known.{has-instance}
+use Rattle.bf_core.proofs.Reading.{put-here}
+
+-- the cell of a task after an instance of it is changed
+changed-cell : (s : State) (k t p : ℕ) (f : Instance → Instance) (x : Instance) → instance_of (cell_at s k t) p ≡ Some x → cell_at (put s k t (change_instance f (cell_at s k t) p)) k t ≡ change_instance f (cell_at s k t) p
+changed-cell s k t p f x e = put-here s k t _ (has-instance (cell_at s k t) p x e)
+
+begun-held : (b : Backfill) (n : JobName) → (at : IsPresent b.dag b.state n Phase.Waiting) → instance_of (cell_at (moved b (Event.Begin n)).state n.run n.task) (place_in b.dag n) ≡ Some (begun at.held)
+unfolding after
+begun-held b n at =
+    ap (λ c. instance_of c (place_in b.dag n)) (changed-cell b.state n.run n.task (place_in b.dag n) begun at.held at.is_held)
+    ∙ instance-here begun (cell_at b.state n.run n.task) (place_in b.dag n) at.held at.is_held
+
+pub running-at : (b : Backfill) (n : JobName) → IsPresent b.dag b.state n Phase.Waiting → IsPresent b.dag (moved b (Event.Begin n)).state n Phase.Running
+running-at b n at = record { held = begun at.held; is_held = begun-held b n at; is_named = at.is_named; is_present = at.is_present; in_phase = refl }
+
+-- a try that has begun was given what it is given
+pub begun-given : (b : Backfill) (n : JobName) → IsPresent b.dag b.state n Phase.Waiting → given_in (cell_at (moved b (Event.Begin n)).state n.run n.task) (place_in b.dag n) ≡ given_in (cell_at b.state n.run n.task) (place_in b.dag n)
+begun-given b n at = ap given_of (begun-held b n at) ∙ sym (ap given_of at.is_held)
+
+pub end-may : (b : Backfill) (n : JobName) (o : Outcome) → IsPresent b.dag b.state n Phase.Waiting → fits b.dag n.task o ≡ true → MayCome (moved b (Event.Begin n)) (Event.End n o)
+end-may b n o at fit = ((running-at b n at, fit), tt)
