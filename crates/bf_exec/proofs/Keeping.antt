@@ -11,7 +11,7 @@ use Rattle.bf_core.specs.Events.{after, cell_at, empty_runs, given_in, place_in,
 use Rattle.bf_core.specs.Cores.{Backfill, IsReplay, MayCome, moved, opening}
 use Rattle.bf_core.specs.Running.{running_by_place, running_now, running_tries, sum_by_place, sum_of_running}
 use Rattle.bf_core.proofs.Kept.{replay-event, replay-shaped}
-use Rattle.bf_core.proofs.RunningTries.{asked_in, fewer_running, more_running, running-after}
+use Rattle.bf_core.proofs.RunningTries.{asked_in, fewer_running, more_running, running-after, start-idle}
 use Rattle.bf_lane.specs.declared.messages.Answer.TheVariants.{Done}
 use Rattle.bf_lane.specs.Open.{Scheduled}
 use Rattle.bf_lane.specs.Rounds.{IsGathered, IsSubmitted}
@@ -130,21 +130,6 @@ end-in_step lanes next b workers at d o is able given got =
     }) (omega (arith, r, w))
 
 -- ---- the start
-
-idle-row : (f : ℕ → ℕ → Instance → ℕ) (n : ℕ) → sum_by_place (λ t c. running_by_place (f t) c) (undecided_cells n) ≡ 0
-idle-row f zero = refl
-idle-row f (suc n) = let rest : _ = idle-row (λ t. f (suc t)) n in omega (arith, rest)
-
-idle-rows : (f : ℕ → ℕ → ℕ → Instance → ℕ) (tasks n : ℕ) → sum_by_place (λ k (r : Run). sum_by_place (λ t c. running_by_place (f k t) c) r.cells) (empty_runs tasks n) ≡ 0
-idle-rows f tasks zero = refl
-idle-rows f tasks (suc n) =
-    let first : _ = idle-row (f 0) tasks in
-    let rest : _ = idle-rows (λ k. f (suc k)) tasks n in
-    omega (arith, first, rest)
-
--- at the start no try runs
-pub start-idle : (dag : Dag) (runs : ℕ) (f : ℕ → ℕ → ℕ → Instance → ℕ) → sum_of_running f (start dag runs) ≡ 0
-start-idle dag runs f = idle-rows f (length dag.tasks) runs
 
 nothing-before : (before rest : List Event) → [] ≡ before ++ rest → before ≡ []
 nothing-before [] rest e = refl

@@ -10,15 +10,14 @@ use Rattle.bf_core.specs.Cores.{Backfill, opening}
 use Rattle.bf_core.specs.Driven.{IsDriven, IsOver}
 use Rattle.bf_core.specs.Events.{HasEnded, entry_in}
 use Rattle.bf_core.specs.Running.{running_now}
-use Rattle.bf_core.proofs.Driven.{driven-opening, over}
+use Rattle.bf_core.proofs.Driven.{driven-opening}
 use Rattle.bf_lane.specs.Open.{Scheduled}
 use Rattle.bf_sched.specs.Scheduling.{Schedule}
 use Rattle.bf_exec.specs.Accounts.{AreUnused, IsInStep, KeepsWorkers}
-use Rattle.bf_exec.specs.Turns.{AreInStep, StaysDriven}
-use Rattle.bf_exec.proofs.Keeping.{opening-in_step, start-idle}
-
-pub opening_idle : (b : Backfill) (dag : Dag) (limits : Limits) (runs : ℕ) → b ≡ opening dag limits runs → running_now b.state ≡ 0
-opening_idle b dag limits runs is = ap (λ (x : Backfill). running_now x.state) is ∙ start-idle dag runs (λ k t i x. 1)
+use Rattle.bf_sched.specs.Driving.{StaysDriven}
+use Rattle.bf_sched.proofs.Driving.{driven_first}
+use Rattle.bf_exec.specs.Turns.{AreInStep}
+use Rattle.bf_exec.proofs.Keeping.{opening-in_step}
 
 pub starts_in_step : (lanes : List Scheduled) (b : Backfill) (dag : Dag) (limits : Limits) (runs workers : ℕ) (s : Schedule) → IsSound dag → AreLimits dag limits → b ≡ opening dag limits runs → s ≡ record { backfill = b; workers = workers } →
     AreUnused lanes → length lanes ≡ workers → AreInStep lanes s
@@ -27,24 +26,11 @@ starts_in_step lanes b dag limits runs workers s sound fit is to unused many =
     let first : IsInStep lanes (opening dag limits runs) workers = opening-in_step lanes dag limits runs workers driven.replayed unused many in
     subst (AreInStep lanes) (sym to) (subst (λ (x : Backfill). IsInStep lanes x workers) (sym is) first)
 
-driven-first : (may : JobName → Given → Raw → Type 0) (b : Backfill) (dag : Dag) (limits : Limits) (runs workers : ℕ) (first last : Schedule) → IsSound dag → AreLimits dag limits → b ≡ opening dag limits runs → first ≡ record { backfill = b; workers = workers } →
-    StaysDriven may first last → IsDriven may dag limits runs last.backfill
-driven-first may b dag limits runs workers first last sound fit is to stays =
-    let opened : first.backfill ≡ opening dag limits runs = ap (λ (x : Schedule). x.backfill) to ∙ is in
-    stays.so dag limits runs (driven-opening may dag limits runs first.backfill sound fit opened)
-
--- what a backfill that was driven from the start comes to
-pub ends_over : (may : JobName → Given → Raw → Type 0) (b : Backfill) (dag : Dag) (limits : Limits) (runs workers : ℕ) (first last : Schedule) (ended : Ended) → IsSound dag → AreLimits dag limits → b ≡ opening dag limits runs → first ≡ record { backfill = b; workers = workers } →
-    StaysDriven may first last → HasEnded last.backfill.state → ended.state ≡ last.backfill.state → ended.journal ≡ last.backfill.journal → IsOutcome last.backfill.dag last.backfill.runs last.backfill.state →
-    AreRunStates last.backfill.dag (entry_in last.backfill.state.ledger) last.backfill.runs ended.run_states → IsOver may dag limits runs ended
-ends_over may b dag limits runs workers first last ended sound fit is to stays closed state journal outcome states =
-    over may dag limits runs last.backfill ended (driven-first may b dag limits runs workers first last sound fit is to stays) closed state journal outcome states
-
 -- never ran more tries than there are workers
 pub ends_within : (may : JobName → Given → Raw → Type 0) (b : Backfill) (dag : Dag) (limits : Limits) (runs workers : ℕ) (first last : Schedule) (lanes : List Scheduled) (journal : List Event) → IsSound dag → AreLimits dag limits → b ≡ opening dag limits runs →
     first ≡ record { backfill = b; workers = workers } → StaysDriven may first last → AreInStep lanes last → journal ≡ last.backfill.journal → KeepsWorkers dag runs workers journal
 ends_within may b dag limits runs workers first last lanes journal sound fit is to stays in_step same =
-    let driven : IsDriven may dag limits runs last.backfill = driven-first may b dag limits runs workers first last sound fit is to stays in
+    let driven : IsDriven may dag limits runs last.backfill = driven_first may b dag limits runs workers first last sound fit is to stays in
     let many : first.workers ≡ workers = ap (λ (x : Schedule). x.workers) to in
     let kept : KeepsWorkers last.backfill.dag last.backfill.runs last.workers last.backfill.journal = in_step.within in
     rw same (rw (driven.dag, driven.runs, stays.workers, many) at kept)

@@ -20,51 +20,17 @@ use Rattle.bf_lane.specs.declared.messages.Answer.TheVariants.{Done}
 use Rattle.bf_lane.specs.Open.{IsIdleAt, Scheduled, awaits}
 use Rattle.bf_lane.specs.Rounds.{IsGathered, IsSubmitted}
 use Rattle.bf_exec.specs.Accounts.{IsInStep}
-use Rattle.bf_exec.specs.Turns.{AreInStep, EndsBy, EndsWait, HasAwaited, HasCaughtUp, HasStranger, IsHaltOf, IsLeftBy, IsStrange, MustAwait, StaysDriven}
+use Rattle.bf_sched.specs.Driving.{StaysDriven}
+use Rattle.bf_sched.proofs.Driving.{finished_driven, same_driven, stays_driven, ticked_driven}
+use Rattle.bf_exec.specs.Turns.{AreInStep, EndsBy, EndsWait, HasAwaited, HasCaughtUp, HasStranger, IsHaltOf, IsLeftBy, IsStrange, MustAwait}
 use Rattle.bf_exec.specs.declared.halt.Halt.{Halt}
 use Rattle.bf_exec.proofs.Keeping.{IsStill, begin-in_step, end-in_step, still-in_step, tick-in_step}
 use Rattle.bf_exec.proofs.Sums.{first-idle, some-idle}
 
 -- ---- driven
 
-moved_driven : (may : JobName → Given → Raw → Type 0) (s t : Schedule) (e : Event) → EndsGraded may s.backfill e → MayCome s.backfill e → t ≡ moved_on s e → StaysDriven may s t
-moved_driven may s t e graded able is = record {
-  so = λ dag limits runs d. driven-moved may dag limits runs s.backfill t.backfill e graded able (ap (λ (x : Schedule). x.backfill) is) d;
-  workers = ap (λ (x : Schedule). x.workers) is;
-}
-
-pub same_driven : (may : JobName → Given → Raw → Type 0) (s t : Schedule) → t ≡ s → StaysDriven may s t
-same_driven may s t is = record { so = λ dag limits runs d. subst (λ (x : Schedule). IsDriven may dag limits runs x.backfill) (sym is) d; workers = ap (λ (x : Schedule). x.workers) is }
-
-pub stays_driven : (may : JobName → Given → Raw → Type 0) (s t u : Schedule) → StaysDriven may s t → StaysDriven may t u → StaysDriven may s u
-stays_driven may s t u h k = record { so = λ dag limits runs d. k.so dag limits runs (h.so dag limits runs d); workers = k.workers ∙ h.workers }
-
 pub caught_up_driven : (may : JobName → Given → Raw → Type 0) (now : ℤ) (s t : Schedule) → HasCaughtUp now s t → StaysDriven may s t
-caught_up_driven may now s t is = by is.came is.ticked
-  where
-    by : (came : Bool) → HasTicked s (int_min now last_moment) came t → StaysDriven may s t
-    by true h = moved_driven may s t (Event.Tick (int_min now last_moment)) tt h.0.0 (λ i. record { backfill = h.0.1 i; workers = h.1 i })
-    by false h = same_driven may s t (λ i. record { backfill = h.0.1 i; workers = h.1 i })
-
-step-graded : (may : JobName → Given → Raw → Type 0) (b : Backfill) (e : Event) → IsStep e → EndsGraded may b e
-step-graded may b Event.Open is = tt
-step-graded may b (Event.Settle k t) is = tt
-step-graded may b (Event.Expand k t) is = tt
-step-graded may b (Event.Close k) is = tt
-step-graded may b (Event.Begin n) is = tt
-step-graded may b (Event.End n o) is = absurd (omega (arith, is))
-step-graded may b (Event.Tick m) is = tt
-
-pub stepped_driven : (may : JobName → Given → Raw → Type 0) (s t : Schedule) → HasStepped s t → StaysDriven may s t
-stepped_driven may s t h = moved_driven may s t h.event (step-graded may s.backfill h.event h.is_first.is_step) h.is_first.may_come h.new_is
-
-pub begun_driven : (may : JobName → Given → Raw → Type 0) (s t : Schedule) (ticket : Asked) → HasBegun s ticket t → StaysDriven may s t
-begun_driven may s t ticket h = moved_driven may s t (Event.Begin ticket.name) tt h.is_first.may_begin h.new_is
-
-finished_driven : (may : JobName → Given → Raw → Type 0) (s t : Schedule) (done : Answered) → HasFinished s done t → may done.name done.given done.raw → StaysDriven may s t
-finished_driven may s t done h ok =
-    let same : given_in (cell_at s.backfill.state done.name.run done.name.task) (place_in s.backfill.dag done.name) ≡ done.given = h.0.1 h.0.0.0.0 in
-    moved_driven may s t (end_of s.backfill done) (done.raw, (subst (λ (g : Given). may done.name g done.raw) (sym same) ok), refl) h.0.0 h.1
+caught_up_driven may now s t is = ticked_driven may s t (int_min now last_moment) is.came is.ticked
 
 pub ended_driven : (may : JobName → Given → Raw → Type 0) (now : ℤ) (s t : Schedule) (done : Answered) → EndsBy now done s t → may done.name done.given done.raw → StaysDriven may s t
 ended_driven may now s t done h ok = stays_driven may s h.present t (caught_up_driven may now s h.present h.caught_up) (finished_driven may h.present t done h.finished ok)

@@ -2,12 +2,10 @@
 use Rattle.std.specs.Prelude.{◌≡◌, ◌⊎◌, ℕ, ℤ, ◌≤ℤ◌, Bool, true, false, List, Option, None, Some}
 use Rattle.std.specs.Int.{int_min}
 use Rattle.bf_try.specs.Asked.{Asked, Answered}
-use Rattle.bf_try.specs.declared.answers.Raw.{Raw}
 use Rattle.bf_try.specs.declared.runner.RunnerFault.TheVariants.{GaveUp}
-use Rattle.bf_core.specs.Terms.{Dag, Given, JobName, Limits}
+use Rattle.bf_core.specs.Terms.{JobName}
 use Rattle.bf_core.specs.Clocks.{last_moment}
 use Rattle.bf_core.specs.Cores.{Backfill}
-use Rattle.bf_core.specs.Driven.{IsDriven}
 use Rattle.bf_core.specs.Events.{HasEnded}
 use Rattle.bf_ready.specs.Choices.{IsFirstMoment}
 use Rattle.bf_sched.specs.Scheduling.{HasBegun, HasFinished, HasStepped, HasTicked, MayFinish, MustWait, Schedule, WaitsUntil}
@@ -85,11 +83,6 @@ pub record FindsEnded (now : ℤ) (lanes after : List Scheduled) (s t : Schedule
 abbrev pub IsTurn : ℤ → List Scheduled → List Scheduled → Schedule → Schedule → Bool → Type 0
 IsTurn now lanes after s t true = HasActed now lanes after s t ⊎ HasAwaited now lanes after s t
 IsTurn now lanes after s t false = FindsEnded now lanes after s t
-
--- a backfill that is driven stays so, with as many workers
-pub record StaysDriven (may : JobName → Given → Raw → Type 0) (s t : Schedule) : Type 0 where
-  pub so : (dag : Dag) (limits : Limits) (runs : ℕ) → IsDriven may dag limits runs s.backfill → IsDriven may dag limits runs t.backfill
-  pub workers : t.workers ≡ s.workers
 
 -- the lanes and the backfill are in step
 abbrev pub AreInStep : List Scheduled → Schedule → Type 0

@@ -5,7 +5,8 @@ ghost use Rattle.bf_lane.specs.Closing.{ClosesAll};
 ghost use Rattle.bf_lane.specs.Lanes.{IsAllowedBy};
 ghost use Rattle.bf_lane.specs.Rounds.{IsGathered};
 ghost use Rattle.bf_exec.specs.Faults.{MayHalt};
-ghost use Rattle.bf_exec.specs.Turns.{AreInStep, EndsBy, EndsWait, HasCaughtUp, IsHaltBy, IsHaltOf, IsPast, IsTurn, StaysDriven};
+ghost use Rattle.bf_exec.specs.Turns.{AreInStep, EndsBy, EndsWait, HasCaughtUp, IsHaltBy, IsHaltOf, IsPast, IsTurn};
+ghost use Rattle.bf_sched.specs.Driving.{StaysDriven};
 
 use crate::halt::Halt;
 use crate::watch::{Observer, Watch};
@@ -114,7 +115,7 @@ impl<'s, K: Service + Send + Sync + 's> Executor<'s, K> {
     }
 
     /// Waits for an answer, until a moment where one is given, and ends the try of the answer.
-    #[tactic(auto, using(crate::proofs::Turning::gathered_in_step, crate::proofs::Turning::same_driven, crate::proofs::Turning::strange_halt))]
+    #[tactic(auto, using(crate::proofs::Turning::gathered_in_step, bf_sched::proofs::Driving::same_driven, crate::proofs::Turning::strange_halt))]
     fn wait<W: Wait, C: Clock, O: Observer>(
         &mut self,
         rt: &W,

@@ -9,7 +9,8 @@ ghost use Rattle.bf_lane.specs.Open.{Fulfils};
 ghost use Rattle.bf_exec.specs.Accounts.{AreUnused, KeepsWorkers};
 ghost use Rattle.bf_exec.specs.Faults.{IsFaultOf, MayFail, MayHalt};
 ghost use Rattle.bf_exec.specs.Starting.{AreFresh};
-ghost use Rattle.bf_exec.specs.Turns.{AreInStep, IsLeftBy, StaysDriven};
+ghost use Rattle.bf_sched.specs.Driving.{StaysDriven};
+ghost use Rattle.bf_exec.specs.Turns.{AreInStep, IsLeftBy};
 ghost use Rattle.bf_exec.specs.declared.halt.Halt.{Halt as HaltTerm};
 
 use crate::executor::Executor;
@@ -30,7 +31,7 @@ use std::thread;
 use std::thread::{Parker, Scope, Threads};
 
 /// Turns until the backfill has ended, or a turn halts.
-#[tactic(auto, using(crate::proofs::Turning::same_driven, crate::proofs::Turning::left_by))]
+#[tactic(auto, using(bf_sched::proofs::Driving::same_driven, crate::proofs::Turning::left_by))]
 fn all_turns<'s, K: Service + Send + Sync + 's, W: Wait, C: Clock, O: Observer>(
     rt: &W,
     executor: &mut Executor<'s, K>,

@@ -1,45 +1,22 @@
 //! A backfill, driven to its end.
-ghost use Rattle.std.specs.Prelude.{◌≡◌, ◌<◌, ◌≤◌, ◌+◌, length, OnOk, IfOk, IfErr};
-ghost use Rattle.bf_graph.specs.Order.{IsByRank, StandBehind};
-ghost use Rattle.bf_check.specs.Plans.{shape_of};
+ghost use Rattle.std.specs.Prelude.{◌≡◌, ◌≤◌, ◌+◌, length, true, false, OnOk, IfOk, IfErr};
 ghost use Rattle.bf_core.specs.Agreement.{AreRunStates, IsOutcome};
-ghost use Rattle.bf_core.specs.Cores.{IsJournal, IsThere, MayCome, moved, opening};
-ghost use Rattle.bf_core.specs.Events.{HasEnded, cell_at, entry_in, instance_of};
-ghost use Rattle.bf_core.specs.declared.event.Event.{Event as EventTerm};
-ghost use Rattle.bf_core.specs.Clocks.{IsTimely};
 ghost use Rattle.bf_core.specs.Answered.{AreGraded, MayFault};
-ghost use Rattle.bf_core.specs.Driven.{IsDriven};
-ghost use Rattle.bf_plain.specs.Driving.{AtRun, AtTask, HasFinished, HasPassed, HasTried, HasWaited, IsNext, IsReady, IsTryReady, count_in, given_waiting};
+ghost use Rattle.bf_core.specs.Cores.{IsJournal};
+ghost use Rattle.bf_core.specs.Driven.{IsOver};
+ghost use Rattle.bf_core.specs.Events.{HasEnded, entry_in};
+ghost use Rattle.bf_core.specs.Running.{running_now};
+ghost use Rattle.bf_sched.specs.Driving.{IsUnderWay, StaysDriven};
+ghost use Rattle.bf_sched.specs.Scheduling.{HasFinished, MayFinish};
+ghost use Rattle.bf_plain.specs.Driving.{IsIdle, IsLonger};
 
 use bf_check::Plan;
-use bf_core::{BackfillFault, Cell, Core, Ended, Event, Illegal, Phase, name_of};
+use bf_core::{BackfillFault, Core, Ended, Illegal};
 use bf_interval::Interval;
-use bf_try::{Done, RunnerFault, TaskRunner, Ticket, grade};
-use bf_value::{JobName, OutOfMemory};
-use bf_xcom::Given;
+use bf_sched::{Next, Scheduler};
+use bf_try::{Done, RunnerFault, TaskRunner, Ticket};
+use bf_value::OutOfMemory;
 use std::alloc::Global;
-
-/// Lets an event come that may come, so that nothing but want of memory is in its way.
-fn advance(core: &mut Core<'_>, event: Event) -> Result<(), OutOfMemory>
-    requires { MayCome core.old event }
-    ensures { OnOk result (core.new ≡ moved core.old event) }
-{
-    match core.apply(event) {
-        Ok(()) => Ok(()),
-        Err(Illegal::OutOfMemory) => Err(OutOfMemory),
-        Err(_) => unreachable!(),
-    }
-}
-
-/// Lets the clock come to the moment of a try, where that is later than what it shows.
-fn come_to(core: &mut Core<'_>, name: JobName) -> Result<(), OutOfMemory>
-    ensures { OnOk result (HasWaited core.old core.new name) }
-{
-    if let Some(moment) = core.moment(name) {
-        advance(core, Event::Tick { moment })?;
-    }
-    Ok(())
-}
 
 /// The runner's answer to a try.
 fn answer_to<R: TaskRunner>(runner: &R, ticket: Ticket) -> Result<Done, BackfillFault>
@@ -53,188 +30,102 @@ fn answer_to<R: TaskRunner>(runner: &R, ticket: Ticket) -> Result<Done, Backfill
     }
 }
 
-/// Makes a try that waits.
+/// Ends the try of an answer that may end so, so that nothing but want of memory is in its way.
+fn finish(scheduler: &mut Scheduler<'_>, done: Done) -> Result<(), OutOfMemory>
+    requires { MayFinish scheduler.old.backfill done }
+    ensures { OnOk result (HasFinished scheduler.old done scheduler.new) }
+{
+    match scheduler.finish(done) {
+        Ok(()) => Ok(()),
+        Err((_, Illegal::OutOfMemory)) => Err(OutOfMemory),
+        Err(_) => unreachable!(),
+    }
+}
+
+/// Makes the try of a ticket, which has begun.
 fn make_try<R: TaskRunner>(
-    alloc: Global,
-    plan: &Plan,
     runner: &R,
-    core: &mut Core<'_>,
+    scheduler: &mut Scheduler<'_>,
     ticket: Ticket,
 ) -> Result<(), BackfillFault>
-    requires driven { IsDriven (R.may_answer runner.now) plan.now.dag plan.now.limits core.old.runs core.old }
-    requires ready { IsTryReady core.old ticket.name ticket.given }
-    requires timely { IsTimely core.old.clock (EventTerm.Begin ticket.name) }
-    ensures driven { OnOk result (IsDriven (R.may_answer runner.now) plan.now.dag plan.now.limits core.old.runs core.new) }
-    ensures tried { OnOk result (HasTried core.old core.new ticket.name) }
+    requires { IsUnderWay scheduler.old.backfill ticket }
+    ensures driven { OnOk result (StaysDriven (R.may_answer runner.now) scheduler.old scheduler.new) }
+    ensures counted { OnOk result (running_now scheduler.new.backfill.state + 1 ≡ running_now scheduler.old.backfill.state) }
+    ensures longer { OnOk result (IsLonger scheduler.old scheduler.new) }
     ensures err { IfErr result (MayFault (R.may_give_up runner.now)) }
 {
-    let name = ticket.name();
-    advance(core, Event::Begin(name))?;
+    let _replayed = scheduler.journal();
     let done = answer_to(runner, ticket)?;
-    let outcome = grade(alloc, plan, name.task, done.raw())?;
-    advance(core, Event::End(name, outcome))?;
+    finish(scheduler, done)?;
     Ok(())
 }
 
-/// What the instance at a place is given, where it waits.
-fn given_of_waiting(
-    alloc: Global,
-    core: &Core<'_>,
-    run: u32,
-    task: u32,
-    place: usize,
-) -> Result<Option<Given>, OutOfMemory>
-    requires { IsThere core.now.dag core.now.state run task }
-    ensures { IfOk result (λ given. given ≡ given_waiting (instance_of (cell_at core.now.state run task) place)) }
+/// One event by itself, one try from its begin to its end, or the moment for which a try waits. False where the backfill has
+/// ended.
+fn turn<R: TaskRunner>(runner: &R, scheduler: &mut Scheduler<'_>) -> Result<bool, BackfillFault>
+    requires { IsIdle scheduler.old }
+    ensures idle { OnOk result (IsIdle scheduler.new) }
+    ensures driven { OnOk result (StaysDriven (R.may_answer runner.now) scheduler.old scheduler.new) }
+    ensures longer { IfOk result (λ went_on. went_on ≡ true → IsLonger scheduler.old scheduler.new) }
+    ensures ended { IfOk result (λ went_on. went_on ≡ false → HasEnded scheduler.new.backfill.state) }
+    ensures err { IfErr result (MayFault (R.may_give_up runner.now)) }
 {
-    let Some(Cell::Ran(instances)) = core.cell(run, task) else {
-        return Ok(None);
-    };
-    match instances.get(place) {
-        Some(instance) if matches!(instance.phase, Phase::Waiting) => {
-            Ok(Some(instance.given.copy(alloc)?))
+    let _replayed = scheduler.journal();
+    match scheduler.next()? {
+        Next::Stepped => Ok(true),
+        Next::Go(ticket) => {
+            make_try(runner, scheduler, ticket)?;
+            Ok(true)
         }
-        _ => Ok(None),
+        Next::Until(moment) => {
+            if !scheduler.tick(moment)? {
+                unreachable!();
+            }
+            Ok(true)
+        }
+        Next::Wait => unreachable!(),
+        Next::Ended => Ok(false),
     }
 }
 
-/// Makes the tries of an instance until it has finished.
-fn finish<R: TaskRunner>(
-    alloc: Global,
-    plan: &Plan,
-    runner: &R,
-    core: &mut Core<'_>,
-    run: u32,
-    task: u32,
-    place: usize,
-) -> Result<(), BackfillFault>
-    requires few { place ≤ 1_024 }
-    requires is_task { task < length plan.now.dag.tasks }
-    requires driven { IsDriven (R.may_answer runner.now) plan.now.dag plan.now.limits core.old.runs core.old }
-    requires ready { IsReady core.old run task place }
-    ensures driven { OnOk result (IsDriven (R.may_answer runner.now) plan.now.dag plan.now.limits core.old.runs core.new) }
-    ensures finished { OnOk result (HasFinished core.old core.new run task place) }
+/// Turns until the backfill has ended. It does: each turn adds an event, and no journal outgrows memory.
+fn all_turns<R: TaskRunner>(runner: &R, scheduler: &mut Scheduler<'_>) -> Result<(), BackfillFault>
+    requires { IsIdle scheduler.old }
+    ensures driven { OnOk result (StaysDriven (R.may_answer runner.now) scheduler.old scheduler.new) }
+    ensures ended { OnOk result (HasEnded scheduler.new.backfill.state) }
     ensures err { IfErr result (MayFault (R.may_give_up runner.now)) }
 {
-    let dag = plan.dag();
-    for attempt in 1..dag.task(task).retries + 2 {
-        let Some(given) = given_of_waiting(alloc, core, run, task, place)? else {
-            return Ok(());
-        };
-        let name = name_of(dag, run, task, place, attempt);
-        come_to(core, name)?;
-        make_try(alloc, plan, runner, core, Ticket::issue(name, given))?;
+    let mut events = scheduler.journal().len();
+    while turn(runner, scheduler)? {
+        events = scheduler.journal().len();
     }
     Ok(())
 }
 
-/// How many instances a task has in a run.
-fn count_of_instances(core: &Core<'_>, run: u32, task: u32) -> usize
-    requires { IsThere core.now.dag core.now.state run task }
-    ensures count { result ≡ count_in (cell_at core.now.state run task) }
-    ensures few { result ≤ 1_024 }
-{
-    match core.cell(run, task) {
-        Some(Cell::Ran(instances)) => instances.len(),
-        _ => 0,
-    }
-}
-
-/// Decides a task, and makes the tries of its instances, one instance after the other.
-fn pass<R: TaskRunner>(
-    alloc: Global,
-    plan: &Plan,
-    runner: &R,
-    core: &mut Core<'_>,
-    run: u32,
-    task: u32,
-) -> Result<(), BackfillFault>
-    requires is_task { task < length plan.now.dag.tasks }
-    requires driven { IsDriven (R.may_answer runner.now) plan.now.dag plan.now.limits core.old.runs core.old }
-    requires next { IsNext core.old run task }
-    ensures driven { OnOk result (IsDriven (R.may_answer runner.now) plan.now.dag plan.now.limits core.old.runs core.new) }
-    ensures passed { OnOk result (HasPassed core.old core.new run task) }
-    ensures err { IfErr result (MayFault (R.may_give_up runner.now)) }
-{
-    let event = core.deciding(run, task);
-    advance(core, event)?;
-    for place in 0..count_of_instances(core, run, task) {
-        finish(alloc, plan, runner, core, run, task, place)?;
-    }
-    Ok(())
-}
-
-/// Passes the tasks of a run in an order in which each stands behind its upstreams.
-fn pass_all<R: TaskRunner>(
-    alloc: Global,
-    plan: &Plan,
-    runner: &R,
-    core: &mut Core<'_>,
-    run: u32,
-    order: &[u32],
-) -> Result<(), BackfillFault>
-    requires driven { IsDriven (R.may_answer runner.now) plan.now.dag plan.now.limits core.old.runs core.old }
-    requires by_rank { IsByRank (shape_of plan.now.dag).upstreams order.now }
-    requires behind { StandBehind (shape_of plan.now.dag).upstreams order.now }
-    requires first { AtTask order.now 0 run core.old }
-    ensures driven { OnOk result (IsDriven (R.may_answer runner.now) plan.now.dag plan.now.limits core.old.runs core.new) }
-    ensures passed { OnOk result (AtTask order.now (length order.now) run core.new) }
-    ensures err { IfErr result (MayFault (R.may_give_up runner.now)) }
-{
-    for task in order {
-        pass(alloc, plan, runner, core, run, *task)?;
-    }
-    Ok(())
-}
-
-/// Opens a run, passes its tasks, and closes it.
-fn pass_run<R: TaskRunner>(
-    alloc: Global,
-    plan: &Plan,
-    runner: &R,
-    core: &mut Core<'_>,
-    run: u32,
-    order: &[u32],
-) -> Result<(), BackfillFault>
-    requires driven { IsDriven (R.may_answer runner.now) plan.now.dag plan.now.limits core.old.runs core.old }
-    requires by_rank { IsByRank (shape_of plan.now.dag).upstreams order.now }
-    requires behind { StandBehind (shape_of plan.now.dag).upstreams order.now }
-    requires is_run { run < core.old.runs }
-    requires at { AtRun run core.old }
-    ensures driven { OnOk result (IsDriven (R.may_answer runner.now) plan.now.dag plan.now.limits core.old.runs core.new) }
-    ensures passed { OnOk result (AtRun (run + 1) core.new) }
-    ensures err { IfErr result (MayFault (R.may_give_up runner.now)) }
-{
-    advance(core, Event::Open)?;
-    pass_all(alloc, plan, runner, core, run, order)?;
-    advance(core, Event::Close { run })?;
-    Ok(())
-}
-
-/// Passes all runs.
+/// Drives a backfill from its start to its end.
 fn drive<R: TaskRunner>(
     alloc: Global,
     plan: &Plan,
+    intervals: &[Interval],
     runner: &R,
-    core: &mut Core<'_>,
-    runs: u32,
-) -> Result<(), BackfillFault>
-    requires driven { IsDriven (R.may_answer runner.now) plan.now.dag plan.now.limits core.old.runs core.old }
-    requires runs { core.old.runs ≡ runs }
-    requires at { AtRun 0 core.old }
-    ensures driven { OnOk result (IsDriven (R.may_answer runner.now) plan.now.dag plan.now.limits core.old.runs core.new) }
-    ensures ended { OnOk result (HasEnded core.new.state) }
+) -> Result<Ended, BackfillFault>
+    requires few { length intervals.now ≤ 4_096 }
+    ensures over { IfOk result (IsOver (R.may_answer runner.now) plan.now.dag plan.now.limits (length intervals.now)) }
     ensures err { IfErr result (MayFault (R.may_give_up runner.now)) }
 {
-    let order = plan.graph().by_rank(alloc)?;
-    for run in 0..runs {
-        pass_run(alloc, plan, runner, core, run, order.as_slice())?;
+    let _sound = plan.dag();
+    let _fit = plan.limits();
+    let core = Core::new(alloc, plan, intervals)?;
+    let mut scheduler = Scheduler::new(alloc, core, 1)?;
+    all_turns(runner, &mut scheduler)?;
+    match scheduler.into_ended() {
+        Ok(ended) => Ok(ended),
+        Err(_) => unreachable!(),
     }
-    Ok(())
 }
 
-/// The end of a backfill of a plan over these data intervals, whose tries the runner answers: by one worker, by date,
-/// and in a run by rank and in file order.
+/// The end of a backfill of a plan over these data intervals, whose tries the runner answers, one after the other in this
+/// thread. A try that waits for a moment is made once nothing else is left to do, and no time passes.
 pub fn one_by_one<R: TaskRunner>(
     alloc: Global,
     plan: &Plan,
@@ -249,12 +140,5 @@ pub fn one_by_one<R: TaskRunner>(
     ensures journal { IfOk result (λ ended. IsJournal plan.now.dag plan.now.limits (length intervals.now) ended.journal ended.state) }
     ensures err { IfErr result (MayFault (R.may_give_up runner.now)) }
 {
-    let _sound = plan.dag();
-    let _fit = plan.limits();
-    let mut core = Core::new(alloc, plan, intervals)?;
-    drive(alloc, plan, runner, &mut core, intervals.len() as u32)?;
-    match core.into_ended() {
-        Ok(ended) => Ok(ended),
-        Err(_) => unreachable!(),
-    }
+    drive(alloc, plan, intervals, runner)
 }

@@ -1,5 +1,4 @@
-//! Backfills by one worker: one run after the other by date, and in a run one task after the other by rank, and in
-//! file order where ranks are equal.
+//! Backfills by one worker, in the thread that asks: a scheduler's events in turn, and each try where it begins.
 #![tactic(auto)]
 
 mod driving;

@@ -18,7 +18,7 @@ running-by : (b : Backfill) → IsReplay b → (e : Event) → MayCome b e →
     running_now (after b.dag b.state e) + fewer_running (λ _. 1) b.dag b.state e ≡ running_now b.state + more_running (λ _. 1) b.dag b.state e
 running-by b replayed e able = running-after b.dag b.runs b.state (replay-shaped b replayed) (λ _. 1) b.limits e able.0
 
-step-running : (b : Backfill) → IsReplay b → (e : Event) → IsStep e → MayCome b e → running_now (after b.dag b.state e) ≡ running_now b.state
+pub step-running : (b : Backfill) → IsReplay b → (e : Event) → IsStep e → MayCome b e → running_now (after b.dag b.state e) ≡ running_now b.state
 step-running b replayed Event.Open is able = let n : _ = running-by b replayed Event.Open able in omega (arith, n)
 step-running b replayed (Event.Settle k t) is able = let n : _ = running-by b replayed (Event.Settle k t) able in omega (arith, n)
 step-running b replayed (Event.Expand k t) is able = let n : _ = running-by b replayed (Event.Expand k t) able in omega (arith, n)
@@ -26,6 +26,15 @@ step-running b replayed (Event.Close k) is able = let n : _ = running-by b repla
 step-running b replayed (Event.Begin n) is able = absurd (omega (arith, is))
 step-running b replayed (Event.End n o) is able = absurd (omega (arith, is))
 step-running b replayed (Event.Tick m) is able = absurd (omega (arith, is))
+
+pub tick-running : (b : Backfill) → IsReplay b → (m : ℤ) → MayCome b (Event.Tick m) → running_now (after b.dag b.state (Event.Tick m)) ≡ running_now b.state
+tick-running b replayed m able = let n : _ = running-by b replayed (Event.Tick m) able in omega (arith, n)
+
+pub begin-running : (b : Backfill) → IsReplay b → (n : JobName) → MayCome b (Event.Begin n) → running_now (after b.dag b.state (Event.Begin n)) ≡ running_now b.state + 1
+begin-running b replayed n able = let m : _ = running-by b replayed (Event.Begin n) able in omega (arith, m)
+
+pub end-running : (b : Backfill) → IsReplay b → (n : JobName) (o : Outcome) → MayCome b (Event.End n o) → running_now (after b.dag b.state (Event.End n o)) + 1 ≡ running_now b.state
+end-running b replayed n o able = let m : _ = running-by b replayed (Event.End n o) able in omega (arith, m)
 
 -- the scheduler is kept by an event, where the number of running tries is kept in step
 kept : (b new : Backfill) (workers running now : ℕ) (e : Event) → IsScheduler b workers running → new ≡ moved b e →
@@ -40,7 +49,7 @@ step-keeps b new workers running e replayed is first to =
 pub tick-keeps : (b new : Backfill) (workers running : ℕ) (m : ℤ) (came : Bool) → IsReplay b → IsScheduler b workers running → HasComeTo b m came new →
     IsScheduler new workers running
 tick-keeps b new workers running m true replayed is has =
-    let n : _ = running-by b replayed (Event.Tick m) has.0 in
+    let n : _ = tick-running b replayed m has.0 in
     kept b new workers running running (Event.Tick m) is has.1 (omega (arith, n, is.counted)) is.within
 tick-keeps b new workers running m false replayed is has = rw has.1 is
 
@@ -54,16 +63,13 @@ refused-tick b new m Illegal.OutOfMemory other refused same = absurd (other refl
 pub begin-keeps : (b new : Backfill) (workers running : ℕ) (n : JobName) → IsReplay b → IsScheduler b workers running → MayCome b (Event.Begin n) → running < workers → new ≡ moved b (Event.Begin n) →
     IsScheduler new workers (running + 1)
 begin-keeps b new workers running n replayed is able free to =
-    let m : _ = running-by b replayed (Event.Begin n) able in
+    let m : _ = begin-running b replayed n able in
     kept b new workers running (running + 1) (Event.Begin n) is to (omega (arith, m, is.counted)) (omega (arith, free))
-
-pub end-counts : (b : Backfill) (n : JobName) (o : Outcome) → IsReplay b → MayCome b (Event.End n o) → running_now (after b.dag b.state (Event.End n o)) + 1 ≡ running_now b.state
-end-counts b n o replayed able = let m : _ = running-by b replayed (Event.End n o) able in omega (arith, m)
 
 pub end-keeps : (b new : Backfill) (workers running now : ℕ) (n : JobName) (o : Outcome) → IsReplay b → IsScheduler b workers running → MayCome b (Event.End n o) → now + 1 ≡ running → new ≡ moved b (Event.End n o) →
     IsScheduler new workers now
 end-keeps b new workers running now n o replayed is able less to =
-    let m : _ = end-counts b n o replayed able in
+    let m : _ = end-running b replayed n o able in
     kept b new workers running now (Event.End n o) is to (omega (arith, m, is.counted, less)) (omega (arith, is.within, less))
 
 -- where no try runs, no step may come and no try may begin, nothing may come but a tick

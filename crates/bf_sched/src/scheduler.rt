@@ -3,7 +3,7 @@ ghost use Rattle.std.specs.Prelude.{◌≡◌, ◌≤◌, OnOk, OnErr, IfOk, IfE
 ghost use Rattle.bf_try.specs.Grades.{grade_of};
 ghost use Rattle.bf_core.specs.Agreement.{IsOutcome, AreRunStates};
 ghost use Rattle.bf_core.specs.Events.{HasEnded, entry_in};
-ghost use Rattle.bf_core.specs.Cores.{IsJournal, IsRefusal, MayCome, moved};
+ghost use Rattle.bf_core.specs.Cores.{IsJournal, IsRefusal, IsReplay, MayCome, moved};
 ghost use Rattle.bf_core.specs.Running.{running_now};
 ghost use Rattle.bf_core.specs.declared.event.Event.{Event as EventTerm};
 ghost use Rattle.bf_ready.specs.Choices.{IsNextMoment};
@@ -219,9 +219,10 @@ impl<'a> Scheduler<'a> {
         self.ready.core()
     }
 
-    /// The events that came so far.
+    /// The events that came so far. They led from the start to what is now.
     pub fn journal(&self) -> &[Event]
-        ensures { result.now ≡ self.now.backfill.journal }
+        ensures journal { result.now ≡ self.now.backfill.journal }
+        ensures replayed { IsReplay self.now.backfill }
     {
         self.ready.journal()
     }

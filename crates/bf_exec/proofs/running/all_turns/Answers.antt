@@ -1,4 +1,4 @@
-use Rattle.bf_exec.proofs.Turning.{stays_driven}
+use Rattle.bf_sched.proofs.Driving.{stays_driven}
 use Rattle.bf_exec.proofs.running.all_turns.Goals as goal
 
 pub returns-then-not-branch-clause-driven : goal.returns-then-not-branch-clause-driven

@@ -1,4 +1,5 @@
-use Rattle.bf_exec.specs.Turns.{AreInStep, StaysDriven}
+use Rattle.bf_sched.specs.Driving.{StaysDriven}
+use Rattle.bf_exec.specs.Turns.{AreInStep}
 use Rattle.bf_exec.proofs.running.all_turns.Given as goal
 
 abbrev pub invariant-loop : goal.invariant-loop

@@ -2,7 +2,8 @@ use Rattle.std.proofs.Common.{ℕ, subst, sym}
 use Rattle.bf_core.specs.Terms.{Dag, Limits}
 use Rattle.bf_core.specs.Driven.{IsOver}
 use Rattle.bf_exec.specs.Accounts.{KeepsWorkers}
-use Rattle.bf_exec.proofs.Opening.{ends_over, ends_within, opening_idle, starts_in_step}
+use Rattle.bf_sched.proofs.Driving.{ends_over, opening_idle}
+use Rattle.bf_exec.proofs.Opening.{ends_within, starts_in_step}
 use Rattle.bf_exec.proofs.running.drive.Goals as goal
 
 pub new-requires-2-clause-idle : goal.new-requires-2-clause-idle

@@ -5,7 +5,8 @@ use Rattle.bf_sched.specs.declared.next.Next.{Next}
 use Rattle.bf_sched.specs.Scheduling.{HasBegun, HasStepped, IsNext, MustWait, WaitsUntil}
 use Rattle.bf_core.specs.Events.{HasEnded}
 use Rattle.bf_exec.specs.Turns.{AreInStep}
-use Rattle.bf_exec.proofs.Turning.{awaited, awaited_driven, awaited_in_step, begun_driven, begun_in_step, caught_up_driven, caught_up_in_step, idle_at, idle_there, must_until, must_wait, same_driven, stays_driven, stepped_driven, stepped_in_step}
+use Rattle.bf_sched.proofs.Driving.{begun_driven, same_driven, stays_driven, stepped_driven}
+use Rattle.bf_exec.proofs.Turning.{awaited, awaited_driven, awaited_in_step, begun_in_step, caught_up_driven, caught_up_in_step, idle_at, idle_there, must_until, must_wait, stepped_in_step}
 use Rattle.bf_exec.proofs.executor.Executor.turn.Goals as goal
 
 pub unreachable-requires : goal.unreachable-requires

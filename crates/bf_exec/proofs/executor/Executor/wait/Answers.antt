@@ -1,7 +1,8 @@
 use Rattle.std.proofs.Common.{subst}
 use Rattle.bf_lane.specs.declared.messages.Answer.{Answer}
 use Rattle.bf_lane.specs.Lanes.{IsAllowedBy}
-use Rattle.bf_exec.specs.Turns.{EndsBy, StaysDriven}
+use Rattle.bf_sched.specs.Driving.{StaysDriven}
+use Rattle.bf_exec.specs.Turns.{EndsBy}
 use Rattle.bf_exec.proofs.Turning.{ended_driven, on_ok}
 use Rattle.bf_exec.proofs.executor.Executor.wait.Goals as goal
 

@@ -1,0 +1,108 @@
+-- What a turn does to a backfill in which no try runs.
+use Rattle.std.proofs.Common.{◌≡◌, ◌<◌, ◌+◌, ◌++◌, ◌∷◌, ℕ, ℤ, Bool, true, false, List, [], length, sym, ap, ◌∙◌, subst, subst₂, arith, FitsSigned, of_z, to_z, to_z-of_z, w64}
+use Rattle.std.proofs.lemmas.Int.{ints}
+use Rattle.bf_try.specs.Asked.{Asked, Answered}
+use Rattle.bf_try.specs.declared.answers.Raw.{Raw}
+use Rattle.bf_try.proofs.GradeLemmas.{grade_fits}
+use Rattle.bf_core.specs.Terms.{Given, JobName}
+use Rattle.bf_core.specs.declared.state.Phase.{Phase}
+use Rattle.bf_core.specs.declared.event.Event.{Event}
+use Rattle.bf_core.specs.Cores.{Backfill, IsReplay, MayCome, moved}
+use Rattle.bf_core.specs.Events.{IsPresent, cell_at, given_in, place_in}
+use Rattle.bf_core.specs.Running.{running_now}
+use Rattle.bf_core.proofs.Begun.{begun-given, running-at}
+use Rattle.bf_core.proofs.Kept.{replay-event, replay-in-time}
+use Rattle.bf_ready.specs.Choices.{IsFirstMoment}
+use Rattle.bf_sched.specs.Driving.{IsUnderWay}
+use Rattle.bf_sched.specs.Scheduling.{HasBegun, HasFinished, HasStepped, HasTicked, MayFinish, MustWait, Schedule, WaitsUntil, end_of, moved_on}
+use Rattle.bf_sched.proofs.Keeping.{begin-running, end-running, step-running, tick-running}
+use Rattle.bf_plain.specs.Driving.{IsIdle, IsLonger}
+
+-- ---- tries
+
+-- a try that has just begun is under way
+pub begun-under_way : (s t : Schedule) (ticket : Asked) → HasBegun s ticket t → IsUnderWay t.backfill ticket
+begun-under_way s t ticket h = subst (λ (x : Schedule). IsUnderWay x.backfill ticket) (sym h.new_is) (record {
+  runs = running-at s.backfill ticket.name waits;
+  gives = begun-given s.backfill ticket.name waits ∙ sym h.is_ticket.1;
+})
+  where
+    waits : IsPresent s.backfill.dag s.backfill.state ticket.name Phase.Waiting
+    waits = h.is_first.may_begin.0.0
+
+-- its answer ends it
+pub may-finish : (b : Backfill) (ticket : Asked) (done : Answered) → IsUnderWay b ticket → done.name ≡ ticket.name → done.given ≡ ticket.given → MayFinish b done
+may-finish b ticket done way named given =
+    (((runs, grade_fits b.dag done.name.task done.raw), tt), λ at. gives)
+  where
+    runs : IsPresent b.dag b.state done.name Phase.Running
+    runs = subst (λ (n : JobName). IsPresent b.dag b.state n Phase.Running) (sym named) way.runs
+
+    gives : given_in (cell_at b.state done.name.run done.name.task) (place_in b.dag done.name) ≡ done.given
+    gives = ap (λ (n : JobName). given_in (cell_at b.state n.run n.task) (place_in b.dag n)) named ∙ (way.gives ∙ sym given)
+
+-- an answer that may be given to the ticket may be given to its own name
+pub allowed-as : (may : JobName → Given → Raw → Type 0) (ticket : Asked) (done : Answered) → done.name ≡ ticket.name → done.given ≡ ticket.given → may ticket.name ticket.given done.raw → may done.name done.given done.raw
+allowed-as may ticket done named given ok = subst₂ (λ (n : JobName) (g : Given). may n g done.raw) (sym named) (sym given) ok
+
+-- ---- how many tries run
+
+pub stepped-idle : (s t : Schedule) → IsReplay s.backfill → HasStepped s t → IsIdle s → IsIdle t
+stepped-idle s t replayed h idle =
+    ap (λ (x : Schedule). running_now x.backfill.state) h.new_is ∙ (step-running s.backfill replayed h.event h.is_first.is_step h.is_first.may_come ∙ idle)
+
+pub ticked-idle : (s t : Schedule) (m : ℤ) → IsReplay s.backfill → HasTicked s m true t → IsIdle s → IsIdle t
+ticked-idle s t m replayed h idle = ap (λ (x : Backfill). running_now x.state) h.0.1 ∙ (tick-running s.backfill replayed m h.0.0 ∙ idle)
+
+-- where a try has begun and ended, none runs again
+pub made-idle : (s t u : Schedule) (ticket : Asked) → IsReplay s.backfill → HasBegun s ticket t → IsIdle s → running_now u.backfill.state + 1 ≡ running_now t.backfill.state → IsIdle u
+made-idle s t u ticket replayed h idle counted =
+    let one : running_now t.backfill.state ≡ running_now s.backfill.state + 1 = ap (λ (x : Schedule). running_now x.backfill.state) h.new_is ∙ begin-running s.backfill replayed ticket.name h.is_first.may_begin in
+    omega (arith, one, idle, counted)
+
+pub finished-counts : (s t : Schedule) (done : Answered) → IsReplay s.backfill → HasFinished s done t → running_now t.backfill.state + 1 ≡ running_now s.backfill.state
+finished-counts s t done replayed h =
+    ap (λ (x : Schedule). running_now x.backfill.state + 1) h.1 ∙ end-running s.backfill replayed done.name _ h.0.0
+
+pub none-waits : (s t : Schedule) → MustWait s t → IsIdle s → ⊥
+none-waits s t must idle = let some = must.some_run in omega (arith, some, idle)
+
+-- ---- the journal
+
+one-longer : (xs : List Event) (e : Event) → length xs < length (xs ++ e ∷ [])
+one-longer [] e = omega arith
+one-longer (x ∷ xs) e = let more = one-longer xs e in omega (arith, more)
+
+pub moved-longer : (s t : Schedule) (e : Event) → t ≡ moved_on s e → IsLonger s t
+moved-longer s t e is = subst (IsLonger s) (sym is) (one-longer s.backfill.journal e)
+
+pub ticked-longer : (s t : Schedule) (m : ℤ) → HasTicked s m true t → IsLonger s t
+ticked-longer s t m h = subst (λ (b : Backfill). length s.backfill.journal < length b.journal) (sym h.0.1) (one-longer s.backfill.journal (Event.Tick m))
+
+pub longer-still : (s t u : Schedule) → IsLonger s t → IsLonger t u → IsLonger s u
+longer-still s t u one two = omega (arith, one, two)
+
+-- ---- the clock
+
+-- the first moment for which a try waits may come
+pub first-may : (b : Backfill) → IsReplay b → (m : ℤ) → IsFirstMoment b m → MayCome b (Event.Tick m)
+first-may b replayed m is =
+    subst (λ (x : ℤ). MayCome b (Event.Tick x)) is.is_moment (tt, (is.waits.is_later, (replay-in-time b replayed).bounded is.name is.waits.moment is.waits.is_moment))
+
+-- it fits 64 bits
+first-fits : (b : Backfill) → IsReplay b → (m : ℤ) → IsFirstMoment b m → FitsSigned w64 m
+first-fits b replayed m is =
+    let from = (replay-in-time b replayed).begun in
+    let timely = (first-may b replayed m is).1 in
+    let later = timely.0 in
+    let within = timely.1 in
+    omega (arith, ints, from, later, within)
+
+pub read-as : (s t u : Schedule) (m : ℤ) (came : Bool) → IsReplay s.backfill → WaitsUntil s m t → HasTicked t (to_z w64 (of_z w64 m)) came u → HasTicked t m came u
+read-as s t u m came replayed until ticked = subst (λ (x : ℤ). HasTicked t x came u) (to_z-of_z {w = w64} {z = m} (first-fits s.backfill replayed m until.is_first)) ticked
+
+pub until-comes : (s t u : Schedule) (m : ℤ) → IsReplay s.backfill → WaitsUntil s m t → HasTicked t m false u → ⊥
+until-comes s t u m replayed until ticked = ticked.0.0 (subst (λ (x : Schedule). MayCome x.backfill (Event.Tick m)) (sym until.new_is) (first-may s.backfill replayed m until.is_first))
+
+pub until-idle : (s t u : Schedule) (m : ℤ) → IsReplay s.backfill → WaitsUntil s m t → HasTicked t m true u → IsIdle s → IsIdle u
+until-idle s t u m replayed until ticked idle = ticked-idle s u m replayed (subst (λ (x : Schedule). HasTicked x m true u) until.new_is ticked) idle
