@@ -20,7 +20,7 @@ runs_by() {
     local workers=$1 state=$2 wanted=0 status=0
     [[ $state == success ]] || wanted=1
     {
-        echo '@backfill 1 d'
+        echo '@backfill 2 d'
         echo "@run 2024-01-01T00:00:00Z 2024-01-02T00:00:00Z $state"
         cat
         echo '@end 1'
@@ -52,9 +52,13 @@ tasks '{"id":"src","command":["echo","[3,1,2]"]},
 runs success <<'LINES'
 src -1 success 1 [3,1,2]
 m 0 success 1 3
+@item 3
 m 1 success 1 -
+@item 1
 m 2 success 1 2
+@item 2
 sum -1 success 1 [3,2]
+@pull m [3,2]
 LINES
 
 # What a try's words see of it.

@@ -63,7 +63,7 @@ is_refused() {
 
 # The report of one run that starts at 2024-01-01 and ends then, in this state, with the instances on standard input.
 one_run() {
-    echo '@backfill 1 d'
+    echo '@backfill 2 d'
     echo "@run 2024-01-01T00:00:00Z $1 $2"
     cat
     echo '@end 1'
@@ -325,7 +325,7 @@ LINES
 list=$(printf '0,%.0s' {1..1023})0
 runs success "[{\"task\":\"src\",\"out\":\"[$list]\"}]" < <(
     echo "src -1 success 1 [$list]"
-    printf 'm %d success 1 -\n' {0..1023}
+    printf 'm %d success 1 -\n@item 0\n' {0..1023}
 )
 runs failed "[{\"task\":\"src\",\"out\":\"[0,$list]\"}]" <<'LINES'
 src -1 failed 1 -
@@ -335,18 +335,44 @@ tasks '{"id":"src"},{"id":"m","upstream":["src"],"expand":"src"},{"id":"n","upst
 runs success '[{"task":"src","out":"[1,2,3]"},{"task":"m","index":0,"out":"1"},{"task":"m","index":1,"status":1},{"task":"m","index":2,"out":"3"}]' <<'LINES'
 src -1 success 1 [1,2,3]
 m 0 success 1 1
+@item 1
 m 1 failed 1 -
+@item 2
 m 2 success 1 3
+@item 3
 n 0 success 1 -
+@item 1
 n 1 success 1 -
+@item 3
 LINES
 tasks '{"id":"src"},{"id":"m","upstream":["src"],"expand":"src"},{"id":"sum","upstream":["m"],"command":["echo",{"pull":"m"}]}'
 runs success '[{"task":"src","out":"[3,1,2]"},{"task":"m","index":0,"out":"3"},{"task":"m","index":2,"out":"2"},{"task":"sum","out":"[3,2]"}]' <<'LINES'
 src -1 success 1 [3,1,2]
 m 0 success 1 3
+@item 3
 m 1 success 1 -
+@item 1
 m 2 success 1 2
+@item 2
 sum -1 success 1 [3,2]
+@pull m [3,2]
+LINES
+# What each of its tries was given stands behind the line of an instance: the item, which may be null, and what was pulled, in the
+# order of first use in the command, `-` where nothing was pushed. A task without a try was given nothing.
+tasks '{"id":"src"},{"id":"m","upstream":["src","a","b"],"expand":"src","retries":1,"command":["echo",{"pull":"b"},{"item":true},{"pull":"a"},{"pull":"b"}]},{"id":"a","upstream":["src"]},{"id":"b","upstream":["src"]},{"id":"z","upstream":["m"],"command":[{"pull":"m"}]}'
+runs failed '[{"task":"src","out":"[null,[\"-\"]]"},{"task":"a","out":"\"-\""},{"task":"m","index":0,"try":2,"out":"7"},{"task":"m","status":1}]' <<'LINES'
+src -1 success 1 [null,["-"]]
+m 0 success 2 7
+@item null
+@pull b -
+@pull a "-"
+m 1 failed 2 -
+@item ["-"]
+@pull b -
+@pull a "-"
+a -1 success 1 "-"
+b -1 success 1 -
+z -1 upstream_failed 0 -
 LINES
 
 # Several runs, and the past.
@@ -354,21 +380,21 @@ LINES
 echo '[]' > "$table"
 tasks ''
 answers 0 dry "$graph" "$table" --from 2024-01-01 --to 2024-01-02 <<'LINES'
-@backfill 1 d
+@backfill 2 d
 @run 2024-01-01T00:00:00Z 2024-01-02T00:00:00Z success
 @run 2024-01-02T00:00:00Z 2024-01-03T00:00:00Z success
 @end 2
 LINES
 echo '{"dag_id":"d","schedule":"@weekly","tasks":[{"id":"a"}]}' > "$graph"
 answers 0 dry "$graph" "$table" --from 2024-01-01 --to 2024-01-06 <<'LINES'
-@backfill 1 d
+@backfill 2 d
 @end 0
 LINES
 for limit in '' '"max_active_runs":1,'; do
     echo "{\"dag_id\":\"d\",\"schedule\":\"@daily\",$limit\"tasks\":[{\"id\":\"a\",\"depends_on_past\":true}]}" > "$graph"
     echo '[{"run":"2024-01-01T00:00:00Z","status":1}]' > "$table"
     answers 1 dry "$graph" "$table" --from 2024-01-01 --to 2024-01-03 <<'LINES'
-@backfill 1 d
+@backfill 2 d
 @run 2024-01-01T00:00:00Z 2024-01-02T00:00:00Z failed
 a -1 failed 1 -
 @run 2024-01-02T00:00:00Z 2024-01-03T00:00:00Z failed
@@ -379,7 +405,7 @@ a -1 no_status 0 -
 LINES
     echo '[{"run":"2024-01-01T00:00:00Z","status":99}]' > "$table"
     answers 0 dry "$graph" "$table" --from 2024-01-01 --to 2024-01-03 <<'LINES'
-@backfill 1 d
+@backfill 2 d
 @run 2024-01-01T00:00:00Z 2024-01-02T00:00:00Z success
 a -1 skipped 1 -
 @run 2024-01-02T00:00:00Z 2024-01-03T00:00:00Z success

@@ -1,56 +1,81 @@
--- Reports of tasks and of runs, one after another.
-use Rattle.std.proofs.Common.{◌≡◌, ◌<◌, ◌+◌, ℕ, suc, List, [], ◌∷◌, ◌++◌, length, take, drop, refl, sym, ap, ap₂, ◌∙◌, arith, append_assoc, get_or, length-take}
-use Rattle.std.specs.List.{AllByRecursion}
+-- Reports of pulls, of tasks and of runs, one after another.
+use Rattle.std.proofs.Common.{◌≡◌, ◌<◌, ◌+◌, ℕ, suc, List, [], ◌∷◌, ◌++◌, Option, length, take, drop, refl, sym, ap, ap₂, ◌∙◌, arith, append_assoc, add-one, drop-cons, get_or, length-take}
+use Rattle.std.specs.List.{All, AllByRecursion}
 use Rattle.std.proofs.lemmas.List.{take_more}
+use Rattle.std.proofs.lemmas.List.Elements.{All-from_recursion, All-weaker}
 use Rattle.std.proofs.Props.{props}
 use mathlib.Core.HLevel.{is_prop→PathP}
-use Rattle.bf_value.proofs.ReadLemmas.{drop-item}
+use Rattle.bf_value.specs.declared.xval.Xval.{Xval}
 use Rattle.bf_interval.specs.declared.interval.Interval.{Interval}
 use Rattle.bf_check.specs.declared.plan.Task.{Task}
 use Rattle.bf_check.specs.declared.plan.Dag.{Dag}
-use Rattle.bf_xcom.specs.declared.values.TaskValue.{TaskValue}
+use Rattle.bf_check.specs.Plans.{no_task, task_of}
+use Rattle.bf_check.specs.Sound.{IsSound, IsSettledAncestor, Direct, Above}
 use Rattle.bf_try.specs.Tries.{Look}
+use Rattle.bf_core.specs.declared.state.Cell.{Cell}
 use Rattle.bf_core.specs.declared.state.State.{State}
 use Rattle.bf_core.specs.Recursion.{out, run_state_of}
-use Rattle.bf_core.specs.Events.{cell_at, value_in, value_or_blocked, entry_in}
+use Rattle.bf_core.specs.Events.{cell_at, entry_in}
 use Rattle.bf_core.specs.Agreement.{IsOutcome}
 use Rattle.bf_moment.specs.Moment.{IsShown}
 use Rattle.bf_report.specs.declared.report.TaskReport.{TaskReport}
 use Rattle.bf_report.specs.declared.report.RunReport.{RunReport}
 use Rattle.bf_report.specs.declared.report.Report.{Report}
-use Rattle.bf_report.specs.Dated.{reported, reports_from, AreDated, IsDated}
+use Rattle.bf_report.specs.Dated.{pulls_of, reported, reports_from, cell_by, AreDated, IsDated}
 
 -- what holds of each and of one more
 pub all_more : {X : Type 0} (P : X → Type 0) (xs : List X) (x : X) → AllByRecursion P xs → P x → AllByRecursion P (xs ++ x ∷ [])
 all_more P [] x all one = (one, tt)
 all_more P (y ∷ ys) x all one = (all.0, all_more P ys x all.1 one)
 
+-- ---- pulls
+
+ancestor_in_range : (dag : Dag) (sound : IsSound dag) (t a : ℕ) → IsSettledAncestor dag t a → a < length dag.tasks
+ancestor_in_range dag sound t a (Direct w h) = sound.in_range t a h
+ancestor_in_range dag sound t a (Above {u = u} w h above) = ancestor_in_range dag sound u a above
+
+-- a task pulls from tasks of the graph
+pub pulls_in_range : (dag : Dag) → IsSound dag → (t : ℕ) → All (λ p. p < length dag.tasks) (task_of dag t).pulls
+pulls_in_range dag sound t =
+    let pulls : List ℕ = (task_of dag t).pulls in
+    All-weaker (IsSettledAncestor dag t) (λ p. p < length dag.tasks) (ancestor_in_range dag sound t) pulls
+    (All-from_recursion (IsSettledAncestor dag t) pulls (sound.pulls_settled t))
+
+pub no_pulls : (dag : Dag) (ps : List ℕ) (vs : List (Option Xval)) → length ps ≡ 0 → pulls_of dag ps vs ≡ []
+no_pulls dag [] vs e = refl
+no_pulls dag (p ∷ ps) vs e = absurd (omega arith)
+
+pub no_values : (dag : Dag) (ps : List ℕ) (vs : List (Option Xval)) → length vs ≡ 0 → pulls_of dag ps vs ≡ []
+no_values dag [] vs e = refl
+no_values dag (p ∷ ps) [] e = refl
+no_values dag (p ∷ ps) (v ∷ vs) e = absurd (omega arith)
+
+-- ---- tasks
+
 -- one more task is reported
-pub one-reported : (value : ℕ → TaskValue) (tasks : List Task) (t : ℕ) (task : Task) (found : List TaskReport) (r : TaskReport) → t < length tasks → task ≡ get_or tasks t task → r ≡ reported task (value t) →
-    (found ++ r ∷ []) ++ reports_from value (t + 1) (drop (t + 1) tasks) ≡ found ++ reports_from value t (drop t tasks)
-one-reported value tasks t task found r l e is =
-    append_assoc found (r ∷ []) (reports_from value (t + 1) (drop (t + 1) tasks))
-    ∙ ap (λ rs. found ++ rs) (ap (λ x. x ∷ reports_from value (t + 1) (drop (t + 1) tasks)) is
-    ∙ ap (λ n. reported task (value t) ∷ reports_from value n (drop (t + 1) tasks)) add-suc
-    ∙ ap (reports_from value t) (sym (drop-item tasks t task l e)))
-  where
-    add-suc : t + 1 ≡ suc t
-    add-suc = omega arith
+pub one-reported : (dag : Dag) (cell : ℕ → Cell) (tasks : List Task) (t : ℕ) (found : List TaskReport) (r : TaskReport) → t < length tasks → r ≡ reported dag t (cell t) →
+    (found ++ r ∷ []) ++ reports_from dag cell (t + 1) (drop (t + 1) tasks) ≡ found ++ reports_from dag cell t (drop t tasks)
+one-reported dag cell tasks t found r l is =
+    append_assoc found (r ∷ []) (reports_from dag cell (t + 1) (drop (t + 1) tasks))
+    ∙ ap (λ rs. found ++ rs) (rw add-one (ap (λ x. x ∷ reports_from dag cell (suc t) (drop (suc t) tasks)) is ∙ ap (reports_from dag cell t) (sym (drop-cons tasks t no_task l))))
 
-reports-cong : (value other : ℕ → TaskValue) (from : ℕ) (tasks : List Task) → ((t : ℕ) → t < from + length tasks → value t ≡ other t) → reports_from value from tasks ≡ reports_from other from tasks
-reports-cong value other from [] same = refl
-reports-cong value other from (task ∷ tasks) same =
-    ap₂ (λ r rs. r ∷ rs) (ap (reported task) (same from (omega arith))) (reports-cong value other (suc from) tasks (λ t l. same t (omega arith)))
+reports-cong : (dag : Dag) (cell other : ℕ → Cell) (from : ℕ) (tasks : List Task) → ((t : ℕ) → t < from + length tasks → cell t ≡ other t) → reports_from dag cell from tasks ≡ reports_from dag other from tasks
+reports-cong dag cell other from [] same = refl
+reports-cong dag cell other from (task ∷ tasks) same =
+    ap₂ (λ r rs. r ∷ rs) (ap (reported dag from) (same from (omega arith))) (reports-cong dag cell other (suc from) tasks (λ t l. same t (omega arith)))
 
--- the values of an ended state are the recursion's
+-- the cells of an ended state are the recursion's
 pub outcome-reports : (dag : Dag) (runs : ℕ) (s : State) → IsOutcome dag runs s → (k : ℕ) → k < runs →
-    reports_from (λ t. value_or_blocked (value_in (cell_at s k t))) 0 dag.tasks ≡ reports_from (out dag (entry_in s.ledger) k) 0 dag.tasks
+    reports_from dag (cell_at s k) 0 dag.tasks ≡ reports_from dag (cell_by dag (entry_in s.ledger) k) 0 dag.tasks
+unfolding cell_by
 outcome-reports dag runs s is k l =
-    reports-cong (λ t. value_or_blocked (value_in (cell_at s k t))) (out dag (entry_in s.ledger) k) 0 dag.tasks (λ t m. ap value_or_blocked (is.values k t l (omega (arith, m))))
+    reports-cong dag (cell_at s k) (cell_by dag (entry_in s.ledger) k) 0 dag.tasks (λ t m. is.cells k t l (omega (arith, m)))
+
+-- ---- runs
 
 -- one more run is dated
 dated-more : (dag : Dag) (ledger : Look) (k : ℕ) (intervals : List Interval) (runs : List RunReport) (interval : Interval) (run : RunReport) → AreDated dag ledger k intervals runs →
-    run.interval ≡ interval → run.state ≡ run_state_of dag (out dag ledger (k + length intervals)) → run.tasks ≡ reports_from (out dag ledger (k + length intervals)) 0 dag.tasks →
+    run.interval ≡ interval → run.state ≡ run_state_of dag (out dag ledger (k + length intervals)) → run.tasks ≡ reports_from dag (cell_by dag ledger (k + length intervals)) 0 dag.tasks →
     AreDated dag ledger k (intervals ++ interval ∷ []) (runs ++ run ∷ [])
 dated-more dag ledger k [] [] interval run are a b c =
     let same : k + 0 ≡ k = omega arith in
@@ -63,7 +88,7 @@ dated-more dag ledger k (i ∷ is) (r ∷ rs) interval run are a b c =
 
 -- the runs of the intervals so far, and one more
 pub dated-next : (dag : Dag) (ledger : Look) (intervals : List Interval) (k : ℕ) (interval : Interval) (runs : List RunReport) (run : RunReport) → k < length intervals → interval ≡ get_or intervals k interval →
-    AreDated dag ledger 0 (take k intervals) runs → run.interval ≡ interval → run.state ≡ run_state_of dag (out dag ledger k) → run.tasks ≡ reports_from (out dag ledger k) 0 dag.tasks →
+    AreDated dag ledger 0 (take k intervals) runs → run.interval ≡ interval → run.state ≡ run_state_of dag (out dag ledger k) → run.tasks ≡ reports_from dag (cell_by dag ledger k) 0 dag.tasks →
     AreDated dag ledger 0 (take (k + 1) intervals) (runs ++ run ∷ [])
 dated-next dag ledger intervals k interval runs run l e are a b c =
     let long : 0 + length (take k intervals) ≡ k = omega (arith, length-take k intervals) in
@@ -95,4 +120,4 @@ runs-once dag ledger k (i ∷ is) (r ∷ rs) (q ∷ qs) a b =
 pub dated-once : (dag : Dag) (intervals : List Interval) (ledger : Look) (report other : Report) → IsDated dag intervals ledger report → IsDated dag intervals ledger other → report ≡ other
 dated-once dag intervals ledger report other a b =
     let runs : report.runs ≡ other.runs = runs-once dag ledger 0 intervals report.runs other.runs a.runs b.runs in
-    λ i. record { dag_id = (a.dag_id ∙ sym b.dag_id) i; tasks = (a.tasks ∙ sym b.tasks) i; runs = runs i }
+    λ i. record { version = (a.version ∙ sym b.version) i; dag_id = (a.dag_id ∙ sym b.dag_id) i; tasks = (a.tasks ∙ sym b.tasks) i; runs = runs i }

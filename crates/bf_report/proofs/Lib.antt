@@ -1,3 +1,4 @@
 mod Pieces
-mod ReportFacts
+pub mod ReportFacts
+pub mod GivenFacts
 pub mod DatedFacts

@@ -1,11 +1,15 @@
--- Reports as text.
-use Rattle.std.specs.Prelude.{ℕ, List, [], ◌∷◌, ◌++◌, Some, None, codes, decimal, length}
+-- Reports as text. The text prints what is there, whatever the version.
+use Rattle.std.specs.Prelude.{ℕ, List, [], ◌∷◌, ◌++◌, Option, Some, None, codes, decimal, length}
 use Rattle.std.specs.List.{flat_map, join_with_byte, enumerate_from, zip}
+use Rattle.bf_value.specs.declared.xval.Xval.{Xval}
 use Rattle.bf_value.specs.Json.{text_of}
 use Rattle.bf_xcom.specs.declared.values.Outcome.{Outcome}
 use Rattle.bf_xcom.specs.declared.values.Outcome.TheVariants.{Success, Failed, Skipped}
 use Rattle.bf_xcom.specs.declared.values.TaskResult.{TaskResult}
 use Rattle.bf_xcom.specs.declared.values.RunState.{RunState}
+use Rattle.bf_report.specs.declared.report.Version.{Version}
+use Rattle.bf_report.specs.declared.report.Pull.{Pull}
+use Rattle.bf_report.specs.declared.report.InstanceReport.{InstanceReport}
 use Rattle.bf_report.specs.declared.report.TaskReport.{TaskReport}
 use Rattle.bf_report.specs.declared.report.RunReport.{RunReport}
 use Rattle.bf_report.specs.declared.report.Report.{Report}
@@ -28,25 +32,43 @@ value_word (Success None) = codes "-"
 value_word Failed = codes "-"
 value_word Skipped = codes "-"
 
--- an instance of a task
+-- what came of an instance of a task
 abbrev pub instance_line : List ℕ → List ℕ → TaskResult → List ℕ
 instance_line id index r = line (id ∷ index ∷ state_word r.outcome ∷ decimal r.tries ∷ value_word r.outcome ∷ [])
+
+-- its item, if it has one
+abbrev pub item_line : Option Xval → List ℕ
+item_line None = []
+item_line (Some item) = line (codes "@item" ∷ text_of item ∷ [])
+
+-- a value, or nothing
+abbrev pub pulled_word : Option Xval → List ℕ
+pulled_word None = codes "-"
+pulled_word (Some value) = text_of value
+
+-- what it pulled from a task
+abbrev pub pull_line : Pull → List ℕ
+pull_line pull = line (codes "@pull" ∷ pull.task ∷ pulled_word pull.value ∷ [])
+
+-- an instance of a task, with what it was given
+abbrev pub instance_text : List ℕ → List ℕ → InstanceReport → List ℕ
+instance_text id index x = instance_line id index x.result ++ (item_line x.item ++ flat_map pull_line x.pulls)
 
 -- a task that was decided without a try
 abbrev pub untried_line : List ℕ → List ℕ → List ℕ
 untried_line id state = line (id ∷ codes "-1" ∷ state ∷ codes "0" ∷ codes "-" ∷ [])
 
 -- the instances of an expanded task, by map index from 0
-abbrev pub mapped_lines : List ℕ → List TaskResult → List ℕ
-mapped_lines id results = flat_map (λ p. instance_line id (decimal p.0) p.1) (enumerate_from 0 results)
+abbrev pub mapped_text : List ℕ → List InstanceReport → List ℕ
+mapped_text id instances = flat_map (λ p. instance_text id (decimal p.0) p.1) (enumerate_from 0 instances)
 
 -- a task in a run
 abbrev pub task_text : List ℕ → TaskReport → List ℕ
 task_text id TaskReport.NoStatus = untried_line id (codes "no_status")
 task_text id TaskReport.Skipped = untried_line id (codes "skipped")
 task_text id TaskReport.UpstreamFailed = untried_line id (codes "upstream_failed")
-task_text id (TaskReport.Ran r) = instance_line id (codes "-1") r
-task_text id (TaskReport.Mapped rs) = mapped_lines id rs
+task_text id (TaskReport.Ran x) = instance_text id (codes "-1") x
+task_text id (TaskReport.Mapped xs) = mapped_text id xs
 
 -- the tasks of a run, each under its id
 abbrev pub tasks_text : List (List ℕ) → List TaskReport → List ℕ
@@ -63,9 +85,16 @@ run_line run = line (codes "@run" ∷ moment_text run.interval.start.nanosecond 
 abbrev pub run_text : List (List ℕ) → RunReport → List ℕ
 run_text ids run = run_line run ++ tasks_text ids run.tasks
 
+abbrev pub version_word : Version → List ℕ
+version_word Version.One = codes "1"
+version_word Version.Two = codes "2"
+
+abbrev pub head_line : Version → List ℕ → List ℕ
+head_line version dag_id = line (codes "@backfill" ∷ version_word version ∷ dag_id ∷ [])
+
 -- the head, the runs and the end
 abbrev pub report_text : Report → List ℕ
 report_text report =
-    line (codes "@backfill" ∷ codes "1" ∷ report.dag_id ∷ [])
+    head_line report.version report.dag_id
     ++ flat_map (run_text report.tasks) report.runs
     ++ line (codes "@end" ∷ decimal (length report.runs) ∷ [])

@@ -1,96 +1,64 @@
 //! The report of a backfill that has ended.
-ghost use Rattle.std.specs.Prelude.{◌≡◌, ◌≤◌, ◌<◌, ℕ, length, map, All, IfOk, IfSome, option_map, slice_get, Some};
-ghost use Rattle.bf_core.specs.Events.{results, value_in, value_or_blocked};
+ghost use Rattle.std.specs.Prelude.{◌≡◌, ◌≤◌, ◌<◌, length, map, All, IfOk};
+ghost use Rattle.bf_check.specs.Sound.{IsSound};
 ghost use Rattle.bf_core.specs.Events.{entry_in, cell_at};
 ghost use Rattle.bf_core.specs.Agreement.{IsOutcome, AreRunStates};
-ghost use Rattle.bf_report.specs.Dated.{reported, reported_results, reports_from, AreDated, IsDated, IsShownInterval, ids_shown};
-ghost use Rattle.bf_report.specs.Values.{IsSoundOutcome, AreSoundResults, IsSoundTask, AreSoundTasks, AreSoundRuns, HasSoundValues};
+ghost use Rattle.bf_report.specs.Dated.{reported, reported_instances, reports_from, AreDated, IsDated, IsShownInterval, ids_shown};
+ghost use Rattle.bf_report.specs.Values.{AreSoundInstances, IsSoundTask, AreSoundTasks, AreSoundRuns, HasSoundValues};
 
-use crate::report::{Report, RunReport, TaskReport};
+use crate::instances::instance_reports;
+use crate::report::{InstanceReport, Report, RunReport, TaskReport, Version};
 use bf_check::{Dag, Plan, Task};
-use bf_core::{Cell, Ended, Instance, Phase, State};
+use bf_core::{Cell, Ended, State};
 use bf_interval::Interval;
 use bf_value::{OutOfMemory, Sequence, Text};
-use bf_xcom::{Outcome, RunState, TaskResult};
 use std::alloc::Global;
 
-/// What a pushed value's numbers and texts are is known to their types.
-fn known(outcome: &Outcome)
-    ensures { IsSoundOutcome outcome.now }
-{
-    if let Outcome::Success(Some(value)) = outcome {
-        value.known();
-    }
-}
-
-/// The result of an instance that finished so at a try.
-fn result_of(alloc: Global, outcome: &Outcome, tries: u32) -> Result<TaskResult, OutOfMemory>
-    ensures result { IfOk result (λ r. r ≡ record { outcome = outcome.now; tries = tries }) }
-    ensures sound { IfOk result (λ r. IsSoundOutcome r.outcome) }
-{
-    known(outcome);
-    Ok(TaskResult {
-        outcome: outcome.copy(alloc)?,
-        tries,
-    })
-}
-
-/// The results of instances, where all have finished.
-fn results_of(alloc: Global, instances: &[Instance]) -> Result<Option<Vec<TaskResult>>, OutOfMemory>
-    ensures results { IfOk result (λ o. option_map (λ rs. rs.items) o ≡ results instances.now) }
-    ensures sound { IfOk result (λ o. IfSome o (λ rs. AreSoundResults rs.items)) }
-{
-    let mut found = Vec::with_capacity(alloc, instances.len())?;
-    for instance in instances {
-        match &instance.phase {
-            Phase::Finished(outcome) => found.push(result_of(alloc, outcome, instance.attempt)?)?,
-            Phase::Waiting | Phase::Running => return Ok(None),
-        }
-    }
-    Ok(Some(found))
-}
-
-fn reported_of(is_expanded: bool, mut results: Vec<TaskResult>) -> TaskReport
-    ensures report { result ≡ reported_results is_expanded results.items }
-    ensures sound { AreSoundResults results.items → IsSoundTask result }
+fn reported_of(is_expanded: bool, mut instances: Vec<InstanceReport>) -> TaskReport
+    ensures report { result ≡ reported_instances is_expanded instances.items }
+    ensures sound { AreSoundInstances instances.items → IsSoundTask result }
 {
     if is_expanded {
-        return TaskReport::Mapped(Sequence::from_vec(results));
+        return TaskReport::Mapped(Sequence::from_vec(instances));
     }
-    if results.is_empty() {
+    if instances.is_empty() {
         return TaskReport::NoStatus;
     }
-    TaskReport::Ran(results.swap_remove(0))
+    TaskReport::Ran(instances.swap_remove(0))
 }
 
 /// The report of a task in a run by its cell.
-fn task_report(alloc: Global, task: &Task, cell: &Cell) -> Result<TaskReport, OutOfMemory>
-    ensures report { IfOk result (λ r. r ≡ reported task.now (value_or_blocked (value_in cell.now))) }
+fn task_report(alloc: Global, dag: &Dag, task: u32, cell: &Cell) -> Result<TaskReport, OutOfMemory>
+    requires dag { IsSound dag.now }
+    requires task { task < length dag.now.tasks }
+    ensures report { IfOk result (λ r. r ≡ reported dag.now task cell.now) }
     ensures sound { IfOk result IsSoundTask }
 {
     match cell {
         Cell::Undecided | Cell::Blocked => Ok(TaskReport::NoStatus),
         Cell::Skipped => Ok(TaskReport::Skipped),
         Cell::UpstreamFailed => Ok(TaskReport::UpstreamFailed),
-        Cell::Ran(instances) => match results_of(alloc, instances.as_slice())? {
-            Some(results) => Ok(reported_of(task.expand.is_some(), results)),
-            None => Ok(TaskReport::NoStatus),
-        },
+        Cell::Ran(instances) => {
+            let instances = instance_reports(alloc, dag, task, instances.as_slice())?;
+            Ok(reported_of(dag.task(task).expand.is_some(), instances))
+        }
     }
 }
 
 fn report_at(
     alloc: Global,
-    task: &Task,
+    dag: &Dag,
     state: &State,
     run: u32,
-    number: u32,
+    task: u32,
 ) -> Result<TaskReport, OutOfMemory>
-    ensures report { IfOk result (λ r. r ≡ reported task.now (value_or_blocked (value_in (cell_at state.now run number)))) }
+    requires dag { IsSound dag.now }
+    requires task { task < length dag.now.tasks }
+    ensures report { IfOk result (λ r. r ≡ reported dag.now task (cell_at state.now run task)) }
     ensures sound { IfOk result IsSoundTask }
 {
-    match state.cell(run, number) {
-        Some(cell) => task_report(alloc, task, cell),
+    match state.cell(run, task) {
+        Some(cell) => task_report(alloc, dag, task, cell),
         None => Ok(TaskReport::NoStatus),
     }
 }
@@ -102,14 +70,14 @@ fn task_reports(
     state: &State,
     run: u32,
 ) -> Result<Sequence<TaskReport>, OutOfMemory>
-    requires { length dag.now.tasks ≤ 2_000 }
-    ensures reports { IfOk result (λ rs. rs ≡ reports_from (λ t. value_or_blocked (value_in (cell_at state.now run t))) 0 dag.now.tasks) }
+    requires { IsSound dag.now }
+    ensures reports { IfOk result (λ rs. rs ≡ reports_from dag.now (cell_at state.now run) 0 dag.now.tasks) }
     ensures sound { IfOk result AreSoundTasks }
 {
-    let tasks = dag.tasks.as_slice();
-    let mut reports = Vec::with_capacity(alloc, tasks.len())?;
-    for number in 0..tasks.len() {
-        reports.push(report_at(alloc, &tasks[number], state, run, number as u32)?)?;
+    let count = dag.tasks.len();
+    let mut reports = Vec::with_capacity(alloc, count)?;
+    for task in 0..count {
+        reports.push(report_at(alloc, dag, state, run, task as u32)?)?;
     }
     Ok(Sequence::from_vec(reports))
 }
@@ -145,7 +113,7 @@ fn run_reports(
     intervals: &[Interval],
     ended: &Ended,
 ) -> Result<Sequence<RunReport>, OutOfMemory>
-    requires few_tasks { length dag.now.tasks ≤ 2_000 }
+    requires dag { IsSound dag.now }
     requires few_runs { length intervals.now ≤ 4_096 }
     requires shown { All IsShownInterval intervals.now }
     requires outcome { IsOutcome dag.now (length intervals.now) ended.now.state }
@@ -165,8 +133,10 @@ fn run_reports(
     Ok(Sequence::from_vec(runs))
 }
 
-/// The report of a backfill of the plan over the intervals that has ended: the states and the values of the recursion
-/// over the ledger of its tries.
+/// The report, of version 2, of a backfill of the plan over the intervals that has ended: the states and the cells of
+/// the recursion over the ledger of its tries. So each instance is told with the result of its last try, and with the
+/// item and the pulled values of its entries in the ledger, which are one for all its tries; a pulled value stands
+/// under the id of the task that it was pulled from.
 pub fn report_of(
     alloc: Global,
     plan: &Plan,
@@ -182,6 +152,7 @@ pub fn report_of(
 {
     let dag = plan.dag();
     Ok(Report {
+        version: Version::Two,
         dag_id: dag.id.copy(alloc)?,
         tasks: shown_ids(alloc, dag, intervals)?,
         runs: run_reports(alloc, dag, intervals, ended)?,

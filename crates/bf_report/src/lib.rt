@@ -1,14 +1,24 @@
 //! Reports of a backfill, and the devices that they are written to and read from.
 //!
 //! A report is the list of runs by date, and in each run what came of each task in file order. Its text has a
-//! head line, a line for each run with the lines of its tasks behind it, and an end line:
+//! head line, a line for each run with the lines of its tasks behind it, and an end line. Behind the line of an
+//! instance with at least one try stand, in version 2, its item, if it is one of an expanded task, and a line for
+//! each task that it pulled from, with the value or `-` for nothing:
 //!
 //! ```text
-//! @backfill 1 d
+//! @backfill 2 d
 //! @run 2024-01-01T00:00:00Z 2024-01-02T00:00:00Z success
-//! a -1 success 1 -
+//! src -1 success 1 [3,1]
+//! m 0 success 1 3
+//! @item 3
+//! m 1 success 1 -
+//! @item 1
+//! sum -1 success 1 3
+//! @pull m [3]
 //! @end 1
 //! ```
+//!
+//! `report_of` makes version 2. One of version 1 has no such lines; the text has what the report has.
 //!
 //! `write_report` makes the whole text in memory and then sends it to a device, a `Write`.
 #![tactic(auto)]
@@ -18,6 +28,7 @@ mod dated;
 mod device;
 mod halting;
 mod input;
+mod instances;
 mod laws;
 mod lines;
 mod memory;
@@ -35,6 +46,6 @@ pub use input::Input;
 pub use laws::alike_ledgers_report_alike;
 pub use memory::Memory;
 pub use output::Output;
-pub use report::{Report, RunReport, TaskReport};
+pub use report::{InstanceReport, Pull, Report, RunReport, TaskReport, Version};
 pub use sending::{Cause, WriteFault, send};
 pub use writing::write_report;

@@ -1,11 +1,11 @@
 //! The lines of a report, each added behind a text.
 ghost use Rattle.std.specs.Prelude.{◌≡◌, ◌++◌, ◌∷◌, [], IfOk, OnOk, string_bytes, decimal, codes};
-ghost use Rattle.bf_report.specs.Report.{line, state_word as state, value_word as value, instance_line, untried_line, mapped_lines, task_text, tasks_text, run_state_word as run_state, run_line, run_text, report_text};
+ghost use Rattle.bf_report.specs.Report.{line, state_word as state, value_word as value, item_line, pulled_word, pull_line, instance_text, untried_line, mapped_text, task_text, tasks_text, run_state_word as run_state, run_line, run_text, version_word as version_digit, report_text};
 ghost use Rattle.std.specs.List.{flat_map};
 
-use crate::report::{Report, RunReport, TaskReport};
+use crate::report::{InstanceReport, Pull, Report, RunReport, TaskReport, Version};
 use bf_moment::Moment;
-use bf_value::{OutOfMemory, Text, text_of};
+use bf_value::{OutOfMemory, Text, Xval, text_of};
 use bf_xcom::{Outcome, RunState, TaskResult};
 use std::alloc::Global;
 
@@ -29,28 +29,87 @@ fn push_value(alloc: Global, text: &mut String, outcome: &Outcome) -> Result<(),
     Ok(())
 }
 
-fn push_result(alloc: Global, text: &mut String, instance: &TaskResult) -> Result<(), OutOfMemory>
+fn push_result(
+    alloc: Global,
+    text: &mut String,
+    task_result: &TaskResult,
+) -> Result<(), OutOfMemory>
     ensures { OnOk result (string_bytes text.new ≡ string_bytes text.old
-        ++ line (state instance.now.outcome ∷ decimal instance.now.tries ∷ value instance.now.outcome ∷ [])) }
+        ++ line (state task_result.now.outcome ∷ decimal task_result.now.tries ∷ value task_result.now.outcome ∷ [])) }
 {
-    let (state, tries) = (state_word(&instance.outcome), instance.tries);
+    let (state, tries) = (state_word(&task_result.outcome), task_result.tries);
     write!(text, "{state} {tries} ")?;
-    push_value(alloc, text, &instance.outcome)?;
+    push_value(alloc, text, &task_result.outcome)?;
     text.push_str("\n")?;
     Ok(())
+}
+
+fn push_item(alloc: Global, text: &mut String, item: &Option<Xval>) -> Result<(), OutOfMemory>
+    ensures { OnOk result (string_bytes text.new ≡ string_bytes text.old ++ item_line item.now) }
+{
+    let Some(item) = item else {
+        return Ok(());
+    };
+    text.push_str("@item ")?;
+    text.push_str(text_of(alloc, item)?.as_str())?;
+    text.push_str("\n")?;
+    Ok(())
+}
+
+fn push_pulled(alloc: Global, text: &mut String, value: &Option<Xval>) -> Result<(), OutOfMemory>
+    ensures { OnOk result (string_bytes text.new ≡ string_bytes text.old ++ pulled_word value.now) }
+{
+    match value {
+        Some(value) => text.push_str(text_of(alloc, value)?.as_str())?,
+        None => text.push_str("-")?,
+    }
+    Ok(())
+}
+
+fn push_pull(alloc: Global, text: &mut String, pull: &Pull) -> Result<(), OutOfMemory>
+    ensures { OnOk result (string_bytes text.new ≡ string_bytes text.old ++ pull_line pull.now) }
+{
+    let task = pull.task.as_str();
+    write!(text, "@pull {task} ")?;
+    push_pulled(alloc, text, &pull.value)?;
+    text.push_str("\n")?;
+    Ok(())
+}
+
+fn push_pulls(alloc: Global, text: &mut String, pulls: &[Pull]) -> Result<(), OutOfMemory>
+    ensures { OnOk result (string_bytes text.new ≡ string_bytes text.old ++ flat_map pull_line pulls.now) }
+{
+    for pull in pulls {
+        push_pull(alloc, text, pull)?;
+    }
+    Ok(())
+}
+
+/// What an instance was given.
+fn push_given(
+    alloc: Global,
+    text: &mut String,
+    instance: &InstanceReport,
+) -> Result<(), OutOfMemory>
+    ensures { OnOk result (string_bytes text.new ≡ string_bytes text.old
+        ++ (item_line instance.now.item ++ flat_map pull_line instance.now.pulls)) }
+{
+    push_item(alloc, text, &instance.item)?;
+    push_pulls(alloc, text, instance.pulls.as_slice())
 }
 
 fn push_unmapped(
     alloc: Global,
     text: &mut String,
     id: &str,
-    instance: &TaskResult,
+    instance: &InstanceReport,
 ) -> Result<(), OutOfMemory>
     ensures { OnOk result (string_bytes text.new ≡ string_bytes text.old
-        ++ instance_line id.now (codes "-1") instance.now) }
+        ++ instance_text id.now (codes "-1") instance.now) }
 {
     write!(text, "{id} -1 ")?;
-    push_result(alloc, text, instance)
+    push_result(alloc, text, &instance.result)?;
+    push_given(alloc, text, instance)
 }
 
 fn push_instance(
@@ -58,22 +117,23 @@ fn push_instance(
     text: &mut String,
     id: &str,
     index: usize,
-    instance: &TaskResult,
+    instance: &InstanceReport,
 ) -> Result<(), OutOfMemory>
     ensures { OnOk result (string_bytes text.new ≡ string_bytes text.old
-        ++ instance_line id.now (decimal index) instance.now) }
+        ++ instance_text id.now (decimal index) instance.now) }
 {
     write!(text, "{id} {index} ")?;
-    push_result(alloc, text, instance)
+    push_result(alloc, text, &instance.result)?;
+    push_given(alloc, text, instance)
 }
 
 fn push_mapped(
     alloc: Global,
     text: &mut String,
     id: &str,
-    instances: &[TaskResult],
+    instances: &[InstanceReport],
 ) -> Result<(), OutOfMemory>
-    ensures { OnOk result (string_bytes text.new ≡ string_bytes text.old ++ mapped_lines id.now instances.now) }
+    ensures { OnOk result (string_bytes text.new ≡ string_bytes text.old ++ mapped_text id.now instances.now) }
 {
     for (index, instance) in instances.iter().enumerate() {
         push_instance(alloc, text, id, index, instance)?;
@@ -166,13 +226,23 @@ fn push_runs(
     Ok(())
 }
 
+fn version_word(version: Version) -> &'static str
+    ensures { result.now ≡ version_digit version }
+{
+    match version {
+        Version::One => "1",
+        Version::Two => "2",
+    }
+}
+
 /// The text of a report.
 pub(crate) fn text_of_report(alloc: Global, report: &Report) -> Result<String, OutOfMemory>
     ensures { IfOk result (λ text. string_bytes text ≡ report_text report.now) }
 {
     let mut text = String::new(alloc);
     let (dag_id, runs) = (report.dag_id.as_str(), report.runs.len());
-    writeln!(text, "@backfill 1 {dag_id}")?;
+    let version = version_word(report.version);
+    writeln!(text, "@backfill {version} {dag_id}")?;
     push_runs(
         alloc,
         &mut text,

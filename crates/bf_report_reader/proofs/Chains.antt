@@ -1,15 +1,16 @@
 -- Reports go on line by line.
-use Rattle.std.proofs.Common.{◌≡◌, ◌≤◌, ◌<◌, ℕ, zero, suc, List, [], ◌∷◌, ◌++◌, length, true, codes, decimal, refl, sym, ap, ◌∙◌, subst, arith, append_assoc, append-nil, inl, inr}
+use Rattle.std.proofs.Common.{◌≡◌, ◌≤◌, ◌<◌, ℕ, zero, suc, ◌+◌, List, [], ◌∷◌, ◌++◌, length, take, true, codes, decimal, refl, sym, ap, ◌∙◌, subst, arith, append_assoc, append-nil, inl, inr}
 use Rattle.std.proofs.lemmas.List.{append_cancel_left}
 use Rattle.bf_report.specs.declared.report.Report.{Report}
 use Rattle.bf_report.specs.Report.{line, report_text}
 use Rattle.bf_report_reader.specs.declared.beginning.Beginning.{Beginning}
 use Rattle.bf_report_reader.specs.Rules.{IsRuled, IsShownReport}
-use Rattle.bf_report_reader.specs.Faults.{IsInLine, Begins, IsReportText}
-use Rattle.bf_report_reader.specs.Beginning.{runs_of, is_whole_in, so_far, opening_text, IsCounted, IsSmall, room}
+use Rattle.bf_report_reader.specs.Faults.{IsInLine, longest_line, Begins, IsReportText}
+use Rattle.bf_report_reader.specs.Beginning.{runs_of, is_whole, so_far, opening_text, IsCounted, IsSmall, room}
 use Rattle.bf_report_reader.specs.Steps.{Follows, MayEnd, MayStand, IsNext}
 use Rattle.bf_report_reader.specs.Extensions.{Leads, Extends, IsKnown}
-use Rattle.bf_report_reader.proofs.Splits.{cut_once, none_stands, within_piece}
+use Rattle.bf_report_reader.proofs.Splits.{cut_once, none_stands, within_piece, piece_first}
+use Rattle.bf_report_reader.proofs.Words.{at_least, same_limit}
 use Rattle.bf_report_reader.proofs.StepFacts.{follows_next}
 use Rattle.bf_report_reader.proofs.Lines.{follows_once, end_once, stands_in_line, stands_short}
 
@@ -48,7 +49,7 @@ pub record GoesOn (opening : List ℕ) (report : Report) (Stands : List ℕ → 
   pub more : List ℕ
   pub text : report_text report ≡ opening ++ ((next ++ 10 ∷ []) ++ more)
   pub in_line : IsInLine next
-  pub short : length next ≤ 66_000
+  pub short : length next ≤ longest_line next
   pub stands : Stands next
 
 -- the line stands next, and the report goes on from it or ends by it
@@ -63,7 +64,7 @@ goes_on b report keeps extends = go extends.lines extends.leads
     go : (n : ℕ) → Leads n b extends.last → GoesOn (opening_text (so_far b)) report (IsNextOf b report)
     go zero same =
         let is : so_far b ≡ report = ap so_far same ∙ extends.is in
-        let ends : MayEnd b (codes "@end" ++ 32 ∷ decimal (length (runs_of b))) = (refl, subst (λ (x : Beginning). is_whole_in x.run x.tasks ≡ true) (sym same) extends.whole) in
+        let ends : MayEnd b (codes "@end" ++ 32 ∷ decimal (length (runs_of b))) = (refl, subst (λ (x : Beginning). is_whole x ≡ true) (sym same) extends.whole) in
         record {
           next = codes "@end" ++ 32 ∷ decimal (length (runs_of b));
           more = [];
@@ -109,12 +110,13 @@ no_such_line opening text Stands goes none in_line begins =
     let on = goes begins.report _ begins.shown is in
     none begins.report (subst (Stands begins.report) (same_line opening begins.report (Stands begins.report) text begins.more on in_line is).0 on.stands)
 
-pub no_long_line : (opening piece : List ℕ) (Stands : Report → List ℕ → Type 0) → Goes opening Stands → IsInLine piece → length piece ≡ 66_001 → Begins (opening ++ piece) → ⊥
+pub no_long_line : (opening piece : List ℕ) (Stands : Report → List ℕ → Type 0) → Goes opening Stands → IsInLine piece → length piece ≡ longest_line piece + 1 → Begins (opening ++ piece) → ⊥
 no_long_line opening piece Stands goes in_line long begins =
     let is : report_text begins.report ≡ opening ++ (piece ++ begins.more) = begins.text_is ∙ append_assoc opening piece begins.more in
     let on = goes begins.report _ begins.shown is in
-    let both = append_cancel_left opening _ _ (sym on.text ∙ is) in
-    omega (arith, on.short, long, within_piece 10 on.next on.more piece begins.more in_line (sym (append_assoc on.next (10 ∷ []) on.more) ∙ both))
+    let both = sym (append_assoc on.next (10 ∷ []) on.more) ∙ append_cancel_left opening _ _ (sym on.text ∙ is) in
+    let first : take 6 on.next ≡ take 6 piece = piece_first 10 6 on.next on.more piece begins.more in_line (omega (arith, long, at_least piece)) both in
+    omega (arith, on.short, long, same_limit on.next piece first, within_piece 10 on.next on.more piece begins.more in_line both)
 
 -- more stands behind the opening
 pub not_yet : (opening : List ℕ) (Stands : Report → List ℕ → Type 0) → Goes opening Stands → IsReportText opening → ⊥

@@ -1,28 +1,34 @@
 -- The text of what was read grows by each line.
-use Rattle.std.proofs.Common.{◌≡◌, ◌≤◌, ◌<◌, ◌==◌, ◌&&◌, ℕ, zero, suc, ◌+◌, List, [], ◌∷◌, ◌++◌, length, Option, Some, None, unwrap_or, Bool, true, false, true≢false, cond, slice_get, decimal, codes, refl, sym, ap, ◌∙◌, subst, append_assoc, append-nil, arith, length-append}
-use Rattle.std.specs.List.{flat_map, enumerate_from}
+use Rattle.std.proofs.Common.{◌≡◌, ◌≤◌, ◌<◌, ◌&&◌, ℕ, zero, suc, ◌+◌, List, [], ◌∷◌, ◌++◌, length, Option, Some, None, is_some, unwrap_or, Bool, true, false, true≢false, not, cond, nat_lt, get_or, slice_get, decimal, codes, refl, sym, ap, ◌∙◌, subst, append_assoc, append-nil, arith, length-append}
+use Rattle.std.specs.List.{flat_map}
 use Rattle.std.specs.Cmp.Lexicographic.{bytes_decides}
 use Rattle.std.proofs.lemmas.Bool.{and_parts, eqb-true}
+use Rattle.std.proofs.lemmas.Option.{slice_get-get_or}
+use Rattle.bf_value.specs.declared.xval.Xval.{Xval}
+use Rattle.bf_interval.specs.declared.interval.Interval.{Interval}
 use Rattle.bf_xcom.specs.declared.values.TaskResult.{TaskResult}
+use Rattle.bf_report.specs.declared.report.Version.{Version}
+use Rattle.bf_report.specs.declared.report.InstanceReport.{InstanceReport}
 use Rattle.bf_report.specs.declared.report.TaskReport.{TaskReport}
 use Rattle.bf_report.specs.declared.report.RunReport.{RunReport}
-use Rattle.bf_report.specs.Report.{line, run_line, run_text, task_text, tasks_text, instance_line}
+use Rattle.bf_report.specs.Report.{head_line, run_line, run_text, task_text, tasks_text, mapped_text, instance_text, instance_line}
+use Rattle.bf_report.proofs.ReportFacts.{numbered_more}
+use Rattle.bf_report.proofs.GivenFacts.{pull_more, item_more, last_more}
 use Rattle.bf_report_reader.specs.declared.entry.Untried.{Untried}
 use Rattle.bf_report_reader.specs.declared.entry.Entry.{Entry}
-use Rattle.bf_report_reader.specs.declared.beginning.OpenRun.{OpenRun}
+use Rattle.bf_report_reader.specs.declared.part.GivenPart.{GivenPart}
+use Rattle.bf_report_reader.specs.declared.open.OpenTask.{OpenTask}
+use Rattle.bf_report_reader.specs.declared.open.OpenRun.{OpenRun}
 use Rattle.bf_report_reader.specs.declared.beginning.Beginning.{Beginning}
-use Rattle.bf_report_reader.specs.Beginning.{open_task, tasks_in, open_count, count, closed, last_run, runs_of, is_text, is_next_in, is_next, ids_with, goes_on_in, goes_on, put_task, put_expanded, put_instance, may_begin, with_run, with_task, with_expanded, with_instance, with_entry, IsCountedIn, IsCounted, GrowsBy, entry_line}
+use Rattle.bf_report_reader.specs.Parts.{part_text}
+use Rattle.bf_report_reader.specs.Rules.{IsOpenInstance, IsOpenTask, IsOpenRun, IsRuled}
+use Rattle.bf_report_reader.specs.Beginning.{task_with, open_task, tasks_in, open_count, count, closed, last_run, runs_of, run_count, tells_item, has_item, takes, with_told, untold, is_given, is_whole_in, is_whole, starts_before, is_text, is_next_in, is_next, ids_with, is_further, is_further_task, goes_on_in, goes_on, takes_task, takes_in, put_task, put_open, further, put_further, told, put_part, may_begin, with_run, with_task, with_open, with_further, with_part, with_entry, IsCountedIn, IsCounted, GrowsBy, entry_line}
 
 -- ---- lists
 
 flat_push : {X : Type 0} (f : X → List ℕ) (xs : List X) (y : X) → flat_map f (xs ++ y ∷ []) ≡ flat_map f xs ++ f y
 flat_push f [] y = append-nil (f y)
 flat_push f (x ∷ xs) y = ap (λ t. f x ++ t) (flat_push f xs y) ∙ sym (append_assoc (f x) (flat_map f xs) (f y))
-
-numbered_push : {X : Type 0} (f : ℕ × X → List ℕ) (n m : ℕ) (xs : List X) (y : X) → m ≡ n + length xs → flat_map f (enumerate_from n (xs ++ y ∷ [])) ≡ flat_map f (enumerate_from n xs) ++ f (m, y)
-numbered_push f n m [] y e = let same : n ≡ m = omega arith in append-nil (f (n, y)) ∙ ap (λ k. f (k, y)) same
-numbered_push f n m (x ∷ xs) y e =
-    ap (λ t. f (n, x) ++ t) (numbered_push f (n + 1) m xs y (omega arith)) ∙ sym (append_assoc (f (n, x)) (flat_map f (enumerate_from (n + 1) xs)) (f (m, y)))
 
 get_last : (ids : List (List ℕ)) (id : List ℕ) (n : ℕ) → n ≡ length ids → slice_get (ids ++ id ∷ []) n ≡ Some id
 get_last [] id zero e = refl
@@ -62,12 +68,28 @@ more_ids [] more (t ∷ ts) h = absurd (omega arith)
 more_ids (i ∷ is) more [] h = refl
 more_ids (i ∷ is) more (t ∷ ts) h = ap (λ l. task_text i t ++ l) (more_ids is more ts (omega arith))
 
-open_long : (rs : List TaskResult) → length (open_task rs) ≡ open_count rs
-open_long [] = refl
-open_long (r ∷ rs) = refl
+open_long : (t : Option OpenTask) → length (open_task t) ≡ open_count t
+open_long None = refl
+open_long (Some t) = refl
 
 pub count_is : (o : OpenRun) → length (tasks_in o) ≡ count o
-count_is o = length-append o.run.tasks (open_task o.instances) ∙ ap (λ n. length o.run.tasks + n) (open_long o.instances)
+count_is o = length-append o.run.tasks (open_task o.task) ∙ ap (λ n. length o.run.tasks + n) (open_long o.task)
+
+-- what stands in a test of what may come next
+pub next_parts : (b : Beginning) (id : List ℕ) → is_next b id ≡ true → (is_given b ≡ true) × (is_next_in b.runs b.tasks b.run id ≡ true)
+next_parts b id e = and_parts (is_given b) (is_next_in b.runs b.tasks b.run id) e
+
+pub further_parts : (b : Beginning) (id : List ℕ) (index : ℕ) → goes_on b id index ≡ true → (is_given b ≡ true) × (goes_on_in b.tasks b.run id index ≡ true)
+further_parts b id index e = and_parts (is_given b) (goes_on_in b.tasks b.run id index) e
+
+pub whole_parts : (b : Beginning) → is_whole b ≡ true → (is_given b ≡ true) × (is_whole_in b.run b.tasks ≡ true)
+whole_parts b e = and_parts (is_given b) (is_whole_in b.run b.tasks) e
+
+pub begin_parts : (b : Beginning) (i : Interval) → may_begin b i ≡ true → (is_whole b ≡ true) × ((nat_lt (run_count b) 4_096 ≡ true) × (starts_before b.run i ≡ true))
+begin_parts b i e =
+    let (both, later) = and_parts (is_whole b && nat_lt (run_count b) 4_096) (starts_before b.run i) e in
+    let (whole, few) = and_parts (is_whole b) (nat_lt (run_count b) 4_096) both in
+    (whole, (few, later))
 
 -- a run with one more task
 run_more : (ids : List (List ℕ)) (run : RunReport) (ts us : List TaskReport) (id : List ℕ) (t : TaskReport) → slice_get ids (length ts) ≡ Some id → us ≡ ts ++ t ∷ []
@@ -99,96 +121,120 @@ counts_more : (runs : List RunReport) (ids : List (List ℕ)) (o new : OpenRun) 
 counts_more [] ids o new id more counted next = omega (arith, more, counted, length-append ids (id ∷ []))
 counts_more (r ∷ rs) ids o new id more counted next = omega (arith, more, get_within ids id (count o) (is_text_of (slice_get ids (count o)) id next))
 
--- ---- a task of one line
+-- ---- a task without a try
 
 pub task_grows : (b c : Beginning) (id : List ℕ) (t : TaskReport) → IsCounted b → with_task b id t ≡ Some c → GrowsBy b (task_text id t) c
 task_grows b c id t counted e =
     let (next, is) = if_some (is_next b id) _ c e in
     let P : Beginning → Type 0 = λ x. GrowsBy b (task_text id t) x in
-    subst P is (grown b.run counted next)
+    subst P is (grown b.run counted (next_parts b id next).1)
   where
-    head : List ℕ
-    head = line (codes "@backfill" ∷ codes "1" ∷ b.dag_id ∷ [])
-
     grown : (run : Option OpenRun) → IsCountedIn b.runs b.tasks run → is_next_in b.runs b.tasks run id ≡ true
         → GrowsBy (record b { run = run }) (task_text id t) (record b { tasks = ids_with b.runs b.tasks id; run = put_task run t })
     grown None counted next = absurd (true≢false (sym next))
     grown (Some o) counted next =
-        let new : OpenRun = record { run = record o.run { tasks = tasks_in o ++ t ∷ [] }; instances = [] } in
+        let new : OpenRun = record { run = record o.run { tasks = tasks_in o ++ t ∷ [] }; task = None } in
         let same : tasks_in new ≡ tasks_in o ++ t ∷ [] = append-nil (tasks_in o ++ t ∷ []) in
         record {
           counted = counts_more b.runs b.tasks o new id (omega (arith, length-append (tasks_in o) (t ∷ []), count_is o)) counted next;
-          read = ap (λ l. line (codes "@backfill" ∷ codes "1" ∷ b.dag_id ∷ []) ++ l) (one_more b.runs b.tasks o new id t (ap (λ ts. record o.run { tasks = ts }) same) counted next)
-              ∙ sym (append_assoc (line (codes "@backfill" ∷ codes "1" ∷ b.dag_id ∷ [])) (flat_map (run_text b.tasks) (b.runs ++ closed o ∷ [])) (task_text id t));
+          read = ap (λ l. head_line b.version b.dag_id ++ l) (one_more b.runs b.tasks o new id t (ap (λ ts. record o.run { tasks = ts }) same) counted next)
+              ∙ sym (append_assoc (head_line b.version b.dag_id) (flat_map (run_text b.tasks) (b.runs ++ closed o ∷ [])) (task_text id t));
         }
 
--- ---- an expanded task, by its first instance
+-- ---- a task that may have more lines
 
-pub expanded_grows : (b c : Beginning) (id : List ℕ) (r : TaskResult) → IsCounted b → with_expanded b id r ≡ Some c → GrowsBy b (task_text id (TaskReport.Mapped (r ∷ []))) c
-expanded_grows b c id r counted e =
+pub open_grows : (b c : Beginning) (id : List ℕ) (t : OpenTask) → IsCounted b → with_open b id t ≡ Some c → GrowsBy b (task_text id (task_with t.before t.instance)) c
+open_grows b c id t counted e =
     let (next, is) = if_some (is_next b id) _ c e in
-    let P : Beginning → Type 0 = λ x. GrowsBy b (task_text id (TaskReport.Mapped (r ∷ []))) x in
-    subst P is (grown b.run counted next)
+    let P : Beginning → Type 0 = λ x. GrowsBy b (task_text id (task_with t.before t.instance)) x in
+    subst P is (grown b.run counted (next_parts b id next).1)
   where
     grown : (run : Option OpenRun) → IsCountedIn b.runs b.tasks run → is_next_in b.runs b.tasks run id ≡ true
-        → GrowsBy (record b { run = run }) (task_text id (TaskReport.Mapped (r ∷ []))) (record b { tasks = ids_with b.runs b.tasks id; run = put_expanded run r })
+        → GrowsBy (record b { run = run }) (task_text id (task_with t.before t.instance)) (record b { tasks = ids_with b.runs b.tasks id; run = put_open run t })
     grown None counted next = absurd (true≢false (sym next))
     grown (Some o) counted next =
-        let new : OpenRun = record { run = closed o; instances = r ∷ [] } in
-        let t : TaskReport = TaskReport.Mapped (r ∷ []) in
+        let new : OpenRun = record { run = closed o; task = Some t } in
+        let report : TaskReport = task_with t.before t.instance in
         record {
           counted = counts_more b.runs b.tasks o new id (omega (arith, count_is o)) counted next;
-          read = ap (λ l. line (codes "@backfill" ∷ codes "1" ∷ b.dag_id ∷ []) ++ l) (one_more b.runs b.tasks o new id t refl counted next)
-              ∙ sym (append_assoc (line (codes "@backfill" ∷ codes "1" ∷ b.dag_id ∷ [])) (flat_map (run_text b.tasks) (b.runs ++ closed o ∷ [])) (task_text id t));
+          read = ap (λ l. head_line b.version b.dag_id ++ l) (one_more b.runs b.tasks o new id report refl counted next)
+              ∙ sym (append_assoc (head_line b.version b.dag_id) (flat_map (run_text b.tasks) (b.runs ++ closed o ∷ [])) (task_text id report));
         }
 
--- ---- a further instance
+-- an instance of which its own line was read
+untold_text : (id index : List ℕ) (r : TaskResult) → instance_text id index (untold r) ≡ instance_line id index r
+untold_text id index r = append-nil (instance_line id index r)
 
--- a run whose last task has one more instance
-run_longer : (ids : List (List ℕ)) (run : RunReport) (rs : List TaskResult) (id : List ℕ) (r : TaskResult) → slice_get ids (length run.tasks) ≡ Some id → (open_count rs == 1) ≡ true
-    → run_text ids (record run { tasks = run.tasks ++ open_task (rs ++ r ∷ []) }) ≡ run_text ids (record run { tasks = run.tasks ++ open_task rs }) ++ instance_line id (decimal (length rs)) r
-run_longer ids run [] id r at some = absurd (true≢false (sym some))
-run_longer ids run (x ∷ xs) id r at some =
-    let old : TaskReport = TaskReport.Mapped (x ∷ xs) in
-    let new : TaskReport = TaskReport.Mapped (x ∷ (xs ++ r ∷ [])) in
-    let one : List ℕ = instance_line id (decimal (length (x ∷ xs))) r in
+first_text : (id : List ℕ) (r : TaskResult) → mapped_text id (untold r ∷ []) ≡ instance_line id (decimal 0) r
+first_text id r = append-nil (instance_text id (decimal 0) (untold r)) ∙ untold_text id (decimal 0) r
+
+-- ---- the last task is longer
+
+-- a run whose last task has a longer text
+run_longer : (ids : List (List ℕ)) (run : RunReport) (old new : TaskReport) (id more : List ℕ) → slice_get ids (length run.tasks) ≡ Some id → task_text id new ≡ task_text id old ++ more
+    → run_text ids (record run { tasks = run.tasks ++ new ∷ [] }) ≡ run_text ids (record run { tasks = run.tasks ++ old ∷ [] }) ++ more
+run_longer ids run old new id more at longer =
     run_more ids run run.tasks (run.tasks ++ new ∷ []) id new at refl
-    ∙ ap (λ l. run_text ids run ++ l) (numbered_push (λ p. instance_line id (decimal p.0) p.1) 0 (length (x ∷ xs)) (x ∷ xs) r (omega arith))
-    ∙ sym (append_assoc (run_text ids run) (task_text id old) one)
-    ∙ ap (λ l. l ++ one) (sym (run_more ids run run.tasks (run.tasks ++ old ∷ []) id old at refl))
-
-longer_count : (rs : List TaskResult) (r : TaskResult) → (open_count rs == 1) ≡ true → open_count (rs ++ r ∷ []) ≡ open_count rs
-longer_count [] r e = absurd (true≢false (sym e))
-longer_count (x ∷ xs) r e = refl
+    ∙ ap (λ l. run_text ids run ++ l) longer
+    ∙ sym (append_assoc (run_text ids run) (task_text id old) more)
+    ∙ ap (λ l. l ++ more) (sym (run_more ids run run.tasks (run.tasks ++ old ∷ []) id old at refl))
 
 same_count : (runs : List RunReport) (ids : List (List ℕ)) (o new : OpenRun) → count new ≡ count o → IsCountedIn runs ids (Some o) → IsCountedIn runs ids (Some new)
 same_count [] ids o new same counted = same ∙ counted
 same_count (r ∷ rs) ids o new same counted = omega (arith, same, counted)
 
-pub instance_grows : (b c : Beginning) (id : List ℕ) (index : ℕ) (r : TaskResult) → IsCounted b → with_instance b id index r ≡ Some c → GrowsBy b (instance_line id (decimal index) r) c
-instance_grows b c id index r counted e =
+-- a run whose open task is t
+abbrev with_last : Beginning → RunReport → OpenTask → Beginning
+with_last b run t = record b { run = Some (record { run = run; task = Some t }) }
+
+last_grows : (b : Beginning) (run : RunReport) (t u : OpenTask) (id more : List ℕ) → IsCountedIn b.runs b.tasks (Some (record { run = run; task = Some t })) → slice_get b.tasks (length run.tasks) ≡ Some id
+    → task_text id (task_with u.before u.instance) ≡ task_text id (task_with t.before t.instance) ++ more → GrowsBy (with_last b run t) more (with_last b run u)
+last_grows b run t u id more counted at longer =
+    let o : OpenRun = record { run = run; task = Some t } in
+    let new : OpenRun = record { run = run; task = Some u } in
+    record {
+      counted = same_count b.runs b.tasks o new refl counted;
+      read = ap (λ l. head_line b.version b.dag_id ++ l)
+          (flat_push (run_text b.tasks) b.runs (closed new)
+          ∙ ap (λ l. flat_map (run_text b.tasks) b.runs ++ l) (run_longer b.tasks run (task_with t.before t.instance) (task_with u.before u.instance) id more at longer)
+          ∙ sym (append_assoc (flat_map (run_text b.tasks) b.runs) (run_text b.tasks (closed o)) more)
+          ∙ ap (λ l. l ++ more) (sym (flat_push (run_text b.tasks) b.runs (closed o))))
+          ∙ sym (append_assoc (head_line b.version b.dag_id) (flat_map (run_text b.tasks) (b.runs ++ closed o ∷ [])) more);
+    }
+
+-- ---- a further instance
+
+further_text : (id : List ℕ) (xs : List InstanceReport) (x : InstanceReport) (r : TaskResult) (index : ℕ) → length xs + 1 ≡ index
+    → mapped_text id ((xs ++ x ∷ []) ++ untold r ∷ []) ≡ mapped_text id (xs ++ x ∷ []) ++ instance_line id (decimal index) r
+further_text id xs x r index is =
+    numbered_more (λ p. instance_text id (decimal p.0) p.1) 0 index (xs ++ x ∷ []) (untold r) (omega (arith, is, length-append xs (x ∷ [])))
+    ∙ ap (λ l. mapped_text id (xs ++ x ∷ []) ++ l) (untold_text id (decimal index) r)
+
+pub further_grows : (b c : Beginning) (id : List ℕ) (index : ℕ) (r : TaskResult) → IsCounted b → with_further b id index r ≡ Some c → GrowsBy b (instance_line id (decimal index) r) c
+further_grows b c id index r counted e =
     let (next, is) = if_some (goes_on b id index) _ c e in
     let P : Beginning → Type 0 = λ x. GrowsBy b (instance_line id (decimal index) r) x in
-    subst P is (grown b.run counted next)
+    subst P is (grown b.run counted (further_parts b id index next).1)
   where
+    last : (run : RunReport) (before : Option (List InstanceReport)) (x : InstanceReport) → IsCountedIn b.runs b.tasks (Some (record { run = run; task = Some (record { before = before; instance = x }) }))
+        → is_further before index ≡ true → slice_get b.tasks (length run.tasks) ≡ Some id
+        → GrowsBy (with_last b run (record { before = before; instance = x })) (instance_line id (decimal index) r) (with_last b run (further (record { before = before; instance = x }) r))
+    last run None x counted number at = absurd (true≢false (sym number))
+    last run (Some xs) x counted number at =
+        last_grows b run (record { before = Some xs; instance = x }) (record { before = Some (xs ++ x ∷ []); instance = untold r }) id (instance_line id (decimal index) r) counted at
+        (further_text id xs x r index (eqb-true _ _ number))
+
+    open_last : (run : RunReport) (task : Option OpenTask) → IsCountedIn b.runs b.tasks (Some (record { run = run; task = task })) → is_further_task task index ≡ true → slice_get b.tasks (length run.tasks) ≡ Some id
+        → GrowsBy (record b { run = Some (record { run = run; task = task }) }) (instance_line id (decimal index) r) (record b { run = put_further (Some (record { run = run; task = task })) r })
+    open_last run None counted number at = absurd (true≢false (sym number))
+    open_last run (Some t) counted number at = last run t.before t.instance counted number at
+
     grown : (run : Option OpenRun) → IsCountedIn b.runs b.tasks run → goes_on_in b.tasks run id index ≡ true
-        → GrowsBy (record b { run = run }) (instance_line id (decimal index) r) (record b { run = put_instance run r })
+        → GrowsBy (record b { run = run }) (instance_line id (decimal index) r) (record b { run = put_further run r })
     grown None counted next = absurd (true≢false (sym next))
     grown (Some o) counted next =
-        let (both, last) = and_parts (open_count o.instances == 1 && length o.instances == index) (is_text (slice_get b.tasks (length o.run.tasks)) id) next in
-        let (some, number) = and_parts (open_count o.instances == 1) (length o.instances == index) both in
-        let at : slice_get b.tasks (length o.run.tasks) ≡ Some id = is_text_of _ id last in
-        let is : length o.instances ≡ index = eqb-true _ _ number in
-        let new : OpenRun = record o { instances = o.instances ++ r ∷ [] } in
-        record {
-          counted = same_count b.runs b.tasks o new (ap (λ n. length o.run.tasks + n) (longer_count o.instances r some)) counted;
-          read = ap (λ l. line (codes "@backfill" ∷ codes "1" ∷ b.dag_id ∷ []) ++ l)
-              (flat_push (run_text b.tasks) b.runs (closed new)
-              ∙ ap (λ l. flat_map (run_text b.tasks) b.runs ++ l) (run_longer b.tasks o.run o.instances id r at some ∙ ap (λ n. run_text b.tasks (closed o) ++ instance_line id (decimal n) r) is)
-              ∙ sym (append_assoc (flat_map (run_text b.tasks) b.runs) (run_text b.tasks (closed o)) (instance_line id (decimal index) r))
-              ∙ ap (λ l. l ++ instance_line id (decimal index) r) (sym (flat_push (run_text b.tasks) b.runs (closed o))))
-              ∙ sym (append_assoc (line (codes "@backfill" ∷ codes "1" ∷ b.dag_id ∷ [])) (flat_map (run_text b.tasks) (b.runs ++ closed o ∷ [])) (instance_line id (decimal index) r));
-        }
+        let (number, at) = and_parts (is_further_task o.task index) (is_text (slice_get b.tasks (length o.run.tasks)) id) next in
+        open_last o.run o.task counted number (is_text_of _ id at)
 
 -- ---- what a line says of a task
 
@@ -197,11 +243,63 @@ unfolding with_entry
 entry_grows b c id (Entry.Never Untried.NoStatus) counted e = task_grows b c id TaskReport.NoStatus counted e
 entry_grows b c id (Entry.Never Untried.Skipped) counted e = task_grows b c id TaskReport.Skipped counted e
 entry_grows b c id (Entry.Never Untried.UpstreamFailed) counted e = task_grows b c id TaskReport.UpstreamFailed counted e
-entry_grows b c id (Entry.Tried None r) counted e = task_grows b c id (TaskReport.Ran r) counted e
+entry_grows b c id (Entry.Tried None r) counted e =
+    let P : List ℕ → Type 0 = λ l. GrowsBy b l c in
+    subst P (untold_text id (codes "-1") r) (open_grows b c id (record { before = None; instance = untold r }) counted e)
 entry_grows b c id (Entry.Tried (Some zero) r) counted e =
     let P : List ℕ → Type 0 = λ l. GrowsBy b l c in
-    subst P (append-nil (instance_line id (decimal 0) r)) (expanded_grows b c id r counted e)
-entry_grows b c id (Entry.Tried (Some (suc n)) r) counted e = instance_grows b c id (suc n) r counted e
+    subst P (first_text id r) (open_grows b c id (record { before = Some []; instance = untold r }) counted e)
+entry_grows b c id (Entry.Tried (Some (suc n)) r) counted e = further_grows b c id (suc n) r counted e
+
+-- ---- a part of what an instance was given
+
+pub no_item : (is_told : Bool) (item : Option Xval) → has_item is_told item ≡ false → item ≡ None
+no_item is_told None lacks = refl
+no_item is_told (Some v) lacks = absurd (true≢false lacks)
+
+pub not_true : (b : Bool) → not b ≡ true → b ≡ false
+not_true true e = absurd (true≢false (sym e))
+not_true false e = refl
+
+-- the line of a part
+abbrev pub part_line : GivenPart → List ℕ
+part_line part = part_text part ++ 10 ∷ []
+
+part_longer : (version : Version) (expanded : Bool) (id index : List ℕ) (x : InstanceReport) (part : GivenPart) → IsOpenInstance version expanded x → takes version (has_item (tells_item version expanded) x.item) x part ≡ true
+    → instance_text id index (with_told x part) ≡ instance_text id index x ++ part_line part
+part_longer version expanded id index x (GivenPart.Item v) good takes =
+    let lacks = not_true (has_item (tells_item version expanded) x.item) takes in
+    item_more id index x v (no_item (tells_item version expanded) x.item lacks) (good.in_order lacks)
+part_longer version expanded id index x (GivenPart.Pull p) good takes = pull_more id index x p
+
+-- a task whose last instance has a longer text
+task_longer : (id : List ℕ) (before : Option (List InstanceReport)) (x y : InstanceReport) (more : List ℕ) → ((index : List ℕ) → instance_text id index y ≡ instance_text id index x ++ more)
+    → task_text id (task_with before y) ≡ task_text id (task_with before x) ++ more
+task_longer id None x y more same = same (codes "-1")
+task_longer id (Some xs) x y more same = last_more id xs x y more same
+
+-- the task that stands last has an id
+last_id : (runs : List RunReport) (ids : List (List ℕ)) (run : RunReport) (t : OpenTask) → IsCountedIn runs ids (Some (record { run = run; task = Some t })) → slice_get ids (length run.tasks) ≡ Some (get_or ids (length run.tasks) [])
+last_id [] ids run t counted = slice_get-get_or ids (length run.tasks) [] (omega (arith, counted))
+last_id (r ∷ rs) ids run t counted = slice_get-get_or ids (length run.tasks) [] (omega (arith, counted))
+
+pub part_grows : (b c : Beginning) (part : GivenPart) → IsCounted b → IsRuled b → with_part b part ≡ Some c → GrowsBy b (part_line part) c
+part_grows b c part counted ruled e =
+    let (next, is) = if_some (takes_in b.version b.run part) _ c e in
+    let P : Beginning → Type 0 = λ x. GrowsBy b (part_line part) x in
+    subst P is (grown b.run counted ruled.last next)
+  where
+    open_last : (run : RunReport) (task : Option OpenTask) → IsCountedIn b.runs b.tasks (Some (record { run = run; task = task })) → IsOpenTask b.version task → takes_task b.version task part ≡ true
+        → GrowsBy (record b { run = Some (record { run = run; task = task }) }) (part_line part) (record b { run = put_part (Some (record { run = run; task = task })) part })
+    open_last run None counted good next = absurd (true≢false (sym next))
+    open_last run (Some t) counted good next =
+        let id = get_or b.tasks (length run.tasks) [] in
+        last_grows b run t (told t part) id (part_line part) counted (last_id b.runs b.tasks run t counted)
+        (task_longer id t.before t.instance (with_told t.instance part) (part_line part) (λ index. part_longer b.version (is_some t.before) id index t.instance part good.1 next))
+
+    grown : (run : Option OpenRun) → IsCountedIn b.runs b.tasks run → IsOpenRun b.version run → takes_in b.version run part ≡ true → GrowsBy (record b { run = run }) (part_line part) (record b { run = put_part run part })
+    grown None counted good next = absurd (true≢false (sym next))
+    grown (Some o) counted good next = open_last o.run o.task counted good.2 next
 
 -- ---- a run
 
@@ -214,11 +312,11 @@ run_begins (r ∷ rs) ids (Some p) o none counted = omega (arith, none)
 pub run_grows : (b c : Beginning) (run : RunReport) → run.tasks ≡ [] → IsCounted b → with_run b run ≡ Some c → GrowsBy b (run_line run) c
 run_grows b c run none counted e =
     let (next, is) = if_some (may_begin b run.interval) _ c e in
-    let o : OpenRun = record { run = run; instances = [] } in
+    let o : OpenRun = record { run = run; task = None } in
     let P : Beginning → Type 0 = λ x. GrowsBy b (run_line run) x in
     let bare : run_text b.tasks (closed o) ≡ run_line run = ap (λ ts. run_line run ++ tasks_text b.tasks (ts ++ [])) none ∙ ap (λ l. run_line run ++ l) (no_tasks b.tasks) ∙ append-nil (run_line run) in
     subst P is (record {
       counted = run_begins b.runs b.tasks b.run o (ap (λ ts. length ts + 0) none) counted;
-      read = ap (λ l. line (codes "@backfill" ∷ codes "1" ∷ b.dag_id ∷ []) ++ l) (flat_push (run_text b.tasks) (runs_of b) (closed o) ∙ ap (λ l. flat_map (run_text b.tasks) (runs_of b) ++ l) bare)
-          ∙ sym (append_assoc (line (codes "@backfill" ∷ codes "1" ∷ b.dag_id ∷ [])) (flat_map (run_text b.tasks) (runs_of b)) (run_line run));
+      read = ap (λ l. head_line b.version b.dag_id ++ l) (flat_push (run_text b.tasks) (runs_of b) (closed o) ∙ ap (λ l. flat_map (run_text b.tasks) (runs_of b) ++ l) bare)
+          ∙ sym (append_assoc (head_line b.version b.dag_id) (flat_map (run_text b.tasks) (runs_of b)) (run_line run));
     })

@@ -12,4 +12,5 @@ pub mod Lines
 pub mod Chains
 pub mod Paths
 pub mod Reports
+pub mod Given
 pub mod Written

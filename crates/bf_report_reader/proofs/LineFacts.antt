@@ -6,16 +6,17 @@ use Rattle.std.specs.Io.KnownBytes.{prepend_known, Consumes, IsAtEnd}
 use Rattle.std.proofs.lemmas.Bool.{cases_Bool}
 use Rattle.std.proofs.lemmas.List.Sums.{sum_by-append, sum_by-cons}
 use Rattle.bf_report_reader.specs.declared.fault.ReportFault.{ReportFault}
+use Rattle.bf_report.specs.declared.report.Version.{Version}
 use Rattle.bf_report.specs.declared.report.Report.{Report}
 use Rattle.bf_report.specs.Report.{report_text}
 use Rattle.bf_report_reader.specs.Rules.{IsShownReport}
 use Rattle.bf_report_reader.proofs.HeldFacts.{nothing_first, consumes_more}
-use Rattle.bf_report_reader.specs.Faults.{IsInLine, lines_in, IsOpening, Tells, StopsAt}
+use Rattle.bf_report_reader.specs.Faults.{IsInLine, longest_line, lines_in, IsOpening, Tells, StopsAt}
 use Rattle.bf_report_reader.specs.Held.{IsNextByte}
 use Rattle.bf_report_reader.specs.declared.beginning.Beginning.{Beginning}
 use Rattle.bf_report_reader.specs.Beginning.{so_far, opening_text}
 use Rattle.bf_report_reader.specs.Steps.{ReadsOn, MayStand}
-use Rattle.bf_report_reader.specs.Extensions.{SaysDag, IsKnown}
+use Rattle.bf_report_reader.specs.Extensions.{SaysHead, head_of, IsKnown}
 use Rattle.bf_report_reader.proofs.Chains.{Keeps, Goes, IsNextOf, known_goes, no_such_line, no_long_line}
 use Rattle.bf_report_reader.proofs.Reports.{head_goes, opens, opens_nothing}
 
@@ -77,13 +78,13 @@ stops_tell opening Stands number ReportFault.Truncated bytes opens goes place st
 stops_tell opening Stands number ReportFault.Io bytes opens goes place stops = tt
 stops_tell opening Stands number ReportFault.OutOfMemory bytes opens goes place stops = tt
 
-pub stops_cut : (a : Option (List ℕ)) (text : List ℕ) (number : ℕ) → IfSome a (λ bytes. bytes ≡ text) → length text ≤ 66_000 → IsInLine text → IfSome a (StopsAt ReportFault.Truncated number)
+pub stops_cut : (a : Option (List ℕ)) (text : List ℕ) (number : ℕ) → IfSome a (λ bytes. bytes ≡ text) → length text ≤ longest_line text → IsInLine text → IfSome a (StopsAt ReportFault.Truncated number)
 stops_cut None text number is short in_line = tt
 stops_cut (Some xs) text number is short in_line =
     let P : List ℕ → Type 0 = λ l. StopsAt ReportFault.Truncated number l in
     subst P (sym is) (in_line, short)
 
-pub stops_long : (a b : Option (List ℕ)) (text : List ℕ) (number : ℕ) → Consumes a b text → length text ≡ 66_001 → IsInLine text → IfSome a (StopsAt (ReportFault.TooLong number) number)
+pub stops_long : (a b : Option (List ℕ)) (text : List ℕ) (number : ℕ) → Consumes a b text → length text ≡ longest_line text + 1 → IsInLine text → IfSome a (StopsAt (ReportFault.TooLong number) number)
 stops_long None b text number came long in_line = tt
 stops_long (Some xs) None text number came long in_line = absurd came
 stops_long (Some xs) (Some ys) text number came long in_line = (refl, (text, ys, came, in_line, long))
@@ -100,7 +101,7 @@ first_stops left bytes number fault none first stops =
   where
     go : (o : Option (List ℕ)) → IfSome o (StopsAt fault (number + 1)) → IfSome o (λ told. Tells told fault)
     go None stops = tt
-    go (Some told) stops = stops_tell [] (λ r text. SaysDag text r.dag_id) (number + 1) fault told opens_nothing head_goes (ap (λ n. n + 1) first) stops
+    go (Some told) stops = stops_tell [] (λ r text. SaysHead text (head_of r)) (number + 1) fault told opens_nothing head_goes (ap (λ n. n + 1) first) stops
 
 -- a line did not come behind what was read
 pub read_stops : (a b : Option (List ℕ)) (before : List ℕ) (read : Beginning) (number : ℕ) (fault : ReportFault) → ReadsOn a b before (opening_text (so_far read)) → Keeps read → IsKnown read → number ≡ lines_in (opening_text (so_far read))
@@ -116,7 +117,7 @@ read_stops a b before read number fault on keeps known place stops = tells_on a 
 
 -- a line came that may not stand there
 line_told : (opening text : List ℕ) (Stands : Report → List ℕ → Type 0) (number : ℕ) (b c : Option (List ℕ)) → IsOpening opening → Goes opening Stands → ((report : Report) → Stands report text → ⊥) → number ≡ lines_in opening + 1
-    → Consumes b c (text ++ 10 ∷ []) → IsInLine text → length text ≤ 66_000 → IfSome b (λ bytes. Tells (opening ++ bytes) (ReportFault.BadLine number))
+    → Consumes b c (text ++ 10 ∷ []) → IsInLine text → length text ≤ longest_line text → IfSome b (λ bytes. Tells (opening ++ bytes) (ReportFault.BadLine number))
 line_told opening text Stands number None c opens goes none place came in_line short = tt
 line_told opening text Stands number (Some xs) None opens goes none place came in_line short = absurd came
 line_told opening text Stands number (Some xs) (Some ys) opens goes none place came in_line short = inl (record {
@@ -132,15 +133,15 @@ line_told opening text Stands number (Some xs) (Some ys) opens goes none place c
 })
 
 -- as the first line
-pub first_told : (left b : Option (List ℕ)) (bytes text : List ℕ) → bytes ≡ [] → Consumes (prepend_known bytes left) b (text ++ 10 ∷ []) → IsInLine text → length text ≤ 66_000 → ((id : List ℕ) → SaysDag text id → ⊥)
+pub first_told : (left b : Option (List ℕ)) (bytes text : List ℕ) → bytes ≡ [] → Consumes (prepend_known bytes left) b (text ++ 10 ∷ []) → IsInLine text → length text ≤ longest_line text → ((head : Version × List ℕ) → SaysHead text head → ⊥)
     → IfSome left (λ bytes. Tells bytes (ReportFault.BadLine 1))
 first_told left b bytes text none came in_line short other =
     let P : Option (List ℕ) → Type 0 = λ o. Consumes o b (text ++ 10 ∷ []) in
-    line_told [] text (λ r line. SaysDag line r.dag_id) 1 left b opens_nothing head_goes (λ report. other report.dag_id) refl (subst P (ap (λ l. prepend_known l left) none ∙ nothing_first left) came) in_line short
+    line_told [] text (λ r line. SaysHead line (head_of r)) 1 left b opens_nothing head_goes (λ report. other (head_of report)) refl (subst P (ap (λ l. prepend_known l left) none ∙ nothing_first left) came) in_line short
 
 -- behind what was read
 pub line_tells : (a b c : Option (List ℕ)) (before text : List ℕ) (read : Beginning) (number : ℕ) → ReadsOn a b before (opening_text (so_far read)) → Keeps read → IsKnown read → (MayStand read text → ⊥) → number ≡ lines_in (opening_text (so_far read)) + 1
-    → Consumes b c (text ++ 10 ∷ []) → IsInLine text → length text ≤ 66_000 → IfSome a (λ bytes. Tells (before ++ bytes) (ReportFault.BadLine number))
+    → Consumes b c (text ++ 10 ∷ []) → IsInLine text → length text ≤ longest_line text → IfSome a (λ bytes. Tells (before ++ bytes) (ReportFault.BadLine number))
 line_tells a b c before text read number on keeps known none place came in_line short =
     tells_on a b before (opening_text (so_far read)) (ReportFault.BadLine number) on
     (line_told (opening_text (so_far read)) text (IsNextOf read) number b c (opens read keeps known) (known_goes read keeps known) (λ report stands. none stands.stands) place came in_line short)

@@ -1,35 +1,40 @@
 -- Which lines follow: each line is short, lies within its line and spells one thing.
-use Rattle.std.proofs.Common.{◌≡◌, ◌≤◌, ◌==◌, ◌&&◌, ℕ, zero, suc, List, [], ◌∷◌, ◌++◌, length, slice_get, not, nat_lt, Bool, true, false, cond, true≢false, Option, Some, None, codes, decimal, refl, sym, ap, ◌∙◌, subst, arith, length-append, inl, inr}
+use Rattle.std.proofs.Common.{◌≡◌, ◌≤◌, ◌&&◌, ℕ, zero, suc, List, [], ◌∷◌, ◌++◌, length, slice_get, not, nat_lt, Bool, true, false, cond, true≢false, Option, Some, None, codes, decimal, refl, sym, ap, ◌∙◌, subst, arith, length-append, inl, inr}
 use Rattle.std.specs.List.{list_any, AllByRecursion}
 use Rattle.std.specs.Str.{bytes_eq}
 use Rattle.std.proofs.lemmas.Bool.{and_parts}
 use Rattle.bf_read.specs.Ids.{is_id}
-use Rattle.bf_value.proofs.LackLemmas.{Lacks, lacks_append}
+use Rattle.bf_value.specs.Json.{text_of}
+use Rattle.bf_value.specs.declared.xval.Xval.{Xval}
+use Rattle.bf_value.proofs.LackLemmas.{Lacks, lacks_append, text_lacks}
 use Rattle.bf_interval.specs.declared.interval.Interval.{Interval}
 use Rattle.bf_interval.proofs.OneListing.{same_moment}
 use Rattle.bf_moment.specs.Moment.{moment_text}
 use Rattle.bf_moment.proofs.OneText.{one_text}
 use Rattle.bf_xcom.specs.declared.values.RunState.{RunState}
+use Rattle.bf_report.specs.declared.report.Pull.{Pull}
 use Rattle.bf_report.specs.declared.report.RunReport.{RunReport}
-use Rattle.bf_report.specs.Report.{run_state_word, state_word, value_word}
+use Rattle.bf_report.specs.Report.{run_state_word, state_word, value_word, pulled_word}
 use Rattle.bf_report_reader.specs.declared.entry.Untried.{Untried}
 use Rattle.bf_report_reader.specs.declared.entry.Entry.{Entry}
-use Rattle.bf_report_reader.specs.declared.beginning.OpenRun.{OpenRun}
+use Rattle.bf_report_reader.specs.declared.part.GivenPart.{GivenPart}
+use Rattle.bf_report_reader.specs.declared.open.OpenRun.{OpenRun}
 use Rattle.bf_report_reader.specs.declared.beginning.Beginning.{Beginning}
 use Rattle.bf_report_reader.specs.Entries.{IsEntry, entry_text, index_text, never_word}
+use Rattle.bf_report_reader.specs.Parts.{IsToldItem, IsToldPull, IsPart, pull_words, part_text}
 use Rattle.bf_report_reader.specs.Runs.{IsRunInterval, run_words}
 use Rattle.bf_report_reader.specs.Rules.{IsRuled}
-use Rattle.bf_report_reader.specs.Faults.{IsInLine}
-use Rattle.bf_report_reader.specs.Beginning.{count, runs_of, is_text, is_next_in, is_next, goes_on_in, goes_on, open_count, with_entry, with_run, IsCounted, IsSmall}
+use Rattle.bf_report_reader.specs.Faults.{IsInLine, longest_line}
+use Rattle.bf_report_reader.specs.Beginning.{count, runs_of, is_text, is_next_in, is_next, is_further_task, goes_on_in, goes_on, with_entry, with_run, with_part, IsCounted, IsSmall}
 use Rattle.bf_report_reader.specs.declared.reading.Step.{Step}
 use Rattle.bf_report_reader.specs.Reads.{IsWord}
 use Rattle.bf_report_reader.specs.Steps.{Follows, MayEnd, MayStand, Steps, EntrySteps, EndsBy}
 use Rattle.bf_report_reader.proofs.Splits.{cut_once, none_stands}
-use Rattle.bf_report_reader.proofs.Words.{id_lacks, id_short, decimal_plain, moment_plain, moment_length, state_plain, never_plain, index_plain, run_state_plain, value_lacks, decimal_short, state_short, never_short, run_state_short, index_short, value_short}
-use Rattle.bf_report_reader.proofs.Spelled.{same_entry, same_run_state, some_same, run_fields}
-use Rattle.bf_report_reader.proofs.Growth.{if_some, is_text_of}
+use Rattle.bf_report_reader.proofs.Words.{id_lacks, id_short, decimal_plain, moment_plain, moment_length, state_plain, never_plain, index_plain, run_state_plain, value_lacks, pulled_lacks, decimal_short, state_short, never_short, run_state_short, index_short, value_short, pulled_short, at_least}
+use Rattle.bf_report_reader.proofs.Spelled.{same_entry, same_run_state, some_same, run_fields, apart, same_told, same_pull, same_part}
+use Rattle.bf_report_reader.proofs.Growth.{if_some, is_text_of, next_parts, further_parts}
 use Rattle.bf_report_reader.proofs.RunFacts.{same_run}
-use Rattle.bf_report_reader.proofs.StepFacts.{counted_runs, entry_next, run_next}
+use Rattle.bf_report_reader.proofs.StepFacts.{counted_runs, entry_next, run_next, part_next}
 
 -- ---- the ids of lines
 
@@ -46,33 +51,45 @@ next_id (r ∷ rs) ids (Some o) id named next = each_at (λ i. is_id i ≡ true)
 further_id : (ids : List (List ℕ)) (run : Option OpenRun) (id : List ℕ) (index : ℕ) → AllByRecursion (λ id. is_id id ≡ true) ids → goes_on_in ids run id index ≡ true → is_id id ≡ true
 further_id ids None id index named next = absurd (true≢false (sym next))
 further_id ids (Some o) id index named next =
-    let (both, last) = and_parts (open_count o.instances == 1 && length o.instances == index) (is_text (slice_get ids (length o.run.tasks)) id) next in
+    let (number, last) = and_parts (is_further_task o.task index) (is_text (slice_get ids (length o.run.tasks)) id) next in
     each_at (λ i. is_id i ≡ true) ids (length o.run.tasks) id named (is_text_of _ id last)
 
 pub entry_id : (b c : Beginning) (id : List ℕ) (e : Entry) → IsRuled b → with_entry b id e ≡ Some c → is_id id ≡ true
 unfolding with_entry
-entry_id b c id (Entry.Never Untried.NoStatus) ruled added = next_id b.runs b.tasks b.run id ruled.ids (if_some (is_next b id) _ c added).0
-entry_id b c id (Entry.Never Untried.Skipped) ruled added = next_id b.runs b.tasks b.run id ruled.ids (if_some (is_next b id) _ c added).0
-entry_id b c id (Entry.Never Untried.UpstreamFailed) ruled added = next_id b.runs b.tasks b.run id ruled.ids (if_some (is_next b id) _ c added).0
-entry_id b c id (Entry.Tried None r) ruled added = next_id b.runs b.tasks b.run id ruled.ids (if_some (is_next b id) _ c added).0
-entry_id b c id (Entry.Tried (Some zero) r) ruled added = next_id b.runs b.tasks b.run id ruled.ids (if_some (is_next b id) _ c added).0
-entry_id b c id (Entry.Tried (Some (suc n)) r) ruled added = further_id b.tasks b.run id (suc n) ruled.ids (if_some (goes_on b id (suc n)) _ c added).0
+entry_id b c id (Entry.Never Untried.NoStatus) ruled added = next_id b.runs b.tasks b.run id ruled.ids (next_parts b id (if_some (is_next b id) _ c added).0).1
+entry_id b c id (Entry.Never Untried.Skipped) ruled added = next_id b.runs b.tasks b.run id ruled.ids (next_parts b id (if_some (is_next b id) _ c added).0).1
+entry_id b c id (Entry.Never Untried.UpstreamFailed) ruled added = next_id b.runs b.tasks b.run id ruled.ids (next_parts b id (if_some (is_next b id) _ c added).0).1
+entry_id b c id (Entry.Tried None r) ruled added = next_id b.runs b.tasks b.run id ruled.ids (next_parts b id (if_some (is_next b id) _ c added).0).1
+entry_id b c id (Entry.Tried (Some zero) r) ruled added = next_id b.runs b.tasks b.run id ruled.ids (next_parts b id (if_some (is_next b id) _ c added).0).1
+entry_id b c id (Entry.Tried (Some (suc n)) r) ruled added = further_id b.tasks b.run id (suc n) ruled.ids (further_parts b id (suc n) (if_some (goes_on b id (suc n)) _ c added).0).1
 
 -- ---- one thing each
 
 -- no id is a word of the format
+not_word : (word id rest more : List ℕ) → IsWord word → is_id word ≡ false → is_id id ≡ true → id ++ 32 ∷ rest ≡ word ++ 32 ∷ more → ⊥
+not_word word id rest more plain none good e = true≢false (sym good ∙ ap is_id (cut_once 32 id word rest more (id_lacks 32 id (omega arith) good) plain e).0 ∙ none)
+
 pub not_run : (id rest more : List ℕ) → is_id id ≡ true → id ++ 32 ∷ rest ≡ codes "@run" ++ 32 ∷ more → ⊥
-not_run id rest more good e =
-    let (same, others) = cut_once 32 id (codes "@run") rest more (id_lacks 32 id (omega arith) good) refl e in
-    true≢false (sym good ∙ ap is_id same)
+not_run id rest more good e = not_word (codes "@run") id rest more refl refl good e
 
 pub not_end : (id rest more : List ℕ) → is_id id ≡ true → id ++ 32 ∷ rest ≡ codes "@end" ++ 32 ∷ more → ⊥
-not_end id rest more good e =
-    let (same, others) = cut_once 32 id (codes "@end") rest more (id_lacks 32 id (omega arith) good) refl e in
-    true≢false (sym good ∙ ap is_id same)
+not_end id rest more good e = not_word (codes "@end") id rest more refl refl good e
 
 run_not_end : (rest more : List ℕ) → codes "@run" ++ 32 ∷ rest ≡ codes "@end" ++ 32 ∷ more → ⊥
-run_not_end rest more e = true≢false (ap (λ l. bytes_eq l (codes "@run")) (cut_once 32 (codes "@run") (codes "@end") rest more refl refl e).0)
+run_not_end rest more e = apart (codes "@run") (codes "@end") rest more refl refl refl refl e
+
+-- nor is a part such a line
+id_not_part : (part : GivenPart) (id rest : List ℕ) → is_id id ≡ true → id ++ 32 ∷ rest ≡ part_text part → ⊥
+id_not_part (GivenPart.Item v) id rest good e = not_word (codes "@item") id rest (text_of v) refl refl good e
+id_not_part (GivenPart.Pull p) id rest good e = not_word (codes "@pull") id rest (pull_words p) refl refl good e
+
+run_not_part : (part : GivenPart) (rest : List ℕ) → codes "@run" ++ 32 ∷ rest ≡ part_text part → ⊥
+run_not_part (GivenPart.Item v) rest e = apart (codes "@run") (codes "@item") rest (text_of v) refl refl refl refl e
+run_not_part (GivenPart.Pull p) rest e = apart (codes "@run") (codes "@pull") rest (pull_words p) refl refl refl refl e
+
+end_not_part : (part : GivenPart) (rest : List ℕ) → codes "@end" ++ 32 ∷ rest ≡ part_text part → ⊥
+end_not_part (GivenPart.Item v) rest e = apart (codes "@end") (codes "@item") rest (text_of v) refl refl refl refl e
+end_not_part (GivenPart.Pull p) rest e = apart (codes "@end") (codes "@pull") rest (pull_words p) refl refl refl refl e
 
 same_words : (i j : Interval) (u v : RunState) → IsRunInterval i → IsRunInterval j → run_words (i, u) ≡ run_words (j, v) → (i ≡ j) × (u ≡ v)
 same_words i j u v good other e =
@@ -94,16 +111,23 @@ follows_once b c d text ruled (inl one) (inl two) =
     let other = entry_id b d two.id two.entry ruled two.added in
     let (ids, entries) = cut_once 32 one.id two.id (entry_text one.entry) (entry_text two.entry) (id_lacks 32 one.id (omega arith) named) (id_lacks 32 two.id (omega arith) other) (sym one.spelled ∙ two.spelled) in
     some_same c d (sym one.added ∙ ap (λ i. with_entry b i one.entry) ids ∙ ap (with_entry b two.id) (same_entry one.entry two.entry one.good two.good entries) ∙ two.added)
-follows_once b c d text ruled (inl one) (inr two) = absurd (not_run one.id _ _ (entry_id b c one.id one.entry ruled one.added) (sym one.spelled ∙ two.spelled))
-follows_once b c d text ruled (inr one) (inl two) = absurd (not_run two.id _ _ (entry_id b d two.id two.entry ruled two.added) (sym two.spelled ∙ one.spelled))
-follows_once b c d text ruled (inr one) (inr two) =
+follows_once b c d text ruled (inl one) (inr (inl two)) = absurd (not_run one.id _ _ (entry_id b c one.id one.entry ruled one.added) (sym one.spelled ∙ two.spelled))
+follows_once b c d text ruled (inl one) (inr (inr two)) = absurd (id_not_part two.part one.id _ (entry_id b c one.id one.entry ruled one.added) (sym one.spelled ∙ two.spelled))
+follows_once b c d text ruled (inr (inl one)) (inl two) = absurd (not_run two.id _ _ (entry_id b d two.id two.entry ruled two.added) (sym two.spelled ∙ one.spelled))
+follows_once b c d text ruled (inr (inr one)) (inl two) = absurd (id_not_part one.part two.id _ (entry_id b d two.id two.entry ruled two.added) (sym two.spelled ∙ one.spelled))
+follows_once b c d text ruled (inr (inl one)) (inr (inr two)) = absurd (run_not_part two.part _ (sym one.spelled ∙ two.spelled))
+follows_once b c d text ruled (inr (inr one)) (inr (inl two)) = absurd (run_not_part one.part _ (sym two.spelled ∙ one.spelled))
+follows_once b c d text ruled (inr (inr one)) (inr (inr two)) =
+    some_same c d (sym one.added ∙ ap (with_part b) (same_part one.part two.part one.good two.good (sym one.spelled ∙ two.spelled)) ∙ two.added)
+follows_once b c d text ruled (inr (inl one)) (inr (inl two)) =
     let words = (cut_once 32 (codes "@run") (codes "@run") (run_words (one.run.interval, one.run.state)) (run_words (two.run.interval, two.run.state)) refl refl (sym one.spelled ∙ two.spelled)).1 in
     some_same c d (sym one.added ∙ ap (with_run b) (same_bare one.run two.run one.bare two.bare one.good two.good words) ∙ two.added)
 
 -- the end line is none that a report goes on by
 pub end_once : (b c : Beginning) (text : List ℕ) → IsRuled b → Follows b text c → MayEnd b text → ⊥
 end_once b c text ruled (inl one) ends = not_end one.id _ _ (entry_id b c one.id one.entry ruled one.added) (sym one.spelled ∙ ends.0)
-end_once b c text ruled (inr one) ends = run_not_end _ _ (sym one.spelled ∙ ends.0)
+end_once b c text ruled (inr (inl one)) ends = run_not_end _ _ (sym one.spelled ∙ ends.0)
+end_once b c text ruled (inr (inr one)) ends = end_not_part one.part _ (sym ends.0 ∙ one.spelled)
 
 -- ---- within a line
 
@@ -119,10 +143,15 @@ words_in_line p =
     lacks_append 10 (moment_text p.0.start.nanosecond) (32 ∷ (moment_text p.0.end.nanosecond ++ 32 ∷ run_state_word p.1)) (moment_plain p.0.start.nanosecond).1
     (lacks_append 10 (moment_text p.0.end.nanosecond) (32 ∷ run_state_word p.1) (moment_plain p.0.end.nanosecond).1 (run_state_plain p.1).1)
 
+part_in_line : (part : GivenPart) → IsPart part → Lacks 10 (part_text part)
+part_in_line (GivenPart.Item v) good = text_lacks v
+part_in_line (GivenPart.Pull p) good = lacks_append 10 p.task (32 ∷ pulled_word p.value) (id_lacks 10 p.task (omega arith) good.0) (pulled_lacks p.value)
+
 pub stands_in_line : (b : Beginning) (text : List ℕ) → IsRuled b → MayStand b text → IsInLine text
 stands_in_line b text ruled (inl (c, inl one)) =
     subst IsInLine (sym one.spelled) (lacks_append 10 one.id (32 ∷ entry_text one.entry) (id_lacks 10 one.id (omega arith) (entry_id b c one.id one.entry ruled one.added)) (entry_in_line one.entry))
-stands_in_line b text ruled (inl (c, inr one)) = subst IsInLine (sym one.spelled) (words_in_line (one.run.interval, one.run.state))
+stands_in_line b text ruled (inl (c, inr (inr one))) = subst IsInLine (sym one.spelled) (part_in_line one.part one.good)
+stands_in_line b text ruled (inl (c, inr (inl one))) = subst IsInLine (sym one.spelled) (words_in_line (one.run.interval, one.run.state))
 stands_in_line b text ruled (inr ends) = subst IsInLine (sym ends.0) (decimal_plain (length (runs_of b))).1
 
 -- ---- lengths
@@ -141,12 +170,23 @@ entry_short (Entry.Tried x r) good =
       length-append (decimal r.tries) (32 ∷ value_word r.outcome),
     )
 
-pub stands_short : (b : Beginning) (text : List ℕ) → IsRuled b → MayStand b text → length text ≤ 66_000
-stands_short b text ruled (inl (c, inl one)) =
-    omega (arith, ap length one.spelled, length-append one.id (32 ∷ entry_text one.entry), id_short one.id (entry_id b c one.id one.entry ruled one.added), entry_short one.entry one.good)
-stands_short b text ruled (inl (c, inr one)) =
+part_short : (part : GivenPart) → IsPart part → length (part_text part) ≤ longest_line (part_text part)
+part_short (GivenPart.Item v) good = omega (arith, good.short, at_least (part_text (GivenPart.Item v)))
+part_short (GivenPart.Pull p) good =
+    let most : longest_line (part_text (GivenPart.Pull p)) ≡ 68_000_000 = refl in
+    omega (arith, most, id_short p.task good.0, pulled_short p.value good.1, length-append p.task (32 ∷ pulled_word p.value))
+
+-- any line may have that many bytes
+short_enough : (text : List ℕ) → length text ≤ 66_000 → length text ≤ longest_line text
+short_enough text short = omega (arith, short, at_least text)
+
+pub stands_short : (b : Beginning) (text : List ℕ) → IsRuled b → MayStand b text → length text ≤ longest_line text
+stands_short b text ruled (inl (c, inl one)) = short_enough text
+    (omega (arith, ap length one.spelled, length-append one.id (32 ∷ entry_text one.entry), id_short one.id (entry_id b c one.id one.entry ruled one.added), entry_short one.entry one.good))
+stands_short b text ruled (inl (c, inr (inl one))) =
     let p : Interval × RunState = (one.run.interval, one.run.state) in
-    omega (
+    short_enough text
+    (omega (
       arith,
       ap length one.spelled,
       run_state_short p.1,
@@ -154,8 +194,9 @@ stands_short b text ruled (inl (c, inr one)) =
       moment_length p.0.end.nanosecond,
       length-append (moment_text p.0.start.nanosecond) (32 ∷ (moment_text p.0.end.nanosecond ++ 32 ∷ run_state_word p.1)),
       length-append (moment_text p.0.end.nanosecond) (32 ∷ run_state_word p.1),
-    )
-stands_short b text ruled (inr ends) = omega (arith, ap length ends.0, decimal_short (length (runs_of b)) (omega (arith, ruled.few_runs, counted_runs b)))
+    ))
+stands_short b text ruled (inl (c, inr (inr one))) = subst (λ t. length t ≤ longest_line t) (sym one.spelled) (part_short one.part one.good)
+stands_short b text ruled (inr ends) = short_enough text (omega (arith, ap length ends.0, decimal_short (length (runs_of b)) (omega (arith, ruled.few_runs, counted_runs b))))
 
 -- ---- what comes of a line
 
@@ -171,7 +212,8 @@ entry_step b c id text e false counted small ruled good spelled none = λ f othe
 pub no_run : (b : Beginning) (text : List ℕ) → IsRuled b → ((run : RunReport) (c : Beginning) → run.tasks ≡ [] → IsRunInterval run.interval → text ≡ run_words (run.interval, run.state) → with_run b run ≡ Some c → ⊥)
     → MayStand b (codes "@run" ++ 32 ∷ text) → ⊥
 no_run b text ruled none (inl (c, inl one)) = not_run one.id _ _ (entry_id b c one.id one.entry ruled one.added) (sym one.spelled)
-no_run b text ruled none (inl (c, inr one)) = none one.run c one.bare one.good (cut_once 32 (codes "@run") (codes "@run") text _ refl refl one.spelled).1 one.added
+no_run b text ruled none (inl (c, inr (inr one))) = run_not_part one.part _ one.spelled
+no_run b text ruled none (inl (c, inr (inl one))) = none one.run c one.bare one.good (cut_once 32 (codes "@run") (codes "@run") text _ refl refl one.spelled).1 one.added
 no_run b text ruled none (inr ends) = run_not_end _ _ ends.0
 
 pub run_step : (b c : Beginning) (text : List ℕ) (run : RunReport) (taken : Bool) → run.tasks ≡ [] → IsRunInterval run.interval → IsCounted b → IsSmall b → IsRuled b → text ≡ run_words (run.interval, run.state)
@@ -180,29 +222,80 @@ run_step b c text run true bare good counted small ruled spelled added = run_nex
 run_step b c text run false bare good counted small ruled spelled none =
     no_run b text ruled (λ s other too fine spelled' added. none_added _ _ other none (ap (with_run b) (same_bare run s bare too good fine (sym spelled ∙ spelled'))) added)
 
+-- no item and no pull is spelled
+pub no_item_line : (b : Beginning) (text : List ℕ) → IsRuled b → ((v : Xval) (c : Beginning) → IsToldItem v → text ≡ text_of v → with_part b (GivenPart.Item v) ≡ Some c → ⊥) → MayStand b (codes "@item" ++ 32 ∷ text) → ⊥
+no_item_line b text ruled none (inl (c, inl one)) = not_word (codes "@item") one.id _ text refl refl (entry_id b c one.id one.entry ruled one.added) (sym one.spelled)
+no_item_line b text ruled none (inl (c, inr (inl one))) = apart (codes "@item") (codes "@run") text _ refl refl refl refl one.spelled
+no_item_line b text ruled none (inl (c, inr (inr one))) = go one.part one.good one.spelled one.added
+  where
+    go : (part : GivenPart) → IsPart part → codes "@item" ++ 32 ∷ text ≡ part_text part → with_part b part ≡ Some c → ⊥
+    go (GivenPart.Item v) good spelled added = none v c good (cut_once 32 (codes "@item") (codes "@item") text (text_of v) refl refl spelled).1 added
+    go (GivenPart.Pull p) good spelled added = apart (codes "@item") (codes "@pull") text (pull_words p) refl refl refl refl spelled
+no_item_line b text ruled none (inr ends) = apart (codes "@item") (codes "@end") text _ refl refl refl refl ends.0
+
+pub no_pull_line : (b : Beginning) (text : List ℕ) → IsRuled b → ((p : Pull) (c : Beginning) → IsToldPull p → text ≡ pull_words p → with_part b (GivenPart.Pull p) ≡ Some c → ⊥) → MayStand b (codes "@pull" ++ 32 ∷ text) → ⊥
+no_pull_line b text ruled none (inl (c, inl one)) = not_word (codes "@pull") one.id _ text refl refl (entry_id b c one.id one.entry ruled one.added) (sym one.spelled)
+no_pull_line b text ruled none (inl (c, inr (inl one))) = apart (codes "@pull") (codes "@run") text _ refl refl refl refl one.spelled
+no_pull_line b text ruled none (inl (c, inr (inr one))) = go one.part one.good one.spelled one.added
+  where
+    go : (part : GivenPart) → IsPart part → codes "@pull" ++ 32 ∷ text ≡ part_text part → with_part b part ≡ Some c → ⊥
+    go (GivenPart.Pull p) good spelled added = none p c good (cut_once 32 (codes "@pull") (codes "@pull") text (pull_words p) refl refl spelled).1 added
+    go (GivenPart.Item v) good spelled added = apart (codes "@pull") (codes "@item") text (text_of v) refl refl refl refl spelled
+no_pull_line b text ruled none (inr ends) = apart (codes "@pull") (codes "@end") text _ refl refl refl refl ends.0
+
+pub part_step : (b c : Beginning) (line : List ℕ) (part : GivenPart) (taken : Bool) → IsCounted b → IsSmall b → IsRuled b → IsPart part → line ≡ part_text part → with_part b part ≡ cond taken (Some c) None
+    → Steps (cond taken Step.Taken Step.Refused) b line c
+part_step b c line part true counted small ruled good spelled added = part_next b c line part counted small ruled good spelled added
+part_step b c line part false counted small ruled good spelled none =
+    let P : List ℕ → Type 0 = λ l. MayStand b l → ⊥ in
+    subst P (sym spelled) (go part good none)
+  where
+    go : (part : GivenPart) → IsPart part → with_part b part ≡ None → MayStand b (part_text part) → ⊥
+    go (GivenPart.Item v) good none = no_item_line b (text_of v) ruled (λ w other too spelled' added. none_added _ _ other none (ap (λ x. with_part b (GivenPart.Item x)) (same_told 64 65_536 v w good too spelled')) added)
+    go (GivenPart.Pull p) good none = no_pull_line b (pull_words p) ruled (λ q other too spelled' added. none_added _ _ other none (ap (λ x. with_part b (GivenPart.Pull x)) (same_pull p q good too spelled')) added)
+
 -- a line without a space
 pub no_field : (b : Beginning) (text : List ℕ) → IsWord text → MayStand b text → ⊥
 no_field b text word (inl (c, inl one)) = none_stands 32 text one.id _ word one.spelled
-no_field b text word (inl (c, inr one)) = none_stands 32 text (codes "@run") _ word one.spelled
+no_field b text word (inl (c, inr (inl one))) = none_stands 32 text (codes "@run") _ word one.spelled
+no_field b text word (inl (c, inr (inr one))) = go one.part one.spelled
+  where
+    go : (part : GivenPart) → text ≡ part_text part → ⊥
+    go (GivenPart.Item v) spelled = none_stands 32 text (codes "@item") (text_of v) word spelled
+    go (GivenPart.Pull p) spelled = none_stands 32 text (codes "@pull") (pull_words p) word spelled
 no_field b text word (inr ends) = none_stands 32 text (codes "@end") _ word ends.0
 
 pub no_end : (b : Beginning) (text : List ℕ) → IsRuled b → (MayEnd b (codes "@end" ++ 32 ∷ text) → ⊥) → MayStand b (codes "@end" ++ 32 ∷ text) → ⊥
 no_end b text ruled none (inl (c, inl one)) = not_end one.id _ _ (entry_id b c one.id one.entry ruled one.added) (sym one.spelled)
-no_end b text ruled none (inl (c, inr one)) = run_not_end _ _ (sym one.spelled)
+no_end b text ruled none (inl (c, inr (inl one))) = run_not_end _ _ (sym one.spelled)
+no_end b text ruled none (inl (c, inr (inr one))) = end_not_part one.part _ one.spelled
 no_end b text ruled none (inr ends) = none ends
 
-pub no_entry : (b : Beginning) (id text : List ℕ) → IsWord id → (id ≡ codes "@run" → ⊥) → (id ≡ codes "@end" → ⊥) → IsRuled b
-    → ((e : Entry) (c : Beginning) → IsEntry e → text ≡ entry_text e → with_entry b id e ≡ Some c → ⊥) → MayStand b (id ++ 32 ∷ text) → ⊥
-no_entry b id text word other too ruled none (inl (c, inl one)) =
-    let (same, rest) = cut_once 32 id one.id text (entry_text one.entry) word (id_lacks 32 one.id (omega arith) (entry_id b c one.id one.entry ruled one.added)) one.spelled in
-    none one.entry c one.good rest (ap (λ i. with_entry b i one.entry) same ∙ one.added)
-no_entry b id text word other too ruled none (inl (c, inr one)) = other (cut_once 32 id (codes "@run") text _ word refl one.spelled).0
-no_entry b id text word other too ruled none (inr ends) = too (cut_once 32 id (codes "@end") text _ word refl ends.0).0
+-- a word that no other line begins with
+pub record IsOtherWord (id : List ℕ) : Type 0 where
+  pub word : IsWord id
+  pub not_run : id ≡ codes "@run" → ⊥
+  pub not_item : id ≡ codes "@item" → ⊥
+  pub not_pull : id ≡ codes "@pull" → ⊥
+  pub not_end : id ≡ codes "@end" → ⊥
 
-pub entry_steps : (b c : Beginning) (id text : List ℕ) (step : Step) → IsWord id → (id ≡ codes "@run" → ⊥) → (id ≡ codes "@end" → ⊥) → IsRuled b → EntrySteps step b id text c → Steps step b (id ++ 32 ∷ text) c
-entry_steps b c id text Step.Taken word other too ruled steps = steps
-entry_steps b c id text Step.End word other too ruled steps = absurd steps
-entry_steps b c id text Step.Refused word other too ruled steps = no_entry b id text word other too ruled steps
+pub no_entry : (b : Beginning) (id text : List ℕ) → IsOtherWord id → IsRuled b
+    → ((e : Entry) (c : Beginning) → IsEntry e → text ≡ entry_text e → with_entry b id e ≡ Some c → ⊥) → MayStand b (id ++ 32 ∷ text) → ⊥
+no_entry b id text other ruled none (inl (c, inl one)) =
+    let (same, rest) = cut_once 32 id one.id text (entry_text one.entry) other.word (id_lacks 32 one.id (omega arith) (entry_id b c one.id one.entry ruled one.added)) one.spelled in
+    none one.entry c one.good rest (ap (λ i. with_entry b i one.entry) same ∙ one.added)
+no_entry b id text other ruled none (inl (c, inr (inl one))) = other.not_run (cut_once 32 id (codes "@run") text _ other.word refl one.spelled).0
+no_entry b id text other ruled none (inl (c, inr (inr one))) = go one.part one.spelled
+  where
+    go : (part : GivenPart) → id ++ 32 ∷ text ≡ part_text part → ⊥
+    go (GivenPart.Item v) spelled = other.not_item (cut_once 32 id (codes "@item") text (text_of v) other.word refl spelled).0
+    go (GivenPart.Pull p) spelled = other.not_pull (cut_once 32 id (codes "@pull") text (pull_words p) other.word refl spelled).0
+no_entry b id text other ruled none (inr ends) = other.not_end (cut_once 32 id (codes "@end") text _ other.word refl ends.0).0
+
+pub entry_steps : (b c : Beginning) (id text : List ℕ) (step : Step) → IsOtherWord id → IsRuled b → EntrySteps step b id text c → Steps step b (id ++ 32 ∷ text) c
+entry_steps b c id text Step.Taken other ruled steps = steps
+entry_steps b c id text Step.End other ruled steps = absurd steps
+entry_steps b c id text Step.Refused other ruled steps = no_entry b id text other ruled steps
 
 pub end_steps : (b : Beginning) (text : List ℕ) (step : Step) → IsRuled b → EndsBy step b text → Steps step b (codes "@end" ++ 32 ∷ text) b
 end_steps b text Step.Taken ruled ends = absurd ends

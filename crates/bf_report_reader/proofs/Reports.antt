@@ -1,74 +1,97 @@
 -- Texts of reports: how they begin, and that each is one report's.
-use Rattle.std.proofs.Common.{◌≡◌, ◌<◌, ℕ, zero, suc, List, [], ◌∷◌, ◌++◌, length, get_or, drop, true, false, true≢false, Option, Some, None, codes, decimal, refl, sym, ap, ◌∙◌, ◌⊎◌, subst, arith, append_assoc, append-nil, inl, inr}
+use Rattle.std.proofs.Common.{◌≡◌, ◌≤◌, ◌<◌, ℕ, zero, suc, List, [], ◌∷◌, ◌++◌, length, get_or, drop, true, false, true≢false, Option, Some, None, codes, decimal, refl, sym, ap, ◌∙◌, ◌⊎◌, subst, arith, append_assoc, append-nil, inl, inr}
 use Rattle.std.specs.Prelude.{IfSome, IfErr, Result, Ok, Err}
 use Rattle.std.specs.List.{flat_map, enumerate_from, zip}
 use Rattle.std.proofs.lemmas.List.{append_cancel_left}
 use Rattle.std.proofs.lemmas.Option.{slice_get-get_or}
 use Rattle.std.proofs.lemmas.Bool.{cases_Bool, eqb-false}
 use Rattle.bf_read.specs.Ids.{is_id}
-use Rattle.bf_xcom.specs.declared.values.TaskResult.{TaskResult}
+use Rattle.bf_value.specs.declared.xval.Xval.{Xval}
+use Rattle.bf_value.specs.declared.xval.Xval.TheVariants.{Nil}
+use Rattle.bf_value.specs.Json.{text_of}
+use Rattle.bf_value.proofs.TextLemmas.{IsUtf8-text_of, value_of_text-text_of}
+use Rattle.bf_report.specs.declared.report.Version.{Version}
+use Rattle.bf_report.specs.declared.report.InstanceReport.{InstanceReport}
 use Rattle.bf_report.specs.declared.report.TaskReport.{TaskReport}
 use Rattle.bf_report.specs.declared.report.RunReport.{RunReport}
 use Rattle.bf_report.specs.declared.report.Report.{Report}
-use Rattle.bf_report.specs.Report.{run_line, run_text, task_text, tasks_text, instance_line, report_text}
+use Rattle.bf_report.specs.Report.{head_line, version_word, run_line, run_text, task_text, tasks_text, instance_line, item_line, pull_line, instance_text, report_text}
 use Rattle.bf_report_reader.specs.declared.entry.Untried.{Untried}
 use Rattle.bf_report_reader.specs.declared.entry.Entry.{Entry}
 use Rattle.bf_report_reader.specs.declared.fault.ReportFault.{ReportFault}
-use Rattle.bf_report_reader.specs.declared.beginning.OpenRun.{OpenRun}
+use Rattle.bf_report_reader.specs.declared.part.GivenPart.{GivenPart}
+use Rattle.bf_report_reader.specs.declared.open.OpenTask.{OpenTask}
+use Rattle.bf_report_reader.specs.declared.open.OpenRun.{OpenRun}
 use Rattle.bf_report_reader.specs.declared.beginning.Beginning.{Beginning}
 use Rattle.bf_report_reader.specs.Entries.{entry_text}
+use Rattle.bf_report_reader.specs.Parts.{IsToldItem, pull_words, part_text}
 use Rattle.bf_report_reader.specs.Runs.{run_words}
 use Rattle.bf_report_reader.specs.Rules.{IsShownReport}
-use Rattle.bf_report_reader.specs.Beginning.{count, so_far, opening_text, is_whole_in, is_next_in, ids_with, put_task, with_entry, IsCountedIn, room}
-use Rattle.bf_report_reader.specs.Extensions.{SaysDag, start, Extends, IsKnown}
+use Rattle.bf_report_reader.specs.Beginning.{count, so_far, opening_text, is_given_task, is_given_in, is_given, is_whole_in, is_next_in, ids_with, takes_task, takes_in, put_task, put_part, with_entry, IsCountedIn, room}
+use Rattle.bf_report_reader.specs.Steps.{IsNext}
+use Rattle.bf_report_reader.specs.Extensions.{head_words, SaysHead, head_of, start, Extends, IsKnown}
 use Rattle.bf_report_reader.specs.Faults.{IsInLine, AreLines, Begins, IsOpening, IsReportText, IsFromOutside, Tells}
 use Rattle.bf_report_reader.proofs.Splits.{cut_once, none_stands, tails}
-use Rattle.bf_report_reader.proofs.Words.{id_lacks, id_short}
+use Rattle.bf_report_reader.proofs.Words.{id_lacks, id_short, version_plain, at_least}
 use Rattle.bf_report_reader.proofs.Ruled.{report_ruled}
-use Rattle.bf_report_reader.proofs.StepFacts.{entry_next}
+use Rattle.bf_report_reader.proofs.StepFacts.{entry_next, part_next}
 use Rattle.bf_report_reader.proofs.Chains.{Keeps, Goes, IsNextOf, known_goes, not_yet, end_of, keeps_next, one_report}
 use Rattle.bf_report_reader.proofs.Paths.{starts, text_true}
 
 -- ---- the head line
 
-abbrev head_of : List ℕ → List ℕ
-head_of id = codes "@backfill" ++ 32 ∷ (codes "1" ++ 32 ∷ id)
-
 abbrev behind_head : Report → List ℕ
 behind_head r = flat_map (run_text r.tasks) r.runs ++ end_of r
 
-pub head_first : (r : Report) → report_text r ≡ (head_of r.dag_id ++ 10 ∷ []) ++ behind_head r
-head_first r = append_assoc (head_of r.dag_id ++ 10 ∷ []) (flat_map (run_text r.tasks) r.runs) (end_of r)
+pub head_first : (r : Report) → report_text r ≡ (head_words (head_of r) ++ 10 ∷ []) ++ behind_head r
+head_first r = append_assoc (head_words (head_of r) ++ 10 ∷ []) (flat_map (run_text r.tasks) r.runs) (end_of r)
 
-head_in_line : (id : List ℕ) → is_id id ≡ true → IsInLine (head_of id)
-head_in_line id good = id_lacks 10 id (omega arith) good
+head_in_line : (head : Version × List ℕ) → is_id head.1 ≡ true → IsInLine (head_words head)
+head_in_line (Version.One, id) good = id_lacks 10 id (omega arith) good
+head_in_line (Version.Two, id) good = id_lacks 10 id (omega arith) good
 
-pub head_goes : Goes [] (λ r text. SaysDag text r.dag_id)
+head_short : (head : Version × List ℕ) → is_id head.1 ≡ true → length (head_words head) ≤ 66_000
+head_short (Version.One, id) good = omega (arith, id_short id good)
+head_short (Version.Two, id) good = omega (arith, id_short id good)
+
+pub head_goes : Goes [] (λ r text. SaysHead text (head_of r))
 head_goes report more shown is = record {
-  next = head_of report.dag_id;
+  next = head_words (head_of report);
   more = behind_head report;
   text = head_first report;
-  in_line = head_in_line report.dag_id shown.dag_id;
-  short = omega (arith, id_short report.dag_id shown.dag_id);
+  in_line = head_in_line (head_of report) shown.dag_id;
+  short = omega (arith, head_short (head_of report) shown.dag_id, at_least (head_words (head_of report)));
   stands = (shown.dag_id, refl);
 }
 
--- texts that begin with one head line are those of one dag
-same_dag : (id other more rest : List ℕ) → is_id id ≡ true → is_id other ≡ true → (head_of id ++ 10 ∷ []) ++ more ≡ (head_of other ++ 10 ∷ []) ++ rest → id ≡ other
-same_dag id other more rest good too e =
-    ap (drop 12) (cut_once 10 (head_of id) (head_of other) more rest (head_in_line id good) (head_in_line other too)
-    (sym (append_assoc (head_of id) (10 ∷ []) more) ∙ e ∙ append_assoc (head_of other) (10 ∷ []) rest)).0
+same_version : (one two : Version) → version_word one ≡ version_word two → one ≡ two
+same_version Version.One Version.One e = refl
+same_version Version.One Version.Two e = absurd (omega (arith, ap (λ l. get_or l 0 0) e))
+same_version Version.Two Version.One e = absurd (omega (arith, ap (λ l. get_or l 0 0) e))
+same_version Version.Two Version.Two e = refl
 
-pub start_text : (id : List ℕ) → opening_text (so_far (start id)) ≡ head_of id ++ 10 ∷ []
-start_text id = append-nil (head_of id ++ 10 ∷ [])
+same_words : (head other : Version × List ℕ) → head_words head ≡ head_words other → head ≡ other
+same_words head other e =
+    let (version, id) = cut_once 32 (version_word head.0) (version_word other.0) head.1 other.1 (version_plain head.0) (version_plain other.0) (ap (drop 10) e) in
+    let versions = same_version head.0 other.0 version in
+    λ k. (versions k, id k)
 
-pub known_start : (id : List ℕ) → is_id id ≡ true → IsKnown (start id)
-known_start id good report more shown is =
-    let same : report.dag_id ≡ id = same_dag report.dag_id id (behind_head report) more shown.dag_id good (sym (head_first report) ∙ is ∙ ap (λ l. l ++ more) (start_text id)) in
-    subst (λ i. Extends (start i) report) same (starts report shown)
+-- texts that begin with one head line have one head
+same_head : (head other : Version × List ℕ) (more rest : List ℕ) → is_id head.1 ≡ true → is_id other.1 ≡ true → (head_words head ++ 10 ∷ []) ++ more ≡ (head_words other ++ 10 ∷ []) ++ rest → head ≡ other
+same_head head other more rest good too e =
+    same_words head other (cut_once 10 (head_words head) (head_words other) more rest (head_in_line head good) (head_in_line other too)
+    (sym (append_assoc (head_words head) (10 ∷ []) more) ∙ e ∙ append_assoc (head_words other) (10 ∷ []) rest)).0
 
-pub keeps_start : (id : List ℕ) → is_id id ≡ true → Keeps (start id)
-keeps_start id good = record {
+pub start_text : (head : Version × List ℕ) → opening_text (so_far (start head)) ≡ head_words head ++ 10 ∷ []
+start_text head = append-nil (head_words head ++ 10 ∷ [])
+
+pub known_start : (head : Version × List ℕ) → is_id head.1 ≡ true → IsKnown (start head)
+known_start head good report more shown is =
+    let same : head_of report ≡ head = same_head (head_of report) head (behind_head report) more shown.dag_id good (sym (head_first report) ∙ is ∙ ap (λ l. l ++ more) (start_text head)) in
+    subst (λ h. Extends (start h) report) same (starts report shown)
+
+pub keeps_start : (head : Version × List ℕ) → is_id head.1 ≡ true → Keeps (start head)
+keeps_start head good = record {
   counted = refl;
   small = omega arith;
   ruled = record { dag_id = good; ids = tt; distinct = λ i j d h k. absurd (omega (arith, k)); runs = tt; last = tt; few_runs = omega arith; rise = tt };
@@ -79,9 +102,9 @@ keeps_start id good = record {
 -- no report's text goes on as another's
 pub one_text_each : (one two : Report) (more : List ℕ) → IsShownReport one → IsShownReport two → report_text two ≡ report_text one ++ more → one ≡ two
 one_text_each one two more shown too is =
-    let same : two.dag_id ≡ one.dag_id = same_dag two.dag_id one.dag_id (behind_head two) (behind_head one ++ more) too.dag_id shown.dag_id
-    (sym (head_first two) ∙ is ∙ ap (λ l. l ++ more) (head_first one) ∙ append_assoc (head_of one.dag_id ++ 10 ∷ []) (behind_head one) more) in
-    one_report (suc (room (start one.dag_id))) (start one.dag_id) one two more (omega arith) (keeps_start one.dag_id shown.dag_id) (starts one shown) (subst (λ i. Extends (start i) two) same (starts two too)) is
+    let same : head_of two ≡ head_of one = same_head (head_of two) (head_of one) (behind_head two) (behind_head one ++ more) too.dag_id shown.dag_id
+    (sym (head_first two) ∙ is ∙ ap (λ l. l ++ more) (head_first one) ∙ append_assoc (head_words (head_of one) ++ 10 ∷ []) (behind_head one) more) in
+    one_report (suc (room (start (head_of one)))) (start (head_of one)) one two more (omega arith) (keeps_start (head_of one) shown.dag_id) (starts one shown) (subst (λ h. Extends (start h) two) same (starts two too)) is
 
 -- ---- a report is filled up
 
@@ -92,28 +115,50 @@ lacks_task (r ∷ rs) ids (Some o) counted short =
     let below : count o < length ids = omega (arith, counted, eqb-false (count o) (length ids) short) in
     (get_or ids (count o) [], text_true _ _ (slice_get-get_or ids (count o) [] below))
 
-filled : (b : Beginning) (id : List ℕ) → is_next_in b.runs b.tasks b.run id ≡ true
+filled : (b : Beginning) (id : List ℕ) → is_given b ≡ true → is_next_in b.runs b.tasks b.run id ≡ true
     → with_entry b id (Entry.Never Untried.NoStatus) ≡ Some (record b { tasks = ids_with b.runs b.tasks id; run = put_task b.run TaskReport.NoStatus })
 unfolding with_entry
-filled b id next = rw next refl
+filled b id given next = rw (given, next) refl
+
+-- an item where one is lacking
+null_told : IsToldItem Nil
+null_told = record { utf8 = IsUtf8-text_of Nil tt; says = value_of_text-text_of 64 Nil tt (omega arith) (omega arith); short = omega arith }
+
+lacking : (version : Version) (run : Option OpenRun) → is_given_in version run ≡ false → takes_in version run (GivenPart.Item Nil) ≡ true
+lacking version None lacks = absurd (true≢false lacks)
+lacking version (Some o) lacks = task_lacks o.task lacks
+  where
+    task_lacks : (task : Option OpenTask) → is_given_task version task ≡ false → takes_task version task (GivenPart.Item Nil) ≡ true
+    task_lacks None lacks = absurd (true≢false lacks)
+    task_lacks (Some t) lacks = rw lacks refl
+
+-- what begins with a line more begins with the lines before it
+begun : (b c : Beginning) (text : List ℕ) → IsNext b text c → Begins (opening_text (so_far c)) → Begins (opening_text (so_far b))
+begun b c text step rest = record {
+  report = rest.report;
+  more = (text ++ 10 ∷ []) ++ rest.more;
+  shown = rest.shown;
+  text_is = rest.text_is ∙ ap (λ l. l ++ rest.more) step.read ∙ append_assoc (opening_text (so_far b)) (text ++ 10 ∷ []) rest.more;
+}
 
 begins_by : (fuel : ℕ) (b : Beginning) → room b < fuel → Keeps b → Begins (opening_text (so_far b))
 begins_by zero b less keeps = absurd (omega (arith, less))
-begins_by (suc fuel) b less keeps = elim (cases_Bool (is_whole_in b.run b.tasks)) [
-  | inl whole ↦ record { report = so_far b; more = end_of (so_far b); shown = report_ruled b keeps.counted keeps.small keeps.ruled whole; text_is = refl }
-  | inr short ↦
-      let (id, next) = lacks_task b.runs b.tasks b.run keeps.counted short in
-      let e : Entry = Entry.Never Untried.NoStatus in
-      let c : Beginning = record b { tasks = ids_with b.runs b.tasks id; run = put_task b.run TaskReport.NoStatus } in
-      let text = id ++ 32 ∷ entry_text e in
-      let step = entry_next b c id text e keeps.counted keeps.small keeps.ruled tt refl (filled b id next) in
-      let rest = begins_by fuel c (omega (arith, less, step.shrinks)) (keeps_next b c text step) in
-      record {
-        report = rest.report;
-        more = (text ++ 10 ∷ []) ++ rest.more;
-        shown = rest.shown;
-        text_is = rest.text_is ∙ ap (λ l. l ++ rest.more) step.read ∙ append_assoc (opening_text (so_far b)) (text ++ 10 ∷ []) rest.more;
-      }
+begins_by (suc fuel) b less keeps = elim (cases_Bool (is_given b)) [
+  | inl given ↦ elim (cases_Bool (is_whole_in b.run b.tasks)) [
+    | inl whole ↦ record { report = so_far b; more = end_of (so_far b); shown = report_ruled b keeps.counted keeps.small keeps.ruled (rw (given, whole) refl); text_is = refl }
+    | inr short ↦
+        let (id, next) = lacks_task b.runs b.tasks b.run keeps.counted short in
+        let e : Entry = Entry.Never Untried.NoStatus in
+        let c : Beginning = record b { tasks = ids_with b.runs b.tasks id; run = put_task b.run TaskReport.NoStatus } in
+        let text = id ++ 32 ∷ entry_text e in
+        let step = entry_next b c id text e keeps.counted keeps.small keeps.ruled tt refl (filled b id given next) in
+        begun b c text step (begins_by fuel c (omega (arith, less, step.shrinks)) (keeps_next b c text step))
+  ]
+  | inr lacks ↦
+      let part : GivenPart = GivenPart.Item Nil in
+      let c : Beginning = record b { run = put_part b.run part } in
+      let step = part_next b c (part_text part) part keeps.counted keeps.small keeps.ruled null_told refl (rw (lacking b.version b.run lacks) refl) in
+      begun b c (part_text part) step (begins_by fuel c (omega (arith, less, step.shrinks)) (keeps_next b c (part_text part) step))
 ]
 
 -- ---- whole lines
@@ -126,30 +171,39 @@ lines_flat : {X : Type 0} (f : X → List ℕ) (xs : List X) → ((x : X) → Ar
 lines_flat f [] each = inl refl
 lines_flat f (x ∷ xs) each = lines_append (f x) (flat_map f xs) (each x) (lines_flat f xs each)
 
+item_lines : (item : Option Xval) → AreLines (item_line item)
+item_lines None = inl refl
+item_lines (Some v) = inr (codes "@item" ++ 32 ∷ text_of v, refl)
+
+instance_lines : (id index : List ℕ) (x : InstanceReport) → AreLines (instance_text id index x)
+instance_lines id index x =
+    lines_append (instance_line id index x.result) (item_line x.item ++ flat_map pull_line x.pulls) (inr (_, refl))
+    (lines_append (item_line x.item) (flat_map pull_line x.pulls) (item_lines x.item) (lines_flat pull_line x.pulls (λ p. inr (codes "@pull" ++ 32 ∷ pull_words p, refl))))
+
 task_lines : (id : List ℕ) (t : TaskReport) → AreLines (task_text id t)
 task_lines id TaskReport.NoStatus = inr (_, refl)
 task_lines id TaskReport.Skipped = inr (_, refl)
 task_lines id TaskReport.UpstreamFailed = inr (_, refl)
-task_lines id (TaskReport.Ran r) = inr (_, refl)
-task_lines id (TaskReport.Mapped rs) = lines_flat (λ (p : ℕ × TaskResult). instance_line id (decimal p.0) p.1) (enumerate_from 0 rs) (λ p. inr (_, refl))
+task_lines id (TaskReport.Ran x) = instance_lines id (codes "-1") x
+task_lines id (TaskReport.Mapped xs) = lines_flat (λ (p : ℕ × InstanceReport). instance_text id (decimal p.0) p.1) (enumerate_from 0 xs) (λ p. instance_lines id (decimal p.0) p.1)
 
 run_lines : (ids : List (List ℕ)) (r : RunReport) → AreLines (run_text ids r)
 run_lines ids r = lines_append (run_line r) (tasks_text ids r.tasks) (inr (codes "@run" ++ 32 ∷ run_words (r.interval, r.state), refl)) (lines_flat (λ (p : List ℕ × TaskReport). task_text p.0 p.1) (zip ids r.tasks) (λ p. task_lines p.0 p.1))
 
 pub opens : (b : Beginning) → Keeps b → IsKnown b → IsOpening (opening_text (so_far b))
 opens b keeps known = record {
-  lines = lines_append (head_of b.dag_id ++ 10 ∷ []) (flat_map (run_text b.tasks) (so_far b).runs) (inr (head_of b.dag_id, refl)) (lines_flat (run_text b.tasks) (so_far b).runs (run_lines b.tasks));
+  lines = lines_append (head_line b.version b.dag_id) (flat_map (run_text b.tasks) (so_far b).runs) (inr (head_words (b.version, b.dag_id), refl)) (lines_flat (run_text b.tasks) (so_far b).runs (run_lines b.tasks));
   begins = begins_by (suc (room b)) b (omega arith) keeps;
   unfinished = not_yet (opening_text (so_far b)) (IsNextOf b) (known_goes b keeps known);
 }
 
 pub opens_nothing : IsOpening []
 opens_nothing =
-    let begins = begins_by (suc (room (start (codes "a")))) (start (codes "a")) (omega arith) (keeps_start (codes "a") refl) in
+    let begins = begins_by (suc (room (start (Version.One, codes "a")))) (start (Version.One, codes "a")) (omega arith) (keeps_start (Version.One, codes "a") refl) in
     record {
       lines = inl refl;
       begins = record { report = begins.report; more = report_text begins.report; shown = begins.shown; text_is = refl };
-      unfinished = not_yet [] (λ r text. SaysDag text r.dag_id) head_goes;
+      unfinished = not_yet [] (λ r text. SaysHead text (head_of r)) head_goes;
     }
 
 -- ---- faults

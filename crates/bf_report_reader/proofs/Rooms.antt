@@ -1,20 +1,25 @@
 -- Each line leaves less room for more.
-use Rattle.std.proofs.Common.{◌≡◌, ◌≤◌, ◌<◌, ◌==◌, ◌&&◌, ℕ, zero, suc, List, [], ◌∷◌, ◌++◌, length, Option, Some, None, true, true≢false, not, nat_lt, slice_get, refl, sym, subst, arith, length-append}
+use Rattle.std.proofs.Common.{◌≡◌, ◌≤◌, ◌<◌, ◌&&◌, ℕ, zero, suc, List, [], ◌∷◌, length, Option, Some, None, is_some, Bool, true, true≢false, not, nat_lt, slice_get, sym, ap, subst, arith, length-append}
 use Rattle.std.specs.List.{list_any}
 use Rattle.std.specs.Str.{bytes_eq}
 use Rattle.std.proofs.lemmas.Bool.{and_parts, eqb-true}
 use Rattle.std.proofs.lemmas.Bool.Decides.{nat_tests}
 use Rattle.bf_read.specs.Ids.{is_id}
+use Rattle.bf_value.specs.declared.xval.Xval.{Xval}
 use Rattle.bf_xcom.specs.declared.values.TaskResult.{TaskResult}
+use Rattle.bf_report.specs.declared.report.Version.{Version}
+use Rattle.bf_report.specs.declared.report.InstanceReport.{InstanceReport}
 use Rattle.bf_report.specs.declared.report.TaskReport.{TaskReport}
 use Rattle.bf_report.specs.declared.report.RunReport.{RunReport}
 use Rattle.bf_report_reader.specs.declared.entry.Untried.{Untried}
 use Rattle.bf_report_reader.specs.declared.entry.Entry.{Entry}
-use Rattle.bf_report_reader.specs.declared.beginning.OpenRun.{OpenRun}
+use Rattle.bf_report_reader.specs.declared.part.GivenPart.{GivenPart}
+use Rattle.bf_report_reader.specs.declared.open.OpenTask.{OpenTask}
+use Rattle.bf_report_reader.specs.declared.open.OpenRun.{OpenRun}
 use Rattle.bf_report_reader.specs.declared.beginning.Beginning.{Beginning}
 use Rattle.bf_report_reader.specs.Entries.{IsEntry}
-use Rattle.bf_report_reader.specs.Beginning.{tasks_in, open_count, count, last_run, run_count, is_whole_in, starts_before, is_text, is_next_in, is_next, ids_with, goes_on_in, goes_on, put_task, put_expanded, put_instance, may_begin, with_run, with_task, with_expanded, with_instance, with_entry, IsCountedIn, IsCounted, open_room, room, IsSmall}
-use Rattle.bf_report_reader.proofs.Growth.{if_some, count_is, get_within, is_text_of}
+use Rattle.bf_report_reader.specs.Beginning.{tasks_in, count, last_run, run_count, tells_item, most_told, has_item, takes, with_told, untold, is_text, is_next_in, is_next, ids_with, is_further, is_further_task, goes_on_in, goes_on, takes_task, takes_in, put_task, put_open, further, put_further, put_part, may_begin, with_run, with_task, with_open, with_further, with_part, with_entry, IsCountedIn, IsCounted, item_room, instance_room, before_room, task_room, open_room, room, IsSmall}
+use Rattle.bf_report_reader.proofs.Growth.{if_some, count_is, get_within, is_text_of, next_parts, further_parts, begin_parts, no_item, not_true}
 
 pub lt_true : (m n : ℕ) → nat_lt m n ≡ true → m < n
 lt_true m n e = grind (arith, nat_tests)
@@ -31,11 +36,24 @@ fits [] ids o id small counted next =
     (omega (arith, below, counted), omega (arith, below, length-append ids (id ∷ [])))
 fits (r ∷ rs) ids o id small counted next = (omega (arith, small, get_within ids id (count o) (is_text_of (slice_get ids (count o)) id next)), small)
 
-task_room : (b c : Beginning) (id : List ℕ) (t : TaskReport) → IsCounted b → IsSmall b → with_task b id t ≡ Some c → IsSmall c × (room c < room b)
-task_room b c id t counted small e =
+-- how many lines an open task may have at most
+before_most : (before : Option (List InstanceReport)) → before_room before ≤ 20_480
+before_most None = omega arith
+before_most (Some xs) = omega arith
+
+item_most : (item : Option Xval) → item_room item ≤ 1
+item_most None = omega arith
+item_most (Some v) = omega arith
+
+open_most : (task : Option OpenTask) → task_room task ≤ 20_497
+open_most None = omega arith
+open_most (Some t) = omega (arith, before_most t.before, item_most t.instance.item)
+
+untried_room : (b c : Beginning) (id : List ℕ) (t : TaskReport) → IsCounted b → IsSmall b → with_task b id t ≡ Some c → IsSmall c × (room c < room b)
+untried_room b c id t counted small e =
     let (next, is) = if_some (is_next b id) _ c e in
     let P : Beginning → Type 0 = λ x. IsSmall x × (room x < room b) in
-    subst P is (go b.run counted next)
+    subst P is (go b.run counted (next_parts b id next).1)
   where
     go : (run : Option OpenRun) → IsCountedIn b.runs b.tasks run → is_next_in b.runs b.tasks run id ≡ true
         → (length (ids_with b.runs b.tasks id) ≤ 2_000) × (room (record b { tasks = ids_with b.runs b.tasks id; run = put_task run t }) < room (record b { run = run }))
@@ -44,61 +62,89 @@ task_room b c id t counted small e =
         let (below, few) = fits b.runs b.tasks o id small counted next in
         (few, omega (arith, below, length-append (tasks_in o) (t ∷ []), count_is o))
 
-expanded_room : (b c : Beginning) (id : List ℕ) (r : TaskResult) → IsCounted b → IsSmall b → with_expanded b id r ≡ Some c → IsSmall c × (room c < room b)
-expanded_room b c id r counted small e =
+opened_room : (b c : Beginning) (id : List ℕ) (t : OpenTask) → IsCounted b → IsSmall b → with_open b id t ≡ Some c → IsSmall c × (room c < room b)
+opened_room b c id t counted small e =
     let (next, is) = if_some (is_next b id) _ c e in
     let P : Beginning → Type 0 = λ x. IsSmall x × (room x < room b) in
-    subst P is (go b.run counted next)
+    subst P is (go b.run counted (next_parts b id next).1)
   where
     go : (run : Option OpenRun) → IsCountedIn b.runs b.tasks run → is_next_in b.runs b.tasks run id ≡ true
-        → (length (ids_with b.runs b.tasks id) ≤ 2_000) × (room (record b { tasks = ids_with b.runs b.tasks id; run = put_expanded run r }) < room (record b { run = run }))
+        → (length (ids_with b.runs b.tasks id) ≤ 2_000) × (room (record b { tasks = ids_with b.runs b.tasks id; run = put_open run t }) < room (record b { run = run }))
     go None counted next = absurd (true≢false (sym next))
     go (Some o) counted next =
         let (below, few) = fits b.runs b.tasks o id small counted next in
-        (few, omega (arith, below, count_is o))
+        (few, omega (arith, below, count_is o, open_most (Some t)))
 
-longer_open : (rs : List TaskResult) (r : TaskResult) → (open_count rs == 1) ≡ true → open_count (rs ++ r ∷ []) ≡ open_count rs
-longer_open [] r e = absurd (true≢false (sym e))
-longer_open (x ∷ xs) r e = refl
-
-instance_room : (b c : Beginning) (id : List ℕ) (index : ℕ) (r : TaskResult) → index < 1_024 → IsSmall b → with_instance b id index r ≡ Some c → IsSmall c × (room c < room b)
-instance_room b c id index r within small e =
+further_room : (b c : Beginning) (id : List ℕ) (index : ℕ) (r : TaskResult) → index < 1_024 → IsSmall b → with_further b id index r ≡ Some c → IsSmall c × (room c < room b)
+further_room b c id index r within small e =
     let (next, is) = if_some (goes_on b id index) _ c e in
     let P : Beginning → Type 0 = λ x. IsSmall x × (room x < room b) in
-    subst P is (small, go b.run next)
+    subst P is (small, go b.run (further_parts b id index next).1)
   where
-    go : (run : Option OpenRun) → goes_on_in b.tasks run id index ≡ true → room (record b { run = put_instance run r }) < room (record b { run = run })
+    instance_less : (before : Option (List InstanceReport)) (x : InstanceReport) → is_further before index ≡ true → task_room (Some (further (record { before = before; instance = x }) r)) < task_room (Some (record { before = before; instance = x }))
+    instance_less None x number = absurd (true≢false (sym number))
+    instance_less (Some xs) x number = omega (arith, within, eqb-true _ _ number, length-append xs (x ∷ []))
+
+    task_less : (run : RunReport) (task : Option OpenTask) → is_further_task task index ≡ true → open_room (put_further (Some (record { run = run; task = task })) r) < open_room (Some (record { run = run; task = task }))
+    task_less run None number = absurd (true≢false (sym number))
+    task_less run (Some t) number = omega (arith, instance_less t.before t.instance number)
+
+    go : (run : Option OpenRun) → goes_on_in b.tasks run id index ≡ true → room (record b { run = put_further run r }) < room (record b { run = run })
     go None next = absurd (true≢false (sym next))
     go (Some o) next =
-        let (both, last) = and_parts (open_count o.instances == 1 && length o.instances == index) (is_text (slice_get b.tasks (length o.run.tasks)) id) next in
-        let (some, number) = and_parts (open_count o.instances == 1) (length o.instances == index) both in
-        omega (arith, within, eqb-true _ _ number, longer_open o.instances r some, length-append o.instances (r ∷ []))
+        let (number, at) = and_parts (is_further_task o.task index) (is_text (slice_get b.tasks (length o.run.tasks)) id) next in
+        omega (arith, task_less o.run o.task number)
 
 pub entry_room : (b c : Beginning) (id : List ℕ) (e : Entry) → IsCounted b → IsSmall b → IsEntry e → with_entry b id e ≡ Some c → IsSmall c × (room c < room b)
 unfolding with_entry
-entry_room b c id (Entry.Never Untried.NoStatus) counted small good e = task_room b c id TaskReport.NoStatus counted small e
-entry_room b c id (Entry.Never Untried.Skipped) counted small good e = task_room b c id TaskReport.Skipped counted small e
-entry_room b c id (Entry.Never Untried.UpstreamFailed) counted small good e = task_room b c id TaskReport.UpstreamFailed counted small e
-entry_room b c id (Entry.Tried None r) counted small good e = task_room b c id (TaskReport.Ran r) counted small e
-entry_room b c id (Entry.Tried (Some zero) r) counted small good e = expanded_room b c id r counted small e
-entry_room b c id (Entry.Tried (Some (suc n)) r) counted small good e = instance_room b c id (suc n) r good.0 small e
+entry_room b c id (Entry.Never Untried.NoStatus) counted small good e = untried_room b c id TaskReport.NoStatus counted small e
+entry_room b c id (Entry.Never Untried.Skipped) counted small good e = untried_room b c id TaskReport.Skipped counted small e
+entry_room b c id (Entry.Never Untried.UpstreamFailed) counted small good e = untried_room b c id TaskReport.UpstreamFailed counted small e
+entry_room b c id (Entry.Tried None r) counted small good e = opened_room b c id (record { before = None; instance = untold r }) counted small e
+entry_room b c id (Entry.Tried (Some zero) r) counted small good e = opened_room b c id (record { before = Some []; instance = untold r }) counted small e
+entry_room b c id (Entry.Tried (Some (suc n)) r) counted small good e = further_room b c id (suc n) r good.0 small e
+
+-- ---- a part of what an instance was given
+
+few_told : (version : Version) → most_told version ≤ 16
+few_told Version.One = omega arith
+few_told Version.Two = omega arith
+
+told_less : (version : Version) (is_told : Bool) (x : InstanceReport) (part : GivenPart) → takes version (has_item is_told x.item) x part ≡ true → instance_room (with_told x part) < instance_room x
+told_less version is_told x (GivenPart.Item v) next = omega (arith, ap item_room (no_item is_told x.item (not_true (has_item is_told x.item) next)))
+told_less version is_told x (GivenPart.Pull p) next =
+    let (both, other) = and_parts (has_item is_told x.item && nat_lt (length x.pulls) (most_told version)) (not (list_any (λ q. bytes_eq q.task p.task) x.pulls)) next in
+    let (complete, few) = and_parts (has_item is_told x.item) (nat_lt (length x.pulls) (most_told version)) both in
+    omega (arith, lt_true (length x.pulls) (most_told version) few, few_told version, length-append x.pulls (p ∷ []))
+
+pub part_room : (b c : Beginning) (part : GivenPart) → IsSmall b → with_part b part ≡ Some c → IsSmall c × (room c < room b)
+part_room b c part small e =
+    let (next, is) = if_some (takes_in b.version b.run part) _ c e in
+    let P : Beginning → Type 0 = λ x. IsSmall x × (room x < room b) in
+    subst P is (small, go b.run next)
+  where
+    task_less : (run : RunReport) (task : Option OpenTask) → takes_task b.version task part ≡ true → open_room (put_part (Some (record { run = run; task = task })) part) < open_room (Some (record { run = run; task = task }))
+    task_less run None next = absurd (true≢false (sym next))
+    task_less run (Some t) next = omega (arith, told_less b.version (tells_item b.version (is_some t.before)) t.instance part next)
+
+    go : (run : Option OpenRun) → takes_in b.version run part ≡ true → room (record b { run = put_part run part }) < room (record b { run = run })
+    go None next = absurd (true≢false (sym next))
+    go (Some o) next = omega (arith, task_less o.run o.task next)
 
 -- ---- a run
 
 pub run_room : (b c : Beginning) (run : RunReport) → run.tasks ≡ [] → IsSmall b → with_run b run ≡ Some c → IsSmall c × (room c < room b)
 run_room b c run none small e =
     let (next, is) = if_some (may_begin b run.interval) _ c e in
-    let (both, later) = and_parts (is_whole_in b.run b.tasks && nat_lt (run_count b) 4_096) (starts_before b.run run.interval) next in
-    let (whole, few) = and_parts (is_whole_in b.run b.tasks) (nat_lt (run_count b) 4_096) both in
-    let below : run_count b < 4_096 = lt_true (run_count b) 4_096 few in
+    let below : run_count b < 4_096 = lt_true (run_count b) 4_096 (begin_parts b run.interval next).1.0 in
     let P : Beginning → Type 0 = λ x. IsSmall x × (room x < room b) in
     subst P is (small, omega (arith, below, length-append b.runs (last_run b.run)))
 
 -- ---- how much there is
 
-few_open : (run : Option OpenRun) → open_room run ≤ 4_001_024
+few_open : (run : Option OpenRun) → open_room run ≤ 60_020_497
 few_open None = omega arith
-few_open (Some o) = omega arith
+few_open (Some o) = omega (arith, open_most o.task)
 
-pub most_room : (b : Beginning) → room b ≤ 20_484_001_024
+pub most_room : (b : Beginning) → room b ≤ 286_780_020_497
 most_room b = omega (arith, few_open b.run)

@@ -1,18 +1,22 @@
 -- A line spells one thing.
-use Rattle.std.proofs.Common.{◌≡◌, ℕ, List, [], ◌∷◌, ◌++◌, length, get_or, Option, Some, None, unwrap_or, codes, decimal, refl, sym, ap, ◌∙◌, subst, ℤ, arith, inl, inr}
+use Rattle.std.proofs.Common.{◌≡◌, ℕ, List, [], ◌∷◌, ◌++◌, length, get_or, true, false, true≢false, Option, Some, None, unwrap_or, codes, decimal, refl, sym, ap, ◌∙◌, subst, ℤ, arith, inl, inr}
 use Rattle.std.proofs.lemmas.Fmt.{decimal_injective, decimal_digit}
 use Rattle.bf_interval.specs.declared.interval.Interval.{Interval}
 use Rattle.jiff.specs.declared.timestamp.Timestamp.{Timestamp}
 use Rattle.bf_moment.specs.Moment.{moment_text, nearest, Spells as SpellsMoment}
 use Rattle.std.proofs.lemmas.Int.{ints}
 use Rattle.bf_moment.proofs.OneText.{one_text}
-use Rattle.bf_value.specs.Json.{text_of, value_of_line}
+use Rattle.std.specs.Str.{bytes_eq}
+use Rattle.bf_value.specs.Json.{text_of, value_of_line, value_of_text}
 use Rattle.bf_value.specs.declared.xval.Xval.{Xval}
 use Rattle.bf_xcom.specs.declared.values.Outcome.{Outcome}
 use Rattle.bf_xcom.specs.declared.values.Outcome.TheVariants.{Success, Failed, Skipped}
 use Rattle.bf_xcom.specs.declared.values.RunState.{RunState}
 use Rattle.bf_xcom.specs.declared.values.TaskResult.{TaskResult}
-use Rattle.bf_report.specs.Report.{state_word, value_word, run_state_word}
+use Rattle.bf_report.specs.declared.report.Pull.{Pull}
+use Rattle.bf_report.specs.Report.{state_word, value_word, pulled_word, run_state_word}
+use Rattle.bf_report_reader.specs.declared.part.GivenPart.{GivenPart}
+use Rattle.bf_report_reader.specs.Parts.{IsToldValue, IsToldPulled, IsToldPull, IsPart, pull_words, part_text}
 use Rattle.bf_report_reader.specs.declared.entry.Untried.{Untried}
 use Rattle.bf_report_reader.specs.declared.entry.Entry.{Entry}
 use Rattle.bf_report_reader.specs.declared.entry.Entry.TheVariants.{Never, Tried}
@@ -20,7 +24,7 @@ use Rattle.bf_report_reader.specs.Reads.{Spells, IsWord, AreFields}
 use Rattle.bf_report_reader.specs.Entries.{IsShownValue, IsShownOutcome, IsShownResult, SaysOutcome, SaysNever, SaysResult, IsTries, index_text, IsIndex, never_word, entry_text, IsEntry}
 use Rattle.bf_report_reader.specs.Runs.{IsReportMoment, spelled_moment, run_words}
 use Rattle.bf_report_reader.proofs.Splits.{cut_once}
-use Rattle.bf_report_reader.proofs.Words.{value_not_dash, decimal_plain, moment_plain, state_plain, never_plain, index_plain}
+use Rattle.bf_report_reader.proofs.Words.{id_lacks, value_not_dash, decimal_plain, moment_plain, state_plain, never_plain, index_plain}
 use Rattle.bf_value.proofs.LackLemmas.{Lacks, decimal_lacks, first_lacks}
 
 -- ---- fields
@@ -130,6 +134,39 @@ same_entry e f good other same =
 
 pub one_outcome : (o p : Outcome) (state value : List ℕ) → SaysOutcome state value o → SaysOutcome state value p → o ≡ p
 one_outcome o p state value one two = same_outcome o p one.0 two.0 (sym one.1 ∙ two.1) (sym one.2 ∙ two.2)
+
+-- ---- what was given
+
+pub same_told : (deepest longest : ℕ) (v w : Xval) → IsToldValue deepest longest v → IsToldValue deepest longest w → text_of v ≡ text_of w → v ≡ w
+same_told deepest longest v w good other e = some_same v w (sym good.says ∙ ap (value_of_text deepest) e ∙ other.says)
+
+pub same_pulled : (v w : Option Xval) → IsToldPulled v → IsToldPulled w → pulled_word v ≡ pulled_word w → v ≡ w
+same_pulled None None good other e = refl
+same_pulled None (Some w) good other e = absurd (value_not_dash w (sym e))
+same_pulled (Some v) None good other e = absurd (value_not_dash v e)
+same_pulled (Some v) (Some w) good other e = ap Some (same_told 65 67_109_889 v w good.0 other.0 e)
+
+-- the id and the value of a pull
+pub pull_fields : (p : Pull) (text id value : List ℕ) → IsWord id → text ≡ id ++ 32 ∷ value → Spells IsToldPull pull_words text p → (id ≡ p.task) × (value ≡ pulled_word p.value)
+pull_fields p text id value word is says = cut_once 32 id p.task value (pulled_word p.value) word (id_lacks 32 p.task (omega arith) says.0.0) (sym is ∙ says.1)
+
+pub same_pull : (p q : Pull) → IsToldPull p → IsToldPull q → pull_words p ≡ pull_words q → p ≡ q
+same_pull p q good other e =
+    let (task, value) = pull_fields q (pull_words p) p.task (pulled_word p.value) (id_lacks 32 p.task (omega arith) good.0) refl (other, e) in
+    let values = same_pulled p.value q.value good.1 other.1 value in
+    λ k. record { task = task k; value = values k }
+
+-- no two words of the format are one
+pub apart : (v w rest more : List ℕ) → IsWord v → IsWord w → bytes_eq v v ≡ true → bytes_eq w v ≡ false → v ++ 32 ∷ rest ≡ w ++ 32 ∷ more → ⊥
+apart v w rest more plain other own other_not e = true≢false (sym own ∙ ap (λ l. bytes_eq l v) (cut_once 32 v w rest more plain other e).0 ∙ other_not)
+
+pub same_part : (g h : GivenPart) → IsPart g → IsPart h → part_text g ≡ part_text h → g ≡ h
+same_part (GivenPart.Item v) (GivenPart.Item w) good other e =
+    ap GivenPart.Item (same_told 64 65_536 v w good other (cut_once 32 (codes "@item") (codes "@item") (text_of v) (text_of w) refl refl e).1)
+same_part (GivenPart.Item v) (GivenPart.Pull q) good other e = absurd (apart (codes "@item") (codes "@pull") (text_of v) (pull_words q) refl refl refl refl e)
+same_part (GivenPart.Pull p) (GivenPart.Item w) good other e = absurd (apart (codes "@pull") (codes "@item") (pull_words p) (text_of w) refl refl refl refl e)
+same_part (GivenPart.Pull p) (GivenPart.Pull q) good other e =
+    ap GivenPart.Pull (same_pull p q good other (cut_once 32 (codes "@pull") (codes "@pull") (pull_words p) (pull_words q) refl refl e).1)
 
 -- ---- the words of a run
 

@@ -4,7 +4,7 @@ use Rattle.std.proofs.lemmas.Bool.{cases_Bool, eqb-true}
 use Rattle.std.proofs.lemmas.Bool.Decides.{nat_tests}
 use Rattle.std.specs.List.{position_or_len}
 use Rattle.std.proofs.Math.Seq.{split_at}
-use Rattle.std.proofs.lemmas.List.{take_all}
+use Rattle.std.proofs.lemmas.List.{take_all, take-append-le}
 use Rattle.std.proofs.lemmas.List.Sums.{fails_before_first}
 use Rattle.std.proofs.lemmas.List.Quantifiers.{position-Some}
 use Rattle.bf_value.proofs.LackLemmas.{Lacks, first_lacks}
@@ -34,6 +34,11 @@ pub within_piece : (s : ℕ) (l x piece y : List ℕ) → Lacks s piece → l ++
 within_piece s l x [] y lacks e = omega arith
 within_piece s [] x (p ∷ ps) y lacks e = absurd ((first_lacks s p ps lacks).0 (sym (tails s p x (ps ++ y) e).0))
 within_piece s (c ∷ cs) x (p ∷ ps) y lacks e = omega (arith, within_piece s cs x ps y (first_lacks s p ps lacks).1 (tails c p (cs ++ s ∷ x) (ps ++ y) e).1)
+
+-- and begins as it does
+pub piece_first : (s n : ℕ) (l x piece y : List ℕ) → Lacks s piece → n ≤ length piece → l ++ s ∷ x ≡ piece ++ y → take n l ≡ take n piece
+piece_first s n l x piece y lacks some e =
+    sym (take-append-le n l (s ∷ x) (omega (arith, some, within_piece s l x piece y lacks e))) ∙ ap (take n) e ∙ take-append-le n piece y some
 
 -- ---- the place of the first such byte
 

@@ -2,18 +2,22 @@
 use Rattle.std.proofs.Common.{◌≡◌, ℕ, List, [], ◌∷◌, ◌++◌, length, Option, Some, None, codes, sym, ap, ◌∙◌, append_assoc, append-nil, length-append, inl, inr}
 use Rattle.std.specs.Io.KnownBytes.{prepend_known, Consumes, IsAtEnd}
 use Rattle.std.specs.Prelude.{IfSome}
+use Rattle.bf_report.specs.declared.report.Version.{Version}
 use Rattle.bf_report.specs.declared.report.RunReport.{RunReport}
 use Rattle.bf_report.specs.Report.{run_line}
 use Rattle.bf_report_reader.specs.declared.entry.Entry.{Entry}
+use Rattle.bf_report_reader.specs.declared.part.GivenPart.{GivenPart}
 use Rattle.bf_report_reader.specs.declared.beginning.Beginning.{Beginning}
 use Rattle.bf_report_reader.specs.Entries.{IsEntry, entry_text}
+use Rattle.bf_report_reader.specs.Parts.{IsPart, part_text}
 use Rattle.bf_report_reader.specs.Runs.{run_words, IsRunInterval}
 use Rattle.bf_report_reader.specs.Rules.{IsRuled}
-use Rattle.bf_report_reader.specs.Beginning.{runs_of, run_count, last_run, so_far, opening_text, with_run, with_entry, IsCounted, IsSmall, entry_line}
+use Rattle.bf_report_reader.specs.Beginning.{runs_of, run_count, last_run, so_far, opening_text, with_run, with_part, with_entry, IsCounted, IsSmall, entry_line}
+use Rattle.bf_report_reader.specs.Extensions.{head_words, start}
 use Rattle.bf_report_reader.specs.Steps.{Follows, IsNext, ReadsOn}
-use Rattle.bf_report_reader.proofs.Growth.{entry_grows, run_grows}
-use Rattle.bf_report_reader.proofs.Ruled.{entry_ruled, run_ruled}
-use Rattle.bf_report_reader.proofs.Rooms.{entry_room, run_room}
+use Rattle.bf_report_reader.proofs.Growth.{entry_grows, run_grows, part_line, part_grows}
+use Rattle.bf_report_reader.proofs.Ruled.{entry_ruled, run_ruled, part_ruled}
+use Rattle.bf_report_reader.proofs.Rooms.{entry_room, run_room, part_room}
 use Rattle.bf_report_reader.proofs.HeldFacts.{consumes_more}
 
 pub entry_next : (b c : Beginning) (id line : List ℕ) (e : Entry) → IsCounted b → IsSmall b → IsRuled b → IsEntry e → line ≡ id ++ 32 ∷ entry_text e → with_entry b id e ≡ Some c → IsNext b line c
@@ -41,13 +45,28 @@ run_next b c line run bare good counted small ruled spelled added =
       small = few;
       ruled = run_ruled b c run bare good counted ruled added;
       shrinks = less;
-      follows = inr (record { run = run; bare = bare; good = good; spelled = spelled; added = added });
+      follows = inr (inl (record { run = run; bare = bare; good = good; spelled = spelled; added = added }));
+      read = grows.read ∙ ap (λ l. opening_text (so_far b) ++ l) same;
+    }
+
+pub part_next : (b c : Beginning) (line : List ℕ) (part : GivenPart) → IsCounted b → IsSmall b → IsRuled b → IsPart part → line ≡ part_text part → with_part b part ≡ Some c → IsNext b line c
+part_next b c line part counted small ruled good spelled added =
+    let grows = part_grows b c part counted ruled added in
+    let (few, less) = part_room b c part small added in
+    let same : part_line part ≡ line ++ 10 ∷ [] = ap (λ l. l ++ 10 ∷ []) (sym spelled) in
+    record {
+      counted = grows.counted;
+      small = few;
+      ruled = part_ruled b c part good ruled added;
+      shrinks = less;
+      follows = inr (inr (record { part = part; good = good; spelled = spelled; added = added }));
       read = grows.read ∙ ap (λ l. opening_text (so_far b) ++ l) same;
     }
 
 pub follows_next : (b c : Beginning) (line : List ℕ) → IsCounted b → IsSmall b → IsRuled b → Follows b line c → IsNext b line c
 follows_next b c line counted small ruled (inl one) = entry_next b c one.id line one.entry counted small ruled one.good one.spelled one.added
-follows_next b c line counted small ruled (inr one) = run_next b c line one.run one.bare one.good counted small ruled one.spelled one.added
+follows_next b c line counted small ruled (inr (inl one)) = run_next b c line one.run one.bare one.good counted small ruled one.spelled one.added
+follows_next b c line counted small ruled (inr (inr one)) = part_next b c line one.part counted small ruled one.good one.spelled one.added
 
 pub counted_runs : (b : Beginning) → length (runs_of b) ≡ run_count b
 counted_runs b = length-append b.runs (last_run b.run)
@@ -65,6 +84,5 @@ whole (Some xs) None b head text p q end = absurd p
 whole (Some xs) (Some xa) None head text p q end = absurd q
 whole (Some xs) (Some xa) (Some xb) head text p q end = p ∙ ap (λ l. head ++ l) (q ∙ ap (λ l. text ++ l) end ∙ append-nil text)
 
-pub head_opens : (b : Beginning) (id text : List ℕ) → b ≡ record { dag_id = id; tasks = []; runs = []; run = None } → text ≡ codes "@backfill" ++ 32 ∷ (codes "1" ++ 32 ∷ id)
-    → opening_text (so_far b) ≡ text ++ 10 ∷ []
-head_opens b id text is said = ap (λ (x : Beginning). opening_text (so_far x)) is ∙ append-nil ((codes "@backfill" ++ 32 ∷ (codes "1" ++ 32 ∷ id)) ++ 10 ∷ []) ∙ ap (λ l. l ++ 10 ∷ []) (sym said)
+pub head_opens : (b : Beginning) (head : Version × List ℕ) (text : List ℕ) → b ≡ start head → text ≡ head_words head → opening_text (so_far b) ≡ text ++ 10 ∷ []
+head_opens b head text is said = ap (λ (x : Beginning). opening_text (so_far x)) is ∙ append-nil (head_words head ++ 10 ∷ []) ∙ ap (λ l. l ++ 10 ∷ []) (sym said)

@@ -1,8 +1,10 @@
 -- Words of lines: which bytes they lack, and how long they are.
-use Rattle.std.proofs.Common.{◌≡◌, ◌≤◌, ◌<◌, ◌/◌, ◌%◌, ◌==◌, ◌&&◌, ℕ, zero, suc, List, [], ◌∷◌, length, true, false, nat_le, Option, Some, None, codes, decimal, refl, ap, subst, inl, inr, ℤ, pos, negsuc, get_or, arith}
+use Rattle.std.proofs.Common.{◌≡◌, ◌≤◌, ◌<◌, ◌/◌, ◌%◌, ◌==◌, ◌&&◌, ℕ, zero, suc, List, [], ◌∷◌, ◌++◌, length, take, true, false, nat_le, nat_lt, if◌then◌else◌, Option, Some, None, codes, decimal, refl, ap, subst, inl, inr, ℤ, pos, negsuc, get_or, arith}
 use Rattle.std.specs.List.{list_all, AllByRecursion}
 use Rattle.std.specs.Fmt.{digits, digits_onto, digit_glyph}
-use Rattle.std.specs.Str.{IsAscii, IsUtf8}
+use Rattle.std.specs.Str.{IsAscii, IsUtf8, bytes_eq}
+use Rattle.std.specs.Cmp.Lexicographic.{bytes_decides}
+use Rattle.std.proofs.lemmas.List.{take-append-le, length-take}
 use Rattle.std.proofs.lemmas.Str.{IsUtf8-from_ascii}
 use Rattle.std.proofs.lemmas.Bool.{cases_Bool, and_parts}
 use Rattle.std.proofs.lemmas.Bool.Decides.{nat_tests}
@@ -16,9 +18,12 @@ use Rattle.bf_value.specs.Json.{text_of}
 use Rattle.bf_xcom.specs.declared.values.Outcome.{Outcome}
 use Rattle.bf_xcom.specs.declared.values.Outcome.TheVariants.{Success, Failed, Skipped}
 use Rattle.bf_xcom.specs.declared.values.RunState.{RunState}
-use Rattle.bf_report.specs.Report.{state_word, value_word, run_state_word}
+use Rattle.bf_report.specs.Report.{state_word, value_word, pulled_word, run_state_word, version_word}
+use Rattle.bf_report.specs.declared.report.Version.{Version}
 use Rattle.bf_report_reader.specs.declared.entry.Untried.{Untried}
 use Rattle.bf_report_reader.specs.Entries.{index_text, IsIndex, never_word, IsShownOutcome}
+use Rattle.bf_report_reader.specs.Parts.{IsToldPulled}
+use Rattle.bf_report_reader.specs.Faults.{longest_line}
 use Rattle.bf_value.proofs.LackLemmas.{Lacks, first_lacks, lacks_more, decimal_lacks, text_lacks}
 
 -- ---- ids
@@ -96,6 +101,10 @@ pub run_state_plain : (state : RunState) → IsPlain (run_state_word state)
 run_state_plain RunState.Success = (refl, refl)
 run_state_plain RunState.Failed = (refl, refl)
 
+pub version_plain : (version : Version) → Lacks 32 (version_word version)
+version_plain Version.One = refl
+version_plain Version.Two = refl
+
 pub index_plain : (x : Option ℕ) → IsPlain (index_text x)
 index_plain None = (refl, refl)
 index_plain (Some n) = decimal_plain n
@@ -134,6 +143,50 @@ value_short (Success (Some value)) good = good.short
 value_short (Success None) good = omega arith
 value_short Failed good = omega arith
 value_short Skipped good = omega arith
+
+-- what is told of a pull
+pub pulled_lacks : (value : Option Xval) → Lacks 10 (pulled_word value)
+pulled_lacks None = refl
+pulled_lacks (Some value) = text_lacks value
+
+pub pulled_short : (value : Option Xval) → IsToldPulled value → length (pulled_word value) ≤ 67_109_889
+pulled_short None good = omega arith
+pulled_short (Some value) good = good.0.short
+
+-- ---- how long a line may be
+
+pub at_least : (line : List ℕ) → 66_000 ≤ longest_line line
+at_least line = elim (cases_Bool (bytes_eq (take 6 line) (codes "@pull "))) as (λ _. 66_000 ≤ longest_line line) [
+  | inl is ↦ rw is (omega arith)
+  | inr not_is ↦ rw not_is (omega arith)
+]
+
+pub at_most : (line : List ℕ) → longest_line line ≤ 68_000_000
+at_most line = elim (cases_Bool (bytes_eq (take 6 line) (codes "@pull "))) as (λ _. longest_line line ≤ 68_000_000) [
+  | inl is ↦ rw is (omega arith)
+  | inr not_is ↦ rw not_is (omega arith)
+]
+
+-- lines that begin alike may be as long
+pub same_limit : (one two : List ℕ) → take 6 one ≡ take 6 two → longest_line one ≡ longest_line two
+same_limit one two same = ap (λ l. if bytes_eq l (codes "@pull ") then 68_000_000 else 66_000) same
+
+few_bytes : (line : List ℕ) → length line < 6 → longest_line line ≡ 66_000
+few_bytes line few = elim (cases_Bool (bytes_eq (take 6 line) (codes "@pull "))) as (λ _. longest_line line ≡ 66_000) [
+  | inl is ↦ absurd (omega (arith, ap length ((bytes_decides (take 6 line) (codes "@pull ")).0 is), length-take 6 line, few))
+  | inr not_is ↦ rw not_is refl
+]
+
+-- a line may be as long with a byte more
+pub limit_push : (line : List ℕ) (b : ℕ) → longest_line line ≤ longest_line (line ++ b ∷ [])
+limit_push line b = elim (cases_Bool (nat_lt (length line) 6)) [
+  | inl is ↦
+      let few : length line < 6 = grind (arith, nat_tests, is) in
+      omega (arith, few_bytes line few, at_least (line ++ b ∷ []))
+  | inr not_is ↦
+      let many : 6 ≤ length line = grind (arith, nat_tests, not_is) in
+      omega (arith, same_limit (line ++ b ∷ []) line (take-append-le 6 line (b ∷ []) many))
+]
 
 -- ---- values
 

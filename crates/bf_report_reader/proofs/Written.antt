@@ -1,9 +1,9 @@
 -- A report of a backfill that has ended keeps the rules of a report.
-use Rattle.std.proofs.Common.{◌≡◌, ◌<◌, ◌≤◌, ◌+◌, ◌*◌, ◌%◌, ℕ, zero, suc, pos, ◌<ℤ◌, Bool, true, false, if◌then◌else◌, List, [], ◌∷◌, length, slice_index_or, Option, None, Some, is_some, option_map, refl, sym, ap, ◌∙◌, subst, arith}
+use Rattle.std.proofs.Common.{◌≡◌, ◌≢◌, ◌<◌, ◌≤◌, ◌+◌, ◌*◌, ◌%◌, ℕ, zero, suc, pos, ◌<ℤ◌, Bool, true, false, not, nat_lt, if◌then◌else◌, List, [], ◌∷◌, length, map, get_or, slice_index_or, Option, None, Some, is_some, option_map, refl, sym, ap, ◌∙◌, subst, arith, inl, inr}
 use Rattle.std.specs.Prelude.{All, AllPairs}
-use Rattle.std.specs.List.{AllByRecursion}
+use Rattle.std.specs.List.{AllByRecursion, filter_map}
 use Rattle.std.proofs.lemmas.Int.{ints}
-use Rattle.std.proofs.lemmas.Bool.{and_parts}
+use Rattle.std.proofs.lemmas.Bool.{and_parts, cases_Bool}
 use Rattle.std.proofs.lemmas.Bool.Decides.{nat_tests}
 use Rattle.std.proofs.lemmas.List.{length-map}
 use Rattle.jiff.specs.declared.timestamp.Timestamp.{Timestamp}
@@ -35,7 +35,7 @@ use Rattle.bf_core.specs.declared.state.Cell.{Cell}
 use Rattle.bf_core.specs.declared.state.Instance.{Instance}
 use Rattle.bf_core.specs.Terms.{Limits, Verdict, items}
 use Rattle.bf_core.specs.declared.deciding.Decision.{Decision}
-use Rattle.bf_core.specs.Deciding.{Seen, settled, decision, after_verdict, instances, mapped, pulled, gate}
+use Rattle.bf_core.specs.Deciding.{Seen, settled, decision, after_verdict, instances, mapped, pull_seen, pulled, gate}
 use Rattle.bf_core.specs.Recursion.{out, before, decided, results_from}
 use Rattle.bf_core.specs.Events.{IsLegal, replay, after, start, cell_at, value_in, entry_in, results}
 use Rattle.bf_core.specs.Agreement.{IsOutcome, final_cell, finished_from}
@@ -44,16 +44,23 @@ use Rattle.bf_core.specs.Few.{AreFew, AreFitting, IsFew, IsFitting, HasFitting}
 use Rattle.bf_core.proofs.Attempts.{last_try-from}
 use Rattle.bf_core.proofs.Fitting.{few-after, fitting-after}
 use Rattle.bf_core.proofs.Starting.{start-few, start-fitting}
+use Rattle.bf_report.specs.declared.report.Version.{Version}
+use Rattle.bf_report.specs.declared.report.Pull.{Pull}
+use Rattle.bf_report.specs.declared.report.InstanceReport.{InstanceReport}
 use Rattle.bf_report.specs.declared.report.TaskReport.{TaskReport}
 use Rattle.bf_report.specs.declared.report.RunReport.{RunReport}
 use Rattle.bf_report.specs.declared.report.Report.{Report}
-use Rattle.bf_report.specs.Dated.{reported, reported_results, reports_from, AreDated, IsDated, ids_shown}
-use Rattle.bf_report.specs.Values.{IsSoundOutcome, IsSoundTask, AreSoundTasks, HasSoundValues}
-use Rattle.bf_report_reader.specs.Entries.{IsShownValue, IsShownOutcome, IsShownResult, IsTries}
-use Rattle.bf_report_reader.specs.Rules.{IsShownTask, IsShownRun, IsShownReport, Rise}
+use Rattle.bf_report.specs.Dated.{pulls_of, instance_report, reported_instance, reported_instances, reported, reports_from, cell_by, AreDated, IsDated, ids_shown}
+use Rattle.bf_report.specs.Values.{IsSoundValue, IsSoundOutcome, AreSoundPulls, IsSoundInstance, IsSoundTask, AreSoundTasks, HasSoundValues}
+use Rattle.bf_report.proofs.DatedFacts.{pulls_in_range}
+use Rattle.bf_report_reader.specs.Entries.{IsShownValue, IsShownOutcome, IsTries}
+use Rattle.bf_report_reader.specs.Parts.{IsToldPull}
+use Rattle.bf_report_reader.specs.Beginning.{has_item}
+use Rattle.bf_report_reader.specs.Rules.{MayHaveItem, AreToldPulls, IsShownInstance, IsShownTask, IsShownRun, IsShownReport, Rise}
 use Rattle.bf_report_reader.specs.Runs.{IsReportMoment, IsRunInterval}
 use Rattle.bf_check.specs.Sound.{IsNamed}
 use Rattle.bf_report_reader.specs.Written.{AreOfRuns}
+use Rattle.bf_report_reader.proofs.Given.{IsPushed, FitsValue, AreFittingResults, told_value, pulled_told, items_pushed}
 
 -- ---- data intervals
 
@@ -101,20 +108,6 @@ unfolding result_of
 tries_are dag ledger k t i few =
     (last_try-from (outcome_at dag ledger k t i) 1 (task_of dag t).retries, omega (arith, last_try-to (outcome_at dag ledger k t i) 1 (task_of dag t).retries))
 
--- a result that may be shown, where its value is sound
-abbrev MayBeShown : TaskResult → Type 0
-MayBeShown r = IsSoundOutcome r.outcome → IsShownResult r
-
-shown_results : (dag : Dag) (t : ℕ) (result : ℕ → TaskResult) → ((i : ℕ) → IsTries (result i).tries) → (i : ℕ) (gs : List Given) → AllByRecursion (λ (x : Instance). IsFitting dag t x.phase) (finished_from result i gs)
-    → AllByRecursion MayBeShown (results_from result i gs)
-shown_results dag t result tries i [] fit = tt
-shown_results dag t result tries i (g ∷ gs) fit =
-    (λ sound. record { tries = tries i; outcome = shown_outcome dag t (result i).outcome sound fit.0 }, shown_results dag t result tries (suc i) gs fit.1)
-
-all_shown : (rs : List TaskResult) → AllByRecursion MayBeShown rs → AllByRecursion (λ (r : TaskResult). IsSoundOutcome r.outcome) rs → AllByRecursion IsShownResult rs
-all_shown [] may sound = tt
-all_shown (r ∷ rs) may sound = (may.0 sound.0, all_shown rs may.1 sound.1)
-
 finished_results : (result : ℕ → TaskResult) (i : ℕ) (gs : List Given) → results (finished_from result i gs) ≡ Some (results_from result i gs)
 finished_results result i [] = refl
 finished_results result i (g ∷ gs) = rw (finished_results result (suc i) gs) refl
@@ -135,33 +128,6 @@ some_mapped pulls Items.Missing gs e = absurd (cc e)
 some_mapped pulls (Items.List []) gs e = absurd (cc e)
 some_mapped pulls (Items.List (x ∷ xs)) [] e = absurd (cc e)
 some_mapped pulls (Items.List (x ∷ xs)) (g ∷ gs) e = omega arith
-
--- a task that is reported by its value
-abbrev IsReadBack : Task → TaskValue → Type 0
-IsReadBack task v = IsSoundTask (reported task v) → IsShownTask (reported task v)
-
-read_back_ran : (task : Task) (rs : List TaskResult) → AllByRecursion MayBeShown rs → length rs ≤ 1_024 → (is_some task.expand ≡ true → 1 ≤ length rs) → IsReadBack task (TaskValue.Ran rs)
-read_back_ran task rs = go (is_some task.expand) rs
-  where
-    go : (b : Bool) (rs : List TaskResult) → AllByRecursion MayBeShown rs → length rs ≤ 1_024 → (b ≡ true → 1 ≤ length rs) → IsSoundTask (reported_results b rs) → IsShownTask (reported_results b rs)
-    go true rs may few some sound = (some refl, few, all_shown rs may sound)
-    go false [] may few some sound = tt
-    go false (r ∷ rs) may few some sound = may.0 sound
-
--- what the recursion decides of a task whose cell has few instances, which came to what they may come to
-read_back_decided : (dag : Dag) (t : ℕ) (result : ℕ → TaskResult) (d : Decision) (v : TaskValue) → ((i : ℕ) → IsTries (result i).tries) → ((gs : List Given) → d ≡ Decision.Instances gs → is_some (task_of dag t).expand ≡ true → 1 ≤ length gs)
-    → IsFew (final_cell d result) → HasFitting dag t (final_cell d result) → value_in (final_cell d result) ≡ Some v → IsReadBack (task_of dag t) v
-read_back_decided dag t result Decision.Wait v tries some few fit is = absurd (cc is)
-read_back_decided dag t result Decision.Blocked v tries some few fit is = let same : TaskValue.Blocked ≡ v = cc is in subst (IsReadBack (task_of dag t)) same (λ _. tt)
-read_back_decided dag t result Decision.Skipped v tries some few fit is = let same : TaskValue.Skipped ≡ v = cc is in subst (IsReadBack (task_of dag t)) same (λ _. tt)
-read_back_decided dag t result Decision.UpstreamFailed v tries some few fit is = let same : TaskValue.UpstreamFailed ≡ v = cc is in subst (IsReadBack (task_of dag t)) same (λ _. tt)
-read_back_decided dag t result (Decision.Instances gs) v tries some few fit is =
-    let rs = results_from result 0 gs in
-    let ran : option_map TaskValue.Ran (results (finished_from result 0 gs)) ≡ Some (TaskValue.Ran rs) = ap (option_map TaskValue.Ran) (finished_results result 0 gs) in
-    let same : TaskValue.Ran rs ≡ v = cc (ran, is) in
-    subst (IsReadBack (task_of dag t)) same
-    (read_back_ran (task_of dag t) rs (shown_results dag t result tries 0 gs fit) (omega (arith, length-results_from result 0 gs, few))
-    (λ expanded. omega (arith, length-results_from result 0 gs, length-finished_from result 0 gs, some gs refl expanded)))
 
 some_instances : (dag : Dag) (seen : ℕ → Seen) (pulls : List (Option Xval)) (expand : Option ℕ) (gs : List Given) → instances dag seen pulls expand ≡ Decision.Instances gs → is_some expand ≡ true → 1 ≤ length gs
 some_instances dag seen pulls None gs e expanded = absurd (cc expanded)
@@ -186,6 +152,10 @@ some_in_run : (dag : Dag) (ledger : Look) (k t : ℕ) (gs : List Given) → deci
 unfolding decided
 some_in_run dag ledger k t gs e expanded = some_decided dag k (λ u. settled (out dag ledger k u)) (Some (before dag ledger k t)) t gs e expanded
 
+results_fit : (dag : Dag) (t : ℕ) (result : ℕ → TaskResult) (i : ℕ) (gs : List Given) → AllByRecursion (λ (x : Instance). IsFitting dag t x.phase) (finished_from result i gs) → AreFittingResults dag t (results_from result i gs)
+results_fit dag t result i [] fit = tt
+results_fit dag t result i (g ∷ gs) fit = (fit.0, results_fit dag t result (suc i) gs fit.1)
+
 -- ---- ended backfills
 
 kept_by : (dag : Dag) (limits : Limits) (events : List Event) (s : State) → IsLegal dag limits s events → AreFew s → AreFitting dag s → AreFew (replay dag s events) × AreFitting dag (replay dag s events)
@@ -197,58 +167,263 @@ journal_keeps dag limits runs journal s is =
     let P : State → Type 0 = λ s. AreFew s × AreFitting dag s in
     subst P is.led_to (kept_by dag limits journal (start dag runs) is.legal (start-few dag runs) (start-fitting dag runs))
 
-task_read_back : (dag : Dag) → IsSoundDag dag → (runs : ℕ) (s : State) → IsOutcome dag runs s → AreFew s → AreFitting dag s → (k t : ℕ) → k < runs → t < length dag.tasks → IsReadBack (task_of dag t) (out dag (entry_in s.ledger) k t)
-task_read_back dag sound runs s is few fit k t l m =
+-- the value of a decided task fits, as what its cell came to does
+value_fits : (dag : Dag) (t : ℕ) (result : ℕ → TaskResult) (d : Decision) (v : TaskValue) → IsFew (final_cell d result) → HasFitting dag t (final_cell d result) → value_in (final_cell d result) ≡ Some v → FitsValue dag t v
+value_fits dag t result Decision.Wait v few fit is = absurd (cc is)
+value_fits dag t result Decision.Blocked v few fit is = let same : TaskValue.Blocked ≡ v = cc is in subst (FitsValue dag t) same tt
+value_fits dag t result Decision.Skipped v few fit is = let same : TaskValue.Skipped ≡ v = cc is in subst (FitsValue dag t) same tt
+value_fits dag t result Decision.UpstreamFailed v few fit is = let same : TaskValue.UpstreamFailed ≡ v = cc is in subst (FitsValue dag t) same tt
+value_fits dag t result (Decision.Instances gs) v few fit is =
+    let rs = results_from result 0 gs in
+    let ran : option_map TaskValue.Ran (results (finished_from result 0 gs)) ≡ Some (TaskValue.Ran rs) = ap (option_map TaskValue.Ran) (finished_results result 0 gs) in
+    let same : TaskValue.Ran rs ≡ v = cc (ran, is) in
+    subst (FitsValue dag t) same (omega (arith, length-results_from result 0 gs, few), results_fit dag t result 0 gs fit)
+
+out_fits : (dag : Dag) (runs : ℕ) (s : State) → IsOutcome dag runs s → AreFew s → AreFitting dag s → (k t : ℕ) → k < runs → t < length dag.tasks → FitsValue dag t (out dag (entry_in s.ledger) k t)
+out_fits dag runs s is few fit k t l m =
     let ledger = entry_in s.ledger in
-    let d = decided dag ledger k t in
-    let result = result_of dag ledger k t in
-    let cell : cell_at s k t ≡ final_cell d result = is.cells k t l m in
+    let cell : cell_at s k t ≡ final_cell (decided dag ledger k t) (result_of dag ledger k t) = is.cells k t l m in
     let F : Cell → Type 0 = λ c. HasFitting dag t c in
-    read_back_decided dag t result d (out dag ledger k t) (λ i. tries_are dag ledger k t i (sound.few_retries t)) (some_in_run dag ledger k t)
-    (subst IsFew cell (few k t)) (subst F cell (fit k t)) (ap value_in (sym cell) ∙ is.values k t l m)
+    value_fits dag t (result_of dag ledger k t) (decided dag ledger k t) (out dag ledger k t) (subst IsFew cell (few k t)) (subst F cell (fit k t)) (ap value_in (sym cell) ∙ is.values k t l m)
+
+-- ---- what instances are given
+
+-- an item is there exactly where the task is expanded
+abbrev IsGivenItem : Bool → Option Xval → Type 0
+IsGivenItem expanded None = expanded ≡ false
+IsGivenItem expanded (Some x) = (expanded ≡ true) × IsPushed x
+
+record IsGivenSo (expanded : Bool) (pulls : List (Option Xval)) (g : Given) : Type 0 where
+  pulled : g.pulled ≡ pulls
+  item : IsGivenItem expanded g.item
+
+givens_in : Decision → List Given
+givens_in Decision.Wait = []
+givens_in Decision.Blocked = []
+givens_in Decision.Skipped = []
+givens_in Decision.UpstreamFailed = []
+givens_in (Decision.Instances gs) = gs
+
+given_each : (pulls : List (Option Xval)) (xs : List Xval) → AllByRecursion IsPushed xs → AllByRecursion (IsGivenSo true pulls) (map (λ (item : Xval). record { item = Some item; pulled = pulls }) xs)
+given_each pulls [] each = tt
+given_each pulls (x ∷ xs) each = (record { pulled = refl; item = (refl, each.0) }, given_each pulls xs each.1)
+
+given_mapped : (pulls : List (Option Xval)) (found : Items) (gs : List Given) → ((xs : List Xval) → found ≡ Items.List xs → AllByRecursion IsPushed xs) → mapped pulls found ≡ Decision.Instances gs → AllByRecursion (IsGivenSo true pulls) gs
+unfolding givens_in
+given_mapped pulls Items.Missing gs each e = absurd (cc e)
+given_mapped pulls (Items.List []) gs each e = absurd (cc e)
+given_mapped pulls (Items.List (x ∷ xs)) gs each e = subst (AllByRecursion (IsGivenSo true pulls)) (ap givens_in e) (given_each pulls (x ∷ xs) (each (x ∷ xs) refl))
+
+given_instances : (dag : Dag) (value : ℕ → TaskValue) (pulls : List (Option Xval)) (expand : Option ℕ) (gs : List Given) → ((source : ℕ) → expand ≡ Some source → FitsValue dag source (value source))
+    → instances dag (λ u. settled (value u)) pulls expand ≡ Decision.Instances gs → AllByRecursion (IsGivenSo (is_some expand) pulls) gs
+unfolding givens_in
+given_instances dag value pulls None gs source_fits e = subst (AllByRecursion (IsGivenSo false pulls)) (ap givens_in e) (record { pulled = refl; item = refl }, tt)
+given_instances dag value pulls (Some source) gs source_fits e =
+    given_mapped pulls (items (task_of dag source) (value source)) gs (λ xs is. items_pushed dag source (value source) xs (source_fits source refl) is) e
+
+given_decided : (dag : Dag) (k : ℕ) (value : ℕ → TaskValue) (before : Option TaskValue) (t : ℕ) (gs : List Given) → ((source : ℕ) → (task_of dag t).expand ≡ Some source → FitsValue dag source (value source))
+    → decision dag k (λ u. settled (value u)) before t ≡ Decision.Instances gs → AllByRecursion (IsGivenSo (is_some (task_of dag t).expand) (pulled dag (λ u. settled (value u)) t)) gs
+unfolding decision
+given_decided dag k value before t gs source_fits e = go (gate dag k (λ u. settled (value u)) before t) e
+  where
+    go : (v : Verdict) → after_verdict dag (λ u. settled (value u)) t v ≡ Decision.Instances gs → AllByRecursion (IsGivenSo (is_some (task_of dag t).expand) (pulled dag (λ u. settled (value u)) t)) gs
+    go Verdict.Wait e = absurd (cc e)
+    go Verdict.Blocked e = absurd (cc e)
+    go Verdict.Skip e = absurd (cc e)
+    go Verdict.UpstreamFailed e = absurd (cc e)
+    go Verdict.Run e = given_instances dag value (pulled dag (λ u. settled (value u)) t) (task_of dag t).expand gs source_fits e
+
+given_in_run : (dag : Dag) (ledger : Look) (k t : ℕ) (gs : List Given) → ((source : ℕ) → (task_of dag t).expand ≡ Some source → FitsValue dag source (out dag ledger k source))
+    → decided dag ledger k t ≡ Decision.Instances gs → AllByRecursion (IsGivenSo (is_some (task_of dag t).expand) (pulled dag (λ u. settled (out dag ledger k u)) t)) gs
+unfolding decided
+given_in_run dag ledger k t gs source_fits e = given_decided dag k (out dag ledger k) (Some (before dag ledger k t)) t gs source_fits e
+
+-- ---- pulls
+
+-- the ids of tasks by their numbers
+id_at : (tasks : List Task) (p : ℕ) (d : List ℕ) → p < length tasks → get_or (map (λ (task : Task). task.id) tasks) p d ≡ (slice_index_or tasks p no_task).id
+id_at [] p d l = absurd (omega (arith, l))
+id_at (task ∷ tasks) zero d l = refl
+id_at (task ∷ tasks) (suc p) d l = id_at tasks p d (omega (arith, l))
+
+id_of : (tasks : List Task) (p : ℕ) → AllByRecursion (λ id. is_id id ≡ true) (map (λ (task : Task). task.id) tasks) → p < length tasks → is_id (slice_index_or tasks p no_task).id ≡ true
+id_of [] p named l = absurd (omega (arith, l))
+id_of (task ∷ tasks) zero named l = named.0
+id_of (task ∷ tasks) (suc p) named l = id_of tasks p named.1 (omega (arith, l))
+
+same_task : (tasks : List Task) (p q : ℕ) → AreDistinct (map (λ (task : Task). task.id) tasks) → p < length tasks → q < length tasks → (slice_index_or tasks p no_task).id ≡ (slice_index_or tasks q no_task).id → p ≡ q
+same_task tasks p q distinct l m same =
+    let ids : List (List ℕ) = map (λ (task : Task). task.id) tasks in
+    let size : length ids ≡ length tasks = length-map tasks (λ (task : Task). task.id) in
+    elim (cases_Bool (nat_lt p q)) [
+      | inl is ↦ absurd (distinct p q [] (grind (arith, nat_tests, is)) (omega (arith, m, size)) (id_at tasks p [] l ∙ same ∙ sym (id_at tasks q [] m)))
+      | inr not_is ↦ elim (cases_Bool (nat_lt q p)) [
+        | inl is ↦ absurd (distinct q p [] (grind (arith, nat_tests, is)) (omega (arith, l, size)) (id_at tasks q [] m ∙ sym same ∙ sym (id_at tasks p [] l)))
+        | inr too ↦ grind (arith, nat_tests, not_is, too)
+      ]
+    ]
+
+-- the value of a pull from each of these
+abbrev pull_each : Dag → (ℕ → TaskValue) → List ℕ → List (Option Xval)
+pull_each dag value ps = map (pull_seen dag (λ u. settled (value u))) ps
+
+pull_ids : (dag : Dag) (value : ℕ → TaskValue) (ps : List ℕ) → map (λ (p : Pull). p.task) (pulls_of dag ps (pull_each dag value ps)) ≡ map (λ p. (task_of dag p).id) ps
+pull_ids dag value [] = refl
+pull_ids dag value (p ∷ ps) = ap (λ ids. (task_of dag p).id ∷ ids) (pull_ids dag value ps)
+
+pull_count : (dag : Dag) (value : ℕ → TaskValue) (ps : List ℕ) → length (pulls_of dag ps (pull_each dag value ps)) ≡ length ps
+pull_count dag value [] = refl
+pull_count dag value (p ∷ ps) = ap suc (pull_count dag value ps)
+
+pull_at : (dag : Dag) (ps : List ℕ) (i : ℕ) (d : List ℕ) → i < length ps → get_or (map (λ p. (task_of dag p).id) ps) i d ≡ (task_of dag (get_or ps i 0)).id
+pull_at dag [] i d l = absurd (omega (arith, l))
+pull_at dag (p ∷ ps) zero d l = refl
+pull_at dag (p ∷ ps) (suc i) d l = pull_at dag ps i d (omega (arith, l))
+
+distinct_pulls : (dag : Dag) → IsNamed dag → (ps : List ℕ) → All (λ p. p < length dag.tasks) ps → AllPairs (λ p q. p ≢ q) ps → AreDistinct (map (λ p. (task_of dag p).id) ps)
+unfolding task_of
+distinct_pulls dag named ps within distinct i j d l m = λ same.
+    let size : length (map (λ p. (task_of dag p).id) ps) ≡ length ps = length-map ps (λ p. (task_of dag p).id) in
+    let k : j < length ps = omega (arith, m, size) in
+    let first : i < length ps = omega (arith, l, k) in
+    distinct i j 0 l k (same_task dag.tasks (get_or ps i 0) (get_or ps j 0) named.distinct (within i 0 first) (within j 0 k) (sym (pull_at dag ps i d first) ∙ same ∙ pull_at dag ps j d k))
+
+pulls_each : (dag : Dag) → IsNamed dag → (value : ℕ → TaskValue) → ((u : ℕ) → u < length dag.tasks → FitsValue dag u (value u)) → (ps : List ℕ) → All (λ p. p < length dag.tasks) ps → AreSoundPulls (pulls_of dag ps (pull_each dag value ps))
+    → AllByRecursion IsToldPull (pulls_of dag ps (pull_each dag value ps))
+unfolding task_of
+pulls_each dag named value fit [] within sound = tt
+pulls_each dag named value fit (p ∷ ps) within sound =
+    let here : p < length dag.tasks = within 0 0 (omega arith) in
+    ((id_of dag.tasks p named.ids here, pulled_told dag p (value p) (fit p here) sound.0), pulls_each dag named value fit ps (λ i d l. within (suc i) d (omega (arith, l))) sound.1)
+
+pulls_shown : (dag : Dag) → IsNamed dag → (value : ℕ → TaskValue) → ((u : ℕ) → u < length dag.tasks → FitsValue dag u (value u)) → (ps : List ℕ) → length ps ≤ 16 → AllPairs (λ p q. p ≢ q) ps → All (λ p. p < length dag.tasks) ps
+    → AreSoundPulls (pulls_of dag ps (pull_each dag value ps)) → AreToldPulls Version.Two (pulls_of dag ps (pull_each dag value ps))
+pulls_shown dag named value fit ps few distinct within sound = record {
+  few = omega (arith, few, pull_count dag value ps);
+  distinct = subst AreDistinct (sym (pull_ids dag value ps)) (distinct_pulls dag named ps within distinct);
+  each = pulls_each dag named value fit ps within sound;
+}
+
+-- ---- instances
+
+item_told : (expanded : Bool) (item : Option Xval) → IsGivenItem expanded item → IsSoundValue item → MayHaveItem expanded item
+item_told expanded None given sound = tt
+item_told expanded (Some x) given sound = (given.0, told_value 64 65_536 x (omega arith) sound given.1)
+
+item_there : (expanded : Bool) (item : Option Xval) → IsGivenItem expanded item → has_item expanded item ≡ true
+item_there expanded None given = ap not given
+item_there expanded (Some x) given = refl
+
+-- the instances of a task that are made with these Given
+abbrev reports_by : Dag → ℕ → (ℕ → TaskResult) → ℕ → List Given → List InstanceReport
+reports_by dag t result i [] = []
+reports_by dag t result i (g ∷ gs) = instance_report dag t g (record { outcome = (result i).outcome; tries = (result i).tries }) ∷ reports_by dag t result (suc i) gs
+
+finished_reports : (dag : Dag) (t : ℕ) (result : ℕ → TaskResult) (i : ℕ) (gs : List Given) → filter_map (reported_instance dag t) (finished_from result i gs) ≡ reports_by dag t result i gs
+finished_reports dag t result i [] = refl
+finished_reports dag t result i (g ∷ gs) =
+    ap (λ xs. instance_report dag t g (record { outcome = (result i).outcome; tries = (result i).tries }) ∷ xs) (finished_reports dag t result (suc i) gs)
+
+length-reports_by : (dag : Dag) (t : ℕ) (result : ℕ → TaskResult) (i : ℕ) (gs : List Given) → length (reports_by dag t result i gs) ≡ length gs
+length-reports_by dag t result i [] = refl
+length-reports_by dag t result i (g ∷ gs) = ap suc (length-reports_by dag t result (suc i) gs)
+
+-- an instance that may be shown, where its values are sound
+abbrev MayBeShown : Bool → InstanceReport → Type 0
+MayBeShown expanded x = IsSoundInstance x → IsShownInstance Version.Two expanded x
+
+instances_shown : (dag : Dag) (t : ℕ) (expanded : Bool) (pulls : List (Option Xval)) → (AreSoundPulls (pulls_of dag (task_of dag t).pulls pulls) → AreToldPulls Version.Two (pulls_of dag (task_of dag t).pulls pulls))
+    → (result : ℕ → TaskResult) → ((i : ℕ) → IsTries (result i).tries) → (i : ℕ) (gs : List Given) → AllByRecursion (λ (x : Instance). IsFitting dag t x.phase) (finished_from result i gs) → AllByRecursion (IsGivenSo expanded pulls) gs
+    → AllByRecursion (MayBeShown expanded) (reports_by dag t result i gs)
+instances_shown dag t expanded pulls told result tries i [] fit given = tt
+instances_shown dag t expanded pulls told result tries i (g ∷ gs) fit given =
+    let P : List (Option Xval) → Type 0 = λ vs. AreSoundPulls (pulls_of dag (task_of dag t).pulls vs) → AreToldPulls Version.Two (pulls_of dag (task_of dag t).pulls vs) in (
+      λ sound. record {
+        result = record { tries = tries i; outcome = shown_outcome dag t (result i).outcome sound.outcome fit.0 };
+        item = item_told expanded g.item given.0.item sound.item;
+        complete = item_there expanded g.item given.0.item;
+        pulls = subst P (sym given.0.pulled) told sound.pulls;
+      },
+      instances_shown dag t expanded pulls told result tries (suc i) gs fit.1 given.1,
+    )
+
+-- ---- tasks
+
+all_shown : (expanded : Bool) (xs : List InstanceReport) → AllByRecursion (MayBeShown expanded) xs → AllByRecursion IsSoundInstance xs → AllByRecursion (IsShownInstance Version.Two expanded) xs
+all_shown expanded [] may sound = tt
+all_shown expanded (x ∷ xs) may sound = (may.0 sound.0, all_shown expanded xs may.1 sound.1)
+
+reported_shown : (expanded : Bool) (xs : List InstanceReport) → AllByRecursion (MayBeShown expanded) xs → length xs ≤ 1_024 → (expanded ≡ true → 1 ≤ length xs) → IsSoundTask (reported_instances expanded xs) → IsShownTask Version.Two (reported_instances expanded xs)
+reported_shown true xs may few some sound = (some refl, few, all_shown true xs may sound)
+reported_shown false [] may few some sound = tt
+reported_shown false (x ∷ xs) may few some sound = may.0 sound
+
+-- a task that is reported by its cell
+abbrev IsReadBack : Dag → ℕ → Cell → Type 0
+IsReadBack dag t c = IsSoundTask (reported dag t c) → IsShownTask Version.Two (reported dag t c)
+
+read_back_decided : (dag : Dag) (t : ℕ) (result : ℕ → TaskResult) (d : Decision) (pulls : List (Option Xval)) → (AreSoundPulls (pulls_of dag (task_of dag t).pulls pulls) → AreToldPulls Version.Two (pulls_of dag (task_of dag t).pulls pulls))
+    → ((i : ℕ) → IsTries (result i).tries) → ((gs : List Given) → d ≡ Decision.Instances gs → AllByRecursion (IsGivenSo (is_some (task_of dag t).expand) pulls) gs)
+    → ((gs : List Given) → d ≡ Decision.Instances gs → is_some (task_of dag t).expand ≡ true → 1 ≤ length gs) → IsFew (final_cell d result) → HasFitting dag t (final_cell d result) → IsReadBack dag t (final_cell d result)
+read_back_decided dag t result Decision.Wait pulls told tries given some few fit = λ sound. tt
+read_back_decided dag t result Decision.Blocked pulls told tries given some few fit = λ sound. tt
+read_back_decided dag t result Decision.Skipped pulls told tries given some few fit = λ sound. tt
+read_back_decided dag t result Decision.UpstreamFailed pulls told tries given some few fit = λ sound. tt
+read_back_decided dag t result (Decision.Instances gs) pulls told tries given some few fit =
+    let expanded : Bool = is_some (task_of dag t).expand in
+    let P : List InstanceReport → Type 0 = λ xs. IsSoundTask (reported_instances expanded xs) → IsShownTask Version.Two (reported_instances expanded xs) in
+    subst P (sym (finished_reports dag t result 0 gs))
+    (reported_shown expanded (reports_by dag t result 0 gs) (instances_shown dag t expanded pulls told result tries 0 gs fit (given gs refl))
+    (omega (arith, few, length-reports_by dag t result 0 gs, length-finished_from result 0 gs)) (λ e. omega (arith, length-reports_by dag t result 0 gs, some gs refl e)))
+
+task_read_back : (dag : Dag) → IsSoundDag dag → IsNamed dag → (runs : ℕ) (s : State) → IsOutcome dag runs s → AreFew s → AreFitting dag s → (k t : ℕ) → k < runs → t < length dag.tasks
+    → IsReadBack dag t (cell_by dag (entry_in s.ledger) k t)
+unfolding cell_by
+task_read_back dag sound named runs s is few fit k t l m =
+    let ledger = entry_in s.ledger in
+    let result = result_of dag ledger k t in
+    let value = out dag ledger k in
+    let ps : List ℕ = (task_of dag t).pulls in
+    let fits_in : (u : ℕ) → u < length dag.tasks → FitsValue dag u (value u) = λ u below. out_fits dag runs s is few fit k u l below in
+    let cell : cell_at s k t ≡ final_cell (decided dag ledger k t) result = is.cells k t l m in
+    let F : Cell → Type 0 = λ c. HasFitting dag t c in
+    read_back_decided dag t result (decided dag ledger k t) (pull_each dag value ps) (pulls_shown dag named value fits_in ps (sound.few_pulls t) (sound.distinct_pulls t) (pulls_in_range dag sound t))
+    (λ i. tries_are dag ledger k t i (sound.few_retries t))
+    (λ gs e. given_in_run dag ledger k t gs (λ source is_source. fits_in source (sound.in_range t source (sound.source_is_upstream t source is_source))) e)
+    (some_in_run dag ledger k t) (subst IsFew cell (few k t)) (subst F cell (fit k t))
 
 -- ---- runs
 
-tasks_shown : (value : ℕ → TaskValue) (t : ℕ) (tasks : List Task) → ((u : ℕ) → u < length tasks → IsReadBack (slice_index_or tasks u no_task) (value (u + t))) → AllByRecursion IsSoundTask (reports_from value t tasks)
-    → AllByRecursion IsShownTask (reports_from value t tasks)
-tasks_shown value t [] each sound = tt
-tasks_shown value t (task ∷ tasks) each sound =
-    let here : 0 + t ≡ t = omega arith in
-    let first : IsReadBack task (value t) = subst (λ n. IsReadBack task (value n)) here (each 0 (omega arith)) in
-    (first sound.0, tasks_shown value (suc t) tasks (λ u l. subst (λ n. IsReadBack (slice_index_or tasks u no_task) (value n)) (shifted u) (each (suc u) (omega arith))) sound.1)
-  where
-    shifted : (u : ℕ) → suc u + t ≡ u + suc t
-    shifted u = omega arith
+tasks_shown : (dag : Dag) (cell : ℕ → Cell) (t : ℕ) (tasks : List Task) → ((u : ℕ) → t ≤ u → u < t + length tasks → IsReadBack dag u (cell u)) → AllByRecursion IsSoundTask (reports_from dag cell t tasks)
+    → AllByRecursion (IsShownTask Version.Two) (reports_from dag cell t tasks)
+tasks_shown dag cell t [] each sound = tt
+tasks_shown dag cell t (task ∷ tasks) each sound =
+    (each t (omega arith) (omega arith) sound.0, tasks_shown dag cell (suc t) tasks (λ u low high. each u (omega (arith, low)) (omega (arith, high))) sound.1)
 
-length-reports_from : (value : ℕ → TaskValue) (t : ℕ) (tasks : List Task) → length (reports_from value t tasks) ≡ length tasks
-length-reports_from value t [] = refl
-length-reports_from value t (task ∷ tasks) = ap suc (length-reports_from value (suc t) tasks)
+length-reports_from : (dag : Dag) (cell : ℕ → Cell) (t : ℕ) (tasks : List Task) → length (reports_from dag cell t tasks) ≡ length tasks
+length-reports_from dag cell t [] = refl
+length-reports_from dag cell t (task ∷ tasks) = ap suc (length-reports_from dag cell (suc t) tasks)
 
 -- each task of the runs from k on is read back
 abbrev AreReadBack : Dag → Look → ℕ → ℕ → Type 0
-AreReadBack dag ledger k runs = (j t : ℕ) → k ≤ j → j < k + runs → t < length dag.tasks → IsReadBack (slice_index_or dag.tasks t no_task) (out dag ledger j t)
+AreReadBack dag ledger k runs = (j t : ℕ) → k ≤ j → j < k + runs → t < length dag.tasks → IsReadBack dag t (cell_by dag ledger j t)
 
 runs_shown : (dag : Dag) (ledger : Look) (k : ℕ) (intervals : List Interval) (runs : List RunReport) → All IsOfRun intervals → AreReadBack dag ledger k (length intervals) → AreDated dag ledger k intervals runs → AllByRecursion (λ (r : RunReport). AreSoundTasks r.tasks) runs
-    → AllByRecursion (IsShownRun (length dag.tasks)) runs
+    → AllByRecursion (IsShownRun Version.Two (length dag.tasks)) runs
 runs_shown dag ledger k [] [] each back dated sound = tt
 runs_shown dag ledger k [] (r ∷ rs) each back dated sound = absurd dated
 runs_shown dag ledger k (i ∷ is) [] each back dated sound = absurd dated
 runs_shown dag ledger k (i ∷ is) (r ∷ rs) each back (interval, state, tasks, more) sound =
-    let value = out dag ledger k in
-    let here : (u : ℕ) → u < length dag.tasks → IsReadBack (slice_index_or dag.tasks u no_task) (value (u + 0)) =
-    λ u l. subst (λ n. IsReadBack (slice_index_or dag.tasks u no_task) (value n)) (plain u) (back k u (omega arith) (omega arith) l) in
+    let cell = cell_by dag ledger k in
     let A : List TaskReport → Type 0 = λ ts. AllByRecursion IsSoundTask ts in
-    let B : List TaskReport → Type 0 = λ ts. AllByRecursion IsShownTask ts in (
+    let B : List TaskReport → Type 0 = λ ts. AllByRecursion (IsShownTask Version.Two) ts in (
       record {
         interval = subst IsRunInterval (sym interval) (run_interval i (each 0 i (omega arith)));
-        each = subst B (sym tasks) (tasks_shown value 0 dag.tasks here (subst A tasks sound.0));
-        all = ap length tasks ∙ length-reports_from value 0 dag.tasks;
+        each = subst B (sym tasks) (tasks_shown dag cell 0 dag.tasks (λ u low high. back k u (omega arith) (omega arith) (omega (arith, high))) (subst A tasks sound.0));
+        all = ap length tasks ∙ length-reports_from dag cell 0 dag.tasks;
       },
       runs_shown dag ledger (suc k) is rs (λ j d l. each (suc j) d (omega arith)) (λ j t low high l. back j t (omega arith) (omega arith) l) more sound.1,
     )
-  where
-    plain : (u : ℕ) → u ≡ u + 0
-    plain u = omega arith
 
 length-dated : (dag : Dag) (ledger : Look) (k : ℕ) (intervals : List Interval) (runs : List RunReport) → AreDated dag ledger k intervals runs → length runs ≡ length intervals
 length-dated dag ledger k [] [] dated = refl
@@ -285,30 +460,30 @@ ids_are_shown : (dag : Dag) (intervals : List Interval) → IsNamed dag → leng
 ids_are_shown dag [] is few = record { named = tt; distinct = λ i j d h k. absurd (omega (arith, k)); few = omega arith }
 ids_are_shown dag (i ∷ is) named few = record { named = named.ids; distinct = named.distinct; few = omega (arith, length-map dag.tasks (λ (task : Task). task.id), few) }
 
-each_of_ids : (dag : Dag) (ledger : Look) (intervals : List Interval) (runs : List RunReport) → AreDated dag ledger 0 intervals runs → AllByRecursion (IsShownRun (length dag.tasks)) runs → AllByRecursion (IsShownRun (length (ids_shown dag intervals))) runs
+each_of_ids : (dag : Dag) (ledger : Look) (intervals : List Interval) (runs : List RunReport) → AreDated dag ledger 0 intervals runs → AllByRecursion (IsShownRun Version.Two (length dag.tasks)) runs → AllByRecursion (IsShownRun Version.Two (length (ids_shown dag intervals))) runs
 each_of_ids dag ledger [] [] dated each = tt
 each_of_ids dag ledger [] (r ∷ rs) dated each = absurd dated
 each_of_ids dag ledger (i ∷ is) runs dated each =
-    let P : ℕ → Type 0 = λ n. AllByRecursion (IsShownRun n) runs in
+    let P : ℕ → Type 0 = λ n. AllByRecursion (IsShownRun Version.Two n) runs in
     subst P (sym (length-map dag.tasks (λ (task : Task). task.id))) each
 
 pub written_reports_are_shown : (dag : Dag) → IsSoundDag dag → IsNamed dag → (intervals : List Interval) → AreOfRuns intervals → (limits : Limits) (journal : List Event) (s : State) → IsJournal dag limits (length intervals) journal s
     → IsOutcome dag (length intervals) s → (report : Report) → IsDated dag intervals (entry_in s.ledger) report → HasSoundValues report → IsShownReport report
-unfolding task_of
 written_reports_are_shown dag sound named intervals are limits journal s by is report dated values =
     let ledger = entry_in s.ledger in
     let (few, fit) = journal_keeps dag limits (length intervals) journal s by in
-    let back : AreReadBack dag ledger 0 (length intervals) = λ j t low high l. task_read_back dag sound (length intervals) s is few fit j t (omega arith) l in
+    let back : AreReadBack dag ledger 0 (length intervals) = λ j t low high l. task_read_back dag sound named (length intervals) s is few fit j t (omega arith) l in
     let ids = ids_are_shown dag intervals named sound.few_tasks in
     let runs = each_of_ids dag ledger intervals report.runs dated.runs (runs_shown dag ledger 0 intervals report.runs are.each back dated.runs values) in
     let I : List (List ℕ) → Type 0 = λ x. AllByRecursion (λ id. is_id id ≡ true) x in
-    let R : List (List ℕ) → Type 0 = λ x. AllByRecursion (IsShownRun (length x)) report.runs in
+    let R : List (List ℕ) → Type 0 = λ x. AllByRecursion (IsShownRun Version.Two (length x)) report.runs in
+    let V : Version → Type 0 = λ v. AllByRecursion (IsShownRun v (length report.tasks)) report.runs in
     record {
       dag_id = ap is_id dated.dag_id ∙ named.dag_id;
       ids = subst I (sym dated.tasks) ids.named;
       distinct = subst AreDistinct (sym dated.tasks) ids.distinct;
       few_tasks = omega (arith, ap length dated.tasks, ids.few);
-      runs = subst R (sym dated.tasks) runs;
+      runs = subst V (sym dated.version) (subst R (sym dated.tasks) runs);
       few_runs = omega (arith, length-dated dag ledger 0 intervals report.runs dated.runs, are.few);
       rise = starts_rise dag ledger 0 intervals report.runs are.rising dated.runs;
       known = λ none. dated.tasks ∙ none_without_runs dag ledger intervals report.runs dated.runs none;

@@ -1,20 +1,28 @@
 -- Reports that begin as one does that was read so far.
 use Rattle.std.specs.Prelude.{◌≡◌, ℕ, zero, suc, true, List, [], ◌∷◌, ◌++◌, None, codes}
 use Rattle.bf_read.specs.Ids.{is_id}
+use Rattle.bf_report.specs.declared.report.Version.{Version}
 use Rattle.bf_report.specs.declared.report.Report.{Report}
-use Rattle.bf_report.specs.Report.{report_text}
+use Rattle.bf_report.specs.Report.{version_word, report_text}
 use Rattle.bf_report_reader.specs.declared.beginning.Beginning.{Beginning}
 use Rattle.bf_report_reader.specs.Rules.{IsShownReport}
-use Rattle.bf_report_reader.specs.Beginning.{is_whole_in, so_far, opening_text}
+use Rattle.bf_report_reader.specs.Beginning.{is_whole, so_far, opening_text}
 use Rattle.bf_report_reader.specs.Steps.{Follows}
 
--- the head line says this dag id
-abbrev pub SaysDag : List ℕ → List ℕ → Type 0
-SaysDag text id = (is_id id ≡ true) × (text ≡ codes "@backfill" ++ 32 ∷ (codes "1" ++ 32 ∷ id))
+-- the words of a head line
+abbrev pub head_words : Version × List ℕ → List ℕ
+head_words head = codes "@backfill" ++ 32 ∷ (version_word head.0 ++ 32 ∷ head.1)
+
+-- the head line says this version and this dag id
+abbrev pub SaysHead : List ℕ → Version × List ℕ → Type 0
+SaysHead text head = (is_id head.1 ≡ true) × (text ≡ head_words head)
+
+abbrev pub head_of : Report → Version × List ℕ
+head_of report = (report.version, report.dag_id)
 
 -- a report of which only the head was read
-abbrev pub start : List ℕ → Beginning
-start id = record { dag_id = id; tasks = []; runs = []; run = None }
+abbrev pub start : Version × List ℕ → Beginning
+start head = record { version = head.0; dag_id = head.1; tasks = []; runs = []; run = None }
 
 -- by so many lines the one becomes the other
 abbrev pub Leads : ℕ → Beginning → Beginning → Type 0
@@ -26,7 +34,7 @@ pub record Extends (b : Beginning) (report : Report) : Type 0 where
   pub lines : ℕ
   pub last : Beginning
   pub leads : Leads lines b last
-  pub whole : is_whole_in last.run last.tasks ≡ true
+  pub whole : is_whole last ≡ true
   pub is : so_far last ≡ report
 
 -- each report whose text begins so goes on from here

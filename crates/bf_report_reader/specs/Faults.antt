@@ -1,6 +1,7 @@
 -- Why bytes are no report, and at which line.
-use Rattle.std.specs.Prelude.{◌≡◌, ◌≤◌, ◌+◌, ◌==◌, ◌⊎◌, ℕ, false, List, [], ◌∷◌, ◌++◌, length, Option, IfSome}
+use Rattle.std.specs.Prelude.{◌≡◌, ◌≤◌, ◌+◌, ◌==◌, ◌⊎◌, ℕ, false, List, [], ◌∷◌, ◌++◌, length, take, codes, if◌then◌else◌, Option, IfSome}
 use Rattle.std.specs.List.{list_any, count_by}
+use Rattle.std.specs.Str.{bytes_eq}
 use Rattle.std.specs.Io.KnownBytes.{Consumes}
 use Rattle.bf_report.specs.declared.report.Report.{Report}
 use Rattle.bf_report.specs.Report.{report_text}
@@ -11,6 +12,10 @@ use Rattle.bf_report_reader.specs.Rules.{IsShownReport}
 -- text within one line
 abbrev pub IsInLine : List ℕ → Type 0
 IsInLine text = list_any (λ b. b == 10) text ≡ false
+
+-- how many bytes the line of a pull may have that begins so, or any other line
+abbrev pub longest_line : List ℕ → ℕ
+longest_line line = if bytes_eq (take 6 line) (codes "@pull ") then 68_000_000 else 66_000
 
 -- how many lines end in a text
 abbrev pub lines_in : List ℕ → ℕ
@@ -46,7 +51,7 @@ pub record IsCut (bytes : List ℕ) : Type 0 where
   pub opens : IsOpening opening
   pub bytes_are : bytes ≡ opening ++ piece
   pub in_line : IsInLine piece
-  pub short : length piece ≤ 66_000
+  pub short : length piece ≤ longest_line piece
 
 -- the line of that number has more bytes than a line may have, and stands in no report
 pub record HasLongLine (bytes : List ℕ) (number : ℕ) : Type 0 where
@@ -56,7 +61,7 @@ pub record HasLongLine (bytes : List ℕ) (number : ℕ) : Type 0 where
   pub opens : IsOpening opening
   pub bytes_are : bytes ≡ opening ++ (piece ++ rest)
   pub in_line : IsInLine piece
-  pub long : length piece ≡ 66_001
+  pub long : length piece ≡ longest_line piece + 1
   pub bad : ¬ (Begins (opening ++ piece))
   pub place : number ≡ lines_in opening + 1
 
@@ -68,7 +73,7 @@ pub record HasLine (bytes : List ℕ) (number : ℕ) : Type 0 where
   pub opens : IsOpening opening
   pub bytes_are : bytes ≡ opening ++ ((text ++ 10 ∷ []) ++ rest)
   pub in_line : IsInLine text
-  pub short : length text ≤ 66_000
+  pub short : length text ≤ longest_line text
   pub bad : ¬ (Begins (opening ++ (text ++ 10 ∷ [])))
   pub place : number ≡ lines_in opening + 1
 
@@ -97,14 +102,14 @@ Tells bytes ReportFault.OutOfMemory = Unit {0}
 
 -- what came off a device by a line, and what followed it
 abbrev pub Came : LineEnd → Option (List ℕ) → Option (List ℕ) → List ℕ → Type 0
-Came LineEnd.LineFeed old new text = Consumes old new (text ++ 10 ∷ []) × (length text ≤ 66_000)
-Came LineEnd.Nothing old new text = IfSome old (λ bytes. bytes ≡ text) × (length text ≤ 66_000)
-Came LineEnd.TooMuch old new text = Consumes old new text × (length text ≡ 66_001)
+Came LineEnd.LineFeed old new text = Consumes old new (text ++ 10 ∷ []) × (length text ≤ longest_line text)
+Came LineEnd.Nothing old new text = IfSome old (λ bytes. bytes ≡ text) × (length text ≤ longest_line text)
+Came LineEnd.TooMuch old new text = Consumes old new text × (length text ≡ longest_line text + 1)
 
 -- why no line of that number came off these bytes
 abbrev pub StopsAt : ReportFault → ℕ → List ℕ → Type 0
 StopsAt (ReportFault.BadLine n) number bytes = ⊥
-StopsAt (ReportFault.TooLong n) number bytes = (n ≡ number) × ((piece : List ℕ) × (rest : List ℕ) × (bytes ≡ piece ++ rest) × IsInLine piece × (length piece ≡ 66_001))
-StopsAt ReportFault.Truncated number bytes = IsInLine bytes × (length bytes ≤ 66_000)
+StopsAt (ReportFault.TooLong n) number bytes = (n ≡ number) × ((piece : List ℕ) × (rest : List ℕ) × (bytes ≡ piece ++ rest) × IsInLine piece × (length piece ≡ longest_line piece + 1))
+StopsAt ReportFault.Truncated number bytes = IsInLine bytes × (length bytes ≤ longest_line bytes)
 StopsAt ReportFault.Io number bytes = Unit {0}
 StopsAt ReportFault.OutOfMemory number bytes = Unit {0}

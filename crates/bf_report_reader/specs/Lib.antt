@@ -1,6 +1,7 @@
 pub mod Reads
 pub mod Held
 pub mod Entries
+pub mod Parts
 pub mod Runs
 pub mod Beginning
 pub mod Rules

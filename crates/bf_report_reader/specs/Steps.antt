@@ -4,11 +4,13 @@ use Rattle.std.specs.Io.KnownBytes.{Consumes}
 use Rattle.bf_report.specs.declared.report.RunReport.{RunReport}
 use Rattle.bf_report_reader.specs.declared.entry.Entry.{Entry}
 use Rattle.bf_report_reader.specs.declared.beginning.Beginning.{Beginning}
+use Rattle.bf_report_reader.specs.declared.part.GivenPart.{GivenPart}
 use Rattle.bf_report_reader.specs.declared.reading.Step.{Step}
 use Rattle.bf_report_reader.specs.Entries.{IsEntry, entry_text}
+use Rattle.bf_report_reader.specs.Parts.{IsPart, part_text}
 use Rattle.bf_report_reader.specs.Runs.{IsRunInterval, run_words}
 use Rattle.bf_report_reader.specs.Rules.{IsRuled}
-use Rattle.bf_report_reader.specs.Beginning.{IsCounted, IsSmall, is_whole_in, room, opening_text, so_far, runs_of, with_entry, with_run}
+use Rattle.bf_report_reader.specs.Beginning.{IsCounted, IsSmall, is_whole, room, opening_text, so_far, runs_of, with_entry, with_run, with_part}
 
 -- the line is that of a task which may stand next, and the other is the report with it
 pub record AddsEntry (old : Beginning) (text : List ℕ) (new : Beginning) : Type 0 where
@@ -26,13 +28,20 @@ pub record AddsRun (old : Beginning) (text : List ℕ) (new : Beginning) : Type 
   pub spelled : text ≡ codes "@run" ++ 32 ∷ run_words (run.interval, run.state)
   pub added : with_run old run ≡ Some new
 
+-- the line is that of an item or a pull which may stand next
+pub record AddsPart (old : Beginning) (text : List ℕ) (new : Beginning) : Type 0 where
+  pub part : GivenPart
+  pub good : IsPart part
+  pub spelled : text ≡ part_text part
+  pub added : with_part old part ≡ Some new
+
 -- by the line the report has become the other
 abbrev pub Follows : Beginning → List ℕ → Beginning → Type 0
-Follows old text new = AddsEntry old text new ⊎ AddsRun old text new
+Follows old text new = AddsEntry old text new ⊎ (AddsRun old text new ⊎ AddsPart old text new)
 
 -- the line is the end of the report
 abbrev pub MayEnd : Beginning → List ℕ → Type 0
-MayEnd b text = (text ≡ codes "@end" ++ 32 ∷ decimal (length (runs_of b))) × (is_whole_in b.run b.tasks ≡ true)
+MayEnd b text = (text ≡ codes "@end" ++ 32 ∷ decimal (length (runs_of b))) × (is_whole b ≡ true)
 
 -- the line may stand next
 abbrev pub MayStand : Beginning → List ℕ → Type 0

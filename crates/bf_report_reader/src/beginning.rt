@@ -1,13 +1,15 @@
 //! A report as far as it was read.
-ghost use Rattle.std.specs.Prelude.{◌≡◌, ◌∷◌, ◌++◌, [], if◌then◌else◌, length, IfOk, OnOk, Some, None};
+ghost use Rattle.std.specs.Prelude.{◌≡◌, ◌∷◌, ◌++◌, [], if◌then◌else◌, IfOk, OnOk, Some, None};
 ghost use Rattle.std.specs.List.{list_any};
 ghost use Rattle.std.specs.Str.{bytes_eq};
-ghost use Rattle.bf_report_reader.specs.Beginning.{count as counted, closed, so_far, run_count as counted_runs, is_whole_in, may_begin as begins, with_run, is_next as is_next_by, ids_with, with_task, with_expanded, goes_on as continues, with_instance, with_entry, put_task, put_expanded};
+ghost use Rattle.bf_report_reader.specs.Beginning.{so_far, run_count as counted_runs, is_given as is_given_by, is_whole_in, is_whole as is_whole_by, may_begin as begins, with_run, is_next as is_next_by, ids_with, with_task, with_open, goes_on as continues, with_further, takes_in, with_part, with_entry};
 
 use crate::entry::{Entry, Untried};
+use crate::open::{OpenRun, OpenTask};
+use crate::part::GivenPart;
 use bf_interval::Interval;
-use bf_read::is_id;
-use bf_report::{Report, RunReport, TaskReport};
+use bf_read::{MOST_TASKS, is_id};
+use bf_report::{Report, RunReport, TaskReport, Version};
 use bf_value::{OutOfMemory, Sequence, Text};
 use bf_xcom::TaskResult;
 use std::alloc::Global;
@@ -15,80 +17,10 @@ use std::alloc::Global;
 /// How many runs a report may have.
 const MOST_RUNS: usize = 4_096;
 
-/// How many tasks a run may have.
-const MOST_TASKS: usize = 2_000;
-
-/// The run whose tasks are read.
-#[derive(Drop)]
-pub(crate) struct OpenRun {
-    pub run: RunReport,
-    /// The instances of an expanded task that may have more. It stands behind the tasks of the run.
-    pub instances: Sequence<TaskResult>,
-}
-
-impl OpenRun {
-    /// How many tasks were read.
-    fn count(&self) -> usize
-        ensures { result ≡ counted self.now }
-    {
-        if self.instances.is_empty() {
-            self.run.tasks.len()
-        } else {
-            self.run.tasks.as_slice().len() + 1
-        }
-    }
-
-    /// Puts a task behind the others.
-    fn push_task(&mut self, task: TaskReport) -> Result<(), OutOfMemory>
-        ensures { OnOk result (self.new ≡ record self.old {
-          run = record self.old.run { tasks = self.old.run.tasks ++ task ∷ [] };
-        }) }
-    {
-        self.run.tasks.push(task)?;
-        Ok(())
-    }
-
-    /// Puts an expanded task that may have had more instances behind the others.
-    fn close_task(&mut self, alloc: Global) -> Result<(), OutOfMemory>
-        ensures { OnOk result (self.new ≡ record { run = closed self.old; instances = [] }) }
-    {
-        if self.instances.is_empty() {
-            return Ok(());
-        }
-        let instances = std::mem::replace(&mut self.instances, Sequence::new(alloc));
-        self.push_task(TaskReport::Mapped(instances))
-    }
-
-    /// Puts a task of one line behind the others.
-    fn add_task(&mut self, alloc: Global, task: TaskReport) -> Result<(), OutOfMemory>
-        ensures { OnOk result (put_task (Some self.old) task ≡ Some self.new) }
-    {
-        self.close_task(alloc)?;
-        self.push_task(task)
-    }
-
-    /// Puts an expanded task behind the others, which may have more instances.
-    fn add_expanded(&mut self, alloc: Global, first: TaskResult) -> Result<(), OutOfMemory>
-        ensures { OnOk result (put_expanded (Some self.old) first ≡ Some self.new) }
-    {
-        self.close_task(alloc)?;
-        self.instances.push(first)
-    }
-
-    /// Gives the run up.
-    fn into_run(self, alloc: Global) -> Result<RunReport, OutOfMemory>
-        ensures { IfOk result (λ run. run ≡ closed self) }
-    {
-        let mut open = self;
-        open.close_task(alloc)?;
-        let OpenRun { run, instances: _ } = open;
-        Ok(run)
-    }
-}
-
 /// A report as far as it was read. The ids of its tasks come with its first run.
 #[derive(Drop)]
 pub(crate) struct Beginning {
+    pub version: Version,
     pub dag_id: Text,
     pub tasks: Sequence<Text>,
     /// The runs before the one whose tasks are read.
@@ -98,10 +30,11 @@ pub(crate) struct Beginning {
 
 impl Beginning {
     /// A report of which the head was read.
-    pub fn new(alloc: Global, dag_id: Text) -> Beginning
-        ensures { result ≡ record { dag_id = dag_id; tasks = []; runs = []; run = None } }
+    pub fn new(alloc: Global, version: Version, dag_id: Text) -> Beginning
+        ensures { result ≡ record { version = version; dag_id = dag_id; tasks = []; runs = []; run = None } }
     {
         Beginning {
+            version,
             dag_id,
             tasks: Sequence::new(alloc),
             runs: Sequence::new(alloc),
@@ -119,14 +52,31 @@ impl Beginning {
         }
     }
 
+    /// Whether the instance that was read last has its item, where the version tells one.
+    fn is_given(&self) -> bool
+        ensures { result ≡ is_given_by self.now }
+    {
+        match &self.run {
+            Some(open) => open.is_given(self.version),
+            None => true,
+        }
+    }
+
     /// Whether each run has all tasks.
-    pub fn is_whole(&self) -> bool
+    fn has_all_tasks(&self) -> bool
         ensures { result ≡ is_whole_in self.now.run self.now.tasks }
     {
         match &self.run {
             Some(open) => open.count() == self.tasks.len(),
             None => true,
         }
+    }
+
+    /// Whether each run has all tasks, with all that is told of them.
+    pub fn is_whole(&self) -> bool
+        ensures { result ≡ is_whole_by self.now }
+    {
+        self.is_given() && self.has_all_tasks()
     }
 
     /// Whether a run with this data interval may stand next.
@@ -143,16 +93,15 @@ impl Beginning {
     }
 
     /// Adds a run without its tasks, where it may stand next.
-    pub fn add_run(&mut self, alloc: Global, run: RunReport) -> Result<bool, OutOfMemory>
+    pub fn add_run(&mut self, run: RunReport) -> Result<bool, OutOfMemory>
         ensures { IfOk result (λ taken.
             with_run self.old run ≡ (if taken then Some self.new else None)) }
     {
         if !self.may_begin(run.interval) {
             return Ok(false);
         }
-        let instances = Sequence::new(alloc);
-        if let Some(open) = self.run.replace(OpenRun { run, instances }) {
-            self.runs.push(open.into_run(alloc)?)?;
+        if let Some(open) = self.run.replace(OpenRun { run, task: None }) {
+            self.runs.push(open.into_run()?)?;
         }
         Ok(true)
     }
@@ -164,6 +113,9 @@ impl Beginning {
         let Some(open) = &self.run else {
             return false;
         };
+        if !open.is_given(self.version) {
+            return false;
+        }
         if self.runs.is_empty() {
             return is_id(id) && self.tasks.len() < MOST_TASKS && !self.has_task(id);
         }
@@ -190,7 +142,7 @@ impl Beginning {
         Ok(())
     }
 
-    /// Adds a task of one line, where it may stand next.
+    /// Adds a task without a try, where it may stand next.
     fn add_task(&mut self, alloc: Global, id: &str, task: TaskReport) -> Result<bool, OutOfMemory>
         ensures { IfOk result (λ taken.
             with_task self.old id.now task ≡ (if taken then Some self.new else None)) }
@@ -200,27 +152,22 @@ impl Beginning {
         }
         self.add_id(alloc, id)?;
         if let Some(open) = &mut self.run {
-            open.add_task(alloc, task)?;
+            open.add_task(task)?;
         }
         Ok(true)
     }
 
-    /// Adds an expanded task by its first instance, where it may stand next.
-    fn add_expanded(
-        &mut self,
-        alloc: Global,
-        id: &str,
-        first: TaskResult,
-    ) -> Result<bool, OutOfMemory>
+    /// Adds a task by its first instance, where it may stand next.
+    fn add_open(&mut self, alloc: Global, id: &str, task: OpenTask) -> Result<bool, OutOfMemory>
         ensures { IfOk result (λ taken.
-            with_expanded self.old id.now first ≡ (if taken then Some self.new else None)) }
+            with_open self.old id.now task ≡ (if taken then Some self.new else None)) }
     {
         if !self.is_next(id) {
             return Ok(false);
         }
         self.add_id(alloc, id)?;
         if let Some(open) = &mut self.run {
-            open.add_expanded(alloc, first)?;
+            open.add_open(task)?;
         }
         Ok(true)
     }
@@ -232,7 +179,7 @@ impl Beginning {
         let Some(open) = &self.run else {
             return false;
         };
-        if open.instances.is_empty() || open.instances.len() != index as usize {
+        if !open.goes_on(self.version, index) {
             return false;
         }
         match self.tasks.get(open.run.tasks.len()) {
@@ -241,21 +188,22 @@ impl Beginning {
         }
     }
 
-    /// Adds a further instance, where it may stand next.
+    /// Adds a further instance of an expanded task, where it may stand next.
     fn add_instance(
         &mut self,
+        alloc: Global,
         id: &str,
         index: u32,
-        instance: TaskResult,
+        ended: TaskResult,
     ) -> Result<bool, OutOfMemory>
         ensures { IfOk result (λ taken.
-            with_instance self.old id.now index instance ≡ (if taken then Some self.new else None)) }
+            with_further self.old id.now index ended ≡ (if taken then Some self.new else None)) }
     {
         if !self.goes_on(id, index) {
             return Ok(false);
         }
         if let Some(open) = &mut self.run {
-            open.instances.push(instance)?;
+            open.add_instance(alloc, ended)?;
         }
         Ok(true)
     }
@@ -272,26 +220,56 @@ impl Beginning {
             Entry::Never(Untried::UpstreamFailed) => {
                 self.add_task(alloc, id, TaskReport::UpstreamFailed)
             }
-            Entry::Tried(None, instance) => self.add_task(alloc, id, TaskReport::Ran(instance)),
-            Entry::Tried(Some(0), first) => self.add_expanded(alloc, id, first),
-            Entry::Tried(Some(index), instance) => self.add_instance(id, index, instance),
+            Entry::Tried(None, ended) => {
+                self.add_open(alloc, id, OpenTask::unmapped(alloc, ended))
+            }
+            Entry::Tried(Some(0), first) => {
+                self.add_open(alloc, id, OpenTask::expanded(alloc, first))
+            }
+            Entry::Tried(Some(index), ended) => self.add_instance(alloc, id, index, ended),
         }
     }
 
+    /// Whether a part of what the instance that was read last was given may stand next.
+    fn takes(&self, part: &GivenPart) -> bool
+        ensures { result ≡ takes_in self.now.version self.now.run part.now }
+    {
+        match &self.run {
+            Some(open) => open.takes(self.version, part),
+            None => false,
+        }
+    }
+
+    /// Adds a part of what the instance that was read last was given, where it may stand next.
+    pub fn add_part(&mut self, part: GivenPart) -> Result<bool, OutOfMemory>
+        ensures { IfOk result (λ taken.
+            with_part self.old part ≡ (if taken then Some self.new else None)) }
+    {
+        if !self.takes(&part) {
+            return Ok(false);
+        }
+        if let Some(open) = &mut self.run {
+            open.add_part(part)?;
+        }
+        Ok(true)
+    }
+
     /// The report, of which the end was read.
-    pub fn into_report(self, alloc: Global) -> Result<Report, OutOfMemory>
+    pub fn into_report(self) -> Result<Report, OutOfMemory>
         ensures { IfOk result (λ report. report ≡ so_far self) }
     {
         let Beginning {
+            version,
             dag_id,
             tasks,
             mut runs,
             run,
         } = self;
         if let Some(open) = run {
-            runs.push(open.into_run(alloc)?)?;
+            runs.push(open.into_run()?)?;
         }
         Ok(Report {
+            version,
             dag_id,
             tasks,
             runs,

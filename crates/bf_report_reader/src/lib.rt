@@ -5,7 +5,8 @@
 //!
 //! - `held` gives the bytes of a device one by one, over a room that is filled by few reads;
 //! - `line` takes a line off them;
-//! - `field`, `value`, `entry` and `interval` read what a line says;
+//! - `field`, `value`, `entry`, `part` and `interval` read what a line says;
+//! - `open` keeps the run whose tasks are read, and its task that may have more lines;
 //! - `beginning` keeps the report as far as it was read, and says what may stand next.
 #![tactic(auto)]
 
@@ -17,6 +18,8 @@ mod held;
 mod interval;
 mod laws;
 mod line;
+mod open;
+mod part;
 mod reading;
 mod value;
 

@@ -1,7 +1,7 @@
 //! Lines, taken off a device.
-ghost use Rattle.std.specs.Prelude.{◌≡◌, ◌++◌, ◌∷◌, [], IfOk, OnOk, IfErr};
+ghost use Rattle.std.specs.Prelude.{◌≡◌, ◌≤◌, ◌↔◌, ◌++◌, ◌∷◌, [], length, IsTrue, IfOk, OnOk, IfErr};
 ghost use Rattle.bf_report_reader.specs.Held.{ahead, Tallies, Breaks};
-ghost use Rattle.bf_report_reader.specs.Faults.{Came, IsInLine, IsFromOutside};
+ghost use Rattle.bf_report_reader.specs.Faults.{longest_line, Came, IsInLine, IsFromOutside};
 
 use crate::fault::ReportFault;
 use crate::held::Held;
@@ -9,7 +9,10 @@ use bf_report::Read;
 use bf_value::OutOfMemory;
 
 /// How many bytes a line may have, its line feed not counted.
-pub(crate) const LONGEST_LINE: usize = 66_000;
+const LONGEST_LINE: usize = 66_000;
+
+/// How many bytes the line of a pull may have.
+const LONGEST_PULL_LINE: usize = 68_000_000;
 
 /// What follows the bytes of a line.
 #[derive(Clone, Copy, Debug, PartialEq, Eq)]
@@ -21,6 +24,14 @@ pub(crate) enum LineEnd {
     TooMuch,
 }
 
+/// Whether a line that begins so may have more bytes, or ends here at the latest.
+fn is_short(line: &[u8]) -> bool
+    ensures { IsTrue result ↔ (length line.now ≤ longest_line line.now) }
+{
+    line.len() <= LONGEST_LINE
+        || (line.len() <= LONGEST_PULL_LINE && line.starts_with(b"@pull ".as_slice()))
+}
+
 fn push_byte(line: &mut Vec<u8>, byte: u8) -> Result<(), OutOfMemory>
     ensures { OnOk result (line.new.items ≡ line.old.items ++ byte ∷ []) }
 {
@@ -29,6 +40,7 @@ fn push_byte(line: &mut Vec<u8>, byte: u8) -> Result<(), OutOfMemory>
 }
 
 /// Takes the bytes of a line off a device.
+#[tactic(auto, using(crate::proofs::Words::limit_push, crate::proofs::Words::at_most))]
 pub(crate) fn next_line<R: Read>(
     held: &mut Held,
     device: &mut R,
@@ -46,7 +58,7 @@ pub(crate) fn next_line<R: Read>(
         (R.interruptions device.new) (R.failures device.new)) }
 {
     line.clear();
-    while line.len() <= LONGEST_LINE {
+    while is_short(line.as_slice()) {
         match held.next_byte(device)? {
             Some(b'\n') => return Ok(LineEnd::LineFeed),
             Some(byte) => push_byte(line, byte)?,

@@ -2,14 +2,14 @@
 ghost use Rattle.std.specs.Prelude.{◌≡◌, ◌≢◌, ◌<◌, ◌≤◌, ◌+◌, ◌++◌, ◌∷◌, [], List, ℕ, length, IfOk, OnOk, IfErr, IfSome, IfNone, codes, if◌then◌else◌};
 ghost use Rattle.std.specs.Io.KnownBytes.{Consumes};
 ghost use Rattle.bf_report.specs.Device.{HasHalted};
-ghost use Rattle.bf_report.specs.Report.{report_text};
+ghost use Rattle.bf_report.specs.Report.{version_word, report_text};
 ghost use Rattle.bf_report_reader.specs.Reads.{IsWord, Finds};
 ghost use Rattle.bf_report_reader.specs.Held.{held_bytes, ahead, Tallies, Breaks};
 ghost use Rattle.bf_report_reader.specs.Beginning.{IsCounted, IsSmall, so_far, opening_text};
 ghost use Rattle.bf_report_reader.specs.Rules.{IsRuled, IsShownReport};
-ghost use Rattle.bf_report_reader.specs.Faults.{IsInLine, StopsAt, Tells, IsReportText, IsFromOutside, lines_in};
+ghost use Rattle.bf_report_reader.specs.Faults.{longest_line, IsInLine, StopsAt, Tells, IsReportText, IsFromOutside, lines_in};
 ghost use Rattle.bf_report_reader.specs.Steps.{Steps, EntrySteps, EndsBy, ReadsOn};
-ghost use Rattle.bf_report_reader.specs.Extensions.{SaysDag, IsKnown};
+ghost use Rattle.bf_report_reader.specs.Extensions.{SaysHead, IsKnown};
 
 use crate::beginning::Beginning;
 use crate::entry::entry_in;
@@ -18,8 +18,9 @@ use crate::field::{number_in, split_field};
 use crate::held::Held;
 use crate::interval::run_in;
 use crate::line::{LineEnd, next_line};
+use crate::part::{GivenPart, item_in, pull_in};
 use bf_read::is_id;
-use bf_report::{Read, Report, RunReport};
+use bf_report::{Read, Report, RunReport, Version};
 use bf_value::{OutOfMemory, Sequence, Text};
 use std::alloc::Global;
 
@@ -45,11 +46,12 @@ impl Lines {
 
     /// Reads the next line.
     fn read<R: Read>(&mut self, device: &mut R) -> Result<(), ReportFault>
-        requires { self.old.number < 30_000_000_000 }
+        requires { self.old.number < 300_000_000_000 }
         ensures line { OnOk result (Consumes (ahead self.old.held (R.left device.old))
             (ahead self.new.held (R.left device.new)) (self.new.line.items ++ 10 ∷ [])) }
         ensures in_line { OnOk result (IsInLine self.new.line.items) }
-        ensures short { OnOk result (length self.new.line.items ≤ 66_000) }
+        ensures short { OnOk result
+            (length self.new.line.items ≤ longest_line self.new.line.items) }
         ensures stops { IfErr result (λ fault.
             IfSome (ahead self.old.held (R.left device.old)) (StopsAt fault (self.old.number + 1))) }
         ensures number { OnOk result (self.new.number ≡ self.old.number + 1) }
@@ -80,19 +82,34 @@ fn after_word<'a>(text: &'a [u8], word: &[u8]) -> Option<&'a [u8]>
     if first == word { Some(rest) } else { None }
 }
 
-/// The dag id that the first line says.
-fn head_in(alloc: Global, line: &[u8]) -> Result<Option<Text>, OutOfMemory>
-    ensures some { IfOk result (λ o. IfSome o (SaysDag line.now)) }
-    ensures every { IfOk result (Finds (SaysDag line.now)) }
+/// The version that a word says.
+fn version_in(word: &[u8]) -> Option<Version>
+    ensures some { IfSome result (λ version. word.now ≡ version_word version) }
+    ensures every { Finds (λ version. word.now ≡ version_word version) result }
+{
+    match word {
+        b"1" => Some(Version::One),
+        b"2" => Some(Version::Two),
+        _ => None,
+    }
+}
+
+/// The version and the dag id that the first line says.
+fn head_in(alloc: Global, line: &[u8]) -> Result<Option<(Version, Text)>, OutOfMemory>
+    ensures some { IfOk result (λ o. IfSome o (SaysHead line.now)) }
+    ensures every { IfOk result (Finds (SaysHead line.now)) }
 {
     let Some(rest) = after_word(line, b"@backfill".as_slice()) else {
         return Ok(None);
     };
-    let Some(id) = after_word(rest, b"1".as_slice()) else {
+    let Some((version, id)) = split_field(rest) else {
+        return Ok(None);
+    };
+    let Some(version) = version_in(version) else {
         return Ok(None);
     };
     match std::str::from_utf8(id) {
-        Ok(id) if is_id(id) => Ok(Some(Text::copied(alloc, id)?)),
+        Ok(id) if is_id(id) => Ok(Some((version, Text::copied(alloc, id)?))),
         _ => Ok(None),
     }
 }
@@ -127,7 +144,7 @@ fn read_run(alloc: Global, beginning: &mut Beginning, text: &[u8]) -> Result<Ste
         state,
         tasks: Sequence::new(alloc),
     };
-    Ok(step_of(beginning.add_run(alloc, run)?))
+    Ok(step_of(beginning.add_run(run)?))
 }
 
 fn read_task(
@@ -146,6 +163,32 @@ fn read_task(
     };
     match entry_in(alloc, text)? {
         Some(entry) => Ok(step_of(beginning.add_entry(alloc, id, entry)?)),
+        None => Ok(Step::Refused),
+    }
+}
+
+fn read_item(alloc: Global, beginning: &mut Beginning, text: &[u8]) -> Result<Step, OutOfMemory>
+    requires counted { IsCounted beginning.old }
+    requires small { IsSmall beginning.old }
+    requires ruled { IsRuled beginning.old }
+    ensures { IfOk result (λ step.
+        Steps step beginning.old (codes "@item" ++ 32 ∷ text.now) beginning.new) }
+{
+    match item_in(alloc, text)? {
+        Some(item) => Ok(step_of(beginning.add_part(GivenPart::Item(item))?)),
+        None => Ok(Step::Refused),
+    }
+}
+
+fn read_pull(alloc: Global, beginning: &mut Beginning, text: &[u8]) -> Result<Step, OutOfMemory>
+    requires counted { IsCounted beginning.old }
+    requires small { IsSmall beginning.old }
+    requires ruled { IsRuled beginning.old }
+    ensures { IfOk result (λ step.
+        Steps step beginning.old (codes "@pull" ++ 32 ∷ text.now) beginning.new) }
+{
+    match pull_in(alloc, text)? {
+        Some(pull) => Ok(step_of(beginning.add_part(GivenPart::Pull(pull))?)),
         None => Ok(Step::Refused),
     }
 }
@@ -174,6 +217,12 @@ fn read_line(alloc: Global, beginning: &mut Beginning, line: &[u8]) -> Result<St
     if first == b"@run".as_slice() {
         return read_run(alloc, beginning, text);
     }
+    if first == b"@item".as_slice() {
+        return read_item(alloc, beginning, text);
+    }
+    if first == b"@pull".as_slice() {
+        return read_pull(alloc, beginning, text);
+    }
     if first == b"@end".as_slice() {
         return Ok(read_end(beginning, text));
     }
@@ -200,7 +249,7 @@ fn read_lines<R: Read>(
     ensures tells { IfErr result (λ fault. IfSome (ahead lines.old.held (R.left device.old))
         (λ bytes. Tells (opening_text (so_far beginning.old) ++ bytes) fault)) }
     ensures place { OnOk result (lines.new.number ≡ lines_in (report_text (so_far beginning.new))) }
-    ensures number { OnOk result (lines.new.number < 30_000_000_000) }
+    ensures number { OnOk result (lines.new.number < 300_000_000_000) }
     ensures tallied { OnOk result (Tallies
         lines.old.held.interruptions (R.interruptions device.old) (R.failures device.old)
         lines.new.held.interruptions (R.interruptions device.new) (R.failures device.new)) }
@@ -218,7 +267,7 @@ fn read_lines<R: Read>(
     }
 }
 
-/// Reads a report from a device, up to its last byte. After a fault what was read is lost.
+/// Reads a report of either version from a device, up to its last byte. After a fault what was read is lost.
 pub fn read_report<R: Read>(alloc: Global, device: &mut R) -> Result<Report, ReportFault>
     ensures ok { IfOk result (λ report.
         IfSome (R.left device.old) (λ bytes. bytes ≡ report_text report)) }
@@ -232,13 +281,13 @@ pub fn read_report<R: Read>(alloc: Global, device: &mut R) -> Result<Report, Rep
 {
     let mut lines = Lines::new(alloc)?;
     lines.read(device)?;
-    let Some(dag_id) = head_in(alloc, lines.line.as_slice())? else {
+    let Some((version, dag_id)) = head_in(alloc, lines.line.as_slice())? else {
         return Err(ReportFault::BadLine(1));
     };
-    let mut beginning = Beginning::new(alloc, dag_id);
+    let mut beginning = Beginning::new(alloc, version, dag_id);
     read_lines(alloc, &mut lines, device, &mut beginning)?;
     if lines.held.next_byte(device)?.is_some() {
         return Err(ReportFault::BadLine(lines.number + 1));
     }
-    Ok(beginning.into_report(alloc)?)
+    Ok(beginning.into_report()?)
 }

@@ -21,7 +21,7 @@ impl<RT: Abort + AllocGlobal + Files + Starter + Screen + Threads + Wait + Clock
 pub const ONE: &[u8] = br#"{"dag_id":"d","schedule":"@daily","tasks":[{"id":"a"}]}"#;
 
 /// The report of its run at 2024-01-01, where it succeeds.
-pub const ONE_REPORT: &str = "@backfill 1 d\n\
+pub const ONE_REPORT: &str = "@backfill 2 d\n\
     @run 2024-01-01T00:00:00Z 2024-01-01T00:00:00Z success\n\
     a -1 success 1 -\n\
     @end 1\n";

@@ -15,13 +15,17 @@ const TABLE: &[u8] = br#"[{"task":"src","out":"[3,1,2]"},{"task":"m","index":0,"
 
 const FILES: [(&str, &[u8]); 2] = [("g", MAPPED), ("t", TABLE)];
 
-const ENDING: &str = "0 @backfill 1 d\n\
+const ENDING: &str = "0 @backfill 2 d\n\
     @run 2024-01-01T00:00:00Z 2024-01-02T00:00:00Z success\n\
     src -1 success 1 [3,1,2]\n\
     m 0 success 1 3\n\
+    @item 3\n\
     m 1 success 1 -\n\
+    @item 1\n\
     m 2 success 1 2\n\
+    @item 2\n\
     sum -1 success 1 [3,2]\n\
+    @pull m [3,2]\n\
     @end 1\n";
 
 fn is_run(rt: &impl Machine, alloc: Global, line: &str) -> Result<(), Fail> {

@@ -1,5 +1,5 @@
 //! Reading a report: which lines may stand where, and which fault comes first.
-use crate::reports::{FULL, ONE};
+use crate::reports::{FULL, ONE, TWO};
 use bf_report::Bytes;
 use bf_report_reader::{ReportFault, read_report};
 use bf_value::OutOfMemory;
@@ -9,7 +9,12 @@ use std::test::Fail;
 
 /// Texts whose last line may not stand where it stands, and the number of that line. A bar is a line feed.
 const BAD: &str = r#"| => 1
-@backfill 2 d| => 1
+@backfill 3 d| => 1
+@backfill 02 d| => 1
+@backfill 2| => 1
+@backfill 2 | => 1
+@backfill 2 a b| => 1
+@backfill  2 d| => 1
 @backfill 1| => 1
 @backfill 1 | => 1
 @backfill 1 a b| => 1
@@ -67,14 +72,46 @@ R|a 0 success 1 -|b 1 success 1 -| => 4
 R|a -1 success 1 -|a 1 success 1 -| => 4
 R|a -1 success 1 -|S|@end 2| => 5
 R|a -1 success 1 -|S|b -1 success 1 -| => 5
-R|a 0 success 1 -|S|a -1 success 1 -|b -1 success 1 -| => 6"#;
+R|a 0 success 1 -|S|a -1 success 1 -|b -1 success 1 -| => 6
+R|a 0 success 1 -|@item 1| => 4
+R|a -1 success 1 -|@pull b -| => 4
+V|@item 1| => 3
+V|@pull b -| => 3
+V|a -1 success 1 -|@item 1| => 4
+V|a -1 skipped 0 -|@pull b -| => 4
+V|a -1 no_status 0 -|@pull b -| => 4
+V|a -1 upstream_failed 0 -|@item 1| => 4
+V|a 0 success 1 -|a 1 success 1 -| => 4
+V|a 0 success 1 -|b -1 success 1 -| => 4
+V|a 0 success 1 -|@pull b -| => 4
+V|a 0 success 1 -|S| => 4
+V|a 0 success 1 -|@end 1| => 4
+V|a 0 success 1 -|@item| => 4
+V|a 0 success 1 -|@item | => 4
+V|a 0 success 1 -|@item -| => 4
+V|a 0 success 1 -|@item [1, 2]| => 4
+V|a 0 success 1 -|@item 1.5| => 4
+V|a 0 success 1 -|@item 1|@item 1| => 5
+V|a 0 success 1 -|@item 1|@pull b -|@item 1| => 6
+V|a -1 success 1 -|@pull b| => 4
+V|a -1 success 1 -|@pull b | => 4
+V|a -1 success 1 -|@pull  1| => 4
+V|a -1 success 1 -|@pull b/ 1| => 4
+V|a -1 success 1 -|@pull b null| => 4
+V|a -1 success 1 -|@pull b 1.5| => 4
+V|a -1 success 1 -|@pull b 1 | => 4
+V|a -1 success 1 -|@pull b 1|@pull b 2| => 5
+V|a -1 success 1 -|@pull b 1|@pull c 2|@pull b -| => 6
+V|a -1 success 1 -|@pull b 1|S|@pull b 1| => 6"#;
 
-/// A text in which `R` stands for a head and a run, `S` for a later run, and a bar for a line feed.
+/// A text in which `R` stands for a head and a run, `V` for the same in version 2, `S` for a later run, and a bar for a
+/// line feed.
 fn spelled_out(alloc: Global, text: &str) -> Result<Vec<u8>, OutOfMemory> {
     let mut bytes = Vec::new(alloc);
     for byte in text.as_bytes() {
         let part: &[u8] = match byte {
             b'R' => b"@backfill 1 d\n@run 2024-01-01T00:00:00Z 2024-01-02T00:00:00Z success",
+            b'V' => b"@backfill 2 d\n@run 2024-01-01T00:00:00Z 2024-01-02T00:00:00Z success",
             b'|' => b"\n",
             b'S' => b"@run 2024-01-02T00:00:00Z 2024-01-03T00:00:00Z success",
             _ => std::slice::from_ref(byte),
@@ -90,11 +127,24 @@ fn fault_of(alloc: Global, bytes: &[u8]) -> Result<Option<ReportFault>, Fail> {
     Ok(read_report(alloc, &mut device).err())
 }
 
-/// The head and the run of a report, and a line of so many bytes.
-fn with_line(alloc: Global, len: usize, end: &[u8]) -> Result<Vec<u8>, OutOfMemory> {
-    let mut bytes = spelled_out(alloc, "R|")?;
-    bytes.extend_from_slice(vec![in alloc; b'a'; len]?.as_slice())?;
+/// What a text spells out, so many equal bytes, and an end.
+fn lengthened(
+    alloc: Global,
+    text: &str,
+    (byte, count): (u8, usize),
+    end: &[u8],
+) -> Result<Vec<u8>, OutOfMemory> {
+    let mut bytes = spelled_out(alloc, text)?;
+    bytes.extend_from_slice(vec![in alloc; byte; count]?.as_slice())?;
     bytes.extend_from_slice(end)?;
+    Ok(bytes)
+}
+
+/// An instance behind whose line a value stands that is a list so deep.
+fn with_deep(alloc: Global, text: &str, depth: usize) -> Result<Vec<u8>, OutOfMemory> {
+    let mut bytes = lengthened(alloc, text, (b'[', depth), b"")?;
+    bytes.extend_from_slice(vec![in alloc; b']'; depth]?.as_slice())?;
+    bytes.extend_from_slice(b"\n")?;
     Ok(bytes)
 }
 
@@ -127,9 +177,11 @@ fn a_line_ends_with_a_line_feed_alone(rt: HostRuntime) -> Result<(), Fail> {
 
 #[test]
 fn each_beginning_is_truncated(rt: HostRuntime) -> Result<(), Fail> {
-    for length in 0..FULL.len() {
-        let fault = fault_of(rt.alloc(), &FULL.as_bytes()[..length])?;
-        assert_eq!(rt; fault, Some(ReportFault::Truncated));
+    for text in [FULL, TWO] {
+        for length in 0..text.len() {
+            let fault = fault_of(rt.alloc(), &text.as_bytes()[..length])?;
+            assert_eq!(rt; fault, Some(ReportFault::Truncated));
+        }
     }
     Ok(())
 }
@@ -156,8 +208,81 @@ fn a_line_has_66000_bytes_at_most(rt: HostRuntime) -> Result<(), Fail> {
         (66_001, b"", ReportFault::TooLong(3)),
     ];
     for (length, end, fault) in lines {
-        let bytes = with_line(rt.alloc(), length, end)?;
+        let bytes = lengthened(rt.alloc(), "R|", (b'a', length), end)?;
         assert_eq!(rt; fault_of(rt.alloc(), &bytes)?, Some(fault));
     }
+    Ok(())
+}
+
+#[test]
+fn the_line_of_a_pull_may_be_longer(rt: HostRuntime) -> Result<(), Fail> {
+    let lines: [(&str, ReportFault); 4] = [
+        ("R|@pull ", ReportFault::BadLine(3)),
+        ("V|@pull ", ReportFault::BadLine(3)),
+        ("V|@item ", ReportFault::TooLong(3)),
+        ("V|@pulla", ReportFault::TooLong(3)),
+    ];
+    for (text, fault) in lines {
+        let bytes = lengthened(rt.alloc(), text, (b'a', 66_001), b"\n")?;
+        assert_eq!(rt; fault_of(rt.alloc(), &bytes)?, Some(fault), "{text}");
+    }
+    Ok(())
+}
+
+/// An instance with an item, and one that may pull.
+const ITEM: &str = "V|a 0 success 1 -|@item ";
+
+const PULL: &str = "V|a -1 success 1 -|@pull b ";
+
+#[test]
+fn items_and_pulled_values_have_limits(rt: HostRuntime) -> Result<(), Fail> {
+    let alloc = rt.alloc();
+    let (read, bad) = (Some(ReportFault::Truncated), Some(ReportFault::BadLine(4)));
+    for (text, depth, fault) in [
+        (ITEM, 64, read),
+        (ITEM, 65, bad),
+        (PULL, 65, read),
+        (PULL, 66, bad),
+    ] {
+        let bytes = with_deep(alloc, text, depth)?;
+        assert_eq!(rt; fault_of(alloc, &bytes)?, fault, "{text}");
+    }
+    for (text, count, fault) in [
+        ("V|a 0 success 1 -|@item \"", 65_534, read),
+        ("V|a 0 success 1 -|@item \"", 65_535, bad),
+        ("V|a -1 success 1 -|@pull b \"", 70_000, read),
+    ] {
+        let bytes = lengthened(alloc, text, (b'a', count), b"\"\n")?;
+        assert_eq!(rt; fault_of(alloc, &bytes)?, fault, "{text}");
+    }
+    Ok(())
+}
+
+#[test]
+fn an_instance_has_16_pulls_at_most(rt: HostRuntime) -> Result<(), Fail> {
+    let mut bytes = spelled_out(rt.alloc(), "V|a -1 success 1 -|")?;
+    for letter in b'a'..b'q' {
+        bytes.extend_from_slice(b"@pull ")?;
+        bytes.extend_from_slice(&[letter])?;
+        bytes.extend_from_slice(b" 1\n")?;
+    }
+    assert_eq!(rt; fault_of(rt.alloc(), &bytes)?, Some(ReportFault::Truncated));
+    bytes.extend_from_slice(b"@pull q 1\n")?;
+    assert_eq!(rt;
+        fault_of(rt.alloc(), &bytes)?,
+        Some(ReportFault::BadLine(20))
+    );
+    Ok(())
+}
+
+#[test]
+fn each_instance_of_an_expanded_task_has_its_item(rt: HostRuntime) -> Result<(), Fail> {
+    let (before, behind) = TWO.split_once("@item 1\n").ok_or("it has that line")?;
+    let mut bytes = before.as_bytes().to_vec(rt.alloc())?;
+    bytes.extend_from_slice(behind.as_bytes())?;
+    assert_eq!(rt;
+        fault_of(rt.alloc(), &bytes)?,
+        Some(ReportFault::BadLine(7))
+    );
     Ok(())
 }

@@ -35,6 +35,42 @@ pub const FULL: &str = "@backfill 1 full-graph_1.0\n\
     last -1 success 1 -\n\
     @end 3\n";
 
+/// A report of version 2: a list, an instance for each of its items, and what was pulled from these.
+pub const TWO: &str = "@backfill 2 d\n\
+    @run 2024-01-01T00:00:00Z 2024-01-02T00:00:00Z success\n\
+    src -1 success 1 [3,1,2]\n\
+    m 0 success 1 3\n\
+    @item 3\n\
+    m 1 success 1 -\n\
+    @item 1\n\
+    m 2 success 1 2\n\
+    @item 2\n\
+    sum -1 success 1 [3,2]\n\
+    @pull m [3,2]\n\
+    @end 1\n";
+
+/// Two runs in version 2, with items and pulls of every kind, and tasks that have neither.
+const GIVEN: &str = "@backfill 2 d\n\
+    @run 2024-01-01T00:00:00Z 2024-01-02T00:00:00Z failed\n\
+    src -1 success 1 [null,\"-\",[]]\n\
+    m 0 failed 3 -\n\
+    @item null\n\
+    @pull src [null,\"-\",[]]\n\
+    @pull gone -\n\
+    m 1 success 1 true\n\
+    @item \"-\"\n\
+    @pull src [null,\"-\",[]]\n\
+    m 2 skipped 1 -\n\
+    @item []\n\
+    last -1 upstream_failed 0 -\n\
+    @run 2024-01-02T00:00:00Z 2024-01-03T00:00:00Z success\n\
+    src -1 skipped 0 -\n\
+    m -1 no_status 0 -\n\
+    last -1 success 2 -\n\
+    @pull m \"-\"\n\
+    @pull src 0\n\
+    @end 2\n";
+
 /// Reads a report and writes it again.
 fn written_again(alloc: Global, text: &str) -> Result<Vec<u8>, Fail> {
     let mut device = Bytes::new(text.as_bytes().to_vec(alloc)?);
@@ -46,7 +82,14 @@ fn written_again(alloc: Global, text: &str) -> Result<Vec<u8>, Fail> {
 
 #[test]
 fn reports_come_back(rt: HostRuntime) -> Result<(), Fail> {
-    for text in [ONE, FULL, "@backfill 1 d\n@end 0\n"] {
+    for text in [
+        ONE,
+        FULL,
+        TWO,
+        GIVEN,
+        "@backfill 1 d\n@end 0\n",
+        "@backfill 2 d\n@end 0\n",
+    ] {
         assert_eq!(rt;
             written_again(rt.alloc(), text)?.as_slice(),
             text.as_bytes()

@@ -13,7 +13,7 @@ invariant-loop-beginning g l =
     × ReadsOn (ahead l.fn.lines.held (g.R.Read.left l.fn.device)) (ahead l.lines.held (g.R.Read.left l.device)) (opening_text (so_far l.fn.beginning)) (opening_text (so_far l.beginning))
     × Tallies l.fn.lines.held.interruptions (g.R.Read.interruptions l.fn.device) (g.R.Read.failures l.fn.device) l.lines.held.interruptions (g.R.Read.interruptions l.device) (g.R.Read.failures l.device)
     × (l.lines.number ≡ lines_in (opening_text (so_far l.beginning)))
-    × (l.lines.number + room l.beginning ≤ 29_000_000_000)
+    × (l.lines.number + room l.beginning ≤ 299_000_000_000)
 
 abbrev pub decreases-loop-beginning : goal.decreases-loop-beginning
 decreases-loop-beginning g l = room l.beginning

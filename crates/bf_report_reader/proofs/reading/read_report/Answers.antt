@@ -3,7 +3,7 @@ use Rattle.std.proofs.lemmas.Result.{err_from_is_err_and}
 use Rattle.bf_report.specs.Report.{report_text}
 use Rattle.bf_report_reader.specs.Held.{IsTallied}
 use Rattle.bf_report_reader.specs.Beginning.{so_far, opening_text}
-use Rattle.bf_report_reader.specs.Extensions.{SaysDag, IsKnown}
+use Rattle.bf_report_reader.specs.Extensions.{SaysHead, IsKnown}
 use Rattle.bf_report_reader.specs.Faults.{lines_in}
 use Rattle.bf_report_reader.proofs.LineFacts.{one_line_more, tells_on, first_read, first_stops, first_told, reads_twice, more_tells, some_byte, ends_there}
 use Rattle.bf_report_reader.proofs.StepFacts.{head_opens}
@@ -23,7 +23,7 @@ returns-in_err-read-clause-reads g c = reads_if_err (g.R.Read.left c.args.device
 pub returns-in_default-clause-err : goal.returns-in_default-clause-err
 returns-in_default-clause-err g c =
     first_told (g.R.Read.left c.args.device.now) _ _ c.read.new.self.line.items c.in_ok-lines.ensures.0 c.in_ok-read.ensures.line c.in_ok-read.ensures.in_line c.in_ok-read.ensures.short
-    (λ id says. c.in_default.not-Some id (c.in_ok-dag_id.ensures.every id (subst (λ l. SaysDag l id) (sym c.as_slice.ensures.value) says)))
+    (λ head says. c.in_default.not-Some head (c.in_ok-version.ensures.every head (subst (λ l. SaysHead l head) (sym c.as_slice.ensures.value) says)))
 
 pub returns-in_default-clause-reads : goal.returns-in_default-clause-reads
 returns-in_default-clause-reads g c = reads_whole (g.R.Read.left c.args.device.now) _ (returns-in_default-clause-err g c)
@@ -32,20 +32,20 @@ returns-in_default-clause-reads g c = reads_whole (g.R.Read.left c.args.device.n
 
 pub read_lines-requires-clause-place : goal.read_lines-requires-clause-place
 read_lines-requires-clause-place g c =
-    let said = rw c.in-Some.is at c.in_ok-dag_id.ensures.some in
-    let opens = head_opens c.new-beginning.result _ c.as_slice.result.now c.new-beginning.ensures said.1 in
+    let said = rw c.in-Some.is at c.in_ok-version.ensures.some in
+    let opens = head_opens c.new-beginning.result (c.in-Some.version, c.in-Some.dag_id) c.as_slice.result.now c.new-beginning.ensures said.1 in
     ap lines_in (opens ∙ ap (λ l. l ++ 10 ∷ []) c.as_slice.ensures.value) ∙ one_line_more [] c.read.new.self.line.items c.in_ok-read.ensures.in_line
 
 pub read_lines-requires-clause-known : goal.read_lines-requires-clause-known
 read_lines-requires-clause-known g c =
-    let said = rw c.in-Some.is at c.in_ok-dag_id.ensures.some in
-    subst IsKnown (sym c.new-beginning.ensures) (known_start c.in-Some.dag_id said.0)
+    let said = rw c.in-Some.is at c.in_ok-version.ensures.some in
+    subst IsKnown (sym c.new-beginning.ensures) (known_start (c.in-Some.version, c.in-Some.dag_id) said.0)
 
 pub returns-in_err-read_lines-clause-err : goal.returns-in_err-read_lines-clause-err
 returns-in_err-read_lines-clause-err g c =
     let p = err_from_is_err_and c.from_residual-in_err-read_lines.result c.from_residual-in_err-read_lines.ensures.1 in
-    let said = rw c.in-Some.is at c.in_ok-dag_id.ensures.some in
-    let opens = head_opens c.new-beginning.result _ c.as_slice.result.now c.new-beginning.ensures said.1 ∙ ap (λ l. l ++ 10 ∷ []) c.as_slice.ensures.value in
+    let said = rw c.in-Some.is at c.in_ok-version.ensures.some in
+    let opens = head_opens c.new-beginning.result (c.in-Some.version, c.in-Some.dag_id) c.as_slice.result.now c.new-beginning.ensures said.1 ∙ ap (λ l. l ++ 10 ∷ []) c.as_slice.ensures.value in
     let on = first_read (g.R.Read.left c.args.device.now) _ _ (c.read.new.self.line.items ++ 10 ∷ []) (opening_text (so_far c.new-beginning.result)) c.in_ok-lines.ensures.0 c.in_ok-read.ensures.line opens in
     rw (p.1, p.2) (tells_on (g.R.Read.left c.args.device.now) _ [] (opening_text (so_far c.new-beginning.result)) c.in_err-read_lines.field-0.0 on c.in_err-read_lines.ensures.tells)
 
@@ -64,8 +64,8 @@ returns-in_err-next_byte-clause-io g c =
 
 pub returns-then-is_some-clause-err : goal.returns-then-is_some-clause-err
 returns-then-is_some-clause-err g c =
-    let said = rw c.in-Some.is at c.in_ok-dag_id.ensures.some in
-    let opens = head_opens c.new-beginning.result _ c.as_slice.result.now c.new-beginning.ensures said.1 ∙ ap (λ l. l ++ 10 ∷ []) c.as_slice.ensures.value in
+    let said = rw c.in-Some.is at c.in_ok-version.ensures.some in
+    let opens = head_opens c.new-beginning.result (c.in-Some.version, c.in-Some.dag_id) c.as_slice.result.now c.new-beginning.ensures said.1 ∙ ap (λ l. l ++ 10 ∷ []) c.as_slice.ensures.value in
     let on = first_read (g.R.Read.left c.args.device.now) _ _ (c.read.new.self.line.items ++ 10 ∷ []) (opening_text (so_far c.new-beginning.result)) c.in_ok-lines.ensures.0 c.in_ok-read.ensures.line opens in
     let all = reads_twice (g.R.Read.left c.args.device.now) _ _ [] (opening_text (so_far c.new-beginning.result)) (report_text (so_far c.read_lines.new.beginning)) on c.in_ok-read_lines.ensures.ok in
     let there : is_some c.in_ok-next_byte.field-0 ≡ true = search (rules, c.is_some.ensures, c.if-is_some.true) in
@@ -77,8 +77,8 @@ returns-then-is_some-clause-reads g c = reads_whole (g.R.Read.left c.args.device
 
 pub returns-clause-ok : goal.returns-clause-ok
 returns-clause-ok g c =
-    let said = rw c.in-Some.is at c.in_ok-dag_id.ensures.some in
-    let opens = head_opens c.new-beginning.result _ c.as_slice.result.now c.new-beginning.ensures said.1 ∙ ap (λ l. l ++ 10 ∷ []) c.as_slice.ensures.value in
+    let said = rw c.in-Some.is at c.in_ok-version.ensures.some in
+    let opens = head_opens c.new-beginning.result (c.in-Some.version, c.in-Some.dag_id) c.as_slice.result.now c.new-beginning.ensures said.1 ∙ ap (λ l. l ++ 10 ∷ []) c.as_slice.ensures.value in
     let on = first_read (g.R.Read.left c.args.device.now) _ _ (c.read.new.self.line.items ++ 10 ∷ []) (opening_text (so_far c.new-beginning.result)) c.in_ok-lines.ensures.0 c.in_ok-read.ensures.line opens in
     let all = reads_twice (g.R.Read.left c.args.device.now) _ _ [] (opening_text (so_far c.new-beginning.result)) (report_text (so_far c.read_lines.new.beginning)) on c.in_ok-read_lines.ensures.ok in
     let none : is_some c.in_ok-next_byte.field-0 ≡ false = search (rules, c.is_some.ensures, c.if-is_some.false) in

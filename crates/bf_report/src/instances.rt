@@ -1,0 +1,121 @@
+//! The reports of instances.
+ghost use Rattle.std.specs.Prelude.{◌≡◌, ◌<◌, All, length, IfOk, IfSome};
+ghost use Rattle.std.specs.List.{filter_map};
+ghost use Rattle.bf_check.specs.Plans.{task_of};
+ghost use Rattle.bf_check.specs.Sound.{IsSound};
+ghost use Rattle.bf_report.specs.Dated.{pulls_of as pulls_in, reported_instance};
+ghost use Rattle.bf_report.specs.Values.{IsSoundValue, IsSoundOutcome, AreSoundPulls, IsSoundInstance, AreSoundInstances};
+
+use crate::report::{InstanceReport, Pull};
+use bf_check::Dag;
+use bf_core::{Instance, Phase};
+use bf_value::{OutOfMemory, Sequence, Xval};
+use bf_xcom::{Outcome, TaskResult};
+use std::alloc::Global;
+
+/// What a pushed value's numbers and texts are is known to their types.
+fn known(outcome: &Outcome)
+    ensures { IsSoundOutcome outcome.now }
+{
+    if let Outcome::Success(Some(value)) = outcome {
+        value.known();
+    }
+}
+
+/// The result of an instance that finished so at a try.
+fn result_of(alloc: Global, outcome: &Outcome, tries: u32) -> Result<TaskResult, OutOfMemory>
+    ensures result { IfOk result (λ r. r ≡ record { outcome = outcome.now; tries = tries }) }
+    ensures sound { IfOk result (λ r. IsSoundOutcome r.outcome) }
+{
+    known(outcome);
+    Ok(TaskResult {
+        outcome: outcome.copy(alloc)?,
+        tries,
+    })
+}
+
+fn copy_of(alloc: Global, value: &Option<Xval>) -> Result<Option<Xval>, OutOfMemory>
+    ensures value { IfOk result (λ v. v ≡ value.now) }
+    ensures sound { IfOk result IsSoundValue }
+{
+    match value {
+        Some(value) => {
+            value.known();
+            Ok(Some(value.copy(alloc)?))
+        }
+        None => Ok(None),
+    }
+}
+
+fn pull_of(alloc: Global, dag: &Dag, task: u32, value: &Option<Xval>) -> Result<Pull, OutOfMemory>
+    requires { task < length dag.now.tasks }
+    ensures pull { IfOk result (λ pull. pull ≡ record { task = (task_of dag.now task).id; value = value.now }) }
+    ensures sound { IfOk result (λ pull. IsSoundValue pull.value) }
+{
+    Ok(Pull {
+        task: dag.task(task).id.copy(alloc)?,
+        value: copy_of(alloc, value)?,
+    })
+}
+
+/// What came of the pulls from these tasks.
+fn pulls_of(
+    alloc: Global,
+    dag: &Dag,
+    tasks: &[u32],
+    values: &[Option<Xval>],
+) -> Result<Sequence<Pull>, OutOfMemory>
+    requires { All (λ task. task < length dag.now.tasks) tasks.now }
+    ensures pulls { IfOk result (λ pulls. pulls ≡ pulls_in dag.now tasks.now values.now) }
+    ensures sound { IfOk result AreSoundPulls }
+{
+    let mut pulls = Vec::with_capacity(alloc, tasks.len())?;
+    for (task, value) in tasks.iter().zip(values) {
+        pulls.push(pull_of(alloc, dag, *task, value)?)?;
+    }
+    Ok(Sequence::from_vec(pulls))
+}
+
+/// The report of an instance, where it has finished.
+fn instance_report(
+    alloc: Global,
+    dag: &Dag,
+    task: u32,
+    instance: &Instance,
+) -> Result<Option<InstanceReport>, OutOfMemory>
+    requires dag { IsSound dag.now }
+    requires task { task < length dag.now.tasks }
+    ensures report { IfOk result (λ o. o ≡ reported_instance dag.now task instance.now) }
+    ensures sound { IfOk result (λ o. IfSome o IsSoundInstance) }
+{
+    let Phase::Finished(outcome) = &instance.phase else {
+        return Ok(None);
+    };
+    let (tasks, given) = (dag.task(task).pulls.as_slice(), &instance.given);
+    Ok(Some(InstanceReport {
+        result: result_of(alloc, outcome, instance.attempt)?,
+        item: copy_of(alloc, &given.item)?,
+        pulls: pulls_of(alloc, dag, tasks, given.pulled.as_slice())?,
+    }))
+}
+
+/// The reports of the instances that have finished.
+pub(crate) fn instance_reports(
+    alloc: Global,
+    dag: &Dag,
+    task: u32,
+    instances: &[Instance],
+) -> Result<Vec<InstanceReport>, OutOfMemory>
+    requires dag { IsSound dag.now }
+    requires task { task < length dag.now.tasks }
+    ensures reports { IfOk result (λ found. found.items ≡ filter_map (reported_instance dag.now task) instances.now) }
+    ensures sound { IfOk result (λ found. AreSoundInstances found.items) }
+{
+    let mut found = Vec::with_capacity(alloc, instances.len())?;
+    for instance in instances {
+        if let Some(report) = instance_report(alloc, dag, task, instance)? {
+            found.push(report)?;
+        }
+    }
+    Ok(found)
+}

@@ -1,0 +1,101 @@
+//! What the lines behind that of an instance tell of what its tries were given.
+ghost use Rattle.std.specs.Prelude.{◌≡◌, ◌++◌, ◌∷◌, IfOk, IfSome, codes};
+ghost use Rattle.bf_value.specs.Json.{text_of as text_by};
+ghost use Rattle.bf_report.specs.Report.{pulled_word};
+ghost use Rattle.bf_report_reader.specs.Reads.{Spells, Finds};
+ghost use Rattle.bf_report_reader.specs.Parts.{IsToldValue, IsToldItem, IsToldPulled, IsToldPull, pull_words};
+
+use crate::field::split_field;
+use crate::value::LONGEST_VALUE;
+use bf_read::is_id;
+use bf_report::Pull;
+use bf_value::{OutOfMemory, Text, Xval, read_text, text_of};
+use std::alloc::Global;
+
+/// A part of what the tries of an instance were given, which has a line of its own.
+#[derive(Drop)]
+pub(crate) enum GivenPart {
+    Item(Xval),
+    Pull(Pull),
+}
+
+/// How deep the lists of an item may nest, as those of a pushed value.
+const DEEPEST_ITEM: usize = 64;
+
+/// How deep the lists of a pulled value may nest: it may be the list of what an expanded task's instances pushed.
+const DEEPEST_PULLED: usize = 65;
+
+/// How many bytes the text of a pulled value may have: that of 1,024 pushed values, the commas and the brackets.
+const LONGEST_PULLED: usize = 67_109_889;
+
+/// The value that has this compact JSON text, of at most so many bytes and with lists at most so deep.
+fn told_in(
+    alloc: Global,
+    text: &[u8],
+    deepest: usize,
+    longest: usize,
+) -> Result<Option<Xval>, OutOfMemory>
+    ensures some { IfOk result (λ o. IfSome o
+        (Spells (IsToldValue deepest longest) text_by text.now)) }
+    ensures every { IfOk result (Finds (Spells (IsToldValue deepest longest) text_by text.now)) }
+{
+    if text.len() > longest {
+        return Ok(None);
+    }
+    let Ok(json) = std::str::from_utf8(text) else {
+        return Ok(None);
+    };
+    let Some(value) = read_text(alloc, json, deepest)? else {
+        return Ok(None);
+    };
+    if text_of(alloc, &value)?.as_bytes() == text {
+        Ok(Some(value))
+    } else {
+        Ok(None)
+    }
+}
+
+/// The item that a line tells.
+pub(crate) fn item_in(alloc: Global, text: &[u8]) -> Result<Option<Xval>, OutOfMemory>
+    ensures some { IfOk result (λ o. IfSome o (Spells IsToldItem text_by text.now)) }
+    ensures every { IfOk result (Finds (Spells IsToldItem text_by text.now)) }
+{
+    told_in(alloc, text, DEEPEST_ITEM, LONGEST_VALUE)
+}
+
+/// What was pulled, a value or nothing.
+fn pulled_in(alloc: Global, text: &[u8]) -> Result<Option<Option<Xval>>, OutOfMemory>
+    ensures some { IfOk result (λ o. IfSome o (Spells IsToldPulled pulled_word text.now)) }
+    ensures every { IfOk result (Finds (Spells IsToldPulled pulled_word text.now)) }
+{
+    if text == b"-".as_slice() {
+        return Ok(Some(None));
+    }
+    match told_in(alloc, text, DEEPEST_PULLED, LONGEST_PULLED)? {
+        None | Some(Xval::Nil) => Ok(None),
+        Some(value) => Ok(Some(Some(value))),
+    }
+}
+
+/// The pull that a line tells.
+pub(crate) fn pull_in(alloc: Global, text: &[u8]) -> Result<Option<Pull>, OutOfMemory>
+    ensures some { IfOk result (λ o. IfSome o (Spells IsToldPull pull_words text.now)) }
+    ensures every { IfOk result (Finds (Spells IsToldPull pull_words text.now)) }
+{
+    let Some((id, value)) = split_field(text) else {
+        return Ok(None);
+    };
+    let Ok(id) = std::str::from_utf8(id) else {
+        return Ok(None);
+    };
+    if !is_id(id) {
+        return Ok(None);
+    }
+    match pulled_in(alloc, value)? {
+        Some(value) => Ok(Some(Pull {
+            task: Text::copied(alloc, id)?,
+            value,
+        })),
+        None => Ok(None),
+    }
+}
