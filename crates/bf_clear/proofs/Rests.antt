@@ -1,0 +1,40 @@
+-- What isn't cleared rests on what isn't cleared alone.
+use Rattle.std.proofs.Common.{◌≡◌, ℕ, List, Option, None, Some, length, refl, sym, ◌∙◌}
+use Rattle.bf_interval.specs.declared.interval.Interval.{Interval}
+use Rattle.bf_core.specs.Terms.{Dag, Entry, JobName, Ledger, IsSound, name_of, AreAlike}
+use Rattle.bf_core.specs.Agreement.{HoldsItsTries}
+use Rattle.bf_core.proofs.Confluence.{IsClosed, AreAlikeAt, entries-same}
+use Rattle.bf_report.specs.declared.report.Report.{Report}
+use Rattle.bf_report.specs.Dated.{IsDated}
+use Rattle.bf_kept.specs.Kept.{AreFit}
+use Rattle.bf_dependents.specs.declared.place.Place.{Place}
+use Rattle.bf_dependents.specs.Dependents.{IsBeside, IsDependent}
+use Rattle.bf_clear.specs.Keeping.{AreKept}
+use Rattle.bf_clear.proofs.Told.{told-is}
+
+beside-closed : (dag : Dag) (seeds : List Place) → IsClosed dag (λ k t. ¬ (IsDependent dag seeds k t))
+beside-closed dag seeds = record {
+  up = λ k t u kept h d. kept (IsDependent.Downstream h d);
+  back = λ k t kept h d. kept (IsDependent.NextRun h d);
+}
+
+module _ (dag : Dag) (intervals : List Interval) (seeds : List Place) (was kept : Ledger) (report : Report) (holds : HoldsItsTries dag (length intervals) was) (fit : AreFit dag was)
+    (is : IsDated dag intervals was report) (are : AreKept dag seeds report kept) where
+  -- what isn't cleared is kept as it was
+  same-beside : (n : JobName) → IsBeside dag seeds n → kept n ≡ was n
+  same-beside n beside = go (was n) refl (kept n) refl
+    where
+      go : (a : Option Entry) → was n ≡ a → (b : Option Entry) → kept n ≡ b → kept n ≡ was n
+      go (Some e) h b f = (are n e).1 (told-is dag intervals was holds report is n ∙ h, beside, fit n e h) ∙ sym h
+      go None h None f = f ∙ sym h
+      go None h (Some e) f = let both : ◌≡◌ {A = Option Entry} None (Some e) = sym h ∙ (sym (told-is dag intervals was holds report is n) ∙ ((are n e).0 f).0) in cc
+
+  rest-alike : (resumed : Ledger) → AreAlike kept resumed → (k t : ℕ) → ¬ (IsDependent dag seeds k t) → AreAlikeAt dag was resumed k t
+  unfolding name_of
+  rest-alike resumed alike k t beside i a d e first second given =
+      alike (name_of dag k t i a) d e (same-beside (name_of dag k t i a) beside ∙ first) second given
+
+pub rest-kept : (dag : Dag) → IsSound dag → (intervals : List Interval) (seeds : List Place) (was kept resumed : Ledger) (report : Report) → HoldsItsTries dag (length intervals) was → AreFit dag was →
+    IsDated dag intervals was report → AreKept dag seeds report kept → HoldsItsTries dag (length intervals) resumed → AreAlike kept resumed → (n : JobName) → IsBeside dag seeds n → resumed n ≡ was n
+rest-kept dag sound intervals seeds was kept resumed report holds fit is are also alike n beside =
+    sym (entries-same dag sound (length intervals) was resumed (λ k t. ¬ (IsDependent dag seeds k t)) (beside-closed dag seeds) (rest-alike dag intervals seeds was kept report holds fit is are resumed alike) holds also n beside)

@@ -1,0 +1,76 @@
+-- What stands in a report of a plan is of tasks and runs that are there.
+use Rattle.std.proofs.Common.{◌≡◌, ℕ, zero, suc, ◌<◌, ◌==◌, ◌||◌, Bool, true, false, if◌then◌else◌, List, [], ◌∷◌, length, Option, None, Some, slice_get, refl, sym, ap, ◌∙◌, arith}
+use Rattle.std.specs.List.{list_all, list_any, zip}
+use Rattle.std.specs.Option.{option_and_then}
+use Rattle.std.specs.Str.{bytes_eq}
+use Rattle.std.proofs.lemmas.Bool.{and_parts, eqb-true}
+use Rattle.std.proofs.lemmas.Option.{slice_get_within}
+use Rattle.bf_interval.specs.declared.interval.Interval.{Interval}
+use Rattle.bf_core.specs.Terms.{Dag}
+use Rattle.bf_report.specs.declared.report.Version.{Version}
+use Rattle.bf_report.specs.declared.report.RunReport.{RunReport}
+use Rattle.bf_report.specs.declared.report.TaskReport.{TaskReport}
+use Rattle.bf_report.specs.declared.report.Report.{Report}
+use Rattle.bf_dependents.specs.declared.fault.ClearFault.{ClearFault}
+use Rattle.bf_dependents.specs.declared.seeds.Seed.{Seed}
+use Rattle.bf_dependents.specs.Seeds.{is_unknown_run, is_unknown_task, seed_fault}
+use Rattle.bf_clear.specs.Entries.{instance_at, IsWithin}
+use Rattle.bf_clear.specs.Matching.{are_ids_of, are_runs_of, are_tasks_of, clear_fault, fault_after, is_report_of, is_run_of, is_same_interval, refusal}
+
+-- each run that is told of is of the plan
+each-run : (v : Version) (dag : Dag) (runs : List RunReport) (intervals : List Interval) → length runs ≡ length intervals → list_all (λ p. is_run_of v dag p.0 p.1) (zip runs intervals) ≡ true →
+    (k : ℕ) (run : RunReport) → slice_get runs k ≡ Some run → length run.tasks ≡ length dag.tasks
+each-run v dag [] intervals len all k run e = cc
+each-run v dag (r ∷ rs) [] len all k run e = absurd (omega (arith, len))
+each-run v dag (r ∷ rs) (i ∷ is) len all zero run e =
+    let same : r ≡ run = cc in
+    let first : _ = and_parts (is_run_of v dag r i) (list_all (λ p. is_run_of v dag p.0 p.1) (zip rs is)) all in
+    let tasks : _ = and_parts (is_same_interval r.interval i) (are_tasks_of v dag r.tasks) first.0 in
+    let count : _ = and_parts (length r.tasks == length dag.tasks) _ tasks.1 in
+    ap (λ (r : RunReport). length r.tasks) (sym same) ∙ eqb-true (length r.tasks) (length dag.tasks) count.0
+each-run v dag (r ∷ rs) (i ∷ is) len all (suc k) run e =
+    let rest : _ = and_parts (is_run_of v dag r i) (list_all (λ p. is_run_of v dag p.0 p.1) (zip rs is)) all in
+    each-run v dag rs is (omega (arith, len)) rest.1 k run e
+
+pub matches-within : (dag : Dag) (intervals : List Interval) (report : Report) → is_report_of dag intervals report ≡ true → IsWithin dag (length intervals) report
+unfolding is_report_of
+matches-within dag intervals report is k t index x e = at (slice_get report.runs k) refl e
+  where
+    runs : are_runs_of report.version dag report.runs intervals ≡ true
+    runs = (and_parts (length intervals == 0 || are_ids_of report.tasks dag.tasks) _ (and_parts (bytes_eq report.dag_id dag.id) _ is).1).1
+
+    parts : ((length report.runs == length intervals) ≡ true) × (list_all (λ p. is_run_of report.version dag p.0 p.1) (zip report.runs intervals) ≡ true)
+    parts = and_parts (length report.runs == length intervals) (list_all (λ p. is_run_of report.version dag p.0 p.1) (zip report.runs intervals)) runs
+
+    len : length report.runs ≡ length intervals
+    len = eqb-true (length report.runs) (length intervals) parts.0
+
+    in-run : (run : RunReport) → slice_get report.runs k ≡ Some run → (task : Option TaskReport) → slice_get run.tasks t ≡ task → option_and_then (λ x. instance_at x index) task ≡ Some x → (k < length intervals) × (t < length dag.tasks)
+    in-run run there None h f = cc
+    in-run run there (Some task) h f =
+        let low : k < length report.runs = slice_get_within report.runs k run there in
+        let below : t < length run.tasks = slice_get_within run.tasks t task h in
+        let size : length run.tasks ≡ length dag.tasks = each-run report.version dag report.runs intervals len parts.1 k run there in
+        (omega (arith, low, len), omega (arith, below, size))
+
+    at : (o : Option RunReport) → slice_get report.runs k ≡ o → option_and_then (λ x. instance_at x index) (option_and_then (λ run. slice_get run.tasks t) o) ≡ Some x → (k < length intervals) × (t < length dag.tasks)
+    at None h f = cc
+    at (Some run) h f = in-run run h (slice_get run.tasks t) refl f
+
+-- ---- refusals
+
+-- the seeds are never refused for want of memory, nor for the report
+pub seeds-refused : (dag : Dag) (intervals : List Interval) (report : Report) (seeds : List Seed) (fault : ClearFault) → seed_fault dag intervals seeds ≡ Some fault → clear_fault dag intervals report seeds ≡ refusal fault
+seeds-refused dag intervals report seeds fault e = ap (λ o. fault_after o (is_report_of dag intervals report)) e ∙ go (list_any (is_unknown_task dag) seeds) (list_any (is_unknown_run intervals) seeds) fault e
+  where
+    go : (a b : Bool) (f : ClearFault) → (if a then Some ClearFault.UnknownTask else (if b then Some ClearFault.UnknownRun else None)) ≡ Some f → Some f ≡ refusal f
+    go true b f h = let same : ClearFault.UnknownTask ≡ f = cc in ap (λ f. Some f) (sym same) ∙ ap refusal same
+    go false true f h = let same : ClearFault.UnknownRun ≡ f = cc in ap (λ f. Some f) (sym same) ∙ ap refusal same
+    go false false f h = cc
+
+pub clear-of : (dag : Dag) (intervals : List Interval) (report : Report) (seeds : List Seed) → seed_fault dag intervals seeds ≡ None → is_report_of dag intervals report ≡ true → clear_fault dag intervals report seeds ≡ None
+clear-of dag intervals report seeds none is = ap (λ o. fault_after o (is_report_of dag intervals report)) none ∙ ap (fault_after None) is
+
+pub mismatch-of : (dag : Dag) (intervals : List Interval) (report : Report) (seeds : List Seed) → seed_fault dag intervals seeds ≡ None → is_report_of dag intervals report ≡ false →
+    clear_fault dag intervals report seeds ≡ Some ClearFault.ReportMismatch
+mismatch-of dag intervals report seeds none is = ap (λ o. fault_after o (is_report_of dag intervals report)) none ∙ ap (fault_after None) is

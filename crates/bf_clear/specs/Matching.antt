@@ -1,0 +1,78 @@
+-- Whether a report is one of a plan over data intervals, and the refusals of clearing.
+use Rattle.std.specs.Prelude.{ℕ, ◌==◌, ◌&&◌, ◌||◌, Bool, true, false, List, length, Option, Some, None, slice_get}
+use Rattle.std.specs.List.{list_all, zip}
+use Rattle.std.specs.Ordering.{int_eq}
+use Rattle.std.specs.Str.{bytes_eq}
+use Rattle.bf_interval.specs.declared.interval.Interval.{Interval}
+use Rattle.bf_check.specs.declared.plan.Task.{Task}
+use Rattle.bf_check.specs.declared.plan.Dag.{Dag}
+use Rattle.bf_report.specs.declared.report.Version.{Version}
+use Rattle.bf_report.specs.declared.report.Pull.{Pull}
+use Rattle.bf_report.specs.declared.report.InstanceReport.{InstanceReport}
+use Rattle.bf_report.specs.declared.report.TaskReport.{TaskReport}
+use Rattle.bf_report.specs.declared.report.RunReport.{RunReport}
+use Rattle.bf_report.specs.declared.report.Report.{Report}
+use Rattle.bf_dependents.specs.declared.fault.ClearFault.{ClearFault}
+use Rattle.bf_dependents.specs.declared.seeds.Seed.{Seed}
+use Rattle.bf_dependents.specs.Seeds.{seed_fault}
+
+-- it is the id of the task, where there is one
+abbrev pub has_id : Option Task → List ℕ → Bool
+has_id None id = false
+has_id (Some task) id = bytes_eq id task.id
+
+-- the ids of the tasks, in file order
+abbrev pub are_ids_of : List (List ℕ) → List Task → Bool
+are_ids_of ids tasks = (length ids == length tasks) && list_all (λ p. has_id (Some p.1) p.0) (zip ids tasks)
+
+-- a pull from the task
+abbrev pub is_pull_of : Dag → Pull → ℕ → Bool
+is_pull_of dag pull source = has_id (slice_get dag.tasks source) pull.task
+
+-- the instance pulled from what the task pulls from, in order
+abbrev pub has_pulls_of : Dag → Task → InstanceReport → Bool
+has_pulls_of dag task x = (length x.pulls == length task.pulls) && list_all (λ p. is_pull_of dag p.0 p.1) (zip x.pulls task.pulls)
+
+-- so it is in version 2 with each instance of the task
+abbrev pub is_task_of : Version → Dag → TaskReport → Task → Bool
+is_task_of Version.Two dag (TaskReport.Ran x) task = has_pulls_of dag task x
+is_task_of Version.Two dag (TaskReport.Mapped xs) task = list_all (has_pulls_of dag task) xs
+is_task_of version dag report task = true
+
+abbrev pub are_tasks_of : Version → Dag → List TaskReport → Bool
+are_tasks_of version dag reports = (length reports == length dag.tasks) && list_all (λ p. is_task_of version dag p.0 p.1) (zip reports dag.tasks)
+
+-- they start at one moment, and end at one
+abbrev pub is_same_interval : Interval → Interval → Bool
+is_same_interval i j = int_eq i.start.nanosecond j.start.nanosecond && int_eq i.end.nanosecond j.end.nanosecond
+
+abbrev pub is_run_of : Version → Dag → RunReport → Interval → Bool
+is_run_of version dag run interval = is_same_interval run.interval interval && are_tasks_of version dag run.tasks
+
+abbrev pub are_runs_of : Version → Dag → List RunReport → List Interval → Bool
+are_runs_of version dag runs intervals = (length runs == length intervals) && list_all (λ p. is_run_of version dag p.0 p.1) (zip runs intervals)
+
+-- the report has the dag id, the data intervals and the tasks of the plan, and in version 2 their pulls; one without runs has no ids of tasks
+unfoldable pub is_report_of : Dag → List Interval → Report → Bool
+is_report_of dag intervals report =
+    bytes_eq report.dag_id dag.id
+    && ((length intervals == 0 || are_ids_of report.tasks dag.tasks)
+    && are_runs_of report.version dag report.runs intervals)
+
+-- ---- refusals
+
+abbrev pub fault_after : Option ClearFault → Bool → Option ClearFault
+fault_after (Some fault) is_of_plan = Some fault
+fault_after None true = None
+fault_after None false = Some ClearFault.ReportMismatch
+
+-- the first fault: of the seeds, and else that the report isn't one of the plan over the intervals
+abbrev pub clear_fault : Dag → List Interval → Report → List Seed → Option ClearFault
+clear_fault dag intervals report seeds = fault_after (seed_fault dag intervals seeds) (is_report_of dag intervals report)
+
+-- what is refused; want of memory refuses nothing
+abbrev pub refusal : ClearFault → Option ClearFault
+refusal ClearFault.UnknownTask = Some ClearFault.UnknownTask
+refusal ClearFault.UnknownRun = Some ClearFault.UnknownRun
+refusal ClearFault.ReportMismatch = Some ClearFault.ReportMismatch
+refusal ClearFault.OutOfMemory = None

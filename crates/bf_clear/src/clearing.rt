@@ -1,0 +1,42 @@
+//! Clearing.
+ghost use Rattle.std.specs.Prelude.{◌≡◌, ◌≤◌, length, None, IfOk, IfErr};
+ghost use Rattle.bf_kept.specs.Kept.{AreFit};
+ghost use Rattle.bf_dependents.specs.Seeds.{places_of as places_in};
+ghost use Rattle.bf_clear.specs.Keeping.{kept_in, AreKept};
+ghost use Rattle.bf_clear.specs.Matching.{clear_fault, refusal};
+
+use crate::cleared::Cleared;
+use crate::matching::is_report_of;
+use bf_check::Plan;
+use bf_dependents::{ClearFault, Seed, dependents, places_of, refuse_seeds};
+use bf_interval::Interval;
+use bf_report::Report;
+use std::alloc::Global;
+
+/// What is kept of the report of a backfill where these tasks in runs are cleared, with their downstreams, and where a cleared
+/// task depends on its past, with the next run's: all that the report tells of and that isn't cleared, but for outcomes that the
+/// plan doesn't allow. Without seeds nothing is cleared.
+///
+/// Refused is, in this order, a seed whose task is unknown, one whose run is, and a report that isn't one of the plan over the
+/// data intervals.
+pub fn clear<'a>(
+    alloc: Global,
+    plan: &'a Plan,
+    intervals: &[Interval],
+    report: &'a Report,
+    seeds: &[Seed],
+) -> Result<Cleared<'a>, ClearFault>
+    requires few { length intervals.now ≤ 4_096 }
+    ensures ok { IfOk result (λ cleared. clear_fault plan.entry.now.dag intervals.now report.entry.now seeds.now ≡ None) }
+    ensures kept { IfOk result (λ cleared. AreKept plan.entry.now.dag (places_in plan.entry.now.dag intervals.now seeds.now) report.entry.now (kept_in cleared)) }
+    ensures fit { IfOk result (λ cleared. AreFit plan.entry.now.dag (kept_in cleared)) }
+    ensures err { IfErr result (λ fault. clear_fault plan.entry.now.dag intervals.now report.entry.now seeds.now ≡ refusal fault) }
+{
+    refuse_seeds(plan, intervals, seeds)?;
+    if !is_report_of(plan.dag(), intervals, report) {
+        return Err(ClearFault::ReportMismatch);
+    }
+    let places = places_of(alloc, plan, intervals, seeds)?;
+    let marks = dependents(alloc, plan, places.as_slice(), intervals.len() as u32)?;
+    Ok(Cleared::new(plan, report, marks))
+}

@@ -1,0 +1,37 @@
+//! What holds of every backfill that goes on from a report. These functions do nothing: their contracts are the laws, over the
+//! definitions alone.
+ghost use Rattle.std.specs.Prelude.{◌≡◌, true, List, length};
+ghost use Rattle.bf_value.specs.declared.name.JobName.{JobName as JobNameTerm};
+ghost use Rattle.bf_interval.specs.declared.interval.Interval.{Interval as IntervalTerm};
+ghost use Rattle.bf_check.specs.declared.plan.Dag.{Dag as DagTerm};
+ghost use Rattle.bf_check.specs.Sound.{IsSound};
+ghost use Rattle.bf_try.specs.Tries.{Look, AreAlike};
+ghost use Rattle.bf_core.specs.Agreement.{HoldsItsTries};
+ghost use Rattle.bf_report.specs.declared.report.Report.{Report as ReportTerm};
+ghost use Rattle.bf_report.specs.Dated.{IsDated};
+ghost use Rattle.bf_kept.specs.Kept.{AreFit};
+ghost use Rattle.bf_dependents.specs.declared.place.Place.{Place};
+ghost use Rattle.bf_dependents.specs.Dependents.{IsBeside};
+ghost use Rattle.bf_clear.specs.Entries.{told};
+ghost use Rattle.bf_clear.specs.Keeping.{AreKept};
+ghost use Rattle.bf_clear.specs.Matching.{is_report_of};
+
+/// The report of a backfill that has ended tells of the entries of its ledger, and of no other.
+pub fn reports_tell_ledgers()
+    ensures { (dag : DagTerm) (intervals : List IntervalTerm) (ledger : Look) → HoldsItsTries dag (length intervals) ledger →
+        (report : ReportTerm) → IsDated dag intervals ledger report → (n : JobNameTerm) → told dag report n ≡ ledger n }
+{}
+
+/// A backfill that goes on from what is kept of the report of another has the entries of that one, but for what is cleared.
+pub fn resumed_backfills_keep_the_rest()
+    ensures { (dag : DagTerm) → IsSound dag → (intervals : List IntervalTerm) (seeds : List Place) (was kept resumed : Look) (report : ReportTerm) →
+        HoldsItsTries dag (length intervals) was → AreFit dag was → IsDated dag intervals was report → AreKept dag seeds report kept →
+        HoldsItsTries dag (length intervals) resumed → AreAlike kept resumed →
+        (n : JobNameTerm) → IsBeside dag seeds n → resumed n ≡ was n }
+{}
+
+/// The report of a backfill of a plan over data intervals is never refused there as another's.
+pub fn own_reports_match()
+    ensures { (dag : DagTerm) → IsSound dag → (intervals : List IntervalTerm) (ledger : Look) (report : ReportTerm) →
+        IsDated dag intervals ledger report → is_report_of dag intervals report ≡ true }
+{}

@@ -1,0 +1,20 @@
+//! Clearing tasks of a backfill that has ended, by its report: which tries are kept, and the law that all that isn't cleared
+//! stays as it was.
+//!
+//! Nothing is copied out of a report. What is kept of it is looked up when a ticket comes: where the report tells of such a
+//! try, its task in the run isn't cleared, and its outcome is one that the plan allows, then it is answered so that it ends
+//! as it did.
+#![tactic(auto)]
+
+mod cleared;
+mod clearing;
+mod laws;
+mod looking;
+mod matching;
+mod telling;
+mod working;
+
+pub use bf_dependents::{ClearFault, Seed};
+pub use cleared::Cleared;
+pub use clearing::clear;
+pub use laws::{own_reports_match, reports_tell_ledgers, resumed_backfills_keep_the_rest};

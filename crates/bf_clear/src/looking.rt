@@ -1,0 +1,57 @@
+//! Looking things up by run and task.
+ghost use Rattle.std.specs.Prelude.{◌≡◌, option_and_then, option_copied, slice_get};
+ghost use Rattle.bf_clear.specs.Entries.{found_at, instance_at as instance_by, report_at};
+ghost use Rattle.bf_clear.specs.Keeping.{is_cleared as cleared_in};
+
+use bf_report::{InstanceReport, Report, TaskReport};
+use bf_value::{JobName, Sequence};
+
+/// The instance of a map index.
+fn instance_of(task: &TaskReport, index: i32) -> Option<&InstanceReport>
+    ensures { option_copied result ≡ instance_by task.now index }
+{
+    match task {
+        TaskReport::Ran(instance) if index == -1 => Some(instance),
+        TaskReport::Mapped(instances) if index >= 0 => instances.get(index as usize),
+        _ => None,
+    }
+}
+
+/// What came of a task in a run.
+pub(crate) fn task_at(report: &Report, run: u32, task: u32) -> Option<&TaskReport>
+    ensures { option_copied result ≡ report_at report.now run task }
+{
+    match report.runs.get(run as usize) {
+        Some(run) => run.tasks.get(task as usize),
+        None => None,
+    }
+}
+
+/// The instance that a try is of.
+pub(crate) fn instance_at(report: &Report, name: JobName) -> Option<&InstanceReport>
+    ensures { option_copied result ≡ found_at report.now name.run name.task name.index }
+{
+    match task_at(report, name.run, name.task) {
+        Some(task) => instance_of(task, name.index),
+        None => None,
+    }
+}
+
+fn mark_at(marks: &[Sequence<bool>], run: u32, task: u32) -> Option<&bool>
+    ensures { option_copied result ≡ option_and_then (λ row. slice_get row task) (slice_get marks.now run) }
+{
+    match marks.get(run as usize) {
+        Some(marks) => marks.get(task as usize),
+        None => None,
+    }
+}
+
+/// Whether a task in a run is cleared, or isn't there.
+pub(crate) fn is_cleared(marks: &[Sequence<bool>], run: u32, task: u32) -> bool
+    ensures { result ≡ cleared_in marks.now run task }
+{
+    match mark_at(marks, run, task) {
+        Some(mark) => *mark,
+        None => true,
+    }
+}

@@ -1,0 +1,129 @@
+//! Whether a report is one of a plan over data intervals.
+ghost use Rattle.std.specs.Prelude.{◌≡◌, Some, option_copied};
+ghost use Rattle.std.specs.List.{list_all, zip};
+ghost use Rattle.bf_clear.specs.Matching.{are_ids_of as ids_of, are_runs_of as runs_of, are_tasks_of as tasks_of, has_id as id_is, has_pulls_of as instance_of, is_pull_of as pull_is, is_report_of as report_of, is_run_of as run_of, is_same_interval as same_interval, is_task_of as task_of};
+
+use bf_check::{Dag, Task};
+use bf_interval::Interval;
+use bf_report::{InstanceReport, Pull, Report, RunReport, TaskReport, Version};
+use bf_value::Text;
+
+fn has_id(task: Option<&Task>, id: &Text) -> bool
+    ensures { result ≡ id_is (option_copied task.entry) id.now }
+{
+    match task {
+        Some(task) => id.as_str() == task.id.as_str(),
+        None => false,
+    }
+}
+
+fn each_has_id(ids: &[Text], tasks: &[Task]) -> bool
+    ensures { result ≡ list_all (λ p. id_is (Some p.1) p.0) (zip ids.now tasks.now) }
+{
+    ids.iter()
+        .zip(tasks)
+        .all(|(id, task)| has_id(Some(task), id))
+}
+
+fn are_ids_of(ids: &[Text], tasks: &[Task]) -> bool
+    ensures { result ≡ ids_of ids.now tasks.now }
+{
+    ids.len() == tasks.len() && each_has_id(ids, tasks)
+}
+
+fn is_pull_of(dag: &Dag, pull: &Pull, source: u32) -> bool
+    ensures { result ≡ pull_is dag.now pull.now source }
+{
+    has_id(dag.tasks.get(source as usize), &pull.task)
+}
+
+fn each_is_pull_of(dag: &Dag, pulls: &[Pull], sources: &[u32]) -> bool
+    ensures { result ≡ list_all (λ p. pull_is dag.now p.0 p.1) (zip pulls.now sources.now) }
+{
+    pulls
+        .iter()
+        .zip(sources)
+        .all(|(pull, source)| is_pull_of(dag, pull, *source))
+}
+
+fn has_pulls_of(dag: &Dag, task: &Task, instance: &InstanceReport) -> bool
+    ensures { result ≡ instance_of dag.now task.now instance.now }
+{
+    let pulls = instance.pulls.as_slice();
+    let sources = task.pulls.as_slice();
+    pulls.len() == sources.len() && each_is_pull_of(dag, pulls, sources)
+}
+
+fn have_pulls_of(dag: &Dag, task: &Task, instances: &[InstanceReport]) -> bool
+    ensures { result ≡ list_all (instance_of dag.now task.now) instances.now }
+{
+    instances
+        .iter()
+        .all(|instance| has_pulls_of(dag, task, instance))
+}
+
+fn is_task_of(version: Version, dag: &Dag, report: &TaskReport, task: &Task) -> bool
+    ensures { result ≡ task_of version dag.now report.now task.now }
+{
+    match (version, report) {
+        (Version::Two, TaskReport::Ran(instance)) => has_pulls_of(dag, task, instance),
+        (Version::Two, TaskReport::Mapped(instances)) => {
+            have_pulls_of(dag, task, instances.as_slice())
+        }
+        _ => true,
+    }
+}
+
+fn each_is_task_of(version: Version, dag: &Dag, reports: &[TaskReport], tasks: &[Task]) -> bool
+    ensures { result ≡ list_all (λ p. task_of version dag.now p.0 p.1) (zip reports.now tasks.now) }
+{
+    reports
+        .iter()
+        .zip(tasks)
+        .all(|(report, task)| is_task_of(version, dag, report, task))
+}
+
+fn are_tasks_of(version: Version, dag: &Dag, reports: &[TaskReport]) -> bool
+    ensures { result ≡ tasks_of version dag.now reports.now }
+{
+    let tasks = dag.tasks.as_slice();
+    reports.len() == tasks.len() && each_is_task_of(version, dag, reports, tasks)
+}
+
+fn is_same_interval(one: &Interval, other: &Interval) -> bool
+    ensures { result ≡ same_interval one.now other.now }
+{
+    one.start == other.start && one.end == other.end
+}
+
+fn is_run_of(version: Version, dag: &Dag, run: &RunReport, interval: &Interval) -> bool
+    ensures { result ≡ run_of version dag.now run.now interval.now }
+{
+    is_same_interval(&run.interval, interval) && are_tasks_of(version, dag, run.tasks.as_slice())
+}
+
+fn each_is_run_of(version: Version, dag: &Dag, runs: &[RunReport], intervals: &[Interval]) -> bool
+    ensures { result ≡ list_all (λ p. run_of version dag.now p.0 p.1) (zip runs.now intervals.now) }
+{
+    runs.iter()
+        .zip(intervals)
+        .all(|(run, interval)| is_run_of(version, dag, run, interval))
+}
+
+fn are_runs_of(version: Version, dag: &Dag, runs: &[RunReport], intervals: &[Interval]) -> bool
+    ensures { result ≡ runs_of version dag.now runs.now intervals.now }
+{
+    runs.len() == intervals.len() && each_is_run_of(version, dag, runs, intervals)
+}
+
+/// Whether a report has the dag id, the data intervals and the tasks of a plan, and in version 2 the pulls of each instance.
+/// One without runs has no tasks.
+#[tactic(auto, unfolding(crate::specs::Matching::is_report_of))]
+pub(crate) fn is_report_of(dag: &Dag, intervals: &[Interval], report: &Report) -> bool
+    ensures { result ≡ report_of dag.now intervals.now report.now }
+{
+    let tasks = dag.tasks.as_slice();
+    report.dag_id.as_str() == dag.id.as_str()
+        && (intervals.is_empty() || are_ids_of(report.tasks.as_slice(), tasks))
+        && are_runs_of(report.version, dag, report.runs.as_slice(), intervals)
+}

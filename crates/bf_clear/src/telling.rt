@@ -1,0 +1,105 @@
+//! What a report tells of a try.
+ghost use Rattle.std.specs.Prelude.{◌≡◌, ◌<◌, ◌↔◌, length, map, Some, IsTrue, IfOk};
+ghost use Rattle.bf_clear.specs.Entries.{given_by, given_in, outcome_of_try as outcome_by, worked_out};
+ghost use Rattle.bf_clear.specs.Keeping.{fit_outcome, IsAnswerOf, IsRawFor};
+
+use crate::working::was_worked_out;
+use bf_check::Plan;
+use bf_report::{InstanceReport, Pull, Report, Version};
+use bf_try::{Outcome, Raw, answer_for, fits};
+use bf_value::{JobName, OutOfMemory, Xval};
+use bf_xcom::{Given, TaskResult};
+use std::alloc::Global;
+
+fn is_same_value(one: &Option<Xval>, other: &Option<Xval>) -> bool
+    ensures { IsTrue result ↔ (one.now ≡ other.now) }
+{
+    match (one, other) {
+        (Some(one), Some(other)) => one.is_same(other),
+        (None, None) => true,
+        _ => false,
+    }
+}
+
+fn are_pulled(pulls: &[Pull], values: &[Option<Xval>]) -> bool
+    ensures { IsTrue result ↔ (map (λ p. p.value) pulls.now ≡ values.now) }
+{
+    if pulls.len() != values.len() {
+        return false;
+    }
+    for i in 0..pulls.len() {
+        if !is_same_value(&pulls[i].value, &values[i]) {
+            return false;
+        }
+    }
+    true
+}
+
+/// Whether a report of version 2 tells that an instance was given this.
+fn tells_given(instance: &InstanceReport, given: &Given) -> bool
+    ensures { IsTrue result ↔ (given_in instance.now ≡ given.now) }
+{
+    is_same_value(&instance.item, &given.item)
+        && are_pulled(instance.pulls.as_slice(), given.pulled.as_slice())
+}
+
+/// Whether an instance was given this, by what the report tells or by what is worked out from it.
+fn was_given(
+    alloc: Global,
+    plan: &Plan,
+    report: &Report,
+    name: JobName,
+    instance: &InstanceReport,
+    given: &Given,
+) -> Result<bool, OutOfMemory>
+    requires { name.task < length plan.now.dag.tasks }
+    ensures { IfOk result (λ was. IsTrue was ↔ (given_by report.now.version (worked_out plan.now.dag report.now name.run name.task name.index) instance.now ≡ Some given.now)) }
+{
+    match report.version {
+        Version::Two => Ok(tells_given(instance, given)),
+        Version::One => was_worked_out(alloc, plan.dag(), report, name, given),
+    }
+}
+
+/// An answer by which a try of an instance ends as it did, where it fits.
+#[tactic(auto, unfolding(bf_try::specs::Grades::fits))]
+fn answer_of_try(
+    alloc: Global,
+    plan: &Plan,
+    task: u32,
+    instance: &TaskResult,
+    attempt: u32,
+) -> Result<Option<Raw>, OutOfMemory>
+    requires { task < length plan.now.dag.tasks }
+    ensures { IfOk result (IsRawFor (fit_outcome plan.now.dag task (outcome_by instance.now attempt))) }
+{
+    if attempt == instance.tries {
+        if !fits(plan, task, &instance.outcome) {
+            return Ok(None);
+        }
+        return Ok(Some(answer_for(alloc, &instance.outcome)?));
+    }
+    if attempt > 0 && attempt < instance.tries {
+        return Ok(Some(answer_for(alloc, &Outcome::Failed)?));
+    }
+    Ok(None)
+}
+
+/// An answer by which a try of an instance ends as it did, where it was given this.
+pub(crate) fn answer_of_instance(
+    alloc: Global,
+    plan: &Plan,
+    report: &Report,
+    name: JobName,
+    instance: &InstanceReport,
+    given: &Given,
+) -> Result<Option<Raw>, OutOfMemory>
+    requires { name.task < length plan.now.dag.tasks }
+    ensures { IfOk result (IsAnswerOf plan.now.dag (given_by report.now.version (worked_out plan.now.dag report.now name.run name.task name.index) instance.now) instance.now name given.now) }
+{
+    let was_given = was_given(alloc, plan, report, name, instance, given)?;
+    if !was_given {
+        return Ok(None);
+    }
+    answer_of_try(alloc, plan, name.task, &instance.result, name.attempt)
+}

@@ -1,0 +1,155 @@
+//! What an instance was given, worked out where a report of version 1 doesn't tell it.
+ghost use Rattle.std.specs.Prelude.{◌≡◌, ◌<◌, ◌↔◌, length, map, Some, IsTrue, IfOk};
+ghost use Rattle.bf_clear.specs.Entries.{item_in, pull_from, value_in, value_at as value_by, worked_out as worked_by};
+
+use crate::looking::task_at;
+use bf_check::Dag;
+use bf_report::{InstanceReport, Report, TaskReport};
+use bf_value::{JobName, OutOfMemory, Sequence, Xval};
+use bf_xcom::{Given, TaskResult, TaskValue, pull};
+use std::alloc::Global;
+
+fn result_of(alloc: Global, instance: &InstanceReport) -> Result<TaskResult, OutOfMemory>
+    ensures { IfOk result (λ r. r ≡ instance.now.result) }
+{
+    Ok(TaskResult {
+        outcome: instance.result.outcome.copy(alloc)?,
+        tries: instance.result.tries,
+    })
+}
+
+fn results_of(
+    alloc: Global,
+    instances: &[InstanceReport],
+) -> Result<Sequence<TaskResult>, OutOfMemory>
+    ensures { IfOk result (λ results. results ≡ map (λ x. x.result) instances.now) }
+{
+    let mut results = Vec::with_capacity(alloc, instances.len())?;
+    for instance in instances {
+        results.push(result_of(alloc, instance)?)?;
+    }
+    Ok(Sequence::from_vec(results))
+}
+
+/// The value that a task had in a run.
+fn value_of(alloc: Global, task: &TaskReport) -> Result<TaskValue, OutOfMemory>
+    ensures { IfOk result (λ value. value ≡ value_in task.now) }
+{
+    match task {
+        TaskReport::NoStatus => Ok(TaskValue::Blocked),
+        TaskReport::Skipped => Ok(TaskValue::Skipped),
+        TaskReport::UpstreamFailed => Ok(TaskValue::UpstreamFailed),
+        TaskReport::Ran(instance) => {
+            let mut results = Sequence::new(alloc);
+            results.push(result_of(alloc, instance)?)?;
+            Ok(TaskValue::Ran(results))
+        }
+        TaskReport::Mapped(instances) => {
+            Ok(TaskValue::Ran(results_of(alloc, instances.as_slice())?))
+        }
+    }
+}
+
+fn value_at(alloc: Global, report: &Report, run: u32, task: u32) -> Result<TaskValue, OutOfMemory>
+    ensures { IfOk result (λ value. value ≡ value_by report.now run task) }
+{
+    match task_at(report, run, task) {
+        Some(task) => value_of(alloc, task),
+        None => Ok(TaskValue::Blocked),
+    }
+}
+
+/// What a pull from a task gave.
+fn pulled_from(
+    alloc: Global,
+    dag: &Dag,
+    report: &Report,
+    run: u32,
+    source: u32,
+) -> Result<Option<Xval>, OutOfMemory>
+    ensures { IfOk result (λ value. value ≡ pull_from dag.now report.now run source) }
+{
+    match dag.tasks.get(source as usize) {
+        Some(task) => {
+            let value = value_at(alloc, report, run, source)?;
+            pull(alloc, task, &value)
+        }
+        None => Ok(None),
+    }
+}
+
+fn all_pulled(
+    alloc: Global,
+    dag: &Dag,
+    report: &Report,
+    run: u32,
+    sources: &[u32],
+) -> Result<Sequence<Option<Xval>>, OutOfMemory>
+    ensures { IfOk result (λ values. values ≡ map (pull_from dag.now report.now run) sources.now) }
+{
+    let mut values = Vec::with_capacity(alloc, sources.len())?;
+    for source in sources {
+        values.push(pulled_from(alloc, dag, report, run, *source)?)?;
+    }
+    Ok(Sequence::from_vec(values))
+}
+
+/// The item of a map index.
+fn item_of(alloc: Global, items: &Option<Xval>, index: i32) -> Result<Option<Xval>, OutOfMemory>
+    ensures { IfOk result (λ item. item ≡ item_in items.now index) }
+{
+    match items {
+        Some(Xval::List(items)) if index >= 0 => match items.as_slice().get(index as usize) {
+            Some(item) => Ok(Some(item.copy(alloc)?)),
+            None => Ok(None),
+        },
+        _ => Ok(None),
+    }
+}
+
+/// What the values of a report give an instance; none where its source gives no such item.
+#[tactic(auto, unfolding(crate::specs::Entries::worked_out))]
+fn worked_out(
+    alloc: Global,
+    dag: &Dag,
+    report: &Report,
+    name: JobName,
+) -> Result<Option<Given>, OutOfMemory>
+    requires { name.task < length dag.now.tasks }
+    ensures { IfOk result (λ given. given ≡ worked_by dag.now report.now name.run name.task name.index) }
+{
+    let task = dag.task(name.task);
+    let pulled = all_pulled(alloc, dag, report, name.run, task.pulls.as_slice())?;
+    let Some(source) = task.expand else {
+        return Ok(if name.index == -1 {
+            Some(Given { item: None, pulled })
+        } else {
+            None
+        });
+    };
+    let items = pulled_from(alloc, dag, report, name.run, source)?;
+    match item_of(alloc, &items, name.index)? {
+        Some(item) => Ok(Some(Given {
+            item: Some(item),
+            pulled,
+        })),
+        None => Ok(None),
+    }
+}
+
+/// Whether the values of a report give an instance this.
+pub(crate) fn was_worked_out(
+    alloc: Global,
+    dag: &Dag,
+    report: &Report,
+    name: JobName,
+    given: &Given,
+) -> Result<bool, OutOfMemory>
+    requires { name.task < length dag.now.tasks }
+    ensures { IfOk result (λ was. IsTrue was ↔ (worked_by dag.now report.now name.run name.task name.index ≡ Some given.now)) }
+{
+    match worked_out(alloc, dag, report, name)? {
+        Some(worked) => Ok(worked.is_same(given)),
+        None => Ok(false),
+    }
+}

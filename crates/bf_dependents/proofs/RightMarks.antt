@@ -1,0 +1,189 @@
+-- Marks of what follows from the seeds.
+use Rattle.std.proofs.Common.{◌≡◌, ◌⊎◌, ◌↔◌, ◌||◌, ◌&&◌, ◌==◌, inl, inr, ℕ, zero, suc, ◌<◌, ◌+◌, List, [], ◌∷◌, ◌++◌, length, Contains, Bool, true, false, Some, slice_get, slice_index_or, slice_set, refl, sym, ap, ◌∙◌, subst, arith}
+use Rattle.std.specs.List.{list_any}
+use Rattle.std.proofs.Math.Bool.{or-true}
+use Rattle.std.proofs.Math.ListN.{get_or-append}
+use Rattle.std.proofs.Math.Seq.{get_or-append_seam}
+use Rattle.std.proofs.lemmas.Bool.{and_parts}
+use Rattle.std.proofs.lemmas.List.{length-append, get_or-set_same, get_or-set_other, length-set, length-map}
+use Rattle.std.proofs.lemmas.List.Folds.{list_any_at}
+use Rattle.std.proofs.lemmas.Map.Views.{Contains-from_any}
+use Rattle.std.proofs.lemmas.Option.{slice_get-get_or, slice_get_within}
+use Rattle.bf_graph.specs.Order.{IsByRank, StandBehind}
+use Rattle.bf_graph.specs.Reach.{is_marked, row_at}
+use Rattle.bf_check.specs.declared.plan.Dag.{Dag}
+use Rattle.bf_check.specs.declared.plan.Task.{Task}
+use Rattle.bf_check.specs.Plans.{shape_of, task_of}
+use Rattle.bf_check.specs.Sound.{IsOneOf}
+use Rattle.bf_check.proofs.PlanLemmas.{is_upstream}
+use Rattle.bf_dependents.specs.declared.place.Place.{Place}
+use Rattle.bf_dependents.specs.Dependents.{IsDependent, AreMarks, AreDependents}
+use Rattle.bf_dependents.specs.Marks.{is_place, follows, marks_before, AreMarksFor, AreMarksForTo, AreMarksTo, ArePast, AreSeeded, IsSeedRow, WasDependent}
+use Rattle.bf_dependents.proofs.Marking.{same-or-before}
+
+-- ---- what marks a task
+
+or-cases : (a b : Bool) → (a || b) ≡ true → (a ≡ true) ⊎ (b ≡ true)
+or-cases true b e = inl refl
+or-cases false b e = inr e
+
+or-left : (a b : Bool) → a ≡ true → (a || b) ≡ true
+or-left a b e = rw e refl
+
+or-right : (a b : Bool) → b ≡ true → (a || b) ≡ true
+or-right a b e = rw e (or-true a)
+
+and-of : (a b : Bool) → a ≡ true → b ≡ true → (a && b) ≡ true
+and-of a b e f = rw (e, f) refl
+
+place-same : (p q : Place) → is_place p q ≡ true → p ≡ q
+place-same p q e =
+    let both : _ = and_parts (q.run == p.run) (q.task == p.task) e in
+    let run : p.run ≡ q.run = grind (arith, both.0) in
+    let task : p.task ≡ q.task = grind (arith, both.1) in
+    λ i. record { run = run i; task = task i }
+
+place-itself : (p : Place) → is_place p p ≡ true
+place-itself p = and-of (p.run == p.run) (p.task == p.task) (grind arith) (grind arith)
+
+seed-found : (seeds : List Place) (p : Place) → Contains seeds p → list_any (is_place p) seeds ≡ true
+seed-found seeds p c = list_any_at (is_place p) seeds c.0 p c.1 (ap (is_place p) c.2 ∙ place-itself p)
+
+one-marked : (marks : List Bool) (us : List ℕ) → list_any (is_marked marks) us ≡ true → (u : ℕ) × IsOneOf us u × (is_marked marks u ≡ true)
+one-marked marks [] e = cc
+one-marked marks (u ∷ us) e = elim (or-cases (is_marked marks u) (list_any (is_marked marks) us) e) [
+  | inl h ↦ (u, inl refl, h)
+  | inr h ↦ let rest : _ = one-marked marks us h in (rest.0, inr rest.1, rest.2)
+]
+
+marked-one : (marks : List Bool) (us : List ℕ) (u : ℕ) → IsOneOf us u → is_marked marks u ≡ true → list_any (is_marked marks) us ≡ true
+marked-one marks [] u one h = absurd one
+marked-one marks (v ∷ us) u (inl e) h = or-left (is_marked marks v) _ (ap (is_marked marks) (sym e) ∙ h)
+marked-one marks (v ∷ us) u (inr one) h = or-right (is_marked marks v) _ (marked-one marks us u one h)
+
+module _ (dag : Dag) (seeds : List Place) (k : ℕ) (seeded before : List Bool) (row : IsSeedRow seeds (length dag.tasks) k seeded) (past : ArePast dag seeds k before) (t : ℕ) (there : t < length dag.tasks) (marks : List Bool)
+    (ups : (u : ℕ) → IsOneOf (task_of dag t).upstreams u → (is_marked marks u ≡ true) ↔ IsDependent dag seeds k u) where
+  followed : follows dag t seeded before marks ≡ true → IsDependent dag seeds k t
+  followed e = elim (or-cases (is_marked seeded t) _ e) [
+    | inl h ↦ IsDependent.Seed (Contains-from_any place-same (record { run = k; task = t }) seeds (sym (row t there) ∙ h))
+    | inr h ↦ elim (or-cases ((task_of dag t).depends_on_past && is_marked before t) _ h) [
+      | inl g ↦ let both : _ = and_parts (task_of dag t).depends_on_past (is_marked before t) g in next k ((past t there).0 both.1) both.0
+      | inr g ↦ let one : _ = one-marked marks (task_of dag t).upstreams g in IsDependent.Downstream one.1 ((ups one.0 one.1).0 one.2)
+    ]
+  ]
+    where
+      next : (j : ℕ) → WasDependent dag seeds j t → (task_of dag t).depends_on_past ≡ true → IsDependent dag seeds j t
+      next zero w d = absurd w
+      next (suc j) w d = IsDependent.NextRun d w
+
+  past-of : (j : ℕ) → k ≡ suc j → IsDependent dag seeds j t → WasDependent dag seeds k t
+  past-of j e d = subst (λ (n : ℕ). WasDependent dag seeds n t) (sym e) d
+
+  -- why a task follows from the seeds
+  following : (n s : ℕ) → n ≡ k → s ≡ t → IsDependent dag seeds n s → follows dag t seeded before marks ≡ true
+  following n s e f (IsDependent.Seed c) =
+      or-left _ _ (row t there ∙ seed-found seeds (record { run = k; task = t }) (subst (Contains seeds) (λ i. record { run = e i; task = f i }) c))
+  following n s e f (IsDependent.Downstream {u = u} h d) =
+      let one : IsOneOf (task_of dag t).upstreams u = subst (λ (s : ℕ). IsOneOf (task_of dag s).upstreams u) f h in
+      or-right (is_marked seeded t) _ (or-right ((task_of dag t).depends_on_past && is_marked before t) _
+      (marked-one marks (task_of dag t).upstreams u one ((ups u one).1 (subst (λ (n : ℕ). IsDependent dag seeds n u) e d))))
+  following (suc n) s e f (IsDependent.NextRun h d) =
+      or-right (is_marked seeded t) _ (or-left ((task_of dag t).depends_on_past && is_marked before t) _
+      (and-of _ _ (ap (λ s. (task_of dag s).depends_on_past) (sym f) ∙ h) ((past t there).1 (past-of n (sym e) (subst (IsDependent dag seeds n) f d)))))
+
+  pub follows-right : (follows dag t seeded before marks ≡ true) ↔ IsDependent dag seeds k t
+  follows-right = (followed, following k t refl refl)
+
+-- ---- in order
+
+module _ (dag : Dag) (order : List ℕ) (ranked : IsByRank (shape_of dag).upstreams order) (behind : StandBehind (shape_of dag).upstreams order) where
+  pub task-within : (i : ℕ) → i < length order → slice_index_or order i 0 < length dag.tasks
+  task-within i l =
+      let low : _ = ranked.tasks i (slice_index_or order i 0) (slice_get-get_or order i 0 l) in
+      omega (arith, low, length-map dag.tasks (λ (task : Task). task.upstreams))
+
+  module _ (seeded before : List Bool) where
+    pub marks-start : (marks : List Bool) → length marks ≡ length dag.tasks → AreMarksForTo dag seeded before order 0 marks
+    marks-start marks len seeds k row past = record { len = len; right = λ j t l e. absurd (omega (arith, l)) }
+
+    pub marks-more : (i : ℕ) → i < length order → (marks : List Bool) → AreMarksForTo dag seeded before order i marks → (mark : Bool) →
+        mark ≡ follows dag (slice_index_or order i 0) seeded before marks →
+        AreMarksForTo dag seeded before order (i + 1) (slice_set marks (slice_index_or order i 0) mark)
+    marks-more i l marks far mark is seeds k row past = record {
+      len = length-set marks t mark ∙ at.len;
+      right = λ j s below e. go j s e (same-or-before j i below);
+    }
+      where
+        at : AreMarksTo dag seeds k order i marks
+        at = far seeds k row past
+
+        t : ℕ
+        t = slice_index_or order i 0
+
+        here : slice_get order i ≡ Some t
+        here = slice_get-get_or order i 0 l
+
+        ups : (u : ℕ) → IsOneOf (task_of dag t).upstreams u → (is_marked marks u ≡ true) ↔ IsDependent dag seeds k u
+        ups u one = let place : _ = behind i t u here (is_upstream dag t u one) in at.right place.0 u place.1 place.2
+
+        marked : (is_marked (slice_set marks t mark) t ≡ true) ↔ IsDependent dag seeds k t
+        marked =
+            let now : is_marked (slice_set marks t mark) t ≡ follows dag t seeded before marks = get_or-set_same marks t mark false (rw at.len (task-within i l)) ∙ is in
+            let right : _ = follows-right dag seeds k seeded before row past t (task-within i l) marks ups in
+            (λ e. right.0 (sym now ∙ e), λ d. now ∙ right.1 d)
+
+        go : (j s : ℕ) → slice_get order j ≡ Some s → (j ≡ i) ⊎ (j < i) → (is_marked (slice_set marks t mark) s ≡ true) ↔ IsDependent dag seeds k s
+        go j s e (inl same) =
+            let both : Some s ≡ Some t = sym e ∙ (ap (slice_get order) same ∙ here) in
+            let task : s ≡ t = cc in
+            subst (λ (s : ℕ). (is_marked (slice_set marks t mark) s ≡ true) ↔ IsDependent dag seeds k s) (sym task) marked
+        go j s e (inr low) =
+            let apart : s ≡ t → ⊥ = λ same. let at_one : j ≡ i = ranked.once j i t (e ∙ ap Some same) here in omega (arith, at_one, low) in
+            let kept : is_marked (slice_set marks t mark) s ≡ is_marked marks s = get_or-set_other marks t s mark false apart in
+            (λ h. (at.right j s low e).0 (sym kept ∙ h), λ d. kept ∙ (at.right j s low e).1 d)
+
+    pub marks-end : (marks : List Bool) (i : ℕ) → i ≡ length order → AreMarksForTo dag seeded before order i marks → AreMarksFor dag seeded before marks
+    marks-end marks i over far seeds k row past = record {
+      len = at.len;
+      right = λ t l. let place : _ = ranked.all t (omega (arith, l, length-map dag.tasks (λ (task : Task). task.upstreams))) in
+          at.right place.0 t (rw over (slice_get_within order place.0 t place.1)) place.1;
+    }
+      where
+        at : AreMarksTo dag seeds k order i marks
+        at = far seeds k row past
+
+-- ---- run by run
+
+pub past-of-runs : (dag : Dag) (seeds : List Place) (k : ℕ) (rows : List (List Bool)) → AreDependents dag seeds k rows → ArePast dag seeds k (marks_before rows k)
+past-of-runs dag seeds zero rows are t l = (λ e. cc, λ d. absurd d)
+past-of-runs dag seeds (suc k) rows are t l = (are.each k (omega arith)).right t l
+
+pub no-runs : (dag : Dag) (seeds : List Place) → AreDependents dag seeds 0 []
+no-runs dag seeds = record { len = refl; each = λ k l. absurd (omega (arith, l)) }
+
+pub one-run-more : (dag : Dag) (seeds : List Place) (k : ℕ) (rows : List (List Bool)) (marks : List Bool) → AreDependents dag seeds k rows → AreMarks dag seeds k marks →
+    AreDependents dag seeds (k + 1) (rows ++ marks ∷ [])
+one-run-more dag seeds k rows marks are is = record {
+  len = omega (arith, are.len, length-append rows (marks ∷ []));
+  each = λ j l. go j (same-or-before j k l);
+}
+  where
+    seam : row_at (rows ++ marks ∷ []) k ≡ marks
+    seam = ap (λ n. row_at (rows ++ marks ∷ []) n) (sym are.len) ∙ get_or-append_seam rows marks [] []
+
+    go : (j : ℕ) → (j ≡ k) ⊎ (j < k) → AreMarks dag seeds j (row_at (rows ++ marks ∷ []) j)
+    go j (inl same) = rw (same, seam) is
+    go j (inr low) = rw (get_or-append rows (marks ∷ []) [] j (rw are.len low)) (are.each j low)
+
+-- one run more, by the row of its seeds
+pub one-row-more : (dag : Dag) (seeds : List Place) (runs k : ℕ) (seeded rows : List (List Bool)) (marks : List Bool) → AreSeeded seeds runs (length dag.tasks) seeded → k < runs →
+    AreDependents dag seeds k rows → AreMarksFor dag (row_at seeded k) (marks_before rows k) marks → AreDependents dag seeds (k + 1) (rows ++ marks ∷ [])
+one-row-more dag seeds runs k seeded rows marks are l so_far made =
+    one-run-more dag seeds k rows marks so_far (made seeds k (are.right k l) (past-of-runs dag seeds k rows so_far))
+
+pub behind-read : (ups vps : List (List ℕ)) (order slice : List ℕ) → ups ≡ vps → slice ≡ order → StandBehind ups order → StandBehind vps slice
+behind-read ups vps order slice same read behind = subst (λ (xs : List ℕ). StandBehind vps xs) (sym read) (subst (λ (xs : List (List ℕ)). StandBehind xs order) same behind)
+
+pub made-read : (dag planned : Dag) (seeded row before past marks : List Bool) → dag ≡ planned → seeded ≡ row → before ≡ past → AreMarksFor dag seeded before marks → AreMarksFor planned row past marks
+made-read dag planned seeded row before past marks same one two made =
+    subst (λ (p : Dag × List Bool × List Bool). AreMarksFor p.0 p.1 p.2 marks) (λ i. (same i, one i, two i)) made

@@ -1,0 +1,4 @@
+pub mod Dependents
+pub mod Marks
+pub mod Faults
+pub mod Seeds

@@ -1,0 +1,61 @@
+//! Why nothing is cleared.
+ghost use Rattle.std.specs.Prelude.{◌≡◌};
+ghost use Rattle.bf_dependents.specs.Faults.{fault_number};
+
+use bf_value::OutOfMemory;
+use std::error::Error;
+use std::fmt;
+
+/// Why nothing is cleared.
+#[derive(Clone, Copy, Debug, PartialEq, Eq)]
+pub enum ClearFault {
+    /// A task that is to be cleared is the id of none.
+    UnknownTask,
+    /// A run that is to be cleared is the logical date of none.
+    UnknownRun,
+    /// The report isn't one of this graph over this range.
+    ReportMismatch,
+    OutOfMemory,
+}
+
+impl ClearFault {
+    /// The number of the refusal, which want of memory doesn't have.
+    pub fn number(self) -> Option<u32>
+        ensures { result ≡ fault_number self }
+    {
+        match self {
+            ClearFault::UnknownTask => Some(40),
+            ClearFault::UnknownRun => Some(41),
+            ClearFault::ReportMismatch => Some(42),
+            ClearFault::OutOfMemory => None,
+        }
+    }
+}
+
+impl fmt::Display for ClearFault {
+    ghost use Rattle.std.specs.Prelude.{Some};
+    ghost use Rattle.bf_dependents.specs.Faults.{fault_text};
+
+    ghost output = { λ fault. Some (fault_text fault) };
+
+    fn fmt<W: fmt::Write>(&self, f: &mut fmt::Formatter<W>) -> fmt::Result {
+        f.write_str(match self {
+            ClearFault::UnknownTask => "unknown task",
+            ClearFault::UnknownRun => "unknown run",
+            ClearFault::ReportMismatch => "report mismatch",
+            ClearFault::OutOfMemory => "out of memory",
+        })
+    }
+}
+
+impl Error for ClearFault {}
+
+impl From<OutOfMemory> for ClearFault {
+    ghost use Rattle.bf_dependents.specs.declared.fault.ClearFault.TheVariants.{OutOfMemory as NoMemory};
+
+    ghost from_gives = { λ _ e. e ≡ NoMemory };
+
+    fn from(_e: OutOfMemory) -> ClearFault {
+        ClearFault::OutOfMemory
+    }
+}

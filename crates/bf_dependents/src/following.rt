@@ -1,0 +1,87 @@
+//! What follows from cleared tasks.
+ghost use Rattle.std.specs.Prelude.{◌≡◌, ◌<◌, length, IfOk};
+ghost use Rattle.std.specs.List.{list_any};
+ghost use Rattle.bf_graph.specs.Order.{IsByRank, StandBehind};
+ghost use Rattle.bf_graph.specs.Reach.{is_marked as marked};
+ghost use Rattle.bf_check.specs.Plans.{shape_of};
+ghost use Rattle.bf_dependents.specs.Dependents.{AreDependents};
+ghost use Rattle.bf_dependents.specs.Marks.{follows as follows_by, marks_before as before_in, AreMarksFor};
+
+use crate::marks::{is_marked, seed_rows};
+use crate::place::Place;
+use bf_check::{Dag, Plan};
+use bf_value::{OutOfMemory, Sequence};
+use std::alloc::Global;
+
+fn some_is_marked(marks: &[bool], tasks: &[u32]) -> bool
+    ensures { result ≡ list_any (marked marks.now) tasks.now }
+{
+    tasks.iter().any(|task| is_marked(marks, *task))
+}
+
+/// Whether a task is a seed, or depends on a past that is marked, or has an upstream that is marked.
+fn follows(dag: &Dag, task: u32, seeded: &[bool], before: &[bool], marks: &[bool]) -> bool
+    requires { task < length dag.now.tasks }
+    ensures { result ≡ follows_by dag.now task seeded.now before.now marks.now }
+{
+    let of = dag.task(task);
+    is_marked(seeded, task)
+        || (of.depends_on_past && is_marked(before, task))
+        || some_is_marked(marks, of.upstreams.as_slice())
+}
+
+/// The marks of a run, by its seeds and by the marks of the run before it.
+fn marks_of(
+    alloc: Global,
+    dag: &Dag,
+    seeded: &[bool],
+    before: &[bool],
+    order: &[u32],
+) -> Result<Sequence<bool>, OutOfMemory>
+    requires by_rank { IsByRank (shape_of dag.now).upstreams order.now }
+    requires behind { StandBehind (shape_of dag.now).upstreams order.now }
+    ensures { IfOk result (AreMarksFor dag.now seeded.now before.now) }
+{
+    let mut marks = vec![in alloc; false; dag.tasks.len()]?;
+    for task in order {
+        let task = *task;
+        let mark = follows(dag, task, seeded, before, marks.as_slice());
+        marks[task as usize] = mark;
+    }
+    Ok(Sequence::from_vec(marks))
+}
+
+/// The marks of the run before a run.
+fn marks_before(rows: &[Sequence<bool>], run: u32) -> &[bool]
+    ensures { result.now ≡ before_in rows.now run }
+{
+    if run == 0 {
+        return &[];
+    }
+    match rows.get(run as usize - 1) {
+        Some(marks) => marks.as_slice(),
+        None => &[],
+    }
+}
+
+/// For each of so many runs which tasks follow from the seeds. Takes time for each run over the tasks and edges, and once
+/// over the seeds.
+pub fn dependents(
+    alloc: Global,
+    plan: &Plan,
+    seeds: &[Place],
+    runs: u32,
+) -> Result<Sequence<Sequence<bool>>, OutOfMemory>
+    ensures { IfOk result (AreDependents plan.now.dag seeds.now runs) }
+{
+    let order = plan.graph().by_rank(alloc)?;
+    let seeded = seed_rows(alloc, seeds, runs, plan.dag().tasks.len())?;
+    let mut rows = Vec::with_capacity(alloc, runs as usize)?;
+    for run in 0..runs {
+        let before = marks_before(rows.as_slice(), run);
+        let seeded = seeded[run as usize].as_slice();
+        let marks = marks_of(alloc, plan.dag(), seeded, before, order.as_slice())?;
+        rows.push(marks)?;
+    }
+    Ok(Sequence::from_vec(rows))
+}

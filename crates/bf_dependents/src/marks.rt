@@ -1,0 +1,57 @@
+//! Marks of tasks, a row for each run.
+ghost use Rattle.std.specs.Prelude.{◌≡◌, IfOk};
+ghost use Rattle.bf_graph.specs.Reach.{is_marked as marked};
+ghost use Rattle.bf_dependents.specs.Marks.{with_mark, AreSeeded, AreUnmarked};
+
+use crate::place::Place;
+use bf_value::{OutOfMemory, Sequence};
+use std::alloc::Global;
+
+/// Whether a task is marked in a row.
+pub(crate) fn is_marked(marks: &[bool], task: u32) -> bool
+    ensures { result ≡ marked marks.now task }
+{
+    match marks.get(task as usize) {
+        Some(mark) => *mark,
+        None => false,
+    }
+}
+
+/// A row for each of so many runs, without a mark.
+fn unmarked(alloc: Global, runs: u32, tasks: usize) -> Result<Vec<Sequence<bool>>, OutOfMemory>
+    ensures { IfOk result (λ rows. AreUnmarked runs tasks rows.items) }
+{
+    let mut rows = Vec::with_capacity(alloc, runs as usize)?;
+    for _ in 0..runs {
+        rows.push(Sequence::from_vec(vec![in alloc; false; tasks]?))?;
+    }
+    Ok(rows)
+}
+
+/// Marks a task in a run, if it is there.
+fn mark(rows: &mut Vec<Sequence<bool>>, place: Place)
+    ensures { rows.new.items ≡ with_mark rows.old.items place }
+{
+    let run = place.run as usize;
+    let task = place.task as usize;
+    if run < rows.len() && task < rows[run].len() {
+        let row = &mut rows[run];
+        row.replace(task, true);
+    }
+}
+
+/// A row for each run, in which the seeds are marked.
+pub(crate) fn seed_rows(
+    alloc: Global,
+    seeds: &[Place],
+    runs: u32,
+    tasks: usize,
+) -> Result<Vec<Sequence<bool>>, OutOfMemory>
+    ensures { IfOk result (λ rows. AreSeeded seeds.now runs tasks rows.items) }
+{
+    let mut rows = unmarked(alloc, runs, tasks)?;
+    for seed in seeds {
+        mark(&mut rows, *seed);
+    }
+    Ok(rows)
+}

@@ -1,0 +1,98 @@
+//! Seeds: what is to be cleared.
+ghost use Rattle.std.specs.Prelude.{◌≡◌, ◌≤◌, length, IfOk, IfErr, Some, None};
+ghost use Rattle.std.specs.List.{list_any};
+ghost use Rattle.bf_dependents.specs.Seeds.{is_unknown_run as unknown_run, is_unknown_task as unknown_task, place_of as place_in, places_of as places_in, run_number, seed_fault, task_number};
+
+use crate::fault::ClearFault;
+use crate::place::Place;
+use bf_check::Plan;
+use bf_interval::Interval;
+use bf_value::{OutOfMemory, Text};
+use jiff::Timestamp;
+use std::alloc::Global;
+
+/// A task, by its id, in the run of a logical date.
+#[derive(Debug, Drop)]
+pub struct Seed {
+    pub task: Text,
+    pub run: Timestamp,
+}
+
+fn task_of(plan: &Plan, seed: &Seed) -> Option<u32>
+    ensures { result ≡ task_number plan.now.dag seed.now }
+{
+    plan.graph().number_of(seed.task.as_str())
+}
+
+fn run_of(intervals: &[Interval], seed: &Seed) -> Option<usize>
+    ensures { result ≡ run_number intervals.now seed.now }
+{
+    let run = seed.run;
+    intervals.iter().position(|interval| interval.start == run)
+}
+
+fn is_unknown_task(plan: &Plan, seed: &Seed) -> bool
+    ensures { result ≡ unknown_task plan.now.dag seed.now }
+{
+    task_of(plan, seed).is_none()
+}
+
+fn is_unknown_run(intervals: &[Interval], seed: &Seed) -> bool
+    ensures { result ≡ unknown_run intervals.now seed.now }
+{
+    run_of(intervals, seed).is_none()
+}
+
+fn has_unknown_task(plan: &Plan, seeds: &[Seed]) -> bool
+    ensures { result ≡ list_any (unknown_task plan.now.dag) seeds.now }
+{
+    seeds.iter().any(|seed| is_unknown_task(plan, seed))
+}
+
+fn has_unknown_run(intervals: &[Interval], seeds: &[Seed]) -> bool
+    ensures { result ≡ list_any (unknown_run intervals.now) seeds.now }
+{
+    seeds.iter().any(|seed| is_unknown_run(intervals, seed))
+}
+
+/// Refuses seeds of which one names a task that isn't known, and else those of which one names a run that isn't.
+pub fn refuse_seeds(plan: &Plan, intervals: &[Interval], seeds: &[Seed]) -> Result<(), ClearFault>
+    ensures ok { IfOk result (λ _. seed_fault plan.now.dag intervals.now seeds.now ≡ None) }
+    ensures err { IfErr result (λ fault. seed_fault plan.now.dag intervals.now seeds.now ≡ Some fault) }
+{
+    if has_unknown_task(plan, seeds) {
+        return Err(ClearFault::UnknownTask);
+    }
+    if has_unknown_run(intervals, seeds) {
+        return Err(ClearFault::UnknownRun);
+    }
+    Ok(())
+}
+
+fn place_of(plan: &Plan, intervals: &[Interval], seed: &Seed) -> Option<Place>
+    requires few { length intervals.now ≤ 4_096 }
+    ensures { result ≡ place_in plan.now.dag intervals.now seed.now }
+{
+    let task = task_of(plan, seed)?;
+    let run = run_of(intervals, seed)? as u32;
+    Some(Place { run, task })
+}
+
+/// The tasks in runs that seeds name.
+pub fn places_of(
+    alloc: Global,
+    plan: &Plan,
+    intervals: &[Interval],
+    seeds: &[Seed],
+) -> Result<Vec<Place>, OutOfMemory>
+    requires few { length intervals.now ≤ 4_096 }
+    ensures { IfOk result (λ places. places.items ≡ places_in plan.now.dag intervals.now seeds.now) }
+{
+    let mut places = Vec::new(alloc);
+    for seed in seeds {
+        if let Some(place) = place_of(plan, intervals, seed) {
+            places.push(place)?;
+        }
+    }
+    Ok(places)
+}

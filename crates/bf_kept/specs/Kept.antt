@@ -1,0 +1,46 @@
+-- Which tries are kept, and what is answered from them.
+use Rattle.std.specs.Prelude.{◌≡◌, ◌⊎◌, ℕ, true, Option, Some, None}
+use Rattle.bf_value.specs.declared.name.JobName.{JobName}
+use Rattle.bf_check.specs.declared.plan.Dag.{Dag}
+use Rattle.bf_xcom.specs.declared.values.Given.{Given}
+use Rattle.bf_xcom.specs.declared.values.Outcome.{Outcome}
+use Rattle.bf_try.specs.declared.answers.Raw.{Raw}
+use Rattle.bf_try.specs.declared.ledger.Entry.{Entry}
+use Rattle.bf_try.specs.Grades.{fits, grade_of}
+use Rattle.bf_try.specs.Tries.{Look}
+
+-- an entry with this name and this Given is kept
+abbrev pub IsKept : Look → JobName → Given → Entry → Type 0
+IsKept kept n given e = (kept n ≡ Some e) × (e.given ≡ given)
+
+-- no entry with this name and this Given is kept
+abbrev pub IsNew : Look → JobName → Given → Type 0
+IsNew kept n given = (e : Entry) → IsKept kept n given e → ⊥
+
+-- wherever the outcome fits, it is the grade of the answer
+abbrev pub GradesTo : Raw → Outcome → Type 0
+GradesTo raw outcome = (dag : Dag) (task : ℕ) → fits dag task outcome ≡ true → grade_of dag task raw ≡ outcome
+
+-- the answer of a kept try: the outcome that is kept is its grade
+pub record IsKeptAnswer (kept : Look) (n : JobName) (given : Given) (raw : Raw) : Type 0 where
+  pub held : Entry
+  pub is_kept : IsKept kept n given held
+  pub grades : GradesTo raw held.outcome
+
+-- a kept try has an answer, another none
+abbrev pub IsAnsweredBy : Look → JobName → Given → Option Raw → Type 0
+IsAnsweredBy kept n given None = IsNew kept n given
+IsAnsweredBy kept n given (Some raw) = IsKeptAnswer kept n given raw
+
+-- a kept try is answered so that it ends as it did, another as the runner may answer it
+abbrev pub IsAnswer : Look → (JobName → Given → Raw → Type 0) → JobName → Given → Raw → Type 0
+IsAnswer kept may_answer n given raw = IsKeptAnswer kept n given raw ⊎ (IsNew kept n given × may_answer n given raw)
+
+-- each kept outcome fits the plan
+abbrev pub AreFit : Dag → Look → Type 0
+AreFit dag kept = (n : JobName) (e : Entry) → kept n ≡ Some e → fits dag n.task e.outcome ≡ true
+
+-- each try that isn't kept has the grade of an answer that the runner may give
+abbrev pub AreGradedAnew : Look → (JobName → Given → Raw → Type 0) → Dag → Look → Type 0
+AreGradedAnew kept may_answer dag ledger =
+    (n : JobName) (e : Entry) → ledger n ≡ Some e → IsNew kept n e.given → (raw : Raw) × may_answer n e.given raw × (e.outcome ≡ grade_of dag n.task raw)

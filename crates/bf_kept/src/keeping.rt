@@ -1,0 +1,29 @@
+//! A runner that answers what is kept.
+use crate::kept::KeptTries;
+use bf_try::{Done, RunnerFault, TaskRunner, Ticket};
+use bf_value::OutOfMemory;
+use std::alloc::Global;
+
+/// Answers the tries that are kept, so that they end as they did, and hands every other on to a runner.
+#[derive(Drop)]
+pub struct Keeping<'a, K, R> {
+    pub alloc: Global,
+    pub kept: &'a K,
+    pub runner: &'a R,
+}
+
+impl<'a, K: KeptTries, R: TaskRunner> TaskRunner for Keeping<'a, K, R> {
+    ghost use Rattle.bf_kept.specs.Kept.{IsAnswer};
+
+    ghost may_answer = { λ s n g raw. IsAnswer (K.kept s.kept.now) (R.may_answer s.runner.now) n g raw };
+
+    ghost may_give_up = { λ s n g. R.may_give_up s.runner.now n g };
+
+    fn run(&self, ticket: Ticket) -> Result<Done, (Ticket, RunnerFault)> {
+        match self.kept.answer(self.alloc, ticket.name(), ticket.given()) {
+            Ok(Some(raw)) => Ok(ticket.answer(raw)),
+            Ok(None) => self.runner.run(ticket),
+            Err(OutOfMemory) => Err((ticket, RunnerFault::OutOfMemory)),
+        }
+    }
+}

@@ -1,0 +1,46 @@
+//! Tries that are kept.
+use bf_try::{Ledger, Raw, answer_for};
+use bf_value::{JobName, OutOfMemory};
+use bf_xcom::Given;
+use std::alloc::Global;
+
+/// Tries that are kept. Its relation says which, with what each was given and how it ended.
+pub trait KeptTries {
+    ghost use Rattle.std.specs.Prelude.{Option, IfOk};
+    ghost use Rattle.bf_value.specs.declared.name.JobName.{JobName};
+    ghost use Rattle.bf_try.specs.declared.ledger.Entry.{Entry};
+    ghost use Rattle.bf_kept.specs.Kept.{IsAnsweredBy};
+
+    /// What is kept of the try of a name.
+    ghost kept: { Self → JobName → Option Entry };
+
+    /// An answer by which a try that was given this ends as is kept of it; none, where no such try is kept.
+    fn answer(
+        &self,
+        alloc: Global,
+        name: JobName,
+        given: &Given,
+    ) -> Result<Option<Raw>, OutOfMemory>
+        ensures { IfOk result (IsAnsweredBy (kept self.now) name given.now) };
+}
+
+/// All tries of a ledger are kept.
+impl KeptTries for Ledger {
+    ghost use Rattle.std.specs.FinMap as map;
+
+    ghost kept = { λ s. map.get s };
+
+    fn answer(
+        &self,
+        alloc: Global,
+        name: JobName,
+        given: &Given,
+    ) -> Result<Option<Raw>, OutOfMemory> {
+        match self.get(name) {
+            Some(entry) if entry.given.is_same(given) => {
+                Ok(Some(answer_for(alloc, &entry.outcome)?))
+            }
+            _ => Ok(None),
+        }
+    }
+}

@@ -1,0 +1,6 @@
+//! Backfills that go on from tries that are kept of one before.
+#![tactic(auto)]
+
+mod resuming;
+
+pub use resuming::resume;
