@@ -9,6 +9,8 @@ mod deciding;
 #[cfg(test)]
 mod events;
 #[cfg(test)]
+mod orders;
+#[cfg(test)]
 mod pools;
 #[cfg(test)]
 mod pulls;

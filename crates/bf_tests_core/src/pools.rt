@@ -1,7 +1,9 @@
 //! Room in pools.
-use crate::steps::{Answered, End, Step, walk};
-use bf_core::Illegal;
-use bf_tests_graphs::job;
+use crate::steps::{Answered, EPOCH, End, Step, take, walk};
+use bf_core::{Core, Illegal};
+use bf_tests_graphs::{job, plan_of};
+use std::alloc::Global;
+use std::process::Abort;
 use std::test::Fail;
 
 /// A task that takes both slots of its pool, and two that take one each.
@@ -24,4 +26,35 @@ fn a_try_waits_for_room_in_its_pool(rt: HostRuntime) -> Result<(), Fail> {
         (Step::Begin(job(0, -1, 1)), Ok(())),
     ];
     walk(&rt, rt.alloc(), NARROW, &steps)
+}
+
+/// The number of the pool: those of the file come first.
+const P: u32 = 0;
+
+/// How many slots of the pool are occupied after these steps.
+fn occupied_after(
+    rt: &impl Abort,
+    alloc: Global,
+    core: &mut Core<'_>,
+    steps: &[Answered],
+) -> Result<u32, Fail> {
+    take(rt, alloc, core, steps)?;
+    assert_eq!(rt; core.plan().limits().pools.len(), 2);
+    Ok(core.occupied(P))
+}
+
+#[test]
+fn slots_are_occupied_while_a_try_runs(rt: HostRuntime) -> Result<(), Fail> {
+    let begins: [Answered; 3] = [
+        (Step::Open, Ok(())),
+        (Step::Settle(0, 0), Ok(())),
+        (Step::Begin(job(0, -1, 1)), Ok(())),
+    ];
+    let ends: [Answered; 1] = [(Step::End(job(0, -1, 1), End::Succeeds), Ok(()))];
+    let plan = plan_of(rt.alloc(), NARROW)?;
+    let mut core = Core::new(rt.alloc(), &plan, &[EPOCH])?;
+    assert_eq!(rt; occupied_after(&rt, rt.alloc(), &mut core, &begins)?, 2);
+    assert_eq!(rt; occupied_after(&rt, rt.alloc(), &mut core, &ends)?, 0);
+    assert_eq!(rt; core.journal().len(), 4);
+    Ok(())
 }

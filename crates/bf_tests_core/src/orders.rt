@@ -1,0 +1,77 @@
+//! Orders of events: the report doesn't rest on them.
+use crate::steps::{Answered, EPOCH, End, Step, take};
+use bf_core::{Core, Illegal};
+use bf_report::{Memory, report_of, write_report};
+use bf_tests_graphs::{job, plan_of};
+use std::alloc::Global;
+use std::process::Abort;
+use std::test::Fail;
+
+const JOIN: &str = r#"{"dag_id":"d","schedule":"@daily",
+    "tasks":[{"id":"x"},{"id":"y"},{"id":"z","upstream":["x","y"]}]}"#;
+
+/// Worked out by hand.
+const REPORT: &str = "@backfill 2 d\n\
+    @run 1970-01-01T00:00:00Z 1970-01-01T00:00:00Z failed\n\
+    x -1 skipped 1 -\n\
+    y -1 failed 1 -\n\
+    z -1 upstream_failed 0 -\n\
+    @end 1\n";
+
+/// The text of the report of a backfill over one run that has ended; empty where it hasn't.
+fn written(alloc: Global, core: Core<'_>) -> Result<Vec<u8>, Fail> {
+    let plan = core.plan();
+    let mut out = Memory::new(alloc);
+    if let Ok(ended) = core.into_ended() {
+        if ended.run_states.len() == 1 {
+            let report = report_of(alloc, plan, &[EPOCH], &ended)?;
+            write_report(alloc, &report, &mut out)?;
+        }
+    }
+    Ok(out.into_vec())
+}
+
+/// The report after these steps. It tells the whole ledger, by law `reports_tell_ledgers`.
+fn reported(rt: &impl Abort, alloc: Global, steps: &[Answered]) -> Result<Vec<u8>, Fail> {
+    let plan = plan_of(alloc, JOIN)?;
+    let mut core = Core::new(alloc, &plan, &[EPOCH])?;
+    take(rt, alloc, &mut core, steps)?;
+    written(alloc, core)
+}
+
+#[test]
+fn a_join_rests_on_no_order(rt: HostRuntime) -> Result<(), Fail> {
+    let x_first: [Answered; 10] = [
+        (Step::Open, Ok(())),
+        (Step::Settle(0, 0), Ok(())),
+        (Step::Settle(0, 1), Ok(())),
+        (Step::Begin(job(0, -1, 1)), Ok(())),
+        (Step::Begin(job(1, -1, 1)), Ok(())),
+        (Step::End(job(0, -1, 1), End::Skips), Ok(())),
+        (Step::Settle(0, 2), Err(Illegal::NotEnabled)),
+        (Step::End(job(1, -1, 1), End::Fails), Ok(())),
+        (Step::Settle(0, 2), Ok(())),
+        (Step::Close(0), Ok(())),
+    ];
+    let y_first: [Answered; 10] = [
+        (Step::Open, Ok(())),
+        (Step::Settle(0, 1), Ok(())),
+        (Step::Begin(job(1, -1, 1)), Ok(())),
+        (Step::Settle(0, 0), Ok(())),
+        (Step::End(job(1, -1, 1), End::Fails), Ok(())),
+        (Step::Settle(0, 2), Err(Illegal::NotEnabled)),
+        (Step::Begin(job(0, -1, 1)), Ok(())),
+        (Step::End(job(0, -1, 1), End::Skips), Ok(())),
+        (Step::Settle(0, 2), Ok(())),
+        (Step::Close(0), Ok(())),
+    ];
+    assert_eq!(rt;
+        reported(&rt, rt.alloc(), &x_first)?.as_slice(),
+        REPORT.as_bytes()
+    );
+    assert_eq!(rt;
+        reported(&rt, rt.alloc(), &y_first)?.as_slice(),
+        REPORT.as_bytes()
+    );
+    Ok(())
+}

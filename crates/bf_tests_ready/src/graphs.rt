@@ -1,0 +1,92 @@
+//! Graph files with what may stand in them, by chance: rules, a branch, expanded tasks, the past, pools, weights, retries
+//! and their delays.
+use crate::chance::Chance;
+use bf_value::OutOfMemory;
+use std::alloc::Global;
+
+/// How many tasks each graph has: a source of items, a branch, two tasks that are expanded, and others behind them.
+pub const TASKS: u32 = 9;
+
+/// The rules that a task may have that isn't expanded.
+const RULES: [&str; 11] = [
+    "all_success",
+    "all_failed",
+    "all_done",
+    "all_skipped",
+    "one_success",
+    "one_failed",
+    "one_done",
+    "none_failed",
+    "none_failed_min_one_success",
+    "none_skipped",
+    "always",
+];
+
+/// The rules of the expanded tasks.
+const WAITING_RULES: [&str; 3] = ["all_success", "all_done", "none_failed"];
+
+/// The names of some of the tasks before one, each with a comma before it but the first.
+fn push_upstreams(text: &mut String, chance: &mut Chance, task: u32) -> Result<(), OutOfMemory> {
+    let mut comma = "";
+    for upstream in 0..task {
+        if chance.is_one_in(3) {
+            write!(text, "{comma}\"t{upstream}\"")?;
+            comma = ",";
+        }
+    }
+    Ok(())
+}
+
+/// What makes a task this one of the graph: its kind, or the source that it is expanded over, with its upstreams and its rule.
+fn push_kind(text: &mut String, chance: &mut Chance, task: u32) -> Result<(), OutOfMemory> {
+    match task {
+        0 => Ok(()),
+        1 => Ok(write!(text, ",\"kind\":\"branch\"")?),
+        2 | 3 => {
+            let rule = WAITING_RULES[chance.below(3) as usize];
+            Ok(write!(
+                text,
+                ",\"upstream\":[\"t0\",\"t1\"],\"expand\":\"t0\",\"rule\":\"{rule}\""
+            )?)
+        }
+        _ => {
+            write!(text, ",\"upstream\":[")?;
+            push_upstreams(text, chance, task)?;
+            let rule = RULES[chance.below(11) as usize];
+            Ok(write!(text, "],\"rule\":\"{rule}\"")?)
+        }
+    }
+}
+
+fn push_task(text: &mut String, chance: &mut Chance, task: u32) -> Result<(), OutOfMemory> {
+    let comma = if task == 0 { "" } else { "," };
+    write!(text, "{comma}{{\"id\":\"t{task}\"")?;
+    push_kind(text, chance, task)?;
+    if chance.is_one_in(3) {
+        write!(text, ",\"depends_on_past\":true")?;
+    }
+    if chance.is_one_in(2) {
+        let slots = 1 + chance.below(2);
+        write!(text, ",\"pool\":\"p\",\"pool_slots\":{slots}")?;
+    }
+    let retries = chance.below(3);
+    let delay = 60 * chance.below(2);
+    let weight = chance.below(4);
+    Ok(write!(
+        text,
+        ",\"retries\":{retries},\"retry_delay\":{delay},\"priority_weight\":{weight}}}"
+    )?)
+}
+
+/// A graph file.
+pub fn graph_of(alloc: Global, chance: &mut Chance) -> Result<String, OutOfMemory> {
+    let runs = 1 + chance.below(3);
+    let mut text = format!(in alloc;
+        "{{\"dag_id\":\"d\",\"schedule\":\"@daily\",\"max_active_runs\":{runs},\"pools\":{{\"p\":3}},\"tasks\":["
+    )?;
+    for task in 0..TASKS {
+        push_task(&mut text, chance, task)?;
+    }
+    write!(text, "]}}")?;
+    Ok(text)
+}

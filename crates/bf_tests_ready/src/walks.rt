@@ -1,0 +1,187 @@
+//! Backfills of three runs that are driven by chance: by what comes next, and by events that may be refused.
+use crate::chance::Chance;
+use crate::graphs::{TASKS, graph_of};
+use crate::looks::compare;
+use bf_core::{Core, Event};
+use bf_interval::Interval;
+use bf_ready::Ready;
+use bf_tests_graphs::plan_of;
+use bf_try::Outcome;
+use bf_value::{JobName, OutOfMemory, Text, Values, Xval};
+use jiff::Timestamp;
+use std::alloc::Global;
+use std::process::Abort;
+use std::test::Fail;
+
+const EPOCH: Interval = Interval {
+    start: Timestamp::UNIX_EPOCH,
+    end: Timestamp::UNIX_EPOCH,
+};
+
+const RUNS: u32 = 3;
+
+/// Most events of a walk; all end long before.
+const MOST_EVENTS: u32 = 4_000;
+
+fn task_name(alloc: Global, task: u32) -> Result<Xval, OutOfMemory> {
+    let name = format!(in alloc; "t{task}")?;
+    Ok(Xval::Text(Text::copied(alloc, name.as_str())?))
+}
+
+/// Up to three names of tasks, which are items, and good for a branch where they are its downstreams.
+fn names(alloc: Global, chance: &mut Chance) -> Result<Xval, OutOfMemory> {
+    let mut items = Vec::new(alloc);
+    for _item in 0..chance.below(4) {
+        items.push(task_name(alloc, 2 + chance.below(TASKS - 2))?)?;
+    }
+    Ok(Xval::List(Values::new(items)))
+}
+
+fn outcome(alloc: Global, chance: &mut Chance) -> Result<Outcome, OutOfMemory> {
+    match chance.below(8) {
+        0 => Ok(Outcome::Skipped),
+        1 | 2 => Ok(Outcome::Failed),
+        3 => Ok(Outcome::Success(None)),
+        4 => Ok(Outcome::Success(Some(task_name(alloc, 2 + chance.below(TASKS - 2))?))),
+        _ => Ok(Outcome::Success(Some(names(alloc, chance)?))),
+    }
+}
+
+fn name(chance: &mut Chance) -> JobName {
+    JobName {
+        run: chance.below(RUNS),
+        task: chance.below(TASKS),
+        index: chance.below(4) as i32 - 1,
+        attempt: 1 + chance.below(3),
+    }
+}
+
+/// Some event, whether or not it may come.
+fn stray(alloc: Global, chance: &mut Chance) -> Result<Event, OutOfMemory> {
+    let run = chance.below(RUNS);
+    let task = chance.below(TASKS);
+    match chance.below(7) {
+        0 => Ok(Event::Open),
+        1 => Ok(Event::Settle { run, task }),
+        2 => Ok(Event::Expand { run, task }),
+        3 => Ok(Event::Begin(name(chance))),
+        4 => Ok(Event::End(name(chance), outcome(alloc, chance)?)),
+        5 => Ok(Event::Close { run }),
+        _ => Ok(Event::Tick {
+            moment: i64::from(chance.below(600)),
+        }),
+    }
+}
+
+/// The end of one of the tries that run.
+fn end(
+    alloc: Global,
+    chance: &mut Chance,
+    running: &[JobName],
+) -> Result<Option<Event>, OutOfMemory> {
+    let count = running.len().min(64) as u32;
+    if count == 0 {
+        return Ok(None);
+    }
+    match running.get(chance.below(count) as usize) {
+        Some(name) => Ok(Some(Event::End(*name, outcome(alloc, chance)?))),
+        None => Ok(None),
+    }
+}
+
+/// What comes next: a step, a try, the end of a try, or the moment that is waited for.
+fn next(
+    alloc: Global,
+    chance: &mut Chance,
+    ready: &Ready<'_>,
+    running: &[JobName],
+) -> Result<Option<Event>, OutOfMemory> {
+    if let Some(step) = ready.next_step() {
+        return Ok(Some(step));
+    }
+    if let Some(name) = ready.next_try() {
+        return Ok(Some(Event::Begin(name)));
+    }
+    if let Some(event) = end(alloc, chance, running)? {
+        return Ok(Some(event));
+    }
+    match ready.next_moment() {
+        Some(moment) => Ok(Some(Event::Tick { moment })),
+        None => Ok(None),
+    }
+}
+
+/// Lets an event come if it may, and notes the tries that run.
+fn take(
+    ready: &mut Ready<'_>,
+    running: &mut Vec<JobName>,
+    event: Event,
+) -> Result<(), OutOfMemory> {
+    let began = match &event {
+        Event::Begin(name) => Some(*name),
+        _ => None,
+    };
+    let ended = match &event {
+        Event::End(name, _) => Some(*name),
+        _ => None,
+    };
+    if ready.apply(event).is_err() {
+        return Ok(());
+    }
+    if let Some(name) = began {
+        running.push(name)?;
+    }
+    if let Some(name) = ended {
+        running.retain(|other| *other != name);
+    }
+    Ok(())
+}
+
+/// Some event, or what comes next; none where nothing is left to come.
+fn chosen(
+    alloc: Global,
+    chance: &mut Chance,
+    ready: &Ready<'_>,
+    running: &[JobName],
+) -> Result<Option<Event>, OutOfMemory> {
+    if chance.is_one_in(2) {
+        Ok(Some(stray(alloc, chance)?))
+    } else {
+        next(alloc, chance, ready, running)
+    }
+}
+
+/// Drives a backfill to its end, and compares before each event.
+fn drive(
+    rt: &impl Abort,
+    alloc: Global,
+    chance: &mut Chance,
+    ready: &mut Ready<'_>,
+) -> Result<(), Fail> {
+    let mut running = Vec::new(alloc);
+    for _turn in 0..MOST_EVENTS {
+        compare(rt, alloc, ready)?;
+        let Some(event) = chosen(alloc, chance, ready, running.as_slice())? else {
+            break;
+        };
+        take(ready, &mut running, event)?;
+    }
+    assert!(rt; ready.core().is_ended());
+    Ok(())
+}
+
+fn walk(rt: &impl Abort, alloc: Global, graph: &str, chance: &mut Chance) -> Result<(), Fail> {
+    let plan = plan_of(alloc, graph)?;
+    let mut ready = Ready::of(alloc, Core::new(alloc, &plan, &[EPOCH, EPOCH, EPOCH])?)?;
+    drive(rt, alloc, chance, &mut ready)
+}
+
+#[test]
+fn what_is_kept_is_what_is_found(rt: HostRuntime) -> Result<(), Fail> {
+    for seed in 0..200u64 {
+        let mut chance = Chance::new(seed);
+        let graph = graph_of(rt.alloc(), &mut chance)?;
+        walk(&rt, rt.alloc(), graph.as_str(), &mut chance)?;
+    }
+    Ok(())
+}
