@@ -1,6 +1,6 @@
 #!/usr/bin/env bash
 # Times `backfill dry`, with starting the program, and measures its peak memory, for each task instance: over many tasks, over
-# many runs, and over an expanded task. The half of each shows how both grow.
+# many runs of which few, one or all may be open at once, and over an expanded task. The half of each shows how both grow.
 set -euo pipefail
 
 source "$(dirname "$(readlink -f "${BASH_SOURCE[0]}")")/program.sh"
@@ -17,11 +17,11 @@ program, work, generator = sys.argv[1:]
 FIRST_DAY = datetime.date(2000, 1, 1)
 
 
-def graph_of(tasks):
-    """A graph of so many tasks, of which each has five upstreams, as nearly as there can be."""
+def graph_of(tasks, active_runs=16):
+    """A graph of so many tasks, of which each has five upstreams, as nearly as there can be, and of which so many runs may be open."""
     edges = sum(min(5, task) for task in range(tasks))
     text = subprocess.run([sys.executable, generator, str(tasks), str(edges)], stdout=subprocess.PIPE, check=True, text=True)
-    return text.stdout
+    return json.dumps({**json.loads(text.stdout), "max_active_runs": active_runs})
 
 
 def mapped():
@@ -58,6 +58,8 @@ for name, graph, table, runs, instances in (
     ("2,000 tasks x 100 runs", graph_of(2_000), "[]", 100, 200_000),
     ("200 tasks x 500 runs", graph_of(200), "[]", 500, 100_000),
     ("200 tasks x 1,000 runs", graph_of(200), "[]", 1_000, 200_000),
+    ("200 tasks x 1,000 runs, 1 open", graph_of(200, 1), "[]", 1_000, 200_000),
+    ("200 tasks x 1,000 runs, 1,000 open", graph_of(200, 4_096), "[]", 1_000, 200_000),
     ("512 items x 50 runs", mapped(), items(512), 50, 513 * 50),
     ("1,024 items x 50 runs", mapped(), items(1_024), 50, 1_025 * 50),
 ):
