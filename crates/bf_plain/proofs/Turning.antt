@@ -1,5 +1,5 @@
 -- What a turn does to a backfill in which no try runs.
-use Rattle.std.proofs.Common.{◌≡◌, ◌<◌, ◌+◌, ◌++◌, ◌∷◌, ℕ, ℤ, Bool, true, false, List, [], length, sym, ap, ◌∙◌, subst, subst₂, arith, FitsSigned, of_z, to_z, to_z-of_z, w64}
+use Rattle.std.proofs.Common.{◌≡◌, ◌+◌, ℤ, Bool, true, false, sym, ap, ◌∙◌, subst, subst₂, arith, FitsSigned, of_z, to_z, to_z-of_z, w64}
 use Rattle.std.proofs.lemmas.Int.{ints}
 use Rattle.bf_try.specs.Asked.{Asked, Answered}
 use Rattle.bf_try.specs.declared.answers.Raw.{Raw}
@@ -7,16 +7,16 @@ use Rattle.bf_try.proofs.GradeLemmas.{grade_fits}
 use Rattle.bf_core.specs.Terms.{Given, JobName}
 use Rattle.bf_core.specs.declared.state.Phase.{Phase}
 use Rattle.bf_core.specs.declared.event.Event.{Event}
-use Rattle.bf_core.specs.Cores.{Backfill, IsReplay, MayCome, moved}
+use Rattle.bf_core.specs.Cores.{Backfill, IsReplay, MayCome}
 use Rattle.bf_core.specs.Events.{IsPresent, cell_at, given_in, place_in}
 use Rattle.bf_core.specs.Running.{running_now}
 use Rattle.bf_core.proofs.Begun.{begun-given, running-at}
-use Rattle.bf_core.proofs.Kept.{replay-event, replay-in-time}
+use Rattle.bf_core.proofs.Kept.{replay-in-time}
 use Rattle.bf_ready.specs.Choices.{IsFirstMoment}
 use Rattle.bf_sched.specs.Driving.{IsUnderWay}
-use Rattle.bf_sched.specs.Scheduling.{HasBegun, HasFinished, HasStepped, HasTicked, MayFinish, MustWait, Schedule, WaitsUntil, end_of, moved_on}
+use Rattle.bf_sched.specs.Scheduling.{HasBegun, HasFinished, HasStepped, HasTicked, MayFinish, Schedule, WaitsUntil}
 use Rattle.bf_sched.proofs.Keeping.{begin-running, end-running, step-running, tick-running}
-use Rattle.bf_plain.specs.Driving.{IsIdle, IsLonger}
+use Rattle.bf_plain.specs.Driving.{IsIdle}
 
 -- ---- tries
 
@@ -63,24 +63,6 @@ made-idle s t u ticket replayed h idle counted =
 pub finished-counts : (s t : Schedule) (done : Answered) → IsReplay s.backfill → HasFinished s done t → running_now t.backfill.state + 1 ≡ running_now s.backfill.state
 finished-counts s t done replayed h =
     ap (λ (x : Schedule). running_now x.backfill.state + 1) h.1 ∙ end-running s.backfill replayed done.name _ h.0.0
-
-pub none-waits : (s t : Schedule) → MustWait s t → IsIdle s → ⊥
-none-waits s t must idle = let some = must.some_run in omega (arith, some, idle)
-
--- ---- the journal
-
-one-longer : (xs : List Event) (e : Event) → length xs < length (xs ++ e ∷ [])
-one-longer [] e = omega arith
-one-longer (x ∷ xs) e = let more = one-longer xs e in omega (arith, more)
-
-pub moved-longer : (s t : Schedule) (e : Event) → t ≡ moved_on s e → IsLonger s t
-moved-longer s t e is = subst (IsLonger s) (sym is) (one-longer s.backfill.journal e)
-
-pub ticked-longer : (s t : Schedule) (m : ℤ) → HasTicked s m true t → IsLonger s t
-ticked-longer s t m h = subst (λ (b : Backfill). length s.backfill.journal < length b.journal) (sym h.0.1) (one-longer s.backfill.journal (Event.Tick m))
-
-pub longer-still : (s t u : Schedule) → IsLonger s t → IsLonger t u → IsLonger s u
-longer-still s t u one two = omega (arith, one, two)
 
 -- ---- the clock
 
