@@ -1,15 +1,11 @@
 -- At the start and at the end of a backfill.
-use Rattle.std.proofs.Common.{◌≡◌, ℕ, List, length, refl, sym, ap, ◌∙◌, subst}
+use Rattle.std.proofs.Common.{◌≡◌, ℕ, List, length, refl, sym, ap, subst}
 use Rattle.bf_check.specs.Sound.{AreLimits, IsSound}
 use Rattle.bf_try.specs.declared.answers.Raw.{Raw}
 use Rattle.bf_core.specs.Terms.{Dag, Given, JobName, Limits}
 use Rattle.bf_core.specs.declared.event.Event.{Event}
-use Rattle.bf_core.specs.declared.ended.Ended.{Ended}
-use Rattle.bf_core.specs.Agreement.{AreRunStates, IsOutcome}
 use Rattle.bf_core.specs.Cores.{Backfill, opening}
-use Rattle.bf_core.specs.Driven.{IsDriven, IsOver}
-use Rattle.bf_core.specs.Events.{HasEnded, entry_in}
-use Rattle.bf_core.specs.Running.{running_now}
+use Rattle.bf_core.specs.Driven.{IsDriven}
 use Rattle.bf_core.proofs.Driven.{driven-opening}
 use Rattle.bf_lane.specs.Open.{Scheduled}
 use Rattle.bf_sched.specs.Scheduling.{Schedule}

@@ -1,5 +1,5 @@
 -- What a turn keeps.
-use Rattle.std.proofs.Common.{◌≡◌, ◌<◌, ℕ, ℤ, Bool, true, false, List, None, Some, refl, sym, ap, ◌∙◌, subst, inl, inr, arith, length, not}
+use Rattle.std.proofs.Common.{◌≡◌, ◌<◌, ℕ, ℤ, Bool, true, false, List, None, Some, refl, sym, subst, inl, inr, arith, length, not}
 use Rattle.std.specs.Int.{int_min}
 use Rattle.std.specs.List.{position}
 use Rattle.std.specs.Prelude.{OnOk, Result, Ok, Err}
@@ -9,13 +9,10 @@ use Rattle.bf_try.specs.Grades.{grade_of}
 use Rattle.bf_core.specs.Terms.{Given, JobName}
 use Rattle.bf_core.specs.declared.event.Event.{Event}
 use Rattle.bf_core.specs.Clocks.{last_moment}
-use Rattle.bf_core.specs.Cores.{Backfill, MayCome, moved}
-use Rattle.bf_core.specs.Driven.{IsDriven}
-use Rattle.bf_core.specs.Events.{cell_at, given_in, place_in}
+use Rattle.bf_core.specs.Cores.{Backfill, moved}
 use Rattle.bf_core.specs.Running.{running_now}
-use Rattle.bf_core.proofs.Driven.{EndsGraded, driven-moved}
 use Rattle.bf_ready.specs.Choices.{IsStep}
-use Rattle.bf_sched.specs.Scheduling.{HasBegun, HasFinished, HasStepped, HasTicked, MayFinish, MustWait, Schedule, WaitsUntil, end_of, moved_on}
+use Rattle.bf_sched.specs.Scheduling.{HasBegun, HasStepped, HasTicked, MayFinish, MustWait, Schedule, WaitsUntil, end_of, moved_on}
 use Rattle.bf_lane.specs.declared.messages.Answer.TheVariants.{Done}
 use Rattle.bf_lane.specs.Open.{IsIdleAt, Scheduled, awaits}
 use Rattle.bf_lane.specs.Rounds.{IsGathered, IsSubmitted}
