@@ -19,48 +19,48 @@ use Rattle.bf_report.specs.declared.report.Report.{Report}
 
 -- ---- what stands in a report
 
--- what came of the task t in the run k
+-- what came of the task in the run of this number
 abbrev pub report_at : Report → ℕ → ℕ → Option TaskReport
-report_at report k t = option_and_then (λ run. slice_get run.tasks t) (slice_get report.runs k)
+report_at report number task = option_and_then (λ run. slice_get run.tasks task) (slice_get report.runs number)
 
 abbrev pub instance_at : TaskReport → ℤ → Option InstanceReport
-instance_at (TaskReport.Ran x) (negsuc zero) = Some x
-instance_at (TaskReport.Mapped xs) (pos i) = slice_get xs i
+instance_at (TaskReport.Ran instance) (negsuc zero) = Some instance
+instance_at (TaskReport.Mapped instances) (pos place) = slice_get instances place
 instance_at _ _ = None
 
--- the instance of that index of the task t in the run k
+-- the instance of that index of the task in the run
 abbrev pub found_at : Report → ℕ → ℕ → ℤ → Option InstanceReport
-found_at report k t index = option_and_then (λ x. instance_at x index) (report_at report k t)
+found_at report run task index = option_and_then (λ instance. instance_at instance index) (report_at report run task)
 
 -- ---- what an instance was given
 
 -- version 2 tells it
 abbrev pub given_in : InstanceReport → Given
-given_in x = record { item = x.item; pulled = map (λ p. p.value) x.pulls }
+given_in instance = record { item = instance.item; pulled = map (λ pull. pull.value) instance.pulls }
 
 -- version 1 tells what the tasks pushed
 abbrev pub value_in : TaskReport → TaskValue
 value_in TaskReport.NoStatus = TaskValue.Blocked
 value_in TaskReport.Skipped = TaskValue.Skipped
 value_in TaskReport.UpstreamFailed = TaskValue.UpstreamFailed
-value_in (TaskReport.Ran x) = TaskValue.Ran (x.result ∷ [])
-value_in (TaskReport.Mapped xs) = TaskValue.Ran (map (λ x. x.result) xs)
+value_in (TaskReport.Ran instance) = TaskValue.Ran (instance.result ∷ [])
+value_in (TaskReport.Mapped instances) = TaskValue.Ran (map (λ instance. instance.result) instances)
 
 abbrev pub value_by : Option TaskReport → TaskValue
 value_by None = TaskValue.Blocked
 value_by (Some task) = value_in task
 
--- the value of the task t in the run k
+-- the value of the task in the run
 abbrev pub value_at : Report → ℕ → ℕ → TaskValue
-value_at report k t = value_by (report_at report k t)
+value_at report run task = value_by (report_at report run task)
 
--- what a pull from a task gave in the run k
+-- what a pull from a task gave in the run
 abbrev pub pull_from : Dag → Report → ℕ → ℕ → Option Xval
-pull_from dag report k source = option_and_then (λ task. pull task (value_at report k source)) (slice_get dag.tasks source)
+pull_from dag report run source = option_and_then (λ task. pull task (value_at report run source)) (slice_get dag.tasks source)
 
 -- the item of that index, of a list
 abbrev pub item_in : Option Xval → ℤ → Option Xval
-item_in (Some (ListOf values)) (pos i) = slice_get (xvals_of values) i
+item_in (Some (ListOf values)) (pos place) = slice_get (xvals_of values) place
 item_in _ _ = None
 
 -- what an instance is given: of an expanded task its item, which stands in the list that a pull from the source gave
@@ -69,35 +69,35 @@ given_of from pulled None (negsuc zero) = Some (record { item = None; pulled = p
 given_of from pulled None _ = None
 given_of from pulled (Some source) index = option_map (λ item. record { item = Some item; pulled = pulled }) (item_in (from source) index)
 
--- what the values of the report give the instance of that index of the task t in the run k
+-- what the values of the report give the instance of that index of the task in the run
 unfoldable pub worked_out : Dag → Report → ℕ → ℕ → ℤ → Option Given
-worked_out dag report k t index = given_of (pull_from dag report k) (map (pull_from dag report k) (task_of dag t).pulls) (task_of dag t).expand index
+worked_out dag report run task index = given_of (pull_from dag report run) (map (pull_from dag report run) (task_of dag task).pulls) (task_of dag task).expand index
 
 -- what an instance was given, by the version of the report
 abbrev pub given_by : Version → Option Given → InstanceReport → Option Given
-given_by Version.One worked x = worked
-given_by Version.Two worked x = Some (given_in x)
+given_by Version.One worked instance = worked
+given_by Version.Two worked instance = Some (given_in instance)
 
 -- ---- tries
 
--- the outcome of the try a: those before the last failed
+-- the outcome of a try: those before the last failed
 abbrev pub outcome_of_try : TaskResult → ℕ → Option Outcome
-outcome_of_try r a =
-    if a == r.tries then Some r.outcome
-    else (if nat_lt 0 a && nat_lt a r.tries then Some Outcome.Failed else None)
+outcome_of_try result attempt =
+    if attempt == result.tries then Some result.outcome
+    else (if nat_lt 0 attempt && nat_lt attempt result.tries then Some Outcome.Failed else None)
 
 abbrev pub entry_of_try : TaskResult → ℕ → Option Given → Option Entry
-entry_of_try r a None = None
-entry_of_try r a (Some g) = option_map (λ o. record { given = g; outcome = o }) (outcome_of_try r a)
+entry_of_try result attempt None = None
+entry_of_try result attempt (Some given) = option_map (λ outcome. record { given = given; outcome = outcome }) (outcome_of_try result attempt)
 
 abbrev pub entry_by : Version → Option Given → Option InstanceReport → ℕ → Option Entry
-entry_by version worked None a = None
-entry_by version worked (Some x) a = entry_of_try x.result a (given_by version worked x)
+entry_by version worked None attempt = None
+entry_by version worked (Some instance) attempt = entry_of_try instance.result attempt (given_by version worked instance)
 
 -- the entries that a report tells of, by their names: version 2 tells what they were given, and for version 1 it is worked out
 unfoldable pub told : Dag → Report → Look
-told dag report n = entry_by report.version (worked_out dag report n.run n.task n.index) (found_at report n.run n.task n.index) n.attempt
+told dag report name = entry_by report.version (worked_out dag report name.run name.task name.index) (found_at report name.run name.task name.index) name.attempt
 
 -- what stands in the report is of tasks and runs that are there
 abbrev pub IsWithin : Dag → ℕ → Report → Type 0
-IsWithin dag runs report = (k t : ℕ) (index : ℤ) (x : InstanceReport) → found_at report k t index ≡ Some x → (k < runs) × (t < length dag.tasks)
+IsWithin dag runs report = (run task : ℕ) (index : ℤ) (instance : InstanceReport) → found_at report run task index ≡ Some instance → (run < runs) × (task < length dag.tasks)

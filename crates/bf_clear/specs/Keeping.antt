@@ -17,7 +17,7 @@ use Rattle.bf_clear.specs.Entries.{entry_of_try, told}
 
 -- an entry is kept exactly where the report tells of it, it isn't cleared, and its outcome fits
 abbrev pub AreKept : Dag → List Place → Report → Look → Type 0
-AreKept dag seeds report kept = (n : JobName) (e : Entry) → (kept n ≡ Some e) ↔ ((told dag report n ≡ Some e) × IsBeside dag seeds n × (fits dag n.task e.outcome ≡ true))
+AreKept dag seeds report kept = (name : JobName) (entry : Entry) → (kept name ≡ Some entry) ↔ ((told dag report name ≡ Some entry) × IsBeside dag seeds name × (fits dag name.task entry.outcome ≡ true))
 
 -- ---- as it is looked up
 
@@ -29,32 +29,32 @@ pub record Clearance : Type 0 where
 
 -- the task in the run is cleared, or there is no such
 abbrev pub is_cleared : List (List Bool) → ℕ → ℕ → Bool
-is_cleared rows k t = unwrap_or (option_and_then (λ row. slice_get row t) (slice_get rows k)) true
+is_cleared rows run task = unwrap_or (option_and_then (λ row. slice_get row task) (slice_get rows run)) true
 
 abbrev pub fitting : Dag → ℕ → Option Entry → Option Entry
-fitting dag t None = None
-fitting dag t (Some e) = if fits dag t e.outcome then Some e else None
+fitting dag task None = None
+fitting dag task (Some entry) = if fits dag task entry.outcome then Some entry else None
 
 abbrev pub kept_of : Bool → Dag → ℕ → Option Entry → Option Entry
-kept_of beside dag t e = if beside then fitting dag t e else None
+kept_of beside dag task entry = if beside then fitting dag task entry else None
 
 -- what is kept: the entries of the report but for what is cleared and what doesn't fit
 abbrev pub kept_in : Clearance → Look
-kept_in c n = kept_of (nat_lt n.task (length c.dag.tasks) && not (is_cleared c.marks n.run n.task)) c.dag n.task (told c.dag c.report n)
+kept_in clearance name = kept_of (nat_lt name.task (length clearance.dag.tasks) && not (is_cleared clearance.marks name.run name.task)) clearance.dag name.task (told clearance.dag clearance.report name)
 
 -- ---- answers
 
 abbrev pub fit_outcome : Dag → ℕ → Option Outcome → Option Outcome
-fit_outcome dag t None = None
-fit_outcome dag t (Some o) = if fits dag t o then Some o else None
+fit_outcome dag task None = None
+fit_outcome dag task (Some outcome) = if fits dag task outcome then Some outcome else None
 
 -- an answer by which a try ends so
 abbrev pub IsRawFor : Option Outcome → Option Raw → Type 0
 IsRawFor None None = Unit {0}
-IsRawFor (Some o) (Some raw) = GradesTo raw o
+IsRawFor (Some outcome) (Some raw) = GradesTo raw outcome
 IsRawFor None (Some raw) = ⊥
-IsRawFor (Some o) None = ⊥
+IsRawFor (Some outcome) None = ⊥
 
 -- an answer by which a try of this instance, which was given what is told, ends as it did, where it is given the same
 abbrev pub IsAnswerOf : Dag → Option Given → InstanceReport → JobName → Given → Option Raw → Type 0
-IsAnswerOf dag told x n given o = IsAnsweredBy (λ m. fitting dag n.task (entry_of_try x.result n.attempt told)) n given o
+IsAnswerOf dag told instance name given answer = IsAnsweredBy (λ asked. fitting dag name.task (entry_of_try instance.result name.attempt told)) name given answer

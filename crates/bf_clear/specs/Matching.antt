@@ -23,7 +23,7 @@ has_id (Some task) id = bytes_eq id task.id
 
 -- the ids of the tasks, in file order
 abbrev pub are_ids_of : List (List ℕ) → List Task → Bool
-are_ids_of ids tasks = (length ids == length tasks) && list_all (λ p. has_id (Some p.1) p.0) (zip ids tasks)
+are_ids_of ids tasks = (length ids == length tasks) && list_all (λ pair. has_id (Some pair.1) pair.0) (zip ids tasks)
 
 -- a pull from the task
 abbrev pub is_pull_of : Dag → Pull → ℕ → Bool
@@ -31,26 +31,26 @@ is_pull_of dag pull source = has_id (slice_get dag.tasks source) pull.task
 
 -- the instance pulled from what the task pulls from, in order
 abbrev pub has_pulls_of : Dag → Task → InstanceReport → Bool
-has_pulls_of dag task x = (length x.pulls == length task.pulls) && list_all (λ p. is_pull_of dag p.0 p.1) (zip x.pulls task.pulls)
+has_pulls_of dag task instance = (length instance.pulls == length task.pulls) && list_all (λ pair. is_pull_of dag pair.0 pair.1) (zip instance.pulls task.pulls)
 
 -- so it is in version 2 with each instance of the task
 abbrev pub is_task_of : Version → Dag → TaskReport → Task → Bool
-is_task_of Version.Two dag (TaskReport.Ran x) task = has_pulls_of dag task x
-is_task_of Version.Two dag (TaskReport.Mapped xs) task = list_all (has_pulls_of dag task) xs
+is_task_of Version.Two dag (TaskReport.Ran instance) task = has_pulls_of dag task instance
+is_task_of Version.Two dag (TaskReport.Mapped instances) task = list_all (has_pulls_of dag task) instances
 is_task_of version dag report task = true
 
 abbrev pub are_tasks_of : Version → Dag → List TaskReport → Bool
-are_tasks_of version dag reports = (length reports == length dag.tasks) && list_all (λ p. is_task_of version dag p.0 p.1) (zip reports dag.tasks)
+are_tasks_of version dag reports = (length reports == length dag.tasks) && list_all (λ pair. is_task_of version dag pair.0 pair.1) (zip reports dag.tasks)
 
 -- they start at one moment, and end at one
 abbrev pub is_same_interval : Interval → Interval → Bool
-is_same_interval i j = int_eq i.start.nanosecond j.start.nanosecond && int_eq i.end.nanosecond j.end.nanosecond
+is_same_interval one other = int_eq one.start.nanosecond other.start.nanosecond && int_eq one.end.nanosecond other.end.nanosecond
 
 abbrev pub is_run_of : Version → Dag → RunReport → Interval → Bool
 is_run_of version dag run interval = is_same_interval run.interval interval && are_tasks_of version dag run.tasks
 
 abbrev pub are_runs_of : Version → Dag → List RunReport → List Interval → Bool
-are_runs_of version dag runs intervals = (length runs == length intervals) && list_all (λ p. is_run_of version dag p.0 p.1) (zip runs intervals)
+are_runs_of version dag runs intervals = (length runs == length intervals) && list_all (λ pair. is_run_of version dag pair.0 pair.1) (zip runs intervals)
 
 -- the report has the dag id, the data intervals and the tasks of the plan, and in version 2 their pulls; one without runs has no ids of tasks
 unfoldable pub is_report_of : Dag → List Interval → Report → Bool

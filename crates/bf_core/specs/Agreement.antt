@@ -7,53 +7,53 @@ use Rattle.bf_core.specs.Events.{cell_at, value_in, entry_in, place_in, has_fail
 
 -- the ledger holds all entries of the other
 abbrev pub Holds : Ledger → Ledger → Type 0
-Holds ledger part = (n : JobName) (e : Entry) → part n ≡ Some e → ledger n ≡ Some e
+Holds ledger part = (name : JobName) (entry : Entry) → part name ≡ Some entry → ledger name ≡ Some entry
 
 abbrev pub givens_of : List Instance → List Given
-givens_of xs = map (λ x. x.given) xs
+givens_of instances = map (λ instance. instance.given) instances
 
 abbrev pub PhaseAgrees : TaskResult → ℕ → Phase → Type 0
-PhaseAgrees r a (Phase.Finished o) = r ≡ record { outcome = o; tries = a }
-PhaseAgrees r a _ = Unit {0}
+PhaseAgrees result attempt (Phase.Finished outcome) = result ≡ record { outcome = outcome; tries = attempt }
+PhaseAgrees result attempt _ = Unit {0}
 
--- each finished instance has its result, from index i on
+-- each finished instance has its result, from this place on
 abbrev pub HaveResults : (ℕ → TaskResult) → ℕ → List Instance → Type 0
-HaveResults result i [] = Unit {0}
-HaveResults result i (x ∷ xs) = PhaseAgrees (result i) x.attempt x.phase × HaveResults result (suc i) xs
+HaveResults result_at place [] = Unit {0}
+HaveResults result_at place (instance ∷ instances) = PhaseAgrees (result_at place) instance.attempt instance.phase × HaveResults result_at (suc place) instances
 
 -- a decided task is what the recursion makes of it, with its instances and their Given; each finished instance has its result
 abbrev pub CellAgrees : Decision → (ℕ → TaskResult) → Cell → Type 0
-CellAgrees d result Cell.Undecided = Unit {0}
-CellAgrees d result Cell.Blocked = d ≡ Decision.Blocked
-CellAgrees d result Cell.Skipped = d ≡ Decision.Skipped
-CellAgrees d result Cell.UpstreamFailed = d ≡ Decision.UpstreamFailed
-CellAgrees d result (Cell.Ran xs) = (d ≡ Decision.Instances (givens_of xs)) × HaveResults result 0 xs
+CellAgrees decision result_at Cell.Undecided = Unit {0}
+CellAgrees decision result_at Cell.Blocked = decision ≡ Decision.Blocked
+CellAgrees decision result_at Cell.Skipped = decision ≡ Decision.Skipped
+CellAgrees decision result_at Cell.UpstreamFailed = decision ≡ Decision.UpstreamFailed
+CellAgrees decision result_at (Cell.Ran instances) = (decision ≡ Decision.Instances (givens_of instances)) × HaveResults result_at 0 instances
 
 abbrev pub Agrees : Dag → State → Ledger → Type 0
-Agrees dag s ledger = (k t : ℕ) → CellAgrees (decided dag ledger k t) (result_of dag ledger k t) (cell_at s k t)
+Agrees dag state ledger = (run task : ℕ) → CellAgrees (decided dag ledger run task) (result_of dag ledger run task) (cell_at state run task)
 
 -- ---- the end
 
--- the instances that the recursion makes, each finished, from index i on
+-- the instances that the recursion makes, each finished, from this place on
 abbrev pub finished_from : (ℕ → TaskResult) → ℕ → List Given → List Instance
-finished_from result i [] = []
-finished_from result i (g ∷ gs) = record { given = g; attempt = (result i).tries; phase = Phase.Finished (result i).outcome } ∷ finished_from result (suc i) gs
+finished_from result_at place [] = []
+finished_from result_at place (given ∷ givens) = record { given = given; attempt = (result_at place).tries; phase = Phase.Finished (result_at place).outcome } ∷ finished_from result_at (suc place) givens
 
 -- the cell that the recursion makes
 abbrev pub final_cell : Decision → (ℕ → TaskResult) → Cell
-final_cell Decision.Wait result = Cell.Undecided
-final_cell Decision.Blocked result = Cell.Blocked
-final_cell Decision.Skipped result = Cell.Skipped
-final_cell Decision.UpstreamFailed result = Cell.UpstreamFailed
-final_cell (Decision.Instances gs) result = Cell.Ran (finished_from result 0 gs)
+final_cell Decision.Wait result_at = Cell.Undecided
+final_cell Decision.Blocked result_at = Cell.Blocked
+final_cell Decision.Skipped result_at = Cell.Skipped
+final_cell Decision.UpstreamFailed result_at = Cell.UpstreamFailed
+final_cell (Decision.Instances givens) result_at = Cell.Ran (finished_from result_at 0 givens)
 
 abbrev pub results_of : Dag → Ledger → ℕ → ℕ → ℕ → TaskResult
-results_of dag ledger k t = result_of dag ledger k t
+results_of dag ledger run task = result_of dag ledger run task
 
 -- each try is one that the recursion asks for, in so many runs
 abbrev pub AreAsked : Dag → ℕ → Ledger → Type 0
-AreAsked dag runs ledger = (n : JobName) (e : Entry) → ledger n ≡ Some e →
-    (n.run < runs) × (n.task < length dag.tasks) × (n ≡ name_of dag n.run n.task (place_in dag n) n.attempt) × Asks dag ledger n.run n.task (place_in dag n) n.attempt e.given
+AreAsked dag runs ledger = (name : JobName) (entry : Entry) → ledger name ≡ Some entry →
+    (name.run < runs) × (name.task < length dag.tasks) × (name ≡ name_of dag name.run name.task (place_in dag name) name.attempt) × Asks dag ledger name.run name.task (place_in dag name) name.attempt entry.given
 
 -- the ledger holds the tries that the recursion over it asks for, and no other
 pub record HoldsItsTries (dag : Dag) (runs : ℕ) (ledger : Ledger) : Type 0 where
@@ -61,12 +61,12 @@ pub record HoldsItsTries (dag : Dag) (runs : ℕ) (ledger : Ledger) : Type 0 whe
   pub asked : AreAsked dag runs ledger
 
 -- the state's ledger holds its tries, and the cells are the values of the recursion over it
-pub record IsOutcome (dag : Dag) (runs : ℕ) (s : State) : Type 0 where
-  pub tries : HoldsItsTries dag runs (entry_in s.ledger)
-  pub cells : (k t : ℕ) → k < runs → t < length dag.tasks → cell_at s k t ≡ final_cell (decided dag (entry_in s.ledger) k t) (results_of dag (entry_in s.ledger) k t)
-  pub values : (k t : ℕ) → k < runs → t < length dag.tasks → value_in (cell_at s k t) ≡ Some (out dag (entry_in s.ledger) k t)
-  pub run_states : (k : ℕ) → k < runs → has_failed dag s k ≡ run_fails dag (out dag (entry_in s.ledger) k)
+pub record IsOutcome (dag : Dag) (runs : ℕ) (state : State) : Type 0 where
+  pub tries : HoldsItsTries dag runs (entry_in state.ledger)
+  pub cells : (run task : ℕ) → run < runs → task < length dag.tasks → cell_at state run task ≡ final_cell (decided dag (entry_in state.ledger) run task) (results_of dag (entry_in state.ledger) run task)
+  pub values : (run task : ℕ) → run < runs → task < length dag.tasks → value_in (cell_at state run task) ≡ Some (out dag (entry_in state.ledger) run task)
+  pub run_states : (run : ℕ) → run < runs → has_failed dag state run ≡ run_fails dag (out dag (entry_in state.ledger) run)
 
 -- the states of the runs are the recursion's
 abbrev pub AreRunStates : Dag → Ledger → ℕ → List RunState → Type 0
-AreRunStates dag ledger runs states = (length states ≡ runs) × ((k : ℕ) → k < runs → slice_get states k ≡ Some (run_state_of dag (out dag ledger k)))
+AreRunStates dag ledger runs states = (length states ≡ runs) × ((run : ℕ) → run < runs → slice_get states run ≡ Some (run_state_of dag (out dag ledger run)))

@@ -7,10 +7,10 @@ use Rattle.bf_core.specs.declared.fault.BackfillFault.{BackfillFault}
 
 -- each try that ended has the grade of an answer that may be given to it
 abbrev pub AreGraded : (JobName → Given → Raw → Type 0) → Dag → Ledger → Type 0
-AreGraded may_answer dag ledger = (n : JobName) (e : Entry) → ledger n ≡ Some e → (raw : Raw) × may_answer n e.given raw × (e.outcome ≡ grade_of dag n.task raw)
+AreGraded may_answer dag ledger = (name : JobName) (entry : Entry) → ledger name ≡ Some entry → (raw : Raw) × may_answer name entry.given raw × (entry.outcome ≡ grade_of dag name.task raw)
 
 -- memory may be wanting, and the try that is named may be given up; where nobody starts workers, none fails to start
 abbrev pub MayFault : (JobName → Given → Type 0) → BackfillFault → Type 0
 MayFault may_give_up BackfillFault.OutOfMemory = Unit {0}
-MayFault may_give_up (BackfillFault.Runner n) = (given : Given) × may_give_up n given
+MayFault may_give_up (BackfillFault.Runner name) = (given : Given) × may_give_up name given
 MayFault may_give_up BackfillFault.Start = ⊥

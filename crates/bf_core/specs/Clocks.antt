@@ -13,62 +13,62 @@ start_clock = record { time = pos 0; moments = map.empty }
 
 -- the next try of the same instance
 abbrev pub next_try : JobName → JobName
-next_try n = record { run = n.run; task = n.task; index = n.index; attempt = suc n.attempt }
+next_try name = record { run = name.run; task = name.task; index = name.index; attempt = suc name.attempt }
 
 -- the try that ended so is made again
 abbrev pub is_made_again : Dag → JobName → Outcome → Bool
-is_made_again dag n o = is_failed o && nat_le n.attempt (task_of dag n.task).retries
+is_made_again dag name outcome = is_failed outcome && nat_le name.attempt (task_of dag name.task).retries
 
 -- the name waits for the moment, where that is later
 abbrev pub waiting_for : Clock → JobName → ℤ → Clock
-waiting_for c n m = if int_lt c.time m then record { time = c.time; moments = map.insert c.moments n m } else c
+waiting_for clock name moment = if int_lt clock.time moment then record { time = clock.time; moments = map.insert clock.moments name moment } else clock
 
 -- the clock after the end of a try, whose next try waits so many seconds where it is made
 unfoldable pub after_end : Clock → JobName → Bool → ℕ → Clock
-after_end c next again delay = if again then waiting_for c next (int_min (c.time +ℤ pos delay) last_moment) else c
+after_end clock next again delay = if again then waiting_for clock next (int_min (clock.time +ℤ pos delay) last_moment) else clock
 
 -- the clock after an event
 abbrev pub clock_after : Dag → Limits → Clock → Event → Clock
-clock_after dag limits c (Event.Tick m) = record { time = m; moments = c.moments }
-clock_after dag limits c (Event.Begin n) = record { time = c.time; moments = map.remove c.moments n }
-clock_after dag limits c (Event.End n o) = after_end c (next_try n) (is_made_again dag n o) (demand_of limits n.task).retry_delay
-clock_after dag limits c Event.Open = c
-clock_after dag limits c (Event.Settle k t) = c
-clock_after dag limits c (Event.Expand k t) = c
-clock_after dag limits c (Event.Close k) = c
+clock_after dag limits clock (Event.Tick moment) = record { time = moment; moments = clock.moments }
+clock_after dag limits clock (Event.Begin name) = record { time = clock.time; moments = map.remove clock.moments name }
+clock_after dag limits clock (Event.End name outcome) = after_end clock (next_try name) (is_made_again dag name outcome) (demand_of limits name.task).retry_delay
+clock_after dag limits clock Event.Open = clock
+clock_after dag limits clock (Event.Settle run task) = clock
+clock_after dag limits clock (Event.Expand run task) = clock
+clock_after dag limits clock (Event.Close run) = clock
 
 -- the moment is reached, where there is one
 abbrev pub IsReached : ℤ → Option ℤ → Type 0
 IsReached time None = Unit {0}
-IsReached time (Some m) = m ≤ℤ time
+IsReached time (Some moment) = moment ≤ℤ time
 
 -- the clock lets the event come: it goes on, and a try begins at its moment or later
 abbrev pub IsTimely : Clock → Event → Type 0
-IsTimely c (Event.Tick m) = (c.time <ℤ m) × (m ≤ℤ last_moment)
-IsTimely c (Event.Begin n) = IsReached c.time (map.get c.moments n)
-IsTimely c Event.Open = Unit {0}
-IsTimely c (Event.Settle k t) = Unit {0}
-IsTimely c (Event.Expand k t) = Unit {0}
-IsTimely c (Event.End n o) = Unit {0}
-IsTimely c (Event.Close k) = Unit {0}
+IsTimely clock (Event.Tick moment) = (clock.time <ℤ moment) × (moment ≤ℤ last_moment)
+IsTimely clock (Event.Begin name) = IsReached clock.time (map.get clock.moments name)
+IsTimely clock Event.Open = Unit {0}
+IsTimely clock (Event.Settle run task) = Unit {0}
+IsTimely clock (Event.Expand run task) = Unit {0}
+IsTimely clock (Event.End name outcome) = Unit {0}
+IsTimely clock (Event.Close run) = Unit {0}
 
 -- a list of events that the clock lets come each in its turn, and the clock that it leads to
 abbrev pub AreTimely : Dag → Limits → Clock → List Event → Type 0
-AreTimely dag limits c [] = Unit {0}
-AreTimely dag limits c (e ∷ es) = IsTimely c e × AreTimely dag limits (clock_after dag limits c e) es
+AreTimely dag limits clock [] = Unit {0}
+AreTimely dag limits clock (event ∷ events) = IsTimely clock event × AreTimely dag limits (clock_after dag limits clock event) events
 
 abbrev pub clock_of : Dag → Limits → Clock → List Event → Clock
-clock_of dag limits c [] = c
-clock_of dag limits c (e ∷ es) = clock_of dag limits (clock_after dag limits c e) es
+clock_of dag limits clock [] = clock
+clock_of dag limits clock (event ∷ events) = clock_of dag limits (clock_after dag limits clock event) events
 
 -- what a core keeps of its clock: it is within its bounds, and a moment stands only under the next try of one that has ended
-pub record KeepsTime (c : Clock) (look : Ledger) : Type 0 where
-  pub begun : pos 0 ≤ℤ c.time
-  pub within : c.time ≤ℤ last_moment
-  pub bounded : (n : JobName) (m : ℤ) → map.get c.moments n ≡ Some m → m ≤ℤ last_moment
-  pub after_one : (n : JobName) → IsSome (map.get c.moments (next_try n)) → IsSome (look n)
+pub record KeepsTime (clock : Clock) (look : Ledger) : Type 0 where
+  pub begun : pos 0 ≤ℤ clock.time
+  pub within : clock.time ≤ℤ last_moment
+  pub bounded : (name : JobName) (moment : ℤ) → map.get clock.moments name ≡ Some moment → moment ≤ℤ last_moment
+  pub after_one : (name : JobName) → IsSome (map.get clock.moments (next_try name)) → IsSome (look name)
 
 -- the event is none of the clock
 abbrev pub IsMove : Event → Type 0
-IsMove (Event.Tick m) = ⊥
+IsMove (Event.Tick moment) = ⊥
 IsMove _ = Unit {0}

@@ -25,31 +25,31 @@ abbrev pub one_blocked : Counts
 one_blocked = record none_counted { blocked = 1 }
 
 abbrev pub one_of : Outcome → Counts
-one_of (Outcome.Success v) = record none_counted { success = 1 }
+one_of (Outcome.Success value) = record none_counted { success = 1 }
 one_of Outcome.Failed = record none_counted { failed = 1 }
 one_of Outcome.Skipped = one_skipped
 
 abbrev pub counts_of_results : List TaskResult → Counts
 counts_of_results [] = none_counted
-counts_of_results (r ∷ rs) = add (one_of r.outcome) (counts_of_results rs)
+counts_of_results (result ∷ results) = add (one_of result.outcome) (counts_of_results results)
 
 abbrev pub counts_of : TaskValue → Counts
 counts_of TaskValue.Blocked = one_blocked
 counts_of TaskValue.Skipped = one_skipped
 counts_of TaskValue.UpstreamFailed = one_upstream_failed
-counts_of (TaskValue.Ran rs) = counts_of_results rs
+counts_of (TaskValue.Ran results) = counts_of_results results
 
 -- a task that is settled
 abbrev pub settled : TaskValue → Seen
-settled v = record { counts = counts_of v; value = Some v }
+settled value = record { counts = counts_of value; value = Some value }
 
 -- ---- branches
 
 -- the branch succeeded and does not follow the task
 abbrev pub branch_skips : Dag → ℕ → ℕ → TaskValue → Bool
-branch_skips dag t u (TaskValue.Ran []) = false
-branch_skips dag t u (TaskValue.Ran (r ∷ rs)) = elim r.outcome [ Outcome.Success v ↦ not (followed (shape_of dag) u v t) | Outcome.Failed ↦ false | Outcome.Skipped ↦ false ]
-branch_skips dag t u _ = false
+branch_skips dag task upstream (TaskValue.Ran []) = false
+branch_skips dag task upstream (TaskValue.Ran (result ∷ results)) = elim result.outcome [ Outcome.Success pushed ↦ not (followed (shape_of dag) upstream pushed task) | Outcome.Failed ↦ false | Outcome.Skipped ↦ false ]
+branch_skips dag task upstream _ = false
 
 abbrev pub is_blocked : TaskValue → Bool
 is_blocked TaskValue.Blocked = true
@@ -57,77 +57,77 @@ is_blocked _ = false
 
 -- a fact about the value of an upstream that is a branch
 abbrev pub branch_is : Dag → (TaskValue → Bool) → ℕ → Option TaskValue → Bool
-branch_is dag p u None = false
-branch_is dag p u (Some v) = is_branch (task_of dag u) && p v
+branch_is dag holds upstream None = false
+branch_is dag holds upstream (Some value) = is_branch (task_of dag upstream) && holds value
 
 -- ---- the verdict
 
 abbrev pub counts_over : (ℕ → Seen) → List ℕ → Counts
 counts_over seen [] = none_counted
-counts_over seen (u ∷ us) = add (seen u).counts (counts_over seen us)
+counts_over seen (upstream ∷ rest) = add (seen upstream).counts (counts_over seen rest)
 
 -- the upstream lets the task be decided: it is settled, or the task's rule need not wait for it and it is no branch
 abbrev pub lets_decide : Dag → Task → (ℕ → Seen) → ℕ → Bool
-lets_decide dag task seen u = is_some (seen u).value || (not (is_waiting task.rule) && not (is_branch (task_of dag u)))
+lets_decide dag task seen upstream = is_some (seen upstream).value || (not (is_waiting task.rule) && not (is_branch (task_of dag upstream)))
 
 unfoldable pub ruling : Dag → (ℕ → Seen) → ℕ → Verdict
-ruling dag seen t =
-    if not (list_all (lets_decide dag (task_of dag t) seen) (task_of dag t).upstreams) then Verdict.Wait
-    else (if list_any (λ u. branch_is dag (branch_skips dag t u) u (seen u).value) (task_of dag t).upstreams then Verdict.Skip
-    else (if list_any (λ u. branch_is dag is_blocked u (seen u).value) (task_of dag t).upstreams then Verdict.Blocked
-    else verdict (task_of dag t).rule (counts_over seen (task_of dag t).upstreams)))
+ruling dag seen task =
+    if not (list_all (lets_decide dag (task_of dag task) seen) (task_of dag task).upstreams) then Verdict.Wait
+    else (if list_any (λ upstream. branch_is dag (branch_skips dag task upstream) upstream (seen upstream).value) (task_of dag task).upstreams then Verdict.Skip
+    else (if list_any (λ upstream. branch_is dag is_blocked upstream (seen upstream).value) (task_of dag task).upstreams then Verdict.Blocked
+    else verdict (task_of dag task).rule (counts_over seen (task_of dag task).upstreams)))
 
 -- ---- the past, the expansion
 
 abbrev pub all_passed : List TaskResult → Bool
 all_passed [] = true
-all_passed (r ∷ rs) = not (is_failed r.outcome) && all_passed rs
+all_passed (result ∷ results) = not (is_failed result.outcome) && all_passed results
 
 -- a task that depends on its past goes on after this value of its previous run
 abbrev pub lets_pass : TaskValue → Bool
 lets_pass TaskValue.Skipped = true
-lets_pass (TaskValue.Ran rs) = all_passed rs
+lets_pass (TaskValue.Ran results) = all_passed results
 lets_pass _ = false
 
 abbrev pub past_ruling : Option TaskValue → Verdict
 past_ruling None = Verdict.Wait
-past_ruling (Some v) = if lets_pass v then Verdict.Run else Verdict.Blocked
+past_ruling (Some value) = if lets_pass value then Verdict.Run else Verdict.Blocked
 
 -- where the verdict is run and the task depends on its past, the past decides; nothing is asked of it in the first run
 abbrev pub past_after : Bool → ℕ → Option TaskValue → Verdict → Verdict
-past_after depends k before Verdict.Run = if depends && not (k == 0) then past_ruling before else Verdict.Run
-past_after depends k before v = v
+past_after depends run before Verdict.Run = if depends && not (run == 0) then past_ruling before else Verdict.Run
+past_after depends run before ruling = ruling
 
 abbrev pub and_then_past : Dag → ℕ → Option TaskValue → ℕ → Verdict → Verdict
-and_then_past dag k before t v = past_after (task_of dag t).depends_on_past k before v
+and_then_past dag run before task ruling = past_after (task_of dag task).depends_on_past run before ruling
 
 abbrev pub pull_seen : Dag → (ℕ → Seen) → ℕ → Option Xval
-pull_seen dag seen p = option_and_then (pull (task_of dag p)) (seen p).value
+pull_seen dag seen source = option_and_then (pull (task_of dag source)) (seen source).value
 
 abbrev pub pulled : Dag → (ℕ → Seen) → ℕ → List (Option Xval)
-pulled dag seen t = map (pull_seen dag seen) (task_of dag t).pulls
+pulled dag seen task = map (pull_seen dag seen) (task_of dag task).pulls
 
 abbrev pub mapped : List (Option Xval) → Items → Decision
 mapped pulled Items.Missing = Decision.UpstreamFailed
 mapped pulled (Items.List []) = Decision.Skipped
-mapped pulled (Items.List (x ∷ xs)) = Decision.Instances (map (λ item. record { item = Some item; pulled = pulled }) (x ∷ xs))
+mapped pulled (Items.List (first ∷ rest)) = Decision.Instances (map (λ item. record { item = Some item; pulled = pulled }) (first ∷ rest))
 
 -- the instances of a task that goes on
 abbrev pub instances : Dag → (ℕ → Seen) → List (Option Xval) → Option ℕ → Decision
 instances dag seen pulled None = Decision.Instances (record { item = None; pulled = pulled } ∷ [])
-instances dag seen pulled (Some source) = elim (seen source).value [ None ↦ Decision.Wait | Some v ↦ mapped pulled (items (task_of dag source) v) ]
+instances dag seen pulled (Some source) = elim (seen source).value [ None ↦ Decision.Wait | Some value ↦ mapped pulled (items (task_of dag source) value) ]
 
 abbrev pub after_verdict : Dag → (ℕ → Seen) → ℕ → Verdict → Decision
-after_verdict dag seen t Verdict.Wait = Decision.Wait
-after_verdict dag seen t Verdict.Blocked = Decision.Blocked
-after_verdict dag seen t Verdict.Skip = Decision.Skipped
-after_verdict dag seen t Verdict.UpstreamFailed = Decision.UpstreamFailed
-after_verdict dag seen t Verdict.Run = instances dag seen (pulled dag seen t) (task_of dag t).expand
+after_verdict dag seen task Verdict.Wait = Decision.Wait
+after_verdict dag seen task Verdict.Blocked = Decision.Blocked
+after_verdict dag seen task Verdict.Skip = Decision.Skipped
+after_verdict dag seen task Verdict.UpstreamFailed = Decision.UpstreamFailed
+after_verdict dag seen task Verdict.Run = instances dag seen (pulled dag seen task) (task_of dag task).expand
 
 -- the verdict, with the past
 unfoldable pub gate : Dag → ℕ → (ℕ → Seen) → Option TaskValue → ℕ → Verdict
-gate dag k seen before t = and_then_past dag k before t (ruling dag seen t)
+gate dag run seen before task = and_then_past dag run before task (ruling dag seen task)
 
--- what is decided of the task t in the run k
+-- what is decided of the task in the run
 unfoldable pub decision : Dag → ℕ → (ℕ → Seen) → Option TaskValue → ℕ → Decision
-decision dag k seen before t = after_verdict dag seen t (gate dag k seen before t)
+decision dag run seen before task = after_verdict dag seen task (gate dag run seen before task)

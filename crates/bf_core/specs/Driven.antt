@@ -10,13 +10,13 @@ use Rattle.bf_core.specs.Answered.{AreGraded}
 use Rattle.bf_core.specs.declared.ended.Ended.{Ended}
 
 -- a backfill of the plan and of so many runs, whose tries so far have grades of answers that may be given
-pub record IsDriven (may_answer : JobName → Given → Raw → Type 0) (planned : Dag) (within : Limits) (many : ℕ) (b : Backfill) : Type 0 where
-  pub dag : b.dag ≡ planned
-  pub limits : b.limits ≡ within
-  pub runs : b.runs ≡ many
-  pub replayed : IsReplay b
-  pub limits_fit : AreLimits b.dag b.limits
-  pub graded : AreGraded may_answer b.dag (entry_in b.state.ledger)
+pub record IsDriven (may_answer : JobName → Given → Raw → Type 0) (planned : Dag) (within : Limits) (many : ℕ) (backfill : Backfill) : Type 0 where
+  pub dag : backfill.dag ≡ planned
+  pub limits : backfill.limits ≡ within
+  pub runs : backfill.runs ≡ many
+  pub replayed : IsReplay backfill
+  pub limits_fit : AreLimits backfill.dag backfill.limits
+  pub graded : AreGraded may_answer backfill.dag (entry_in backfill.state.ledger)
 
 -- what a backfill that is driven to its end comes to
 pub record IsOver (may_answer : JobName → Given → Raw → Type 0) (dag : Dag) (limits : Limits) (runs : ℕ) (ended : Ended) : Type 0 where

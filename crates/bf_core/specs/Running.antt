@@ -3,29 +3,29 @@ use Rattle.std.specs.Prelude.{ℕ, suc, ◌+◌, List, [], ◌∷◌}
 use Rattle.bf_try.specs.Asked.{Asked}
 use Rattle.bf_core.specs.Terms.{Cell, Dag, Instance, Phase, State, name_of}
 
--- the sum of f over a list, of which f gets each place and member
+-- the sum of what is measured of each place and member of a list
 abbrev pub sum_by_place : {A : Type 0} → (ℕ → A → ℕ) → List A → ℕ
-sum_by_place f [] = 0
-sum_by_place f (x ∷ xs) = f 0 x + sum_by_place (λ i. f (suc i)) xs
+sum_by_place measure [] = 0
+sum_by_place measure (first ∷ rest) = measure 0 first + sum_by_place (λ place. measure (suc place)) rest
 
--- n where the instance runs, else 0
+-- the number where the instance runs, else 0
 abbrev pub while_running : Phase → ℕ → ℕ
-while_running Phase.Waiting n = 0
-while_running Phase.Running n = n
-while_running (Phase.Finished o) n = 0
+while_running Phase.Waiting number = 0
+while_running Phase.Running number = number
+while_running (Phase.Finished outcome) number = 0
 
 abbrev pub running_by_place : (ℕ → Instance → ℕ) → Cell → ℕ
-running_by_place f (Cell.Ran xs) = sum_by_place (λ i x. while_running x.phase (f i x)) xs
-running_by_place f c = 0
+running_by_place measure (Cell.Ran instances) = sum_by_place (λ place instance. while_running instance.phase (measure place instance)) instances
+running_by_place measure cell = 0
 
--- the sum of f over the instances that run, of which f gets run, task and place
+-- the sum of what is measured of the instances that run, each by its run, task and place
 abbrev pub sum_of_running : (ℕ → ℕ → ℕ → Instance → ℕ) → State → ℕ
-sum_of_running f s = sum_by_place (λ k r. sum_by_place (λ t c. running_by_place (f k t) c) r.cells) s.runs
+sum_of_running measure state = sum_by_place (λ run row. sum_by_place (λ task cell. running_by_place (measure run task) cell) row.cells) state.runs
 
--- the sum of h over the tries that run
+-- the sum of what is measured of the tries that run
 abbrev pub running_tries : (Asked → ℕ) → Dag → State → ℕ
-running_tries h dag s = sum_of_running (λ k t i x. h (record { name = name_of dag k t i x.attempt; given = x.given })) s
+running_tries measure dag state = sum_of_running (λ run task place instance. measure (record { name = name_of dag run task place instance.attempt; given = instance.given })) state
 
 -- how many tries run
 abbrev pub running_now : State → ℕ
-running_now s = sum_of_running (λ k t i x. 1) s
+running_now state = sum_of_running (λ run task place instance. 1) state

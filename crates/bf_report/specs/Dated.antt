@@ -25,54 +25,54 @@ use Rattle.bf_moment.specs.Moment.{IsShown}
 -- what came of the pulls from these tasks, each under its task's id
 abbrev pub pulls_of : Dag → List ℕ → List (Option Xval) → List Pull
 pulls_of dag [] values = []
-pulls_of dag (p ∷ ps) [] = []
-pulls_of dag (p ∷ ps) (v ∷ vs) = record { task = (task_of dag p).id; value = v } ∷ pulls_of dag ps vs
+pulls_of dag (source ∷ sources) [] = []
+pulls_of dag (source ∷ sources) (value ∷ values) = record { task = (task_of dag source).id; value = value } ∷ pulls_of dag sources values
 
--- an instance of the task t that was given this and came to this result
+-- an instance of the task that was given this and came to this result
 abbrev pub instance_report : Dag → ℕ → Given → TaskResult → InstanceReport
-instance_report dag t given result = record { result = result; item = given.item; pulls = pulls_of dag (task_of dag t).pulls given.pulled }
+instance_report dag task given result = record { result = result; item = given.item; pulls = pulls_of dag (task_of dag task).pulls given.pulled }
 
--- one that is in this phase of the try a
+-- one that is in this phase of this attempt
 abbrev pub reported_phase : Dag → ℕ → Given → ℕ → Phase → Option InstanceReport
-reported_phase dag t given a (Phase.Finished outcome) = Some (instance_report dag t given (record { outcome = outcome; tries = a }))
-reported_phase dag t given a Phase.Waiting = None
-reported_phase dag t given a Phase.Running = None
+reported_phase dag task given attempt (Phase.Finished outcome) = Some (instance_report dag task given (record { outcome = outcome; tries = attempt }))
+reported_phase dag task given attempt Phase.Waiting = None
+reported_phase dag task given attempt Phase.Running = None
 
--- what an instance of the task t is reported as, once it has finished
+-- what an instance of the task is reported as, once it has finished
 abbrev pub reported_instance : Dag → ℕ → Instance → Option InstanceReport
-reported_instance dag t x = reported_phase dag t x.given x.attempt x.phase
+reported_instance dag task instance = reported_phase dag task instance.given instance.attempt instance.phase
 
 -- the instances of a task that ran: all of an expanded one, and the one of an unmapped task
 abbrev pub reported_instances : Bool → List InstanceReport → TaskReport
-reported_instances true xs = TaskReport.Mapped xs
-reported_instances false (x ∷ xs) = TaskReport.Ran x
+reported_instances true instances = TaskReport.Mapped instances
+reported_instances false (instance ∷ instances) = TaskReport.Ran instance
 reported_instances false [] = TaskReport.NoStatus
 
--- what the task t is reported as, by its cell
+-- what the task is reported as, by its cell
 abbrev pub reported : Dag → ℕ → Cell → TaskReport
-reported dag t Cell.Undecided = TaskReport.NoStatus
-reported dag t Cell.Blocked = TaskReport.NoStatus
-reported dag t Cell.Skipped = TaskReport.Skipped
-reported dag t Cell.UpstreamFailed = TaskReport.UpstreamFailed
-reported dag t (Cell.Ran xs) = reported_instances (is_some (task_of dag t).expand) (filter_map (reported_instance dag t) xs)
+reported dag task Cell.Undecided = TaskReport.NoStatus
+reported dag task Cell.Blocked = TaskReport.NoStatus
+reported dag task Cell.Skipped = TaskReport.Skipped
+reported dag task Cell.UpstreamFailed = TaskReport.UpstreamFailed
+reported dag task (Cell.Ran instances) = reported_instances (is_some (task_of dag task).expand) (filter_map (reported_instance dag task) instances)
 
--- the reports of these tasks, of which the first is the task t, in a run with these cells
+-- the reports of these tasks, of which the first stands in this place, in a run with these cells
 abbrev pub reports_from : Dag → (ℕ → Cell) → ℕ → List Task → List TaskReport
-reports_from dag cell t [] = []
-reports_from dag cell t (task ∷ tasks) = reported dag t (cell t) ∷ reports_from dag cell (suc t) tasks
+reports_from dag cell place [] = []
+reports_from dag cell place (first ∷ rest) = reported dag place (cell place) ∷ reports_from dag cell (suc place) rest
 
--- the cell that the recursion makes of the task t in the run k: its instances have the items and the pulled values, and
+-- the cell that the recursion makes of the task in the run: its instances have the items and the pulled values, and
 -- the results, that their entries in the ledger have
 unfoldable pub cell_by : Dag → Look → ℕ → ℕ → Cell
-cell_by dag ledger k t = final_cell (decided dag ledger k t) (results_of dag ledger k t)
+cell_by dag ledger run task = final_cell (decided dag ledger run task) (results_of dag ledger run task)
 
--- the runs are those of the intervals, of which the first is the run k, with the states and the cells of the recursion
+-- the runs are those of the intervals, of which the first has this number, with the states and the cells of the recursion
 abbrev pub AreDated : Dag → Look → ℕ → List Interval → List RunReport → Type 0
-AreDated dag ledger k [] [] = Unit {0}
-AreDated dag ledger k (interval ∷ intervals) (run ∷ runs) =
-    (run.interval ≡ interval) × (run.state ≡ run_state_of dag (out dag ledger k)) × (run.tasks ≡ reports_from dag (cell_by dag ledger k) 0 dag.tasks) × AreDated dag ledger (suc k) intervals runs
-AreDated dag ledger k [] (run ∷ runs) = ⊥
-AreDated dag ledger k (interval ∷ intervals) [] = ⊥
+AreDated dag ledger number [] [] = Unit {0}
+AreDated dag ledger number (interval ∷ intervals) (run ∷ runs) =
+    (run.interval ≡ interval) × (run.state ≡ run_state_of dag (out dag ledger number)) × (run.tasks ≡ reports_from dag (cell_by dag ledger number) 0 dag.tasks) × AreDated dag ledger (suc number) intervals runs
+AreDated dag ledger number [] (run ∷ runs) = ⊥
+AreDated dag ledger number (interval ∷ intervals) [] = ⊥
 
 -- the ids of the tasks, in file order, which a report without runs doesn't have
 abbrev pub ids_shown : Dag → List Interval → List (List ℕ)
@@ -88,4 +88,4 @@ pub record IsDated (dag : Dag) (intervals : List Interval) (ledger : Look) (repo
 
 -- both moments have years of four digits
 abbrev pub IsShownInterval : Interval → Type 0
-IsShownInterval i = IsShown i.start.nanosecond × IsShown i.end.nanosecond
+IsShownInterval interval = IsShown interval.start.nanosecond × IsShown interval.end.nanosecond

@@ -34,7 +34,7 @@ value_word Skipped = codes "-"
 
 -- what came of an instance of a task
 abbrev pub instance_line : List ℕ → List ℕ → TaskResult → List ℕ
-instance_line id index r = line (id ∷ index ∷ state_word r.outcome ∷ decimal r.tries ∷ value_word r.outcome ∷ [])
+instance_line id index result = line (id ∷ index ∷ state_word result.outcome ∷ decimal result.tries ∷ value_word result.outcome ∷ [])
 
 -- its item, if it has one
 abbrev pub item_line : Option Xval → List ℕ
@@ -52,7 +52,7 @@ pull_line pull = line (codes "@pull" ∷ pull.task ∷ pulled_word pull.value �
 
 -- an instance of a task, with what it was given
 abbrev pub instance_text : List ℕ → List ℕ → InstanceReport → List ℕ
-instance_text id index x = instance_line id index x.result ++ (item_line x.item ++ flat_map pull_line x.pulls)
+instance_text id index instance = instance_line id index instance.result ++ (item_line instance.item ++ flat_map pull_line instance.pulls)
 
 -- a task that was decided without a try
 abbrev pub untried_line : List ℕ → List ℕ → List ℕ
@@ -60,19 +60,19 @@ untried_line id state = line (id ∷ codes "-1" ∷ state ∷ codes "0" ∷ code
 
 -- the instances of an expanded task, by map index from 0
 abbrev pub mapped_text : List ℕ → List InstanceReport → List ℕ
-mapped_text id instances = flat_map (λ p. instance_text id (decimal p.0) p.1) (enumerate_from 0 instances)
+mapped_text id instances = flat_map (λ pair. instance_text id (decimal pair.0) pair.1) (enumerate_from 0 instances)
 
 -- a task in a run
 abbrev pub task_text : List ℕ → TaskReport → List ℕ
 task_text id TaskReport.NoStatus = untried_line id (codes "no_status")
 task_text id TaskReport.Skipped = untried_line id (codes "skipped")
 task_text id TaskReport.UpstreamFailed = untried_line id (codes "upstream_failed")
-task_text id (TaskReport.Ran x) = instance_text id (codes "-1") x
-task_text id (TaskReport.Mapped xs) = mapped_text id xs
+task_text id (TaskReport.Ran instance) = instance_text id (codes "-1") instance
+task_text id (TaskReport.Mapped instances) = mapped_text id instances
 
 -- the tasks of a run, each under its id
 abbrev pub tasks_text : List (List ℕ) → List TaskReport → List ℕ
-tasks_text ids tasks = flat_map (λ p. task_text p.0 p.1) (zip ids tasks)
+tasks_text ids tasks = flat_map (λ pair. task_text pair.0 pair.1) (zip ids tasks)
 
 abbrev pub run_state_word : RunState → List ℕ
 run_state_word RunState.Success = codes "success"

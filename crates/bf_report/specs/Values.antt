@@ -27,10 +27,10 @@ abbrev pub AreSoundPulls : List Pull → Type 0
 AreSoundPulls pulls = AllByRecursion (λ pull. IsSoundValue pull.value) pulls
 
 -- so it is with what was pushed, the item, and what was pulled
-pub record IsSoundInstance (x : InstanceReport) : Type 0 where
-  pub outcome : IsSoundOutcome x.result.outcome
-  pub item : IsSoundValue x.item
-  pub pulls : AreSoundPulls x.pulls
+pub record IsSoundInstance (instance : InstanceReport) : Type 0 where
+  pub outcome : IsSoundOutcome instance.result.outcome
+  pub item : IsSoundValue instance.item
+  pub pulls : AreSoundPulls instance.pulls
 
 abbrev pub AreSoundInstances : List InstanceReport → Type 0
 AreSoundInstances instances = AllByRecursion IsSoundInstance instances
@@ -39,8 +39,8 @@ abbrev pub IsSoundTask : TaskReport → Type 0
 IsSoundTask TaskReport.NoStatus = Unit {0}
 IsSoundTask TaskReport.Skipped = Unit {0}
 IsSoundTask TaskReport.UpstreamFailed = Unit {0}
-IsSoundTask (TaskReport.Ran x) = IsSoundInstance x
-IsSoundTask (TaskReport.Mapped xs) = AreSoundInstances xs
+IsSoundTask (TaskReport.Ran instance) = IsSoundInstance instance
+IsSoundTask (TaskReport.Mapped instances) = AreSoundInstances instances
 
 abbrev pub AreSoundTasks : List TaskReport → Type 0
 AreSoundTasks tasks = AllByRecursion IsSoundTask tasks

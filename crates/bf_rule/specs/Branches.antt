@@ -19,35 +19,35 @@ names_in (Some (ListOf values)) = filter_map name_in (xvals_of values)
 names_in _ = []
 
 abbrev pub id_of : Shape → ℕ → List ℕ
-id_of shape t = slice_index_or shape.ids t []
+id_of shape task = slice_index_or shape.ids task []
 
 abbrev pub is_direct_downstream : Shape → ℕ → ℕ → Bool
-is_direct_downstream shape branch t = list_any (λ u. u == branch) (upstreams_of shape.upstreams t)
+is_direct_downstream shape branch task = list_any (λ upstream. upstream == branch) (upstreams_of shape.upstreams task)
 
 -- the task is a direct downstream of the branch, and its id is among the names
 abbrev pub is_named : Shape → ℕ → Option Xval → ℕ → Bool
-is_named shape branch value t = is_direct_downstream shape branch t && list_any (λ name. bytes_eq name (id_of shape t)) (names_in value)
+is_named shape branch value task = is_direct_downstream shape branch task && list_any (λ name. bytes_eq name (id_of shape task)) (names_in value)
 
 -- the task is named, or one of its upstreams is followed; over paths of at most `depth` edges
 abbrev pub followed_to : Shape → ℕ → Option Xval → ℕ → ℕ → Bool
-followed_to shape branch value zero t = is_named shape branch value t
-followed_to shape branch value (suc depth) t =
-    is_named shape branch value t || list_any (followed_to shape branch value depth) (upstreams_of shape.upstreams t)
+followed_to shape branch value zero task = is_named shape branch value task
+followed_to shape branch value (suc depth) task =
+    is_named shape branch value task || list_any (followed_to shape branch value depth) (upstreams_of shape.upstreams task)
 
 -- a direct downstream of a branch is followed: it is named, or is a descendant of one that is
 unfoldable pub followed : Shape → ℕ → Option Xval → ℕ → Bool
-followed shape branch value t = followed_to shape branch value (length shape.ids) t
+followed shape branch value task = followed_to shape branch value (length shape.ids) task
 
 -- the same of a branch that names one task or nothing
 abbrev pub followed_by_name : Shape → ℕ → ℕ → Option (List ℕ) → Bool
-followed_by_name shape branch t None = false
-followed_by_name shape branch t (Some name) = followed shape branch (Some (Text name)) t
+followed_by_name shape branch task None = false
+followed_by_name shape branch task (Some name) = followed shape branch (Some (Text name)) task
 
 -- ---- what a branch may push
 
 abbrev pub is_downstream_number : Shape → ℕ → Option ℕ → Bool
 is_downstream_number shape branch None = false
-is_downstream_number shape branch (Some t) = is_direct_downstream shape branch t
+is_downstream_number shape branch (Some task) = is_direct_downstream shape branch task
 
 -- the id of a direct downstream of the branch
 abbrev pub is_downstream_name : Shape → ℕ → Option (List ℕ) → Bool
@@ -58,5 +58,5 @@ is_downstream_name shape branch (Some name) = is_downstream_number shape branch 
 abbrev pub names_downstreams : Shape → ℕ → Option Xval → Bool
 names_downstreams shape branch None = true
 names_downstreams shape branch (Some (Text name)) = is_downstream_name shape branch (Some name)
-names_downstreams shape branch (Some (ListOf values)) = list_all (λ v. is_downstream_name shape branch (name_in v)) (xvals_of values)
+names_downstreams shape branch (Some (ListOf values)) = list_all (λ value. is_downstream_name shape branch (name_in value)) (xvals_of values)
 names_downstreams shape branch (Some _) = false

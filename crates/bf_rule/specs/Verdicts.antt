@@ -13,24 +13,24 @@ none_counted = record { success = 0; failed = 0; upstream_failed = 0; skipped = 
 
 -- the counts of two groups of instances together
 abbrev pub add : Counts → Counts → Counts
-add a b = record {
-  success = a.success + b.success;
-  failed = a.failed + b.failed;
-  upstream_failed = a.upstream_failed + b.upstream_failed;
-  skipped = a.skipped + b.skipped;
-  blocked = a.blocked + b.blocked;
-  unfinished = a.unfinished + b.unfinished;
+add one other = record {
+  success = one.success + other.success;
+  failed = one.failed + other.failed;
+  upstream_failed = one.upstream_failed + other.upstream_failed;
+  skipped = one.skipped + other.skipped;
+  blocked = one.blocked + other.blocked;
+  unfinished = one.unfinished + other.unfinished;
 }
 
 -- failed, whether they ran or their upstreams had failed
 abbrev pub failures : Counts → ℕ
-failures c = c.failed + c.upstream_failed
+failures counts = counts.failed + counts.upstream_failed
 
 abbrev pub finished : Counts → ℕ
-finished c = c.success + failures c + c.skipped
+finished counts = counts.success + failures counts + counts.skipped
 
 abbrev pub total : Counts → ℕ
-total c = finished c + c.blocked + c.unfinished
+total counts = finished counts + counts.blocked + counts.unfinished
 
 -- ---- rules
 
@@ -44,30 +44,30 @@ is_waiting _ = true
 
 -- what the rule looks for is among the instances finished so far
 abbrev pub fires : Rule → Counts → Bool
-fires OneSuccess c = nat_lt 0 c.success
-fires OneFailed c = nat_lt 0 (failures c)
-fires OneDone c = nat_lt 0 (c.success + c.failed)
-fires Always c = true
-fires _ c = false
+fires OneSuccess counts = nat_lt 0 counts.success
+fires OneFailed counts = nat_lt 0 (failures counts)
+fires OneDone counts = nat_lt 0 (counts.success + counts.failed)
+fires Always counts = true
+fires _ counts = false
 
 -- the table of the rules, over upstreams that have all finished
 abbrev pub table : Rule → Counts → Verdict
-table AllSuccess c = if nat_lt 0 (failures c) then UpstreamFailed else (if nat_lt 0 c.skipped then Skip else Run)
-table AllFailed c = if failures c == finished c then Run else Skip
-table AllSkipped c = if c.skipped == finished c then Run else Skip
-table AllDone c = Run
-table OneSuccess c = if nat_lt 0 c.success then Run else (if c.skipped == finished c then Skip else UpstreamFailed)
-table OneFailed c = if nat_lt 0 (failures c) then Run else Skip
-table OneDone c = if nat_lt 0 (c.success + c.failed) then Run else Skip
-table NoneFailed c = if nat_lt 0 (failures c) then UpstreamFailed else Run
-table NoneFailedMinOneSuccess c = if nat_lt 0 (failures c) then UpstreamFailed else (if nat_lt 0 c.success then Run else Skip)
-table NoneSkipped c = if nat_lt 0 c.skipped then Skip else Run
-table Always c = Run
+table AllSuccess counts = if nat_lt 0 (failures counts) then UpstreamFailed else (if nat_lt 0 counts.skipped then Skip else Run)
+table AllFailed counts = if failures counts == finished counts then Run else Skip
+table AllSkipped counts = if counts.skipped == finished counts then Run else Skip
+table AllDone counts = Run
+table OneSuccess counts = if nat_lt 0 counts.success then Run else (if counts.skipped == finished counts then Skip else UpstreamFailed)
+table OneFailed counts = if nat_lt 0 (failures counts) then Run else Skip
+table OneDone counts = if nat_lt 0 (counts.success + counts.failed) then Run else Skip
+table NoneFailed counts = if nat_lt 0 (failures counts) then UpstreamFailed else Run
+table NoneFailedMinOneSuccess counts = if nat_lt 0 (failures counts) then UpstreamFailed else (if nat_lt 0 counts.success then Run else Skip)
+table NoneSkipped counts = if nat_lt 0 counts.skipped then Skip else Run
+table Always counts = Run
 
 -- no upstreams, or the rule fires early: run. Else an unfinished upstream: wait. Else a blocked one: block. Else the table
 unfoldable pub verdict_of : Rule → Counts → Verdict
-verdict_of rule c =
-    if (total c == 0) || fires rule c then Run
-    else (if nat_lt 0 c.unfinished then Wait
-    else (if nat_lt 0 c.blocked then Blocked
-    else table rule c))
+verdict_of rule counts =
+    if (total counts == 0) || fires rule counts then Run
+    else (if nat_lt 0 counts.unfinished then Wait
+    else (if nat_lt 0 counts.blocked then Blocked
+    else table rule counts))

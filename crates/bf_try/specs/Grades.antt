@@ -26,63 +26,63 @@ most_items = 1_024
 
 abbrev pub is_short : Option Xval → Bool
 is_short None = true
-is_short (Some x) = nat_le (length (text_of x)) longest_text
+is_short (Some value) = nat_le (length (text_of value)) longest_text
 
 abbrev pub is_list_of_items : Option Xval → Bool
 is_list_of_items (Some (ListOf values)) = nat_le (length (xvals_of values)) most_items
 is_list_of_items _ = false
 
 abbrev pub is_source : Option ℕ → ℕ → Bool
-is_source None t = false
-is_source (Some source) t = source == t
+is_source None task = false
+is_source (Some source) task = source == task
 
 -- an unmapped task that some task is expanded over
 abbrev pub gives_items : Dag → ℕ → Bool
-gives_items dag t = not (is_some (task_of dag t).expand) && list_any (λ task. is_source task.expand t) dag.tasks
+gives_items dag task = not (is_some (task_of dag task).expand) && list_any (λ other. is_source other.expand task) dag.tasks
 
 -- its text is short; of a branch it names direct downstreams; of a task that gives items it is a list of few
 abbrev pub may_push : Dag → ℕ → Option Xval → Bool
-may_push dag t v =
-    is_short v
-    && ((not (is_branch (task_of dag t)) || names_downstreams (shape_of dag) t v)
-    && (not (gives_items dag t) || is_list_of_items v))
+may_push dag task value =
+    is_short value
+    && ((not (is_branch (task_of dag task)) || names_downstreams (shape_of dag) task value)
+    && (not (gives_items dag task) || is_list_of_items value))
 
 -- ---- grades
 
 abbrev pub grade_value : Dag → ℕ → Option Xval → Outcome
-grade_value dag t v = if may_push dag t v then Outcome.Success v else Outcome.Failed
+grade_value dag task value = if may_push dag task value then Outcome.Success value else Outcome.Failed
 
 abbrev pub grade_line : Dag → ℕ → List ℕ → Outcome
-grade_line dag t line = if is_utf8 line then grade_value dag t (value_of_line line) else Outcome.Failed
+grade_line dag task line = if is_utf8 line then grade_value dag task (value_of_line line) else Outcome.Failed
 
 -- the status by which a try says that it is skipped (Airflow's BashOperator has the same)
 abbrev pub skip_status : ℤ
 skip_status = pos 99
 
 abbrev pub is_status : ℕ → ℤ → Bool
-is_status status (pos n) = n == status
-is_status status (negsuc n) = false
+is_status status (pos number) = number == status
+is_status status (negsuc number) = false
 
 abbrev pub grade_status : Dag → ℕ → ℤ → List ℕ → Outcome
-grade_status dag t status line =
+grade_status dag task status line =
     if is_status 99 status then Outcome.Skipped
-    else (if is_status 0 status then grade_line dag t line
+    else (if is_status 0 status then grade_line dag task line
     else Outcome.Failed)
 
 abbrev pub grade_answer : Dag → ℕ → Exit → Line → Outcome
-grade_answer dag t (Exit.Code status) (Line.Bytes line) = grade_status dag t status line
-grade_answer dag t _ _ = Outcome.Failed
+grade_answer dag task (Exit.Code status) (Line.Bytes line) = grade_status dag task status line
+grade_answer dag task _ _ = Outcome.Failed
 
 -- the outcome of a raw answer: a program that did not start, was ended by a signal or whose output could not be had has failed; status 99 is
 -- skipped, with its line unread; another status than 0 has failed; and a success pushes the value of its line, where the task may push it
 unfoldable pub grade_of : Dag → ℕ → Raw → Outcome
-grade_of dag t raw = grade_answer dag t raw.exit raw.line
+grade_of dag task raw = grade_answer dag task raw.exit raw.line
 
 -- ---- outcomes that a grade could give
 
 -- the pushed value is one that the program can hold: its numbers fit 64 bits, and its texts are UTF-8
 abbrev pub HasSoundValue : Outcome → Type 0
-HasSoundValue (Outcome.Success (Some x)) = IsSound (plain_of x)
+HasSoundValue (Outcome.Success (Some value)) = IsSound (plain_of value)
 HasSoundValue _ = Unit {0}
 
 -- a line may have this value: never null, with lists that are not nested too deep
@@ -92,6 +92,6 @@ is_value_of_lines (Some (ListOf values)) = nat_le (plains_depth values) deepest
 is_value_of_lines _ = true
 
 unfoldable pub fits : Dag → ℕ → Outcome → Bool
-fits dag t (Outcome.Success v) = is_value_of_lines v && may_push dag t v
-fits dag t Outcome.Failed = true
-fits dag t Outcome.Skipped = true
+fits dag task (Outcome.Success value) = is_value_of_lines value && may_push dag task value
+fits dag task Outcome.Failed = true
+fits dag task Outcome.Skipped = true

@@ -15,45 +15,45 @@ Look = JobName → Option Entry
 
 -- the index of an instance: -1 for an unmapped task
 abbrev pub map_index : Task → ℕ → ℤ
-map_index task i = if is_some task.expand then pos i else negsuc 0
+map_index task place = if is_some task.expand then pos place else negsuc 0
 
 -- the place of the instance with that index
 abbrev pub place_of : Task → ℤ → ℕ
 place_of task index = if is_some task.expand then nat_abs index else 0
 
--- the name of the try a of the instance i of the task t in the run k
+-- the name of a try of the instance in a place of the task, in the run
 unfoldable pub name_of : Dag → ℕ → ℕ → ℕ → ℕ → JobName
-name_of dag k t i a = record { run = k; task = t; index = map_index (task_of dag t) i; attempt = a }
+name_of dag run task place attempt = record { run = run; task = task; index = map_index (task_of dag task) place; attempt = attempt }
 
 abbrev pub is_failed : Outcome → Bool
 is_failed Failed = true
-is_failed (Success v) = false
+is_failed (Success value) = false
 is_failed Skipped = false
 
 abbrev pub outcome_of : Option Entry → Outcome
 outcome_of None = Failed
-outcome_of (Some e) = e.outcome
+outcome_of (Some entry) = entry.outcome
 
 abbrev pub outcome_at : Dag → Look → ℕ → ℕ → ℕ → ℕ → Outcome
-outcome_at dag ledger k t i a = outcome_of (ledger (name_of dag k t i a))
+outcome_at dag ledger run task place attempt = outcome_of (ledger (name_of dag run task place attempt))
 
--- from the try a on, the first that isn't failed; the last of all, where none of the `left` before it is
+-- from this attempt on, the first that isn't failed; the last of all, where none of the `left` before it is
 abbrev pub last_try : (ℕ → Outcome) → ℕ → ℕ → ℕ
-last_try outcome a zero = a
-last_try outcome a (suc left) = if is_failed (outcome a) then last_try outcome (suc a) left else a
+last_try outcome attempt zero = attempt
+last_try outcome attempt (suc left) = if is_failed (outcome attempt) then last_try outcome (suc attempt) left else attempt
 
 -- the result of an instance: the outcome of its last try, and that try's number
 unfoldable pub result_of : Dag → Look → ℕ → ℕ → ℕ → TaskResult
-result_of dag ledger k t i =
-    let a = last_try (outcome_at dag ledger k t i) 1 (task_of dag t).retries in
-    record { outcome = outcome_at dag ledger k t i a; tries = a }
+result_of dag ledger run task place =
+    let attempt = last_try (outcome_at dag ledger run task place) 1 (task_of dag task).retries in
+    record { outcome = outcome_at dag ledger run task place attempt; tries = attempt }
 
 -- ---- two ledgers
 
 -- an equal outcome, where the other try was given the same
 abbrev pub Agree : Entry → Option Entry → Type 0
-Agree d other = (e : Entry) → other ≡ Some e → d.given ≡ e.given → d.outcome ≡ e.outcome
+Agree entry other = (same : Entry) → other ≡ Some same → entry.given ≡ same.given → entry.outcome ≡ same.outcome
 
 -- equal outcomes wherever name and Given are equal
 abbrev pub AreAlike : Look → Look → Type 0
-AreAlike one two = (n : JobName) (d e : Entry) → one n ≡ Some d → two n ≡ Some e → d.given ≡ e.given → d.outcome ≡ e.outcome
+AreAlike one two = (name : JobName) (entry same : Entry) → one name ≡ Some entry → two name ≡ Some same → entry.given ≡ same.given → entry.outcome ≡ same.outcome

@@ -14,32 +14,32 @@ use Rattle.bf_xcom.specs.declared.values.TaskValue.{TaskValue}
 use Rattle.bf_xcom.specs.declared.values.TaskValue.TheVariants.{Ran}
 
 abbrev pub pushed_by : Outcome → Option Xval
-pushed_by (Success v) = v
+pushed_by (Success value) = value
 pushed_by Failed = None
 pushed_by Skipped = None
 
 abbrev pub pushed : TaskResult → Option Xval
-pushed r = pushed_by r.outcome
+pushed result = pushed_by result.outcome
 
 -- the value that an unmapped task pushed
 abbrev pub pushed_alone : List TaskResult → Option Xval
 pushed_alone [] = None
-pushed_alone (r ∷ rs) = pushed r
+pushed_alone (result ∷ rest) = pushed result
 
 -- the values that the instances of a task pushed, in index order
 abbrev pub all_pushed : List TaskResult → List Xval
-all_pushed rs = filter_map pushed rs
+all_pushed results = filter_map pushed results
 
 -- what a pull from a task gives
 abbrev pub pull : Task → TaskValue → Option Xval
-pull source (Ran rs) = if is_some source.expand then Some (list_of (all_pushed rs)) else pushed_alone rs
+pull source (Ran results) = if is_some source.expand then Some (list_of (all_pushed results)) else pushed_alone results
 pull source _ = None
 
 -- what a source has for the task that is expanded over it
 abbrev pub source_values : Task → TaskValue → SourceValues
-source_values source (Ran rs) = if is_some source.expand then SourceValues.Each (map pushed rs) else SourceValues.Pushed (pushed_alone rs)
+source_values source (Ran results) = if is_some source.expand then SourceValues.Each (map pushed results) else SourceValues.Pushed (pushed_alone results)
 source_values source _ = SourceValues.Absent
 
 -- the items of an expansion, if they are not missing
 abbrev pub items : Task → TaskValue → Items
-items source v = items_of (source_values source v)
+items source value = items_of (source_values source value)
