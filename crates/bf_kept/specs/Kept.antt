@@ -36,6 +36,10 @@ IsAnsweredBy kept n given (Some raw) = IsKeptAnswer kept n given raw
 abbrev pub IsAnswer : Look → (JobName → Given → Raw → Type 0) → JobName → Given → Raw → Type 0
 IsAnswer kept may_answer n given raw = IsKeptAnswer kept n given raw ⊎ (IsNew kept n given × may_answer n given raw)
 
+-- only a try that isn't kept may be given up
+abbrev pub MayGiveUpAnew : Look → (JobName → Given → Type 0) → JobName → Given → Type 0
+MayGiveUpAnew kept may_give_up n given = IsNew kept n given × may_give_up n given
+
 -- each kept outcome fits the plan
 abbrev pub AreFit : Dag → Look → Type 0
 AreFit dag kept = (n : JobName) (e : Entry) → kept n ≡ Some e → fits dag n.task e.outcome ≡ true

@@ -1,6 +1,6 @@
 //! A backfill that goes on from kept tries.
 ghost use Rattle.std.specs.Prelude.{◌≤◌, IfOk, IfErr, length};
-ghost use Rattle.bf_kept.specs.Kept.{AreFit, AreGradedAnew};
+ghost use Rattle.bf_kept.specs.Kept.{AreFit, AreGradedAnew, MayGiveUpAnew};
 ghost use Rattle.bf_core.specs.Agreement.{AreRunStates, IsOutcome};
 ghost use Rattle.bf_core.specs.Answered.{AreGraded};
 ghost use Rattle.bf_core.specs.Cores.{IsJournal};
@@ -21,7 +21,7 @@ use std::sync::Wait;
 use std::thread::Threads;
 
 /// The end of a backfill of a plan over these data intervals, of which tries are kept: a try that is kept, and is given the
-/// same again, ends as it did, and the runner answers every other. All else is as in `run_backfill`.
+/// same again, ends as it did and is never given up, and the runner answers every other. All else is as in `run_backfill`.
 ///
 /// Where the runner could have given what is kept, it could have given all: so a backfill that goes on from what is kept of one
 /// that was broken off ends as one that the runner answers alone.
@@ -54,6 +54,7 @@ pub fn resume<
     ensures journal { IfOk result (λ ended. IsJournal plan.now.dag plan.now.limits (length intervals.now) ended.journal ended.state) }
     ensures workers { IfOk result (λ ended. KeepsWorkers plan.now.dag (length intervals.now) workers ended.journal) }
     ensures err { IfErr result (MayFail (R.may_give_up keeping.now.runner.now)) }
+    ensures given_up { IfErr result (MayFail (MayGiveUpAnew (K.kept keeping.now.kept.now) (R.may_give_up keeping.now.runner.now))) }
 {
     run_backfill(rt, alloc, plan, intervals, workers, keeping, watch)
 }
