@@ -4,3 +4,4 @@ pub mod Lookups
 pub mod Replies
 pub mod Within
 pub mod Own
+pub mod Sharing

@@ -1,11 +1,13 @@
 -- What the matches of a command line ask for.
-use Rattle.std.specs.Prelude.{◌≡◌, ℕ, Bool, false, List, Option, None, Some, Ok, codes, bytes_eq, option_map, string_bytes}
+use Rattle.std.specs.Prelude.{◌≡◌, ℕ, Bool, false, List, Option, None, Some, Ok, codes, bytes_eq, option_map, String, string_bytes}
+use Rattle.std.specs.declared.alloc.Global.{Global}
 use Rattle.std.specs.Str.Parse.{ParsesUnsigned}
 use Rattle.clap.specs.Words.{Row, Text, first_of}
 use Rattle.bf_command_line.specs.declared.forms.Asked.{Asked}
-use Rattle.bf_command_line.specs.declared.forms.Asked.TheVariants.{Check, Dry, List as Intervals, Run, Single}
+use Rattle.bf_command_line.specs.declared.forms.Asked.TheVariants.{Check, Clear, Dry, List as Intervals, Run, Single}
 use Rattle.bf_command_line.specs.declared.forms.GraphAsked.{GraphAsked}
 use Rattle.bf_command_line.specs.declared.forms.RangeAsked.{RangeAsked}
+use Rattle.bf_command_line.specs.declared.forms.SeedAsked.{SeedAsked}
 
 -- the paths of a graph file and of a zone file
 abbrev pub IsGraphBy : List Row → GraphAsked → Type 0
@@ -16,6 +18,11 @@ IsGraphBy rows g = (first_of (codes "graph") rows ≡ Some (string_bytes g.graph
 abbrev pub IsRangeBy : List Row → RangeAsked → Type 0
 IsRangeBy rows r = (first_of (codes "from") rows ≡ Some (string_bytes r.from))
     × (first_of (codes "to") rows ≡ Some (string_bytes r.to))
+
+-- the task, and the logical date of its run
+abbrev pub IsSeedBy : List Row → SeedAsked → Type 0
+IsSeedBy rows s = (first_of (codes "task") rows ≡ Some (string_bytes s.task))
+    × (first_of (codes "run") rows ≡ Some (string_bytes s.run))
 
 -- the number that the text says in decimal digits, or one where there is no text
 abbrev pub IsNumberOr1 : Option Text → ℕ → Type 0
@@ -34,6 +41,10 @@ says_true (Some text) = bytes_eq text (codes "true")
 -- whether progress is told
 abbrev pub IsProgressBy : List Row → Bool → Type 0
 IsProgressBy rows told = told ≡ says_true (first_of (codes "progress") rows)
+
+-- the path of the program that words are handed to
+abbrev pub IsLauncherBy : List Row → Option (String Global) → Type 0
+IsLauncherBy rows launcher = first_of (codes "launcher") rows ≡ option_map string_bytes launcher
 
 -- the subcommand's name, and the value of each of its arguments
 abbrev pub IsAskedBy : Option (Text × List Row) → Asked → Type 0
@@ -57,3 +68,13 @@ IsAskedBy (Some (name, rows)) (Run r) = (name ≡ codes "run")
     × IsRangeBy rows r.range
     × IsWorkersBy rows r.workers
     × IsProgressBy rows r.progress
+    × IsLauncherBy rows r.launcher
+IsAskedBy (Some (name, rows)) (Clear c) = (name ≡ codes "clear")
+    × IsGraphBy rows c.graph
+    × (first_of (codes "report") rows ≡ Some (string_bytes c.report))
+    × IsRangeBy rows c.range
+    × IsSeedBy rows c.seed
+    × (first_of (codes "table") rows ≡ option_map string_bytes c.table)
+    × IsWorkersBy rows c.workers
+    × IsProgressBy rows c.progress
+    × IsLauncherBy rows c.launcher

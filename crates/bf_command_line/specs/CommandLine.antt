@@ -13,6 +13,22 @@ graph_rule = record (new_rule (codes "graph")) { value_names = 1; required = tru
 abbrev pub table_rule : Rule
 table_rule = record (new_rule (codes "table")) { value_names = 1; required = true }
 
+-- `--table PATH`
+abbrev pub optional_table_rule : Rule
+optional_table_rule = record (new_rule (codes "table")) { long = Some (codes "table"); value_names = 1 }
+
+-- `REPORT`
+abbrev pub report_rule : Rule
+report_rule = record (new_rule (codes "report")) { value_names = 1; required = true }
+
+-- `--task ID`
+abbrev pub task_rule : Rule
+task_rule = record (new_rule (codes "task")) { long = Some (codes "task"); value_names = 1; required = true }
+
+-- `--run T`, the option of a run's logical date
+abbrev pub run_rule : Rule
+run_rule = record (new_rule (codes "run")) { long = Some (codes "run"); value_names = 1; required = true }
+
 -- `--zone-file PATH`
 abbrev pub zone_file_rule : Rule
 zone_file_rule = record (new_rule (codes "zone_file")) { long = Some (codes "zone-file"); value_names = 1 }
@@ -37,6 +53,10 @@ workers_rule = record (new_rule (codes "workers")) { long = Some (codes "workers
 abbrev pub progress_rule : Rule
 progress_rule = record (new_rule (codes "progress")) { long = Some (codes "progress"); action = Some SetTrue }
 
+-- `--launcher PATH`
+abbrev pub launcher_rule : Rule
+launcher_rule = record (new_rule (codes "launcher")) { long = Some (codes "launcher"); value_names = 1 }
+
 -- `check GRAPH [--zone-file PATH]`
 abbrev pub check_app : App
 check_app = with_rule (with_rule (new_app (codes "check")) graph_rule) zone_file_rule
@@ -53,18 +73,30 @@ single_app = with_rule (with_rule (with_rule (with_rule (new_app (codes "single"
 abbrev pub ranged_app : App → App
 ranged_app app = with_rule (with_rule (with_rule (with_rule app from_rule) to_rule) workers_rule) progress_rule
 
+-- a command with `--task ID --run T` behind its other arguments
+abbrev pub seeded_app : App → App
+seeded_app app = with_rule (with_rule app task_rule) run_rule
+
 -- `dry GRAPH TABLE --from T --to T [--workers N] [--progress] [--zone-file PATH]`
 abbrev pub dry_app : App
 dry_app = ranged_app (with_rule (with_rule (with_rule (new_app (codes "dry")) graph_rule) zone_file_rule) table_rule)
 
--- `run GRAPH --from T --to T [--workers N] [--progress] [--zone-file PATH]`
+-- `run GRAPH --from T --to T [--workers N] [--progress] [--launcher PATH] [--zone-file PATH]`
 abbrev pub run_app : App
-run_app = ranged_app (with_rule (with_rule (new_app (codes "run")) graph_rule) zone_file_rule)
+run_app = with_rule (ranged_app (with_rule (with_rule (new_app (codes "run")) graph_rule) zone_file_rule)) launcher_rule
 
--- `backfill`, which wants a subcommand and without a word shows its help
+-- `clear GRAPH REPORT --task ID --run T [--zone-file PATH]`, without a table and its range
+abbrev pub clearing_app : App
+clearing_app = seeded_app (with_rule (with_rule (with_rule (new_app (codes "clear")) graph_rule) zone_file_rule) report_rule)
+
+-- `clear GRAPH REPORT --from T --to T --task ID --run T [--table PATH] [--workers N] [--progress] [--launcher PATH] [--zone-file PATH]`
+abbrev pub clear_app : App
+clear_app = with_rule (ranged_app (with_rule clearing_app optional_table_rule)) launcher_rule
+
+-- `backfill`, which has a version, wants a subcommand, and without a word shows its help
 abbrev pub bare_app : App
 bare_app = record {
-  top = record (new_shape (codes "backfill")) { subcommand_required = true; arg_required_else_help = true };
+  top = record (new_shape (codes "backfill")) { has_version = true; subcommand_required = true; arg_required_else_help = true };
   subs = [];
 }
 
@@ -77,4 +109,4 @@ abbrev pub answered_app : App
 answered_app = with_subcommand (with_subcommand looking_app single_app.top) dry_app.top
 
 abbrev pub backfill_app : App
-backfill_app = with_subcommand answered_app run_app.top
+backfill_app = with_subcommand (with_subcommand answered_app run_app.top) clear_app.top

@@ -1,11 +1,34 @@
 //! The command line as `clap` reads it.
 ghost use Rattle.std.specs.Prelude.{◌≡◌, IfOk, false};
-ghost use Rattle.clap.specs.Words.{app_of, rule_of};
+ghost use Rattle.clap.specs.Words.{app_of, new_app, rule_of};
 ghost use Rattle.clap.specs.declared.builder.command.Command.TheViews.{out-Command};
-ghost use Rattle.bf_command_line.specs.CommandLine.{answered_app, backfill_app, looking_app, check_app, dry_app, list_app, ranged_app, run_app, single_app, graph_rule, zone_file_rule, table_rule, at_rule, from_rule, to_rule, workers_rule, progress_rule};
+ghost use Rattle.bf_command_line.specs.CommandLine.{answered_app, backfill_app, looking_app, check_app, clear_app, clearing_app, dry_app, list_app, ranged_app, run_app, seeded_app, single_app, graph_rule, zone_file_rule, table_rule, optional_table_rule, report_rule, task_rule, run_rule, at_rule, from_rule, to_rule, workers_rule, progress_rule, launcher_rule};
 
 use clap::{Arg, ArgAction, Command, value_parser};
 use std::alloc::{AllocError, Global};
+
+/// The number of the version, as in the file VERSION.
+const VERSION: &str = "0.1.0";
+
+const CHECK_EXAMPLE: &str = "Example:\n\
+    \x20 backfill check examples/every_key/graph.json";
+
+const LIST_EXAMPLE: &str = "Example:\n\
+    \x20 backfill list --from 2024-03-30 --to 2024-04-01 examples/clock_change/graph.json";
+
+const SINGLE_EXAMPLE: &str = "Example:\n\
+    \x20 backfill single --at 2024-01-01 examples/skip/graph.json examples/skip/table.json";
+
+const DRY_EXAMPLE: &str = "Example:\n\
+    \x20 backfill dry --from 2024-01-01 --to 2024-01-31 examples/every_key/graph.json examples/every_key/table.json";
+
+const RUN_EXAMPLES: &str = "Examples:\n\
+    \x20 backfill run --from 2024-01-01 --to 2024-01-07 --workers 2 examples/extract_transform_load/graph.json\n\
+    \x20 backfill run --from 2024-01-01 --to 2024-01-07 --launcher /usr/bin/env examples/extract_transform_load/graph.json";
+
+const CLEAR_EXAMPLES: &str = "Examples, the first of which makes the report of the second:\n\
+    \x20 backfill run --from 2024-01-01 --to 2024-01-07 examples/extract_transform_load/graph.json > report\n\
+    \x20 backfill clear --from 2024-01-01 --to 2024-01-07 --task load --run 2024-01-03 examples/extract_transform_load/graph.json report";
 
 fn graph<'a>(alloc: Global) -> Arg<'a>
     ensures rule { rule_of result ≡ graph_rule }
@@ -37,6 +60,50 @@ fn table<'a>(alloc: Global) -> Arg<'a>
         .required(true)
 }
 
+fn optional_table<'a>(alloc: Global) -> Arg<'a>
+    ensures rule { rule_of result ≡ optional_table_rule }
+    ensures local { result.global ≡ false }
+{
+    Arg::new(alloc, "table")
+        .long("table")
+        .value_name("PATH")
+        .help("The answers of the tasks' tries, a JSON file, in place of their programs")
+}
+
+fn report<'a>(alloc: Global) -> Arg<'a>
+    ensures rule { rule_of result ≡ report_rule }
+    ensures local { result.global ≡ false }
+{
+    Arg::new(alloc, "report")
+        .value_name("REPORT")
+        .help("The report of the backfill to go on from")
+        .required(true)
+}
+
+fn task<'a>(alloc: Global) -> Arg<'a>
+    ensures rule { rule_of result ≡ task_rule }
+    ensures local { result.global ≡ false }
+{
+    Arg::new(alloc, "task")
+        .long("task")
+        .value_name("ID")
+        .help("The task to clear")
+        .required(true)
+}
+
+fn run_date<'a>(alloc: Global) -> Arg<'a>
+    ensures rule { rule_of result ≡ run_rule }
+    ensures local { result.global ≡ false }
+{
+    Arg::new(alloc, "run")
+        .long("run")
+        .value_name("T")
+        .help(
+            "The logical date of the run in which it is cleared, in UTC, as 2024-01-31 or 2024-01-31T06:00:00Z",
+        )
+        .required(true)
+}
+
 fn at<'a>(alloc: Global) -> Arg<'a>
     ensures rule { rule_of result ≡ at_rule }
     ensures local { result.global ≡ false }
@@ -55,7 +122,9 @@ fn from<'a>(alloc: Global) -> Arg<'a>
     Arg::new(alloc, "from")
         .long("from")
         .value_name("T")
-        .help("The first moment at which an interval may start, in UTC")
+        .help(
+            "The first moment at which an interval may start, in UTC, as 2024-01-31 or 2024-01-31T06:00:00Z",
+        )
         .required(true)
 }
 
@@ -66,7 +135,9 @@ fn to<'a>(alloc: Global) -> Arg<'a>
     Arg::new(alloc, "to")
         .long("to")
         .value_name("T")
-        .help("The last moment at which an interval may start, in UTC")
+        .help(
+            "The last moment at which an interval may start, in UTC, as 2024-01-31 or 2024-01-31T06:00:00Z",
+        )
         .required(true)
 }
 
@@ -91,38 +162,70 @@ fn progress<'a>(alloc: Global) -> Arg<'a>
         .action(ArgAction::SetTrue)
 }
 
+fn launcher<'a>(alloc: Global) -> Arg<'a>
+    ensures rule { rule_of result ≡ launcher_rule }
+    ensures local { result.global ≡ false }
+{
+    Arg::new(alloc, "launcher")
+        .long("launcher")
+        .value_name("PATH")
+        .help(
+            "Hands the words of each task's command to this program; without it the first word is the program",
+        )
+}
+
+/// A subcommand with what its help says.
+fn subcommand<'a>(alloc: Global, name: &'a str, about: &'a str, examples: &'a str) -> Command<'a>
+    ensures app { app_of result ≡ new_app name.entry.now }
+    ensures local { (out-Command result).has_globals ≡ false }
+{
+    Command::new(alloc, name).about(about).after_help(examples)
+}
+
 fn check<'a>(alloc: Global) -> Result<Command<'a>, AllocError>
     ensures app { IfOk result (λ c. app_of c ≡ check_app) }
     ensures local { IfOk result (λ c. (out-Command c).has_globals ≡ false) }
 {
-    Command::new(alloc, "check")
-        .about("Checks the graph, and tells how many tasks and edges it has")
-        .arg(graph(alloc))?
-        .arg(zone_file(alloc))
+    subcommand(
+        alloc,
+        "check",
+        "Checks the graph, and tells how many tasks and edges it has",
+        CHECK_EXAMPLE,
+    )
+    .arg(graph(alloc))?
+    .arg(zone_file(alloc))
 }
 
 fn list<'a>(alloc: Global) -> Result<Command<'a>, AllocError>
     ensures app { IfOk result (λ c. app_of c ≡ list_app) }
     ensures local { IfOk result (λ c. (out-Command c).has_globals ≡ false) }
 {
-    Command::new(alloc, "list")
-        .about("Lists the data intervals of the graph's schedule that start in a range")
-        .arg(graph(alloc))?
-        .arg(zone_file(alloc))?
-        .arg(from(alloc))?
-        .arg(to(alloc))
+    subcommand(
+        alloc,
+        "list",
+        "Lists the data intervals of the graph's schedule that start in a range",
+        LIST_EXAMPLE,
+    )
+    .arg(graph(alloc))?
+    .arg(zone_file(alloc))?
+    .arg(from(alloc))?
+    .arg(to(alloc))
 }
 
 fn single<'a>(alloc: Global) -> Result<Command<'a>, AllocError>
     ensures app { IfOk result (λ c. app_of c ≡ single_app) }
     ensures local { IfOk result (λ c. (out-Command c).has_globals ≡ false) }
 {
-    Command::new(alloc, "single")
-        .about("Runs the graph once, answering each task from a table")
-        .arg(graph(alloc))?
-        .arg(zone_file(alloc))?
-        .arg(table(alloc))?
-        .arg(at(alloc))
+    subcommand(
+        alloc,
+        "single",
+        "Runs the graph once, answering each task from a table",
+        SINGLE_EXAMPLE,
+    )
+    .arg(graph(alloc))?
+    .arg(zone_file(alloc))?
+    .arg(table(alloc))?
+    .arg(at(alloc))
 }
 
 /// A command that goes over the data intervals of a range, with these arguments before its range.
@@ -138,17 +241,28 @@ fn ranged<'a>(alloc: Global, command: Command<'a>) -> Result<Command<'a>, AllocE
         .arg(progress(alloc))
 }
 
+/// A command that names a task in a run, with these arguments before its task.
+fn seeded<'a>(alloc: Global, command: Command<'a>) -> Result<Command<'a>, AllocError>
+    requires local { (out-Command command).has_globals ≡ false }
+    ensures app { IfOk result (λ c. app_of c ≡ seeded_app (app_of command.entry)) }
+    ensures local { IfOk result (λ c. (out-Command c).has_globals ≡ false) }
+{
+    command.arg(task(alloc))?.arg(run_date(alloc))
+}
+
 fn dry<'a>(alloc: Global) -> Result<Command<'a>, AllocError>
     ensures app { IfOk result (λ c. app_of c ≡ dry_app) }
     ensures local { IfOk result (λ c. (out-Command c).has_globals ≡ false) }
 {
-    let command = Command::new(alloc, "dry")
-        .about(
-            "Runs the graph for each data interval that starts in a range, answering each task from a table",
-        )
-        .arg(graph(alloc))?
-        .arg(zone_file(alloc))?
-        .arg(table(alloc))?;
+    let command = subcommand(
+        alloc,
+        "dry",
+        "Runs the graph for each data interval that starts in a range, answering each task from a table",
+        DRY_EXAMPLE,
+    )
+    .arg(graph(alloc))?
+    .arg(zone_file(alloc))?
+    .arg(table(alloc))?;
     ranged(alloc, command)
 }
 
@@ -156,13 +270,40 @@ fn run<'a>(alloc: Global) -> Result<Command<'a>, AllocError>
     ensures app { IfOk result (λ c. app_of c ≡ run_app) }
     ensures local { IfOk result (λ c. (out-Command c).has_globals ≡ false) }
 {
-    let command = Command::new(alloc, "run")
-        .about(
-            "Runs the graph for each data interval that starts in a range, with the programs of its tasks",
-        )
-        .arg(graph(alloc))?
-        .arg(zone_file(alloc))?;
-    ranged(alloc, command)
+    let command = subcommand(
+        alloc,
+        "run",
+        "Runs the graph for each data interval that starts in a range, with the programs of its tasks",
+        RUN_EXAMPLES,
+    )
+    .arg(graph(alloc))?
+    .arg(zone_file(alloc))?;
+    ranged(alloc, command)?.arg(launcher(alloc))
+}
+
+/// The command that clears, without a table and its range.
+fn clearing<'a>(alloc: Global) -> Result<Command<'a>, AllocError>
+    ensures app { IfOk result (λ c. app_of c ≡ clearing_app) }
+    ensures local { IfOk result (λ c. (out-Command c).has_globals ≡ false) }
+{
+    let command = subcommand(
+        alloc,
+        "clear",
+        "Runs a task of a run again, with all that follows from it, and keeps the rest of a report",
+        CLEAR_EXAMPLES,
+    )
+    .arg(graph(alloc))?
+    .arg(zone_file(alloc))?
+    .arg(report(alloc))?;
+    seeded(alloc, command)
+}
+
+fn clear<'a>(alloc: Global) -> Result<Command<'a>, AllocError>
+    ensures app { IfOk result (λ c. app_of c ≡ clear_app) }
+    ensures local { IfOk result (λ c. (out-Command c).has_globals ≡ false) }
+{
+    let command = clearing(alloc)?.arg(optional_table(alloc))?;
+    ranged(alloc, command)?.arg(launcher(alloc))
 }
 
 /// The line with the commands that look at a graph alone.
@@ -171,6 +312,7 @@ fn looking<'a>(alloc: Global) -> Result<Command<'a>, AllocError>
 {
     Command::new(alloc, "backfill")
         .about("Runs a graph of tasks once for each data interval of a range of dates")
+        .version(VERSION)
         .subcommand_required(true)
         .arg_required_else_help(true)
         .subcommand(check(alloc)?)?
@@ -190,5 +332,7 @@ fn answered<'a>(alloc: Global) -> Result<Command<'a>, AllocError>
 pub(crate) fn backfill<'a>(alloc: Global) -> Result<Command<'a>, AllocError>
     ensures { IfOk result (λ c. app_of c ≡ backfill_app) }
 {
-    answered(alloc)?.subcommand(run(alloc)?)
+    answered(alloc)?
+        .subcommand(run(alloc)?)?
+        .subcommand(clear(alloc)?)
 }

@@ -42,14 +42,38 @@ pub struct DryAsked {
     pub progress: bool,
 }
 
-/// `run GRAPH --from T --to T [--workers N] [--progress]`: a run for each data interval of a range, with the programs of
-/// its tasks.
+/// `run GRAPH --from T --to T [--workers N] [--progress] [--launcher PATH]`: a run for each data interval of a range, with
+/// the programs of its tasks. Where a launcher is named, the words of their commands are handed to it.
 #[derive(Debug, Drop)]
 pub struct RunAsked {
     pub graph: GraphAsked,
     pub range: RangeAsked,
     pub workers: Workers,
     pub progress: bool,
+    pub launcher: Option<String>,
+}
+
+/// `--task ID --run T`: a task in the run of a logical date.
+#[derive(Debug, Drop)]
+pub struct SeedAsked {
+    pub task: String,
+    pub run: String,
+}
+
+/// `clear GRAPH REPORT --from T --to T --task ID --run T [--table PATH] [--workers N] [--progress] [--launcher PATH]`: a
+/// backfill that goes on from its report, where a task in a run and all that follows from it is cleared. Tries are answered
+/// from a table where one is named, else by the programs of the tasks, whose words are handed to a launcher where one is
+/// named.
+#[derive(Debug, Drop)]
+pub struct ClearAsked {
+    pub graph: GraphAsked,
+    pub report: String,
+    pub range: RangeAsked,
+    pub seed: SeedAsked,
+    pub table: Option<String>,
+    pub workers: Workers,
+    pub progress: bool,
+    pub launcher: Option<String>,
 }
 
 /// A subcommand with its paths and options.
@@ -61,4 +85,5 @@ pub enum Asked {
     Single(SingleAsked),
     Dry(DryAsked),
     Run(RunAsked),
+    Clear(ClearAsked),
 }

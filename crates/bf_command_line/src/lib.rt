@@ -6,6 +6,9 @@ mod forms;
 mod reading;
 mod workers;
 
-pub use forms::{Asked, DryAsked, GraphAsked, ListAsked, RangeAsked, RunAsked, SingleAsked};
+pub use forms::{
+    Asked, ClearAsked, DryAsked, GraphAsked, ListAsked, RangeAsked, RunAsked, SeedAsked,
+    SingleAsked,
+};
 pub use reading::asked;
 pub use workers::Workers;

@@ -2,10 +2,13 @@
 ghost use Rattle.std.specs.Prelude.{◌≡◌, IfOk, map, option_map, string_bytes, Some, codes};
 ghost use Rattle.clap.specs.Words.{fault_of, FailsBy, subcommand_of, first_of, found_of, rows_of, subcommand_rows_of};
 ghost use Rattle.bf_command_line.specs.CommandLine.{backfill_app};
-ghost use Rattle.bf_command_line.specs.Asked.{IsAskedBy, IsGraphBy, IsProgressBy, IsRangeBy, IsWorkersBy};
+ghost use Rattle.bf_command_line.specs.Asked.{IsAskedBy, IsGraphBy, IsLauncherBy, IsProgressBy, IsRangeBy, IsSeedBy, IsWorkersBy};
 
 use crate::command::backfill;
-use crate::forms::{Asked, DryAsked, GraphAsked, ListAsked, RangeAsked, RunAsked, SingleAsked};
+use crate::forms::{
+    Asked, ClearAsked, DryAsked, GraphAsked, ListAsked, RangeAsked, RunAsked, SeedAsked,
+    SingleAsked,
+};
 use crate::workers::Workers;
 use clap::{ArgMatches, Error};
 use std::alloc::{AllocError, Global};
@@ -41,6 +44,7 @@ fn subcommand_asked(alloc: Global, matches: &ArgMatches<'_>) -> Result<Asked, Al
         Some(("single", inner)) => Ok(Asked::Single(single_asked(alloc, inner)?)),
         Some(("dry", inner)) => Ok(Asked::Dry(dry_asked(alloc, inner)?)),
         Some(("run", inner)) => Ok(Asked::Run(run_asked(alloc, inner)?)),
+        Some(("clear", inner)) => Ok(Asked::Clear(clear_asked(alloc, inner)?)),
         _ => Err(AllocError),
     }
 }
@@ -60,6 +64,15 @@ fn range_asked(alloc: Global, matches: &ArgMatches<'_>) -> Result<RangeAsked, Al
     Ok(RangeAsked {
         from: required(alloc, matches, "from")?,
         to: required(alloc, matches, "to")?,
+    })
+}
+
+fn seed_asked(alloc: Global, matches: &ArgMatches<'_>) -> Result<SeedAsked, AllocError>
+    ensures { IfOk result (IsSeedBy (rows_of (found_of matches.now))) }
+{
+    Ok(SeedAsked {
+        task: required(alloc, matches, "task")?,
+        run: required(alloc, matches, "run")?,
     })
 }
 
@@ -90,6 +103,12 @@ fn table_asked(alloc: Global, matches: &ArgMatches<'_>) -> Result<String, AllocE
     ensures { IfOk result (λ t. first_of (codes "table") (rows_of (found_of matches.now)) ≡ Some (string_bytes t)) }
 {
     required(alloc, matches, "table")
+}
+
+fn launcher_asked(alloc: Global, matches: &ArgMatches<'_>) -> Result<Option<String>, AllocError>
+    ensures { IfOk result (IsLauncherBy (rows_of (found_of matches.now))) }
+{
+    optional(alloc, matches, "launcher")
 }
 
 fn list_asked(alloc: Global, matches: &ArgMatches<'_>) -> Result<ListAsked, AllocError>
@@ -131,6 +150,22 @@ fn run_asked(alloc: Global, matches: &ArgMatches<'_>) -> Result<RunAsked, AllocE
         range: range_asked(alloc, matches)?,
         workers: workers_asked(matches)?,
         progress: progress_asked(matches),
+        launcher: launcher_asked(alloc, matches)?,
+    })
+}
+
+fn clear_asked(alloc: Global, matches: &ArgMatches<'_>) -> Result<ClearAsked, AllocError>
+    ensures { IfOk result (λ c. IsAskedBy (Some (codes "clear", rows_of (found_of matches.now))) (Asked.Clear c)) }
+{
+    Ok(ClearAsked {
+        graph: graph_asked(alloc, matches)?,
+        report: required(alloc, matches, "report")?,
+        range: range_asked(alloc, matches)?,
+        seed: seed_asked(alloc, matches)?,
+        table: optional(alloc, matches, "table")?,
+        workers: workers_asked(matches)?,
+        progress: progress_asked(matches),
+        launcher: launcher_asked(alloc, matches)?,
     })
 }
 

@@ -17,11 +17,12 @@ use Rattle.bf_process.specs.Output.{not_started}
 abbrev pub IsShownInterval : Interval → Type 0
 IsShownInterval interval = IsShown interval.start.nanosecond × IsShown interval.end.nanosecond
 
--- what contracts see of a runner: what starts its programs, the tasks, and the runs' data intervals
+-- what contracts see of a runner: what starts its programs, the tasks, the runs' data intervals, and the path of its launcher
 pub record Programs (S : Type 0) : Type 0 where
   pub starter : S
   pub dag : Dag
   pub intervals : List Interval
+  pub launcher : Option (List ℕ)
 
 -- the try of this name, of this task in a run of this data interval, as the words of a command see it
 pub record IsContext (dag : Dag) (task : Task) (interval : Interval) (name : JobName) (context : JobContext) : Type 0 where
@@ -43,6 +44,16 @@ abbrev pub HoldsOfTry : Type 0 → (List (List ℕ) → Type 0) → Dag → JobN
 HoldsOfTry other P dag name given (Some task) (Some interval) = HoldsOfWords P dag task interval name given
 HoldsOfTry other P dag name given (Some task) None = other
 HoldsOfTry other P dag name given None run = other
+
+-- what may be heard of words that are handed to a launcher, where there is one: they are started behind its path
+abbrev pub through : Option (List ℕ) → (List (List ℕ) → Raw → Type 0) → List (List ℕ) → Raw → Type 0
+through None may_hear words raw = may_hear words raw
+through (Some path) may_hear words raw = may_hear (path ∷ words) raw
+
+-- and whether their program may be lost
+abbrev pub lost_through : Option (List ℕ) → (List (List ℕ) → Type 0) → List (List ℕ) → Type 0
+lost_through None may_lose words = may_lose words
+lost_through (Some path) may_lose words = may_lose (path ∷ words)
 
 -- without a word code 0 and an empty line, else what may be heard of the program
 abbrev pub IsHeard : (List (List ℕ) → Raw → Type 0) → List (List ℕ) → Raw → Type 0

@@ -1,7 +1,7 @@
 //! The runner of tries as programs.
-ghost use Rattle.std.specs.Prelude.{◌≡◌, All, IfOk, IfErr};
+ghost use Rattle.std.specs.Prelude.{◌≡◌, All, IfOk, IfErr, option_map};
 ghost use Rattle.bf_graph.specs.Shape.{texts};
-ghost use Rattle.bf_process.specs.Words.{IsShownInterval, IsContext, IsHeard, IsLost, HoldsOfWords, MayAnswer, MayGiveUp};
+ghost use Rattle.bf_process.specs.Words.{IsShownInterval, IsContext, IsHeard, IsLost, HoldsOfWords, MayAnswer, MayGiveUp, lost_through, through};
 
 use crate::program::not_started;
 use crate::starter::Starter;
@@ -14,18 +14,19 @@ use bf_xcom::{Given, JobContext, words};
 use std::alloc::Global;
 use std::marker::Model;
 
-/// Runs each try as the program that the words of its command start. A try of a task or of a run that isn't there isn't
-/// started.
+/// Runs each try as the program that the words of its command start, or as the launcher that they are handed to, where there
+/// is one. A try of a task or of a run that isn't there isn't started.
 #[derive(Drop)]
-pub struct ProcessRunner<'s, 'p, 'i, S> {
+pub struct ProcessRunner<'s, 'p, 'i, 'l, S> {
     starter: &'s S,
     alloc: Global,
     plan: &'p Plan,
     intervals: &'i [Interval],
+    launcher: Option<&'l str>,
 }
 
-impl<'s, 'p, 'i, S> Model for ProcessRunner<'s, 'p, 'i, S> {
-    ghost use Rattle.std.specs.Prelude.{All};
+impl<'s, 'p, 'i, 'l, S> Model for ProcessRunner<'s, 'p, 'i, 'l, S> {
+    ghost use Rattle.std.specs.Prelude.{All, option_map};
     ghost use Rattle.std.specs.Coded.{codes};
     ghost use Rattle.bf_check.specs.contracts.plan.Dag as d;
     ghost use Rattle.bf_process.specs.Words.{IsShownInterval, Programs};
@@ -34,41 +35,55 @@ impl<'s, 'p, 'i, S> Model for ProcessRunner<'s, 'p, 'i, S> {
 
     ghost coded = { Prim.hlevel (codes, d.the_row.coded) };
 
-    ghost view = { λ r. record { starter = r.starter.now; dag = r.plan.now.dag; intervals = r.intervals.now } };
+    ghost view = { λ r. record {
+      starter = r.starter.now;
+      dag = r.plan.now.dag;
+      intervals = r.intervals.now;
+      launcher = option_map (λ l. l.now) r.launcher;
+    } };
 
     ghost invariant = { λ r. All IsShownInterval r.intervals.now };
 }
 
-impl<'s, 'p, 'i, S: Starter> ProcessRunner<'s, 'p, 'i, S> {
-    /// A runner of the tasks of a plan, in runs of these data intervals. It takes no memory before it runs a try.
+impl<'s, 'p, 'i, 'l, S: Starter> ProcessRunner<'s, 'p, 'i, 'l, S> {
+    /// A runner of the tasks of a plan, in runs of these data intervals, by the launcher of this path where there is one. It
+    /// takes no memory before it runs a try.
     pub fn new(
         starter: &'s S,
         alloc: Global,
         plan: &'p Plan,
         intervals: &'i [Interval],
-    ) -> ProcessRunner<'s, 'p, 'i, S>
+        launcher: Option<&'l str>,
+    ) -> ProcessRunner<'s, 'p, 'i, 'l, S>
         requires { All IsShownInterval intervals.now }
-        ensures { result ≡ record { starter = starter.now; dag = plan.now.dag; intervals = intervals.now } }
+        ensures { result ≡ record {
+          starter = starter.now;
+          dag = plan.now.dag;
+          intervals = intervals.now;
+          launcher = option_map (λ l. l.now) launcher.entry;
+        } }
     {
         ProcessRunner {
             starter,
             alloc,
             plan,
             intervals,
+            launcher,
         }
     }
 
-    /// What comes of these words.
+    /// What comes of these words. Without a word nothing is started, and no launcher either.
     fn heard(&self, words: &[String]) -> Result<Raw, RunnerFault>
-        ensures heard { IfOk result (λ raw. IsHeard (S.may_hear self.now.starter) (texts words.now) raw) }
+        ensures heard { IfOk result (λ raw. IsHeard (through self.now.launcher (S.may_hear self.now.starter)) (texts words.now) raw) }
         ensures lost { IfErr result (λ fault.
-            fault ≡ RunnerFault.GaveUp → IsLost (S.may_lose self.now.starter) (texts words.now)) }
+            fault ≡ RunnerFault.GaveUp → IsLost (lost_through self.now.launcher (S.may_lose self.now.starter)) (texts words.now)) }
     {
-        match words.split_first() {
-            Some((program, arguments)) => {
-                self.starter.start(self.alloc, program.as_str(), arguments)
-            }
-            None => Ok(Raw::with_code(0, Sequence::new(self.alloc))),
+        let Some((program, arguments)) = words.split_first() else {
+            return Ok(Raw::with_code(0, Sequence::new(self.alloc)));
+        };
+        match self.launcher {
+            Some(launcher) => self.starter.start(self.alloc, launcher, words),
+            None => self.starter.start(self.alloc, program.as_str(), arguments),
         }
     }
 
@@ -97,10 +112,10 @@ impl<'s, 'p, 'i, S: Starter> ProcessRunner<'s, 'p, 'i, S> {
     ) -> Result<Raw, RunnerFault>
         requires { IsShownInterval run.now }
         ensures ok { IfOk result (λ raw. HoldsOfWords
-            (λ words. IsHeard (S.may_hear self.now.starter) words raw)
+            (λ words. IsHeard (through self.now.launcher (S.may_hear self.now.starter)) words raw)
             self.now.dag task.now run.now name given.now) }
         ensures err { IfErr result (λ fault. fault ≡ RunnerFault.GaveUp → HoldsOfWords
-            (IsLost (S.may_lose self.now.starter)) self.now.dag task.now run.now name given.now) }
+            (IsLost (lost_through self.now.launcher (S.may_lose self.now.starter))) self.now.dag task.now run.now name given.now) }
     {
         let context = self.context(task, run, name);
         match words(self.alloc, task.command.as_slice(), &context, given) {
@@ -112,9 +127,9 @@ impl<'s, 'p, 'i, S: Starter> ProcessRunner<'s, 'p, 'i, S> {
     /// What the try of this name answers, given this.
     fn answer(&self, name: JobName, given: &Given) -> Result<Raw, RunnerFault>
         ensures ok { IfOk result (λ raw.
-            MayAnswer (S.may_hear self.now.starter) self.now.dag self.now.intervals name given.now raw) }
+            MayAnswer (through self.now.launcher (S.may_hear self.now.starter)) self.now.dag self.now.intervals name given.now raw) }
         ensures err { IfErr result (λ fault. fault ≡ RunnerFault.GaveUp →
-            MayGiveUp (S.may_lose self.now.starter) self.now.dag self.now.intervals name given.now) }
+            MayGiveUp (lost_through self.now.launcher (S.may_lose self.now.starter)) self.now.dag self.now.intervals name given.now) }
     {
         let (Some(task), Some(run)) = (
             self.plan.dag().tasks.get(name.task as usize),
@@ -126,12 +141,12 @@ impl<'s, 'p, 'i, S: Starter> ProcessRunner<'s, 'p, 'i, S> {
     }
 }
 
-impl<'s, 'p, 'i, S: Starter> TaskRunner for ProcessRunner<'s, 'p, 'i, S> {
-    ghost use Rattle.bf_process.specs.Words.{MayAnswer, MayGiveUp};
+impl<'s, 'p, 'i, 'l, S: Starter> TaskRunner for ProcessRunner<'s, 'p, 'i, 'l, S> {
+    ghost use Rattle.bf_process.specs.Words.{MayAnswer, MayGiveUp, lost_through, through};
 
-    ghost may_answer = { λ s n g r. MayAnswer (S.may_hear s.starter) s.dag s.intervals n g r };
+    ghost may_answer = { λ s n g r. MayAnswer (through s.launcher (S.may_hear s.starter)) s.dag s.intervals n g r };
 
-    ghost may_give_up = { λ s n g. MayGiveUp (S.may_lose s.starter) s.dag s.intervals n g };
+    ghost may_give_up = { λ s n g. MayGiveUp (lost_through s.launcher (S.may_lose s.starter)) s.dag s.intervals n g };
 
     fn run(&self, ticket: Ticket) -> Result<Done, (Ticket, RunnerFault)> {
         match self.answer(ticket.name(), ticket.given()) {

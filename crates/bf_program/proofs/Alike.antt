@@ -11,7 +11,7 @@ use Rattle.bf_interval.specs.declared.interval.Interval.{Interval}
 use Rattle.bf_try.specs.Tables.{table_of}
 use Rattle.bf_program.specs.declared.check.GraphSize.{GraphSize}
 use Rattle.bf_program.specs.declared.fault.CommandFault.{CommandFault}
-use Rattle.bf_program.specs.declared.fault.CommandFault.TheVariants.{Read, Check, Table, Range, BadMoment, OutOfMemory, CannotRead, CannotWrite, Stopped}
+use Rattle.bf_program.specs.declared.fault.CommandFault.TheVariants.{Read, Check, Table, Range, Report, Clear, BadMoment, OutOfMemory, CannotRead, CannotWrite, Stopped}
 use Rattle.bf_program.specs.DatedRuns.{IsFaultOfDry, IsReportIn}
 use Rattle.bf_program.specs.Files.{AreAlike}
 use Rattle.bf_program.specs.Graphs.{IsFaultIn, IsFileOf, IsGraph, IsSizeOf}
@@ -38,7 +38,7 @@ module _ (read held : List ℕ) (one two : Option (List ℕ)) (alike : AreAlike 
   file_of : (draft : Draft) → IsFileOf read draft → IsFileOf held draft
   file_of draft is = sym alike.says ∙ is
 
-  graph_of : (draft : Draft) → IsGraph read one draft → IsGraph held two draft
+  pub graph_of : (draft : Draft) → IsGraph read one draft → IsGraph held two draft
   graph_of draft is = record { says = file_of draft is.says; accepted = accepted draft is.accepted }
 
   pub fault_in : (fault : CommandFault) → IsFaultIn read one fault → IsFaultIn held two fault
@@ -46,6 +46,8 @@ module _ (read held : List ℕ) (one two : Option (List ℕ)) (alike : AreAlike 
   fault_in (Check fault) is = (is.0, file_of is.0 is.1, fault_of is.0 fault is.2)
   fault_in (Table fault) is = absurd is
   fault_in (Range fault) is = absurd is
+  fault_in (Report fault) is = absurd is
+  fault_in (Clear fault) is = absurd is
   fault_in BadMoment is = absurd is
   fault_in OutOfMemory is = tt
   fault_in (CannotRead path) is = absurd is
@@ -55,7 +57,7 @@ module _ (read held : List ℕ) (one two : Option (List ℕ)) (alike : AreAlike 
   pub size_of : (size : GraphSize) → IsSizeOf read one size → IsSizeOf held two size
   size_of size is = record { draft = is.draft; graph_is = graph_of is.draft is.graph_is; size_is = is.size_is }
 
-  listing_of : (from to : ℤ) (answer : Result (List Interval) IntervalFault) → HasListing read one from to answer → HasListing held two from to answer
+  pub listing_of : (from to : ℤ) (answer : Result (List Interval) IntervalFault) → HasListing read one from to answer → HasListing held two from to answer
   listing_of from to answer is = record {
     draft = is.draft;
     graph_is = graph_of is.draft is.graph_is;
@@ -74,6 +76,8 @@ module _ (read held : List ℕ) (one two : Option (List ℕ)) (alike : AreAlike 
   list_fault from to (Check fault) is = fault_in (Check fault) is
   list_fault from to (Table fault) is = absurd is
   list_fault from to (Range fault) is = listing_of from to _ is
+  list_fault from to (Report fault) is = absurd is
+  list_fault from to (Clear fault) is = absurd is
   list_fault from to BadMoment is = absurd is
   list_fault from to OutOfMemory is = tt
   list_fault from to (CannotRead path) is = absurd is
@@ -88,6 +92,8 @@ module _ (read held : List ℕ) (one two : Option (List ℕ)) (alike : AreAlike 
   run_fault may_lose from to (Check fault) is = fault_in (Check fault) is
   run_fault may_lose from to (Table fault) is = absurd is
   run_fault may_lose from to (Range fault) is = listing_of from to _ is
+  run_fault may_lose from to (Report fault) is = absurd is
+  run_fault may_lose from to (Clear fault) is = absurd is
   run_fault may_lose from to BadMoment is = absurd is
   run_fault may_lose from to OutOfMemory is = tt
   run_fault may_lose from to (CannotRead path) is = absurd is
@@ -124,6 +130,8 @@ module _ (read held : List ℕ) (one two : Option (List ℕ)) (alike : AreAlike 
     single_fault at (Check fault) is = fault_in (Check fault) is
     single_fault at (Table fault) is = (is.0, graph_of is.0 is.1, sym same ∙ is.2)
     single_fault at (Range fault) is = (is.0, graph_of is.0 is.1, a_table is.2, is.3, is.4)
+    single_fault at (Report fault) is = absurd is
+    single_fault at (Clear fault) is = absurd is
     single_fault at BadMoment is = absurd is
     single_fault at OutOfMemory is = tt
     single_fault at (CannotRead path) is = absurd is
@@ -135,6 +143,8 @@ module _ (read held : List ℕ) (one two : Option (List ℕ)) (alike : AreAlike 
     dry_fault from to (Check fault) is = fault_in (Check fault) is
     dry_fault from to (Table fault) is = (is.0, graph_of is.0 is.1, sym same ∙ is.2)
     dry_fault from to (Range fault) is = (a_table is.0, listing_of from to _ is.1)
+    dry_fault from to (Report fault) is = absurd is
+    dry_fault from to (Clear fault) is = absurd is
     dry_fault from to BadMoment is = absurd is
     dry_fault from to OutOfMemory is = tt
     dry_fault from to (CannotRead path) is = absurd is

@@ -1,17 +1,15 @@
 -- Backfills with the programs of the tasks.
-use Rattle.std.proofs.Common.{◌≡◌, ◌<◌, ℕ, Bool, List, None, Some, Option, Result, Err, refl, slice_get, length}
+use Rattle.std.proofs.Common.{◌≡◌, ◌<◌, ℕ, Bool, List, None, Some, Option, refl, slice_get, length}
 use Rattle.std.proofs.lemmas.Option.{slice_get_within}
 use Rattle.bf_value.specs.declared.name.JobName.{JobName}
 use Rattle.bf_check.specs.declared.plan.Dag.{Dag}
 use Rattle.bf_check.specs.declared.plan.Task.{Task}
-use Rattle.bf_check.specs.Plans.{task_of}
 use Rattle.bf_xcom.specs.declared.values.Given.{Given}
 use Rattle.bf_process.specs.Words.{HoldsOfTry, IsLost, MayGiveUp}
 use Rattle.bf_interval.specs.declared.interval.Interval.{Interval}
 use Rattle.bf_core.specs.Events.{entry_in}
 use Rattle.bf_core.specs.declared.ended.Ended.{Ended}
-use Rattle.bf_program.specs.Programs.{Hearing, IsEndedBy, IsReportBy, IsStop, Losing}
-use Rattle.bf_program.specs.declared.stop.StopFault.{StopFault}
+use Rattle.bf_program.specs.Programs.{Hearing, IsEndedBy, IsReportBy, Losing}
 use Rattle.bf_program.specs.Reported.{IsReportOf}
 
 -- the report over the ledger of a backfill with programs that has ended

@@ -13,7 +13,7 @@ use Rattle.bf_report.specs.declared.sending.WriteFault.{WriteFault}
 use Rattle.bf_program.specs.declared.check.GraphSize.{GraphSize}
 use Rattle.bf_program.specs.declared.input.MomentRange.{MomentRange}
 use Rattle.bf_program.specs.declared.fault.CommandFault.{CommandFault}
-use Rattle.bf_program.specs.declared.fault.CommandFault.TheVariants.{Read, Check, Table, Range, BadMoment, OutOfMemory, CannotRead, CannotWrite, Stopped}
+use Rattle.bf_program.specs.declared.fault.CommandFault.TheVariants.{Read, Check, Table, Range, Report, Clear, BadMoment, OutOfMemory, CannotRead, CannotWrite, Stopped}
 use Rattle.bf_program.specs.declared.status.Status.{Status}
 use Rattle.bf_program.specs.Commands.{AreReadable, Files, IsCheckAnswer, IsCheckFault, IsDryAnswer, IsDryFault, IsListAnswer, IsListFault, IsNoMoment, IsRunAnswer, IsRunFault, IsSingleAnswer, IsSingleFault, Means, MeansRange, OfFiles, OfFilesAndTable, graph_paths, run_paths, size_text}
 use Rattle.bf_program.specs.DatedRuns.{IsFaultOfDry, IsReportIn}
@@ -21,7 +21,7 @@ use Rattle.bf_program.specs.Files.{AreAlike, IsReadingFault}
 use Rattle.bf_program.specs.Graphs.{IsFaultIn, IsSizeOf}
 use Rattle.bf_program.specs.Lists.{IsFaultOfList, IsListIn}
 use Rattle.bf_program.specs.OneRun.{IsFaultOfSingle, IsReportAt}
-use Rattle.bf_program.specs.Programs.{Hearing, Losing, IsFaultOfRun, IsRunReport}
+use Rattle.bf_program.specs.Programs.{Hearing, Losing, IsFaultOfRun, IsRunReport, launched, launched_lost}
 use Rattle.bf_program.specs.Refusal.{of_cause, of_write}
 use Rattle.bf_program.specs.Status.{of_runs}
 use Rattle.bf_program.proofs.Alike.{dry_fault, fault_in, list_fault, list_of, report_at, report_in, run_fault, run_report, single_fault, size_of}
@@ -50,6 +50,8 @@ module _ (files : Files) (asked : GraphAsked) where
   check_reading (Check fault) is = absurd is
   check_reading (Table fault) is = absurd is
   check_reading (Range fault) is = absurd is
+  check_reading (Report fault) is = absurd is
+  check_reading (Clear fault) is = absurd is
   check_reading BadMoment is = absurd is
   check_reading OutOfMemory is = tt
   check_reading (CannotRead path) is = is
@@ -69,6 +71,8 @@ module _ (files : Files) (asked : GraphAsked) where
     check_files (Check fault) is = (readable, λ graph held are. fault_in read graph zone held (alike graph held are) (Check fault) is)
     check_files (Table fault) is = absurd is
     check_files (Range fault) is = absurd is
+    check_files (Report fault) is = absurd is
+    check_files (Clear fault) is = absurd is
     check_files BadMoment is = absurd is
     check_files OutOfMemory is = tt
     check_files (CannotRead path) is = absurd is
@@ -93,6 +97,8 @@ module _ (files : Files) (asked : ListAsked) (range : MomentRange) (means : Mean
   list_reading (Check fault) is = absurd is
   list_reading (Table fault) is = absurd is
   list_reading (Range fault) is = absurd is
+  list_reading (Report fault) is = absurd is
+  list_reading (Clear fault) is = absurd is
   list_reading BadMoment is = absurd is
   list_reading OutOfMemory is = (range, means, tt)
   list_reading (CannotRead path) is = (range, means, is)
@@ -114,6 +120,8 @@ module _ (files : Files) (asked : ListAsked) (range : MomentRange) (means : Mean
     list_files (Check fault) is = (range, means, (readable, λ graph held are. list_fault read graph zone held (alike graph held are) range.from.nanosecond range.to.nanosecond (Check fault) is))
     list_files (Table fault) is = absurd is
     list_files (Range fault) is = (range, means, (readable, λ graph held are. list_fault read graph zone held (alike graph held are) range.from.nanosecond range.to.nanosecond (Range fault) is))
+    list_files (Report fault) is = absurd is
+    list_files (Clear fault) is = absurd is
     list_files BadMoment is = absurd is
     list_files OutOfMemory is = (range, means, tt)
     list_files (CannotRead path) is = absurd is
@@ -131,6 +139,8 @@ module _ (files : Files) (asked : SingleAsked) (at : Timestamp) (means : Means (
   single_reading (Check fault) is = absurd is
   single_reading (Table fault) is = absurd is
   single_reading (Range fault) is = absurd is
+  single_reading (Report fault) is = absurd is
+  single_reading (Clear fault) is = absurd is
   single_reading BadMoment is = absurd is
   single_reading OutOfMemory is = (at, means, tt)
   single_reading (CannotRead path) is = (at, means, is)
@@ -154,6 +164,8 @@ module _ (files : Files) (asked : SingleAsked) (at : Timestamp) (means : Means (
     single_files (Check fault) is = (at, means, (readable, λ graph other held are holds. (let same = alike graph other held are holds in single_fault read graph zone held same.0 table other same.1 at (Check fault) is)))
     single_files (Table fault) is = (at, means, (readable, λ graph other held are holds. (let same = alike graph other held are holds in single_fault read graph zone held same.0 table other same.1 at (Table fault) is)))
     single_files (Range fault) is = (at, means, (readable, λ graph other held are holds. (let same = alike graph other held are holds in single_fault read graph zone held same.0 table other same.1 at (Range fault) is)))
+    single_files (Report fault) is = absurd is
+    single_files (Clear fault) is = absurd is
     single_files BadMoment is = absurd is
     single_files OutOfMemory is = (at, means, tt)
     single_files (CannotRead path) is = absurd is
@@ -171,6 +183,8 @@ module _ (files : Files) (asked : DryAsked) (range : MomentRange) (means : Means
   dry_reading (Check fault) is = absurd is
   dry_reading (Table fault) is = absurd is
   dry_reading (Range fault) is = absurd is
+  dry_reading (Report fault) is = absurd is
+  dry_reading (Clear fault) is = absurd is
   dry_reading BadMoment is = absurd is
   dry_reading OutOfMemory is = (range, means, tt)
   dry_reading (CannotRead path) is = (range, means, is)
@@ -194,6 +208,8 @@ module _ (files : Files) (asked : DryAsked) (range : MomentRange) (means : Means
     dry_files (Check fault) is = (range, means, (readable, λ graph other held are holds. (let same = alike graph other held are holds in dry_fault read graph zone held same.0 table other same.1 range.from.nanosecond range.to.nanosecond (Check fault) is)))
     dry_files (Table fault) is = (range, means, (readable, λ graph other held are holds. (let same = alike graph other held are holds in dry_fault read graph zone held same.0 table other same.1 range.from.nanosecond range.to.nanosecond (Table fault) is)))
     dry_files (Range fault) is = (range, means, (readable, λ graph other held are holds. (let same = alike graph other held are holds in dry_fault read graph zone held same.0 table other same.1 range.from.nanosecond range.to.nanosecond (Range fault) is)))
+    dry_files (Report fault) is = absurd is
+    dry_files (Clear fault) is = absurd is
     dry_files BadMoment is = absurd is
     dry_files OutOfMemory is = (range, means, tt)
     dry_files (CannotRead path) is = absurd is
@@ -211,6 +227,8 @@ module _ (may_hear : Hearing) (may_lose : Losing) (files : Files) (asked : RunAs
   run_reading (Check fault) is = absurd is
   run_reading (Table fault) is = absurd is
   run_reading (Range fault) is = absurd is
+  run_reading (Report fault) is = absurd is
+  run_reading (Clear fault) is = absurd is
   run_reading BadMoment is = absurd is
   run_reading OutOfMemory is = (range, means, tt)
   run_reading (CannotRead path) is = (range, means, is)
@@ -218,27 +236,29 @@ module _ (may_hear : Hearing) (may_lose : Losing) (files : Files) (asked : RunAs
   run_reading (Stopped stop) is = absurd is
 
   module _ (read : List ℕ) (zone : Option (List ℕ)) (readable : AreReadable files (graph_paths asked.graph)) (alike : OfFiles files asked.graph (λ graph held. AreAlike read graph zone held)) where
-    pub run_answer : (text : List ℕ) (success : Bool) → IsRunReport may_hear read zone range.from.nanosecond range.to.nanosecond text success → IsRunAnswer may_hear files asked text (of_runs success)
+    pub run_answer : (text : List ℕ) (success : Bool) → IsRunReport (launched asked.launcher may_hear) read zone range.from.nanosecond range.to.nanosecond text success → IsRunAnswer may_hear files asked text (of_runs success)
     run_answer text success is = record {
       range = range;
       means = means;
       succeeded = success;
       status_is = refl;
       readable = readable;
-      text_is = λ graph held are. run_report read graph zone held (alike graph held are) may_hear range.from.nanosecond range.to.nanosecond text success is;
+      text_is = λ graph held are. run_report read graph zone held (alike graph held are) (launched asked.launcher may_hear) range.from.nanosecond range.to.nanosecond text success is;
     }
 
     abbrev OfRun : CommandFault → Type 0
-    OfRun fault = IsFaultOfRun may_lose read zone range.from.nanosecond range.to.nanosecond fault
+    OfRun fault = IsFaultOfRun (launched_lost asked.launcher may_lose) read zone range.from.nanosecond range.to.nanosecond fault
 
-    held_fault : (fault : CommandFault) → OfRun fault → OfFiles files asked.graph (λ graph held. IsFaultOfRun may_lose graph held range.from.nanosecond range.to.nanosecond fault)
-    held_fault fault is graph held are = run_fault read graph zone held (alike graph held are) may_lose range.from.nanosecond range.to.nanosecond fault is
+    held_fault : (fault : CommandFault) → OfRun fault → OfFiles files asked.graph (λ graph held. IsFaultOfRun (launched_lost asked.launcher may_lose) graph held range.from.nanosecond range.to.nanosecond fault)
+    held_fault fault is graph held are = run_fault read graph zone held (alike graph held are) (launched_lost asked.launcher may_lose) range.from.nanosecond range.to.nanosecond fault is
 
     pub run_files : (fault : CommandFault) → OfRun fault → IsRunFault may_lose files asked fault
     run_files (Read fault) is = (range, means, (readable, held_fault (Read fault) is))
     run_files (Check fault) is = (range, means, (readable, held_fault (Check fault) is))
     run_files (Table fault) is = absurd is
     run_files (Range fault) is = (range, means, (readable, held_fault (Range fault) is))
+    run_files (Report fault) is = absurd is
+    run_files (Clear fault) is = absurd is
     run_files BadMoment is = absurd is
     run_files OutOfMemory is = (range, means, tt)
     run_files (CannotRead path) is = absurd is

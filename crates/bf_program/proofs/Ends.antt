@@ -14,7 +14,7 @@ use Rattle.bf_program.specs.Programs.{Hearing, Losing}
 use Rattle.bf_program.specs.Refusal.{Leaves, Sends, number_of}
 use Rattle.bf_program.specs.Status.{EndsAs, code_of, of_runs, shown_as}
 use Rattle.bf_program.specs.declared.fault.CommandFault.{CommandFault}
-use Rattle.bf_program.specs.declared.fault.CommandFault.TheVariants.{Read, Check, Table, Range, BadMoment, OutOfMemory, CannotRead, CannotWrite, Stopped}
+use Rattle.bf_program.specs.declared.fault.CommandFault.TheVariants.{Read, Check, Table, Range, Report, Clear, BadMoment, OutOfMemory, CannotRead, CannotWrite, Stopped}
 use Rattle.bf_program.specs.declared.status.Status.{Status}
 use Rattle.bf_program.proofs.Faults.{refusal_leaves}
 
@@ -62,6 +62,7 @@ answer_low may_hear files (asked.List a) text status is = rw is.success (omega a
 answer_low may_hear files (asked.Single a) text status is = rw is.status_is (runs_low is.succeeded)
 answer_low may_hear files (asked.Dry a) text status is = rw is.status_is (runs_low is.succeeded)
 answer_low may_hear files (asked.Run a) text status is = rw is.status_is (runs_low is.succeeded)
+answer_low may_hear files (asked.Clear a) text status is = rw is.status_is (runs_low is.succeeded)
 
 pub done_low : (may_hear : Hearing) (files : Files) (matched : Option (Text × List Row)) (before after : Option (List ℕ)) (code : ℕ) → IsDone may_hear files matched before after code → code ≤ 1
 done_low may_hear files matched before after code is = rw is.code_is (answer_low may_hear files is.asked is.text is.status is.answer)
@@ -81,6 +82,8 @@ module _ (may_hear : Hearing) (may_lose : Losing) (files : Files) (matched : Opt
     may (Check f) is left = faulted (Check f) is left
     may (Table f) is left = faulted (Table f) is left
     may (Range f) is left = faulted (Range f) is left
+    may (Report fault) is left = faulted (Report fault) is left
+    may (Clear fault) is left = faulted (Clear fault) is left
     may BadMoment is left = faulted BadMoment is left
     may (CannotRead path) is left = faulted (CannotRead path) is left
     may (CannotWrite n) is left = faulted (CannotWrite n) is left

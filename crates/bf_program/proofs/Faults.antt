@@ -23,7 +23,7 @@ use Rattle.bf_report.specs.declared.sending.Cause.{Cause}
 use Rattle.bf_report.specs.declared.sending.Cause.TheVariants as cause
 use Rattle.bf_report.specs.declared.sending.WriteFault.{WriteFault}
 use Rattle.bf_program.specs.declared.fault.CommandFault.{CommandFault}
-use Rattle.bf_program.specs.declared.fault.CommandFault.TheVariants.{Read, Check, Table, Range, BadMoment, OutOfMemory, CannotRead, CannotWrite, Stopped}
+use Rattle.bf_program.specs.declared.fault.CommandFault.TheVariants.{Read, Check, Table, Range, Report, Clear, BadMoment, OutOfMemory, CannotRead, CannotWrite, Stopped}
 use Rattle.bf_program.specs.DatedRuns.{IsFaultOfDry, IsReportIn}
 use Rattle.bf_program.specs.Commands.{Files}
 use Rattle.bf_program.specs.Files.{IsReadingFault}
@@ -93,6 +93,8 @@ module _ (graph : List ℕ) (file : Option (List ℕ)) (from to : ℤ) where
   list_graph (Check fault) is = is
   list_graph (Table fault) is = absurd is
   list_graph (Range fault) is = absurd is
+  list_graph (Report fault) is = absurd is
+  list_graph (Clear fault) is = absurd is
   list_graph BadMoment is = absurd is
   list_graph OutOfMemory is = tt
   list_graph (CannotRead path) is = absurd is
@@ -104,6 +106,8 @@ module _ (graph : List ℕ) (file : Option (List ℕ)) (from to : ℤ) where
   list_range (Check fault) is = absurd is
   list_range (Table fault) is = absurd is
   list_range (Range fault) is = is
+  list_range (Report fault) is = absurd is
+  list_range (Clear fault) is = absurd is
   list_range BadMoment is = absurd is
   list_range OutOfMemory is = tt
   list_range (CannotRead path) is = absurd is
@@ -115,6 +119,8 @@ module _ (graph : List ℕ) (file : Option (List ℕ)) (from to : ℤ) where
   list_wanting (Check fault) is = absurd is
   list_wanting (Table fault) is = absurd is
   list_wanting (Range fault) is = absurd is
+  list_wanting (Report fault) is = absurd is
+  list_wanting (Clear fault) is = absurd is
   list_wanting BadMoment is = absurd is
   list_wanting OutOfMemory is = tt
   list_wanting (CannotRead path) is = absurd is
@@ -127,6 +133,8 @@ module _ (graph : List ℕ) (file : Option (List ℕ)) (table : List ℕ) (at : 
   single_graph (Check fault) is = is
   single_graph (Table fault) is = absurd is
   single_graph (Range fault) is = absurd is
+  single_graph (Report fault) is = absurd is
+  single_graph (Clear fault) is = absurd is
   single_graph BadMoment is = absurd is
   single_graph OutOfMemory is = tt
   single_graph (CannotRead path) is = absurd is
@@ -138,6 +146,8 @@ module _ (graph : List ℕ) (file : Option (List ℕ)) (table : List ℕ) (at : 
   single_table plan said (Check fault) is = absurd is
   single_table plan said (Table fault) is = (said.draft, said.graph_is, is)
   single_table plan said (Range fault) is = absurd is
+  single_table plan said (Report fault) is = absurd is
+  single_table plan said (Clear fault) is = absurd is
   single_table plan said BadMoment is = absurd is
   single_table plan said OutOfMemory is = tt
   single_table plan said (CannotRead path) is = absurd is
@@ -153,6 +163,8 @@ module _ (graph : List ℕ) (file : Option (List ℕ)) (table : List ℕ) (at : 
   single_wanting (Check fault) is = absurd is
   single_wanting (Table fault) is = absurd is
   single_wanting (Range fault) is = absurd is
+  single_wanting (Report fault) is = absurd is
+  single_wanting (Clear fault) is = absurd is
   single_wanting BadMoment is = absurd is
   single_wanting OutOfMemory is = tt
   single_wanting (CannotRead path) is = absurd is
@@ -169,6 +181,8 @@ module _ (graph : List ℕ) (file : Option (List ℕ)) (table : List ℕ) (from 
   dry_graph (Check fault) is = is
   dry_graph (Table fault) is = absurd is
   dry_graph (Range fault) is = absurd is
+  dry_graph (Report fault) is = absurd is
+  dry_graph (Clear fault) is = absurd is
   dry_graph BadMoment is = absurd is
   dry_graph OutOfMemory is = tt
   dry_graph (CannotRead path) is = absurd is
@@ -180,6 +194,8 @@ module _ (graph : List ℕ) (file : Option (List ℕ)) (table : List ℕ) (from 
   dry_table plan said (Check fault) is = absurd is
   dry_table plan said (Table fault) is = (said.draft, said.graph_is, is)
   dry_table plan said (Range fault) is = absurd is
+  dry_table plan said (Report fault) is = absurd is
+  dry_table plan said (Clear fault) is = absurd is
   dry_table plan said BadMoment is = absurd is
   dry_table plan said OutOfMemory is = tt
   dry_table plan said (CannotRead path) is = absurd is
@@ -191,6 +207,8 @@ module _ (graph : List ℕ) (file : Option (List ℕ)) (table : List ℕ) (from 
   dry_range entries says (Check fault) is = absurd is
   dry_range entries says (Table fault) is = absurd is
   dry_range entries says (Range fault) is = (record { entries = entries; says = says }, is)
+  dry_range entries says (Report fault) is = absurd is
+  dry_range entries says (Clear fault) is = absurd is
   dry_range entries says BadMoment is = absurd is
   dry_range entries says OutOfMemory is = tt
   dry_range entries says (CannotRead path) is = absurd is
@@ -202,6 +220,8 @@ module _ (graph : List ℕ) (file : Option (List ℕ)) (table : List ℕ) (from 
   dry_wanting (Check fault) is = absurd is
   dry_wanting (Table fault) is = absurd is
   dry_wanting (Range fault) is = absurd is
+  dry_wanting (Report fault) is = absurd is
+  dry_wanting (Clear fault) is = absurd is
   dry_wanting BadMoment is = absurd is
   dry_wanting OutOfMemory is = tt
   dry_wanting (CannotRead path) is = absurd is
@@ -219,6 +239,8 @@ module _ (may_lose : Losing) (graph : List ℕ) (file : Option (List ℕ)) (from
   run_graph (Check fault) is = is
   run_graph (Table fault) is = absurd is
   run_graph (Range fault) is = absurd is
+  run_graph (Report fault) is = absurd is
+  run_graph (Clear fault) is = absurd is
   run_graph BadMoment is = absurd is
   run_graph OutOfMemory is = tt
   run_graph (CannotRead path) is = absurd is
@@ -230,6 +252,8 @@ module _ (may_lose : Losing) (graph : List ℕ) (file : Option (List ℕ)) (from
   run_range (Check fault) is = absurd is
   run_range (Table fault) is = absurd is
   run_range (Range fault) is = is
+  run_range (Report fault) is = absurd is
+  run_range (Clear fault) is = absurd is
   run_range BadMoment is = absurd is
   run_range OutOfMemory is = tt
   run_range (CannotRead path) is = absurd is
@@ -242,6 +266,8 @@ module _ (may_lose : Losing) (graph : List ℕ) (file : Option (List ℕ)) (from
     run_stop (Check fault) is = absurd is
     run_stop (Table fault) is = absurd is
     run_stop (Range fault) is = absurd is
+    run_stop (Report fault) is = absurd is
+    run_stop (Clear fault) is = absurd is
     run_stop BadMoment is = absurd is
     run_stop OutOfMemory is = tt
     run_stop (CannotRead path) is = absurd is
@@ -266,6 +292,8 @@ wanting_stop may_lose dag found (Err (Read fault)) is = absurd is
 wanting_stop may_lose dag found (Err (Check fault)) is = absurd is
 wanting_stop may_lose dag found (Err (Table fault)) is = absurd is
 wanting_stop may_lose dag found (Err (Range fault)) is = absurd is
+wanting_stop may_lose dag found (Err (Report fault)) is = absurd is
+wanting_stop may_lose dag found (Err (Clear fault)) is = absurd is
 wanting_stop may_lose dag found (Err BadMoment) is = absurd is
 wanting_stop may_lose dag found (Err (CannotRead path)) is = absurd is
 wanting_stop may_lose dag found (Err (Stopped stop)) is = absurd is
@@ -279,6 +307,8 @@ module _ (Halted : Type 0) (IsDue : List ℕ → Type 0) (before : Option (List 
   graph_leaves graph file (Check fault) is = refl
   graph_leaves graph file (Table fault) is = refl
   graph_leaves graph file (Range fault) is = refl
+  graph_leaves graph file (Report fault) is = refl
+  graph_leaves graph file (Clear fault) is = refl
   graph_leaves graph file BadMoment is = refl
   graph_leaves graph file OutOfMemory is = refl
   graph_leaves graph file (CannotRead path) is = refl
@@ -290,6 +320,8 @@ module _ (Halted : Type 0) (IsDue : List ℕ → Type 0) (before : Option (List 
   table_leaves table (Check fault) is = refl
   table_leaves table (Table fault) is = refl
   table_leaves table (Range fault) is = refl
+  table_leaves table (Report fault) is = refl
+  table_leaves table (Clear fault) is = refl
   table_leaves table BadMoment is = refl
   table_leaves table OutOfMemory is = refl
   table_leaves table (CannotRead path) is = refl
@@ -301,6 +333,8 @@ module _ (Halted : Type 0) (IsDue : List ℕ → Type 0) (before : Option (List 
   range_leaves graph file from to (Check fault) is = refl
   range_leaves graph file from to (Table fault) is = refl
   range_leaves graph file from to (Range fault) is = refl
+  range_leaves graph file from to (Report fault) is = refl
+  range_leaves graph file from to (Clear fault) is = refl
   range_leaves graph file from to BadMoment is = refl
   range_leaves graph file from to OutOfMemory is = refl
   range_leaves graph file from to (CannotRead path) is = refl
@@ -312,6 +346,8 @@ module _ (Halted : Type 0) (IsDue : List ℕ → Type 0) (before : Option (List 
   reading_leaves files paths (Check fault) is = refl
   reading_leaves files paths (Table fault) is = refl
   reading_leaves files paths (Range fault) is = refl
+  reading_leaves files paths (Report fault) is = refl
+  reading_leaves files paths (Clear fault) is = refl
   reading_leaves files paths BadMoment is = refl
   reading_leaves files paths OutOfMemory is = refl
   reading_leaves files paths (CannotRead path) is = refl
@@ -345,6 +381,8 @@ module _ (Halted : Type 0) (P Q : List ℕ → Type 0) (is : (text : List ℕ) �
   leaves_due (Check fault) left = left
   leaves_due (Table fault) left = left
   leaves_due (Range fault) left = left
+  leaves_due (Report fault) left = left
+  leaves_due (Clear fault) left = left
   leaves_due BadMoment left = left
   leaves_due OutOfMemory left = left
   leaves_due (CannotRead path) left = left
@@ -361,6 +399,8 @@ unsent_leaves Halted IsDue before (Read fault) is = refl
 unsent_leaves Halted IsDue before (Check fault) is = refl
 unsent_leaves Halted IsDue before (Table fault) is = refl
 unsent_leaves Halted IsDue before (Range fault) is = refl
+unsent_leaves Halted IsDue before (Report fault) is = refl
+unsent_leaves Halted IsDue before (Clear fault) is = refl
 unsent_leaves Halted IsDue before BadMoment is = refl
 unsent_leaves Halted IsDue before OutOfMemory is = refl
 unsent_leaves Halted IsDue before (CannotRead path) is = refl
@@ -374,6 +414,8 @@ module _ (Halted : Type 0) (IsDue : List ℕ → Type 0) (before after : Option 
   refusal_leaves (Check fault) left some = left
   refusal_leaves (Table fault) left some = left
   refusal_leaves (Range fault) left some = left
+  refusal_leaves (Report fault) left some = left
+  refusal_leaves (Clear fault) left some = left
   refusal_leaves BadMoment left some = left
   refusal_leaves OutOfMemory left some = left
   refusal_leaves (CannotRead path) left some = left

@@ -10,7 +10,6 @@ use Rattle.bf_try.specs.Tries.{Look, AreAlike}
 use Rattle.bf_try.specs.Tables.{Answering}
 use Rattle.bf_core.proofs.Confluence.{tries-same}
 use Rattle.bf_report.specs.declared.report.Report.{Report}
-use Rattle.bf_report.specs.Dated.{IsDated}
 use Rattle.bf_report.specs.Report.{report_text}
 use Rattle.bf_report.proofs.DatedFacts.{dated-once}
 use Rattle.bf_program.specs.OverTable.{AreAnswered, IsReportOver, answering}

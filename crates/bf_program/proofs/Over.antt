@@ -1,5 +1,5 @@
 -- Backfills over a table.
-use Rattle.std.proofs.Common.{◌≡◌, ◌<◌, ◌+◌, ◌/◌, ◌%◌, ◌++◌, ℕ, zero, suc, ℤ, pos, negsuc, ◌<ℤ◌, Bool, List, [], ◌∷◌, length, Result, Ok, Err, IfErr, map, take, All, refl, sym, ap, ◌∙◌, subst, arith, rules, get_or}
+use Rattle.std.proofs.Common.{◌≡◌, ◌<◌, ◌+◌, ◌/◌, ◌%◌, ◌++◌, ℕ, zero, suc, ℤ, pos, negsuc, ◌<ℤ◌, Bool, List, [], ◌∷◌, length, Result, Ok, Err, IfErr, map, take, All, sym, ap, ◌∙◌, subst, arith, rules, get_or}
 use Rattle.std.specs.Prelude.{AllPairs}
 use Rattle.std.proofs.lemmas.Int.{ints}
 use Rattle.std.proofs.lemmas.List.{map-append, take_more}
@@ -22,7 +22,7 @@ use Rattle.bf_program.specs.OneRun.{intervals_at}
 use Rattle.bf_program.specs.OverTable.{AreAnswered, IsOver, IsReportOver, IsWanting, IsWantingWorkers, answering}
 use Rattle.bf_program.specs.Reported.{IsReportOf}
 use Rattle.bf_program.specs.declared.fault.CommandFault.{CommandFault}
-use Rattle.bf_program.specs.declared.fault.CommandFault.TheVariants.{Read, Check, Table, Range, BadMoment, OutOfMemory, CannotRead, CannotWrite, Stopped}
+use Rattle.bf_program.specs.declared.fault.CommandFault.TheVariants.{Read, Check, Table, Range, Report, Clear, BadMoment, OutOfMemory, CannotRead, CannotWrite, Stopped}
 use Rattle.bf_program.specs.declared.stop.StopFault.{StopFault}
 
 -- a grade of what the table may answer is the grade of its answer
@@ -63,6 +63,8 @@ wanting_workers (Read fault) is = absurd is
 wanting_workers (Check fault) is = absurd is
 wanting_workers (Table fault) is = absurd is
 wanting_workers (Range fault) is = absurd is
+wanting_workers (Report fault) is = absurd is
+wanting_workers (Clear fault) is = absurd is
 wanting_workers BadMoment is = absurd is
 wanting_workers (CannotRead path) is = absurd is
 wanting_workers (Stopped StopFault.CannotStart) is = tt

@@ -6,25 +6,30 @@ use Rattle.jiff.specs.declared.timestamp.Timestamp.{Timestamp}
 use Rattle.bf_moment.specs.Moment.{Spells, nearest}
 use Rattle.bf_report.specs.Device.{sent}
 use Rattle.bf_command_line.specs.declared.forms.Asked.{Asked}
-use Rattle.bf_command_line.specs.declared.forms.Asked.TheVariants.{Check, Dry, List as Intervals, Run, Single}
+use Rattle.bf_command_line.specs.declared.forms.Asked.TheVariants.{Check, Clear, Dry, List as Intervals, Run, Single}
+use Rattle.bf_command_line.specs.declared.forms.ClearAsked.{ClearAsked}
 use Rattle.bf_command_line.specs.declared.forms.DryAsked.{DryAsked}
 use Rattle.bf_command_line.specs.declared.forms.GraphAsked.{GraphAsked}
 use Rattle.bf_command_line.specs.declared.forms.ListAsked.{ListAsked}
 use Rattle.bf_command_line.specs.declared.forms.RangeAsked.{RangeAsked}
 use Rattle.bf_command_line.specs.declared.forms.RunAsked.{RunAsked}
+use Rattle.bf_command_line.specs.declared.forms.SeedAsked.{SeedAsked}
 use Rattle.bf_command_line.specs.declared.forms.SingleAsked.{SingleAsked}
+use Rattle.bf_dependents.specs.declared.seeds.Seed.{Seed}
 use Rattle.bf_program.specs.declared.check.GraphSize.{GraphSize}
 use Rattle.bf_program.specs.declared.input.MomentRange.{MomentRange}
 use Rattle.bf_program.specs.declared.fault.CommandFault.{CommandFault}
-use Rattle.bf_program.specs.declared.fault.CommandFault.TheVariants.{BadMoment, OutOfMemory, CannotRead, CannotWrite}
+use Rattle.bf_program.specs.declared.fault.CommandFault.TheVariants.{BadMoment, Clear as NotCleared, OutOfMemory, CannotRead, CannotWrite, Report as BadReport, Stopped}
 use Rattle.bf_program.specs.declared.status.Status.{Status}
 use Rattle.bf_command_line.specs.Asked.{IsAskedBy}
 use Rattle.bf_command_line.specs.CommandLine.{backfill_app}
+use Rattle.bf_report_reader.specs.Faults.{Tells as TellsFault}
+use Rattle.bf_program.specs.Cleared.{IsClearReport, IsFaultBefore, IsReady, IsUnclearable, StopsClearing}
 use Rattle.bf_program.specs.DatedRuns.{IsFaultOfDry, IsReportIn}
 use Rattle.bf_program.specs.Graphs.{IsFaultIn, IsSizeOf}
 use Rattle.bf_program.specs.Lists.{IsFaultOfList, IsListIn}
 use Rattle.bf_program.specs.OneRun.{IsFaultOfSingle, IsReportAt}
-use Rattle.bf_program.specs.Programs.{Hearing, Losing, IsFaultOfRun, IsRunReport}
+use Rattle.bf_program.specs.Programs.{Hearing, Losing, IsFaultOfRun, IsRunReport, launched, launched_lost}
 use Rattle.bf_program.specs.Refusal.{Leaves, line_of, status_of}
 use Rattle.bf_program.specs.Status.{code_of, of_runs}
 
@@ -48,17 +53,17 @@ Files = List ℕ → Option (Option (List ℕ))
 abbrev pub IsHeld : Option (Option (List ℕ)) → List ℕ → Type 0
 IsHeld file bytes = file ≡ Some (Some bytes)
 
--- the zone file, where one is named
-abbrev pub IsZoneHeld : Files → Option (List ℕ) → Option (List ℕ) → Type 0
-IsZoneHeld files None None = Unit {0}
-IsZoneHeld files (Some path) (Some bytes) = IsHeld (files path) bytes
-IsZoneHeld files None (Some bytes) = ⊥
-IsZoneHeld files (Some path) None = ⊥
+-- so it is with a file where one is named
+abbrev pub IsHeldIfNamed : Files → Option (List ℕ) → Option (List ℕ) → Type 0
+IsHeldIfNamed files None None = Unit {0}
+IsHeldIfNamed files (Some path) (Some bytes) = IsHeld (files path) bytes
+IsHeldIfNamed files None (Some bytes) = ⊥
+IsHeldIfNamed files (Some path) None = ⊥
 
 -- the graph file, and the zone file
 pub record AreHeld (files : Files) (asked : GraphAsked) (graph : List ℕ) (zone : Option (List ℕ)) : Type 0 where
   pub graph_held : IsHeld (files (string_bytes asked.graph)) graph
-  pub zone_held : IsZoneHeld files (option_map string_bytes asked.zone_file) zone
+  pub zone_held : IsHeldIfNamed files (option_map string_bytes asked.zone_file) zone
 
 -- so it is with whatever the graph file and the zone file are told to hold
 abbrev pub OfFiles : Files → GraphAsked → (List ℕ → Option (List ℕ) → Type 0) → Type 0
@@ -68,6 +73,11 @@ OfFiles files asked P = (graph : List ℕ) (zone : Option (List ℕ)) → AreHel
 abbrev pub OfFilesAndTable : Files → GraphAsked → List ℕ → (List ℕ → Option (List ℕ) → List ℕ → Type 0) → Type 0
 OfFilesAndTable files asked path P =
     (graph table : List ℕ) (zone : Option (List ℕ)) → AreHeld files asked graph zone → IsHeld (files path) table → P graph zone table
+
+-- so it is with whatever the graph file, the zone file, and a table where one is named are told to hold
+abbrev pub OfFilesAndNamedTable : Files → GraphAsked → Option (List ℕ) → (List ℕ → Option (List ℕ) → Option (List ℕ) → Type 0) → Type 0
+OfFilesAndNamedTable files asked path P =
+    (graph : List ℕ) (zone table : Option (List ℕ)) → AreHeld files asked graph zone → IsHeldIfNamed files path table → P graph zone table
 
 -- ---- files that can't be read
 
@@ -87,17 +97,22 @@ abbrev pub IsFirstUntold : Files → List (List ℕ) → List ℕ → Type 0
 IsFirstUntold files [] path = ⊥
 IsFirstUntold files (p ∷ ps) path = ((path ≡ p) × IsUntold (files p)) ⊎ (IsReadable (files p) × IsFirstUntold files ps path)
 
-abbrev pub zone_paths : Option (List ℕ) → List (List ℕ)
-zone_paths None = []
-zone_paths (Some path) = path ∷ []
+-- the path of a file where one is named
+abbrev pub named_paths : Option (List ℕ) → List (List ℕ)
+named_paths None = []
+named_paths (Some path) = path ∷ []
 
 -- the paths of the graph file and of the zone file, in the order in which they are read
 abbrev pub graph_paths : GraphAsked → List (List ℕ)
-graph_paths asked = string_bytes asked.graph ∷ zone_paths (option_map string_bytes asked.zone_file)
+graph_paths asked = string_bytes asked.graph ∷ named_paths (option_map string_bytes asked.zone_file)
 
 -- and of the table behind them
 abbrev pub run_paths : GraphAsked → List ℕ → List (List ℕ)
 run_paths asked table = graph_paths asked ++ table ∷ []
+
+-- and of the table behind them, where one is named
+abbrev pub clear_paths : GraphAsked → Option (List ℕ) → List (List ℕ)
+clear_paths asked table = graph_paths asked ++ named_paths table
 
 -- ---- moments
 
@@ -108,6 +123,10 @@ Means text t = (n : ℤ) × (Spells text n × (t.nanosecond ≡ nearest n))
 -- the texts mean the moments of this range
 abbrev pub MeansRange : RangeAsked → MomentRange → Type 0
 MeansRange asked range = Means (string_bytes asked.from) range.from × Means (string_bytes asked.to) range.to
+
+-- the texts mean this task in the run of this logical date
+abbrev pub MeansSeed : SeedAsked → Seed → Type 0
+MeansSeed asked seed = (seed.task ≡ string_bytes asked.task) × Means (string_bytes asked.run) seed.run
 
 -- no moment is spelled so
 abbrev pub IsNoMoment : List ℕ → Type 0
@@ -159,7 +178,33 @@ pub record IsRunAnswer (may_hear : Hearing) (files : Files) (asked : RunAsked) (
   pub succeeded : Bool
   pub status_is : status ≡ of_runs succeeded
   pub readable : AreReadable files (graph_paths asked.graph)
-  pub text_is : OfFiles files asked.graph (λ graph zone. IsRunReport may_hear graph zone range.from.nanosecond range.to.nanosecond text succeeded)
+  pub text_is : OfFiles files asked.graph (λ graph zone. IsRunReport (launched asked.launcher may_hear) graph zone range.from.nanosecond range.to.nanosecond text succeeded)
+
+-- a file of which a vector can hold all bytes
+abbrev pub IsNoLonger : List ℕ → Type 0
+IsNoLonger bytes = length bytes ≤ 9_223_372_036_854_775_806
+
+-- the path of the table, where one is named
+abbrev pub table_named : ClearAsked → Option (List ℕ)
+table_named asked = option_map string_bytes asked.table
+
+-- so it is with whatever the graph file, the zone file, the table where one is named, and the report are told to hold
+abbrev pub OfClearFiles : Files → ClearAsked → (List ℕ → Option (List ℕ) → Option (List ℕ) → List ℕ → Type 0) → Type 0
+OfClearFiles files asked P = OfFilesAndNamedTable files asked.graph (table_named asked) (λ graph zone table.
+    (report : List ℕ) → IsHeld (files (string_bytes asked.report)) report → IsNoLonger report → P graph zone table report)
+
+-- the report of the backfill that goes on from a report where the seed is cleared, and whether each run of it is a success
+pub record IsClearAnswer (may_hear : Hearing) (files : Files) (asked : ClearAsked) (text : List ℕ) (status : Status) : Type 0 where
+  pub range : MomentRange
+  pub means : MeansRange asked.range range
+  pub seed : Seed
+  pub means_seed : MeansSeed asked.seed seed
+  pub succeeded : Bool
+  pub status_is : status ≡ of_runs succeeded
+  pub readable : AreReadable files (clear_paths asked.graph (table_named asked))
+  pub report_readable : IsReadable (files (string_bytes asked.report))
+  pub text_is : OfClearFiles files asked (λ graph zone table report.
+      IsClearReport (launched asked.launcher may_hear) graph zone table report range.from.nanosecond range.to.nanosecond seed text succeeded)
 
 -- the text that a command is to write, and how it ends then
 abbrev pub IsAnswer : Hearing → Files → Asked → List ℕ → Status → Type 0
@@ -168,6 +213,7 @@ IsAnswer may_hear files (Intervals asked) text status = IsListAnswer files asked
 IsAnswer may_hear files (Single asked) text status = IsSingleAnswer files asked text status
 IsAnswer may_hear files (Dry asked) text status = IsDryAnswer files asked text status
 IsAnswer may_hear files (Run asked) text status = IsRunAnswer may_hear files asked text status
+IsAnswer may_hear files (Clear asked) text status = IsClearAnswer may_hear files asked text status
 
 -- the subcommand that was found was answered so: its text is all that went out, behind what had gone out before, and that is the exit status
 pub record IsDone (may_hear : Hearing) (files : Files) (matched : Option (Text × List Row)) (before after : Option (List ℕ)) (code : ℕ) : Type 0 where
@@ -216,7 +262,35 @@ IsDryFault files asked fault = (range : MomentRange) × MeansRange asked.range r
 abbrev pub IsRunFault : Losing → Files → RunAsked → CommandFault → Type 0
 IsRunFault may_lose files asked BadMoment = IsNoMoment (string_bytes asked.range.from) ⊎ IsNoMoment (string_bytes asked.range.to)
 IsRunFault may_lose files asked fault = (range : MomentRange) × MeansRange asked.range range × IsFaultOfFiles files (graph_paths asked.graph)
-    (OfFiles files asked.graph (λ graph zone. IsFaultOfRun may_lose graph zone range.from.nanosecond range.to.nanosecond fault)) fault
+    (OfFiles files asked.graph (λ graph zone. IsFaultOfRun (launched_lost asked.launcher may_lose) graph zone range.from.nanosecond range.to.nanosecond fault)) fault
+
+-- the files but for the report can be read, and so can the report; and this holds of what they hold
+abbrev pub OfReadClearFiles : Files → ClearAsked → (List ℕ → Option (List ℕ) → Option (List ℕ) → List ℕ → Type 0) → Type 0
+OfReadClearFiles files asked P = AreReadable files (clear_paths asked.graph (table_named asked)) × IsReadable (files (string_bytes asked.report)) × OfClearFiles files asked P
+
+-- a file can't be read, the first of those that are read before anything is looked at; or these can be read, and the fault is the first
+-- of the graph, the table and the range; or these have none, and the report can't be read; or it can be, and the fault is its own, or
+-- the seed's, or what stops the backfill
+abbrev pub IsFaultOfClear : Losing → Files → ClearAsked → MomentRange → Seed → CommandFault → Type 0
+IsFaultOfClear may_lose files asked range seed (CannotRead path) =
+    IsFirstUntold files (clear_paths asked.graph (table_named asked)) path ⊎ (AreReadable files (clear_paths asked.graph (table_named asked))
+    × (path ≡ string_bytes asked.report) × IsUntold (files path)
+    × OfFilesAndNamedTable files asked.graph (table_named asked) (λ graph zone table. IsReady graph zone table range.from.nanosecond range.to.nanosecond))
+IsFaultOfClear may_lose files asked range seed (BadReport fault) = OfReadClearFiles files asked (λ graph zone table report.
+    IsReady graph zone table range.from.nanosecond range.to.nanosecond × TellsFault report fault)
+IsFaultOfClear may_lose files asked range seed (NotCleared fault) = OfReadClearFiles files asked (λ graph zone table report.
+    IsUnclearable graph zone table report range.from.nanosecond range.to.nanosecond seed fault)
+IsFaultOfClear may_lose files asked range seed (Stopped stop) = OfReadClearFiles files asked (λ graph zone table report.
+    StopsClearing (launched_lost asked.launcher may_lose) graph zone table range.from.nanosecond range.to.nanosecond stop)
+IsFaultOfClear may_lose files asked range seed (CannotWrite n) = AreReadable files (clear_paths asked.graph (table_named asked)) × IsReadable (files (string_bytes asked.report))
+IsFaultOfClear may_lose files asked range seed OutOfMemory = Unit {0}
+IsFaultOfClear may_lose files asked range seed fault = AreReadable files (clear_paths asked.graph (table_named asked))
+    × OfFilesAndNamedTable files asked.graph (table_named asked) (λ graph zone table. IsFaultBefore graph zone table range.from.nanosecond range.to.nanosecond fault)
+
+-- moments come first: a text is no moment; or they mean a range and a seed, and the fault is the first of what they are used for
+abbrev pub IsClearFault : Losing → Files → ClearAsked → CommandFault → Type 0
+IsClearFault may_lose files asked BadMoment = IsNoMoment (string_bytes asked.range.from) ⊎ (IsNoMoment (string_bytes asked.range.to) ⊎ IsNoMoment (string_bytes asked.seed.run))
+IsClearFault may_lose files asked fault = (range : MomentRange) × MeansRange asked.range range × (seed : Seed) × MeansSeed asked.seed seed × IsFaultOfClear may_lose files asked range seed fault
 
 -- why a command was refused, or what fault came
 abbrev pub IsFault : Losing → Files → Asked → CommandFault → Type 0
@@ -225,6 +299,7 @@ IsFault may_lose files (Intervals asked) fault = IsListFault files asked fault
 IsFault may_lose files (Single asked) fault = IsSingleFault files asked fault
 IsFault may_lose files (Dry asked) fault = IsDryFault files asked fault
 IsFault may_lose files (Run asked) fault = IsRunFault may_lose files asked fault
+IsFault may_lose files (Clear asked) fault = IsClearFault may_lose files asked fault
 
 -- the fault is one of the subcommand that was found, and this is what it leaves
 pub record IsFaulted (may_hear : Hearing) (may_lose : Losing) (files : Files) (matched : Option (Text × List Row)) (Halted : Type 0) (before after : Option (List ℕ)) (fault : CommandFault) : Type 0 where

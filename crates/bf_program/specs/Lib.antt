@@ -9,5 +9,6 @@ pub mod DatedRuns
 pub mod Graphs
 pub mod Lists
 pub mod Programs
+pub mod Cleared
 pub mod Commands
 pub mod Files

@@ -1,5 +1,5 @@
 -- What is reported of a backfill over a table: the recursion over dates, over what the table answers.
-use Rattle.std.specs.Prelude.{◌≡◌, ℕ, Bool, true, false, List, length, map, Some, Ok, Err}
+use Rattle.std.specs.Prelude.{◌≡◌, ℕ, Bool, List, length, map, Some, Ok, Err}
 use Rattle.std.specs.FinMap as finite
 use Rattle.bf_value.specs.declared.name.JobName.{JobName}
 use Rattle.bf_value.specs.Names.{name_cmp}

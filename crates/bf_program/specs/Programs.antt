@@ -1,5 +1,6 @@
 -- What the command `run` reports: a run for each data interval of a range, with the programs of its tasks.
-use Rattle.std.specs.Prelude.{◌≡◌, ℕ, ℤ, Bool, List, length, Option, Ok, Err}
+use Rattle.std.specs.Prelude.{◌≡◌, ℕ, ℤ, Bool, List, length, Option, Ok, Err, String, option_map, string_bytes}
+use Rattle.std.specs.Global.{Global}
 use Rattle.std.specs.FinMap as finite
 use Rattle.bf_value.specs.declared.name.JobName.{JobName}
 use Rattle.bf_value.specs.Names.{name_cmp}
@@ -15,7 +16,7 @@ use Rattle.bf_core.specs.Agreement.{AreRunStates, HoldsItsTries, IsOutcome}
 use Rattle.bf_core.specs.Answered.{AreGraded}
 use Rattle.bf_core.specs.Events.{entry_in}
 use Rattle.bf_core.specs.declared.ended.Ended.{Ended}
-use Rattle.bf_process.specs.Words.{MayAnswer, MayGiveUp}
+use Rattle.bf_process.specs.Words.{MayAnswer, MayGiveUp, lost_through, through}
 use Rattle.bf_program.specs.Graphs.{IsGraph, IsFaultIn}
 use Rattle.bf_program.specs.Lists.{HasListing}
 use Rattle.bf_program.specs.OverTable.{IsWanting}
@@ -31,6 +32,14 @@ Hearing = List (List ℕ) → Raw → Type 0
 -- which of them may be lost: they can't be waited for
 abbrev pub Losing : Type 1
 Losing = List (List ℕ) → Type 0
+
+-- what is heard of words that are handed to the launcher of this path, where there is one
+abbrev pub launched : Option (String Global) → Hearing → Hearing
+launched path may_hear = through (option_map string_bytes path) may_hear
+
+-- and which of them may be lost
+abbrev pub launched_lost : Option (String Global) → Losing → Losing
+launched_lost path may_lose = lost_through (option_map string_bytes path) may_lose
 
 -- the text is that of the recursion's report over the ledger of a backfill, whose tries have the grades of what is heard of the
 -- programs of their words; and whether every run of it is a success

@@ -13,12 +13,18 @@ use Rattle.bf_interval.specs.Intervals as range
 use Rattle.bf_try.specs.declared.table.TableFault.{TableFault}
 use Rattle.bf_try.specs.declared.table.TableFault.TheVariants as table
 use Rattle.bf_try.specs.Tables as answers
+use Rattle.bf_dependents.specs.declared.fault.ClearFault.{ClearFault}
+use Rattle.bf_dependents.specs.declared.fault.ClearFault.TheVariants as clear
+use Rattle.bf_dependents.specs.Faults as clearing
+use Rattle.bf_report_reader.specs.declared.fault.ReportFault.{ReportFault}
+use Rattle.bf_report_reader.specs.declared.fault.ReportFault.TheVariants as report
+use Rattle.bf_report_reader.specs.Refusals as reading
 use Rattle.bf_report.specs.declared.sending.Cause.{Cause}
 use Rattle.bf_report.specs.declared.sending.Cause.TheVariants as cause
 use Rattle.bf_report.specs.declared.sending.WriteFault.{WriteFault}
 use Rattle.bf_report.specs.Device.{sent}
 use Rattle.bf_program.specs.declared.fault.CommandFault.{CommandFault}
-use Rattle.bf_program.specs.declared.fault.CommandFault.TheVariants.{Read, Check, Table, Range, BadMoment, OutOfMemory, CannotRead, CannotWrite, Stopped}
+use Rattle.bf_program.specs.declared.fault.CommandFault.TheVariants.{Read, Check, Table, Range, Report, Clear, BadMoment, OutOfMemory, CannotRead, CannotWrite, Stopped}
 use Rattle.bf_program.specs.declared.stop.StopFault.{StopFault}
 use Rattle.bf_program.specs.declared.status.Status.{Status}
 
@@ -30,6 +36,8 @@ number_of (Read fault) = graph_file.fault_number fault
 number_of (Check fault) = graph.check_number fault
 number_of (Table fault) = answers.fault_number fault
 number_of (Range fault) = range.fault_number fault
+number_of (Report fault) = reading.fault_number fault
+number_of (Clear fault) = clearing.fault_number fault
 number_of BadMoment = Some 28
 number_of OutOfMemory = None
 number_of (CannotRead path) = None
@@ -46,6 +54,8 @@ words_of (Read fault) = graph_file.fault_text fault
 words_of (Check fault) = graph.fault_text fault
 words_of (Table fault) = answers.fault_text fault
 words_of (Range fault) = range.fault_text fault
+words_of (Report fault) = reading.fault_text fault
+words_of (Clear fault) = clearing.fault_text fault
 words_of BadMoment = codes "bad moment"
 words_of OutOfMemory = codes "out of memory"
 words_of (CannotRead path) = codes "cannot read " ++ path
@@ -86,6 +96,14 @@ of_table fault = Table fault
 abbrev pub of_range : IntervalFault → CommandFault
 of_range interval.OutOfMemory = OutOfMemory
 of_range fault = Range fault
+
+abbrev pub of_report : ReportFault → CommandFault
+of_report report.OutOfMemory = OutOfMemory
+of_report fault = Report fault
+
+abbrev pub of_clear : ClearFault → CommandFault
+of_clear clear.OutOfMemory = OutOfMemory
+of_clear fault = Clear fault
 
 abbrev pub of_cause : Cause → ℕ → CommandFault
 of_cause cause.Io sent = CannotWrite sent

@@ -72,6 +72,7 @@ pub fn dry_answered<RT: Screen + Threads + Wait + Clock + Sync, S: Source, W: Wr
         alloc,
         workers: asked.workers,
         progress: asked.progress,
+        launcher: None,
     };
     let succeeded = run_dry(
         &crew,

@@ -5,9 +5,11 @@ ghost use Rattle.bf_program.specs.Refusal.{line_of, number_of, status_of};
 use crate::status::Status;
 use crate::stop::StopFault;
 use bf_check::CheckFault;
+use bf_dependents::ClearFault;
 use bf_interval::IntervalFault;
 use bf_read::ReadFault;
 use bf_report::{Cause, WriteFault};
+use bf_report_reader::ReportFault;
 use bf_try::TableFault;
 use bf_value::{OutOfMemory, Text};
 use std::alloc::{AllocError, Global};
@@ -25,6 +27,10 @@ pub enum CommandFault {
     Table(TableFault),
     /// No runs are made in the range, or none at the moment.
     Range(IntervalFault),
+    /// The report to go on from is none.
+    Report(ReportFault),
+    /// Nothing is cleared in it.
+    Clear(ClearFault),
     /// A text that is no moment, or one of a date that doesn't exist.
     BadMoment,
     OutOfMemory,
@@ -46,6 +52,8 @@ impl CommandFault {
             CommandFault::Check(fault) => fault.number(),
             CommandFault::Table(fault) => fault.number(),
             CommandFault::Range(fault) => fault.number(),
+            CommandFault::Report(fault) => fault.number(),
+            CommandFault::Clear(fault) => fault.number(),
             CommandFault::BadMoment => Some(28),
             CommandFault::OutOfMemory
             | CommandFault::CannotRead(_)
@@ -88,6 +96,8 @@ impl fmt::Display for CommandFault {
             CommandFault::Check(fault) => write!(f, "{fault}"),
             CommandFault::Table(fault) => write!(f, "{fault}"),
             CommandFault::Range(fault) => write!(f, "{fault}"),
+            CommandFault::Report(fault) => write!(f, "{fault}"),
+            CommandFault::Clear(fault) => write!(f, "{fault}"),
             CommandFault::BadMoment => write!(f, "bad moment"),
             CommandFault::OutOfMemory => write!(f, "out of memory"),
             CommandFault::CannotRead(path) => write!(f, "cannot read {path}"),
@@ -167,6 +177,32 @@ impl From<IntervalFault> for CommandFault {
         match fault {
             IntervalFault::OutOfMemory => CommandFault::OutOfMemory,
             fault => CommandFault::Range(fault),
+        }
+    }
+}
+
+impl From<ReportFault> for CommandFault {
+    ghost use Rattle.bf_program.specs.Refusal.{of_report};
+
+    ghost from_gives = { λ fault e. e ≡ of_report fault };
+
+    fn from(fault: ReportFault) -> CommandFault {
+        match fault {
+            ReportFault::OutOfMemory => CommandFault::OutOfMemory,
+            fault => CommandFault::Report(fault),
+        }
+    }
+}
+
+impl From<ClearFault> for CommandFault {
+    ghost use Rattle.bf_program.specs.Refusal.{of_clear};
+
+    ghost from_gives = { λ fault e. e ≡ of_clear fault };
+
+    fn from(fault: ClearFault) -> CommandFault {
+        match fault {
+            ClearFault::OutOfMemory => CommandFault::OutOfMemory,
+            fault => CommandFault::Clear(fault),
         }
     }
 }

@@ -2,14 +2,17 @@
 ghost use Rattle.std.specs.Prelude.{◌≡◌, ◌<◌, ◌^◌, ◌⊎◌, ℕ, List, [], ◌∷◌, Option, IfOk, IfErr, IfSome, OnOk, option_map, string_bytes};
 ghost use Rattle.bf_read.specs.Reading.{graph_in};
 ghost use Rattle.bf_try.specs.Tables.{table_of};
-ghost use Rattle.bf_program.specs.Commands.{AreReadable, IsHeld, IsNoMoment, IsReadable, IsZoneHeld, Means, MeansRange, OfFiles, OfFilesAndTable, graph_paths, run_paths, zone_paths};
+ghost use Rattle.bf_program.specs.Commands.{AreReadable, IsHeld, IsNoLonger, IsNoMoment, IsReadable, IsHeldIfNamed, Means, MeansRange, OfFiles, OfFilesAndTable, graph_paths, run_paths, named_paths};
+ghost use Rattle.bf_program.specs.Cleared.{IsReadAs, IsReportFault};
 ghost use Rattle.bf_program.specs.Files.{AreAlike, IsReadingFault, MeanAlike, bytes_of};
+ghost use Rattle.bf_program.specs.OverTable.{IsUnsent};
 ghost use Rattle.bf_program.specs.Source.{IsWholeUpTo};
 
 use crate::fault::CommandFault;
 use crate::source::{Source, SourceFault};
 use bf_command_line::{GraphAsked, RangeAsked};
-use bf_report::moment_in;
+use bf_report::{Bytes, Report, moment_in};
+use bf_report_reader::read_report;
 use bf_value::Text;
 use bf_zone::MOST_FILE_BYTES;
 use jiff::Timestamp;
@@ -17,6 +20,9 @@ use std::alloc::Global;
 
 /// A graph file and a table have at most this many bytes.
 const LONGEST_FILE: usize = 8_388_608;
+
+/// No vector holds two bytes more than this.
+const LONGEST_REPORT: usize = 9_223_372_036_854_775_806;
 
 /// The bytes of a file. Of one with more than `longest` so many and more are read that its reader sees it.
 fn file_bytes<S: Source>(
@@ -62,6 +68,7 @@ fn table_bytes<S: Source>(
         → table_of bytes.items ≡ table_of held) }
     ensures readable { OnOk result (IsReadable (S.file files.old (string_bytes path))) }
     ensures fault { IfErr result (IsReadingFault (S.file files.old) (string_bytes path ∷ [])) }
+    ensures stays { (p : List ℕ) → S.file files.new p ≡ S.file files.old p }
 {
     file_bytes(alloc, path, LONGEST_FILE, files)
 }
@@ -71,10 +78,10 @@ fn zone_bytes<S: Source>(
     path: Option<String>,
     files: &mut S,
 ) -> Result<Option<Vec<u8>>, CommandFault>
-    ensures means { IfOk result (λ bytes. (held : Option (List ℕ)) → IsZoneHeld (S.file files.old) (option_map string_bytes path) held
+    ensures means { IfOk result (λ bytes. (held : Option (List ℕ)) → IsHeldIfNamed (S.file files.old) (option_map string_bytes path) held
         → MeanAlike (bytes_of bytes) held) }
-    ensures readable { OnOk result (AreReadable (S.file files.old) (zone_paths (option_map string_bytes path))) }
-    ensures fault { IfErr result (IsReadingFault (S.file files.old) (zone_paths (option_map string_bytes path))) }
+    ensures readable { OnOk result (AreReadable (S.file files.old) (named_paths (option_map string_bytes path))) }
+    ensures fault { IfErr result (IsReadingFault (S.file files.old) (named_paths (option_map string_bytes path))) }
     ensures stays { (p : List ℕ) → S.file files.new p ≡ S.file files.old p }
 {
     match path {
@@ -84,6 +91,43 @@ fn zone_bytes<S: Source>(
         }
         None => Ok(None),
     }
+}
+
+/// The bytes of a table where one is named.
+pub(crate) fn named_table_bytes<S: Source>(
+    alloc: Global,
+    path: Option<String>,
+    files: &mut S,
+) -> Result<Option<Vec<u8>>, CommandFault>
+    ensures says { IfOk result (λ bytes. (held : Option (List ℕ)) → IsHeldIfNamed (S.file files.old) (option_map string_bytes path) held
+        → option_map table_of (bytes_of bytes) ≡ option_map table_of held) }
+    ensures readable { OnOk result (AreReadable (S.file files.old) (named_paths (option_map string_bytes path))) }
+    ensures fault { IfErr result (IsReadingFault (S.file files.old) (named_paths (option_map string_bytes path))) }
+    ensures stays { (p : List ℕ) → S.file files.new p ≡ S.file files.old p }
+{
+    match path {
+        Some(path) => {
+            let bytes = table_bytes(alloc, path, files)?;
+            Ok(Some(bytes))
+        }
+        None => Ok(None),
+    }
+}
+
+/// The report that a file holds, which is read whole first.
+pub(crate) fn report_in<S: Source>(
+    alloc: Global,
+    path: String,
+    files: &mut S,
+) -> Result<Report, CommandFault>
+    ensures says { IfOk result (λ report. (held : List ℕ) → IsHeld (S.file files.old (string_bytes path)) held → IsNoLonger held
+        → IsReadAs held report) }
+    ensures readable { OnOk result (IsReadable (S.file files.old (string_bytes path))) }
+    ensures fault { IfErr result (IsReportFault (string_bytes path) (S.file files.old (string_bytes path))) }
+{
+    let bytes = file_bytes(alloc, path, LONGEST_REPORT, files)?;
+    let report = read_report(alloc, &mut Bytes::new(bytes))?;
+    Ok(report)
 }
 
 /// The bytes of a graph file, and those of a zone file where one was named.

@@ -2,6 +2,7 @@
 #![tactic(auto)]
 
 mod check;
+mod clear;
 mod crew;
 mod disk;
 mod dry;
@@ -14,6 +15,7 @@ mod plan;
 mod program;
 mod progress;
 mod reported;
+mod resumed;
 mod run;
 mod screen;
 mod single;

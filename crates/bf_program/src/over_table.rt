@@ -37,7 +37,7 @@ fn starts_of(alloc: Global, intervals: &[Interval]) -> Result<Vec<Timestamp>, Ou
 }
 
 /// A table's answers to the tries of runs over these data intervals.
-fn runner_over<'p>(
+pub(crate) fn runner_over<'p>(
     alloc: Global,
     plan: &'p Plan,
     table: Table,

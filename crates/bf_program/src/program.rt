@@ -8,6 +8,7 @@ ghost use Rattle.bf_program.specs.Status.{code_of, shown_as, EndsAs};
 ghost use Rattle.bf_program.specs.declared.fault.CommandFault.{CommandFault as FaultTerm};
 
 use crate::check::check_answered;
+use crate::clear::clear_answered;
 use crate::dry::dry_answered;
 use crate::fault::CommandFault;
 use crate::list::list_answered;
@@ -99,6 +100,7 @@ where
         Ok(Asked::Single(single)) => single_answered(alloc, single, files, out),
         Ok(Asked::Dry(dry)) => dry_answered(rt, alloc, dry, files, out),
         Ok(Asked::Run(ran)) => run_answered(rt, alloc, ran, files, out),
+        Ok(Asked::Clear(clear)) => clear_answered(rt, alloc, clear, files, out),
         Err(error) => shown(alloc, &error, out, err),
     }
 }

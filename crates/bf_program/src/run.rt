@@ -6,7 +6,7 @@ ghost use Rattle.bf_core.specs.Cores.{IsJournal};
 ghost use Rattle.bf_report.specs.Device.{HasHalted};
 ghost use Rattle.bf_report_reader.specs.Written.{AreOfRuns};
 ghost use Rattle.bf_program.specs.OverTable.{IsUnsent};
-ghost use Rattle.bf_program.specs.Programs.{IsEndedBy, IsFaultOfRun, IsReportBy, IsRunReport, IsStopOrWanting};
+ghost use Rattle.bf_program.specs.Programs.{IsEndedBy, IsFaultOfRun, IsReportBy, IsRunReport, IsStopOrWanting, launched, launched_lost};
 ghost use Rattle.bf_program.specs.Refusal.{Leaves, Sends};
 ghost use Rattle.bf_program.specs.Commands.{IsRunAnswer, IsRunFault};
 ghost use Rattle.bf_program.specs.declared.status.Status.{Status as StatusTerm};
@@ -34,14 +34,14 @@ use std::thread::Threads;
 use std::time::Clock;
 
 /// The fault of a try that was given up.
-fn given_up<RT: Starter>(
+pub(crate) fn given_up<RT: Starter>(
     crew: &Crew<'_, RT>,
     plan: &Plan,
     intervals: &[Interval],
     name: JobName,
 ) -> CommandFault
-    requires { (given : GivenTerm) × MayGiveUp (RT.may_lose crew.now.rt.now) plan.now.dag intervals.now name given }
-    ensures stop { IsStopOrWanting (RT.may_lose crew.now.rt.now) plan.now.dag intervals.now result }
+    requires { (given : GivenTerm) × MayGiveUp (launched_lost crew.now.launcher (RT.may_lose crew.now.rt.now)) plan.now.dag intervals.now name given }
+    ensures stop { IsStopOrWanting (launched_lost crew.now.launcher (RT.may_lose crew.now.rt.now)) plan.now.dag intervals.now result }
     ensures unsent { IsUnsent result }
 {
     match plan.dag().task(name.task).id.copy(crew.alloc) {
@@ -61,12 +61,12 @@ fn ended_by_programs<RT: Starter + Screen + Threads + Wait + Clock + Sync>(
     intervals: &[Interval],
 ) -> Result<Ended, CommandFault>
     requires { AreOfRuns intervals.now }
-    ensures ended { IfOk result (IsEndedBy (RT.may_hear crew.now.rt.now) plan.now.dag intervals.now) }
+    ensures ended { IfOk result (IsEndedBy (launched crew.now.launcher (RT.may_hear crew.now.rt.now)) plan.now.dag intervals.now) }
     ensures journal { IfOk result (λ ended. IsJournal plan.now.dag plan.now.limits (length intervals.now) ended.journal ended.state) }
-    ensures stop { IfErr result (IsStopOrWanting (RT.may_lose crew.now.rt.now) plan.now.dag intervals.now) }
+    ensures stop { IfErr result (IsStopOrWanting (launched_lost crew.now.launcher (RT.may_lose crew.now.rt.now)) plan.now.dag intervals.now) }
     ensures unsent { IfErr result IsUnsent }
 {
-    let runner = ProcessRunner::new(crew.rt, crew.alloc, plan, intervals);
+    let runner = ProcessRunner::new(crew.rt, crew.alloc, plan, intervals, crew.launcher());
     match crew.backfill(plan, intervals, &runner, MachineClock::new(crew.rt)) {
         Ok(ended) => Ok(ended),
         Err(BackfillFault::OutOfMemory) => Err(CommandFault::OutOfMemory),
@@ -83,12 +83,12 @@ fn run_with_programs<RT: Starter + Screen + Threads + Wait + Clock + Sync, W: Wr
     out: &mut W,
 ) -> Result<bool, CommandFault>
     requires of_runs { AreOfRuns intervals.now }
-    ensures ok { IfOk result (λ success. Sends (λ text. IsReportBy (RT.may_hear crew.now.rt.now) plan.now.dag intervals.now text success)
+    ensures ok { IfOk result (λ success. Sends (λ text. IsReportBy (launched crew.now.launcher (RT.may_hear crew.now.rt.now)) plan.now.dag intervals.now text success)
         (W.written out.old) (W.written out.new)) }
-    ensures stop { IfErr result (IsStopOrWanting (RT.may_lose crew.now.rt.now) plan.now.dag intervals.now) }
+    ensures stop { IfErr result (IsStopOrWanting (launched_lost crew.now.launcher (RT.may_lose crew.now.rt.now)) plan.now.dag intervals.now) }
     ensures left { IfErr result (Leaves (HasHalted (W.failures out.old) (W.failures out.new)
         (W.interruptions out.old) (W.interruptions out.new))
-        (λ text. (success : Bool) × IsReportBy (RT.may_hear crew.now.rt.now) plan.now.dag intervals.now text success)
+        (λ text. (success : Bool) × IsReportBy (launched crew.now.launcher (RT.may_hear crew.now.rt.now)) plan.now.dag intervals.now text success)
         (W.written out.old) (W.written out.new)) }
 {
     let ended = ended_by_programs(crew, plan, intervals)?;
@@ -106,13 +106,13 @@ pub fn run_programs<RT: Starter + Screen + Threads + Wait + Clock + Sync, W: Wri
     out: &mut W,
 ) -> Result<bool, CommandFault>
     ensures ok { IfOk result (λ success. Sends (λ text.
-        IsRunReport (RT.may_hear crew.now.rt.now) graph.now (option_map (λ s. s.now) zone_file.entry) range.from.nanosecond range.to.nanosecond text success)
+        IsRunReport (launched crew.now.launcher (RT.may_hear crew.now.rt.now)) graph.now (option_map (λ s. s.now) zone_file.entry) range.from.nanosecond range.to.nanosecond text success)
         (W.written out.old) (W.written out.new)) }
-    ensures fault { IfErr result (IsFaultOfRun (RT.may_lose crew.now.rt.now) graph.now (option_map (λ s. s.now) zone_file.entry) range.from.nanosecond range.to.nanosecond) }
+    ensures fault { IfErr result (IsFaultOfRun (launched_lost crew.now.launcher (RT.may_lose crew.now.rt.now)) graph.now (option_map (λ s. s.now) zone_file.entry) range.from.nanosecond range.to.nanosecond) }
     ensures left { IfErr result (Leaves (HasHalted (W.failures out.old) (W.failures out.new)
         (W.interruptions out.old) (W.interruptions out.new))
         (λ text. (success : Bool)
-        × IsRunReport (RT.may_hear crew.now.rt.now) graph.now (option_map (λ s. s.now) zone_file.entry) range.from.nanosecond range.to.nanosecond text success)
+        × IsRunReport (launched crew.now.launcher (RT.may_hear crew.now.rt.now)) graph.now (option_map (λ s. s.now) zone_file.entry) range.from.nanosecond range.to.nanosecond text success)
         (W.written out.old) (W.written out.new)) }
 {
     let timed = timed_plan_in(crew.alloc, graph, zone_file)?;
@@ -143,6 +143,7 @@ pub fn run_answered<RT: Starter + Screen + Threads + Wait + Clock + Sync, S: Sou
         alloc,
         workers: asked.workers,
         progress: asked.progress,
+        launcher: asked.launcher,
     };
     let succeeded = run_programs(&crew, &files.graph, files.zone_file(), range, out)?;
     Ok(Status::of_runs(succeeded))

@@ -8,4 +8,5 @@ pub mod Rules
 pub mod Steps
 pub mod Extensions
 pub mod Faults
+pub mod Refusals
 pub mod Written

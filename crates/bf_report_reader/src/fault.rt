@@ -1,25 +1,57 @@
 //! Why a report was not read.
 ghost use Rattle.std.specs.Prelude.{◌≡◌};
+ghost use Rattle.bf_report_reader.specs.Refusals.{fault_number};
 
 use bf_value::OutOfMemory;
-use thiserror::Error;
+use std::error::Error;
+use std::fmt;
 
 /// Why there is no report. Lines are counted from 1.
-#[derive(Clone, Copy, Debug, PartialEq, Eq, Error)]
+#[derive(Clone, Copy, Debug, PartialEq, Eq)]
 pub enum ReportFault {
     /// The line may not stand in its place.
-    #[error("bad line: {0}")]
     BadLine(u64),
-    #[error("line too long: {0}")]
+    /// The line has more bytes than a line may have.
     TooLong(u64),
     /// The bytes end before the line feed of the end line.
-    #[error("truncated")]
     Truncated,
-    #[error("cannot read")]
+    /// The device failed, or was interrupted too often.
     Io,
-    #[error("out of memory")]
     OutOfMemory,
 }
+
+impl ReportFault {
+    /// The number of the refusal, which a fault of the device and want of memory don't have.
+    pub fn number(self) -> Option<u32>
+        ensures { result ≡ fault_number self }
+    {
+        match self {
+            ReportFault::BadLine(_) => Some(30),
+            ReportFault::TooLong(_) => Some(31),
+            ReportFault::Truncated => Some(32),
+            ReportFault::Io | ReportFault::OutOfMemory => None,
+        }
+    }
+}
+
+impl fmt::Display for ReportFault {
+    ghost use Rattle.std.specs.Prelude.{Some};
+    ghost use Rattle.bf_report_reader.specs.Refusals.{fault_text};
+
+    ghost output = { λ fault. Some (fault_text fault) };
+
+    fn fmt<W: fmt::Write>(&self, f: &mut fmt::Formatter<W>) -> fmt::Result {
+        match self {
+            ReportFault::BadLine(line) => write!(f, "bad line: {line}"),
+            ReportFault::TooLong(line) => write!(f, "line too long: {line}"),
+            ReportFault::Truncated => write!(f, "truncated"),
+            ReportFault::Io => write!(f, "cannot read"),
+            ReportFault::OutOfMemory => write!(f, "out of memory"),
+        }
+    }
+}
+
+impl Error for ReportFault {}
 
 impl From<OutOfMemory> for ReportFault {
     ghost use Rattle.bf_report_reader.specs.declared.fault.ReportFault.TheVariants.{OutOfMemory as NoMemory};

@@ -14,10 +14,12 @@ const HELP: &str = "Runs a graph of tasks once for each data interval of a range
     \x20 single  Runs the graph once, answering each task from a table\n\
     \x20 dry     Runs the graph for each data interval that starts in a range, answering each task from a table\n\
     \x20 run     Runs the graph for each data interval that starts in a range, with the programs of its tasks\n\
+    \x20 clear   Runs a task of a run again, with all that follows from it, and keeps the rest of a report\n\
     \x20 help    Print this message or the help of the given subcommand(s)\n\
     \n\
     Options:\n\
-    \x20 -h, --help  Print help\n";
+    \x20 -h, --help     Print help\n\
+    \x20 -V, --version  Print version\n";
 
 const LIST_HELP: &str = "Lists the data intervals of the graph's schedule that start in a range\n\
     \n\
@@ -28,9 +30,12 @@ const LIST_HELP: &str = "Lists the data intervals of the graph's schedule that s
     \n\
     Options:\n\
     \x20     --zone-file <PATH>  The zone file that the graph's zone `file` means, as of the tz database\n\
-    \x20     --from <T>          The first moment at which an interval may start, in UTC\n\
-    \x20     --to <T>            The last moment at which an interval may start, in UTC\n\
-    \x20 -h, --help              Print help\n";
+    \x20     --from <T>          The first moment at which an interval may start, in UTC, as 2024-01-31 or 2024-01-31T06:00:00Z\n\
+    \x20     --to <T>            The last moment at which an interval may start, in UTC, as 2024-01-31 or 2024-01-31T06:00:00Z\n\
+    \x20 -h, --help              Print help\n\
+    \n\
+    Example:\n\
+    \x20 backfill list --from 2024-03-30 --to 2024-04-01 examples/clock_change/graph.json\n";
 
 const SINGLE_HELP: &str = "Runs the graph once, answering each task from a table\n\
     \n\
@@ -43,7 +48,10 @@ const SINGLE_HELP: &str = "Runs the graph once, answering each task from a table
     Options:\n\
     \x20     --zone-file <PATH>  The zone file that the graph's zone `file` means, as of the tz database\n\
     \x20     --at <T>            The run's moment in UTC, as 2024-01-31 or 2024-01-31T06:00:00Z\n\
-    \x20 -h, --help              Print help\n";
+    \x20 -h, --help              Print help\n\
+    \n\
+    Example:\n\
+    \x20 backfill single --at 2024-01-01 examples/skip/graph.json examples/skip/table.json\n";
 
 const RUN_HELP: &str =
     "Runs the graph for each data interval that starts in a range, with the programs of its tasks\n\
@@ -55,11 +63,41 @@ const RUN_HELP: &str =
     \n\
     Options:\n\
     \x20     --zone-file <PATH>  The zone file that the graph's zone `file` means, as of the tz database\n\
-    \x20     --from <T>          The first moment at which an interval may start, in UTC\n\
-    \x20     --to <T>            The last moment at which an interval may start, in UTC\n\
+    \x20     --from <T>          The first moment at which an interval may start, in UTC, as 2024-01-31 or 2024-01-31T06:00:00Z\n\
+    \x20     --to <T>            The last moment at which an interval may start, in UTC, as 2024-01-31 or 2024-01-31T06:00:00Z\n\
     \x20     --workers <N>       How many tries may run at once, 1 to 64; 1 where this isn't given\n\
     \x20     --progress          Tells on standard error how far the runs are, at most once a second\n\
-    \x20 -h, --help              Print help\n";
+    \x20     --launcher <PATH>   Hands the words of each task's command to this program; without it the first word is the program\n\
+    \x20 -h, --help              Print help\n\
+    \n\
+    Examples:\n\
+    \x20 backfill run --from 2024-01-01 --to 2024-01-07 --workers 2 examples/extract_transform_load/graph.json\n\
+    \x20 backfill run --from 2024-01-01 --to 2024-01-07 --launcher /usr/bin/env examples/extract_transform_load/graph.json\n";
+
+const CLEAR_HELP: &str =
+    "Runs a task of a run again, with all that follows from it, and keeps the rest of a report\n\
+    \n\
+    Usage: backfill clear [OPTIONS] --task <ID> --run <T> --from <T> --to <T> <GRAPH> <REPORT>\n\
+    \n\
+    Arguments:\n\
+    \x20 <GRAPH>   The task graph, a JSON file\n\
+    \x20 <REPORT>  The report of the backfill to go on from\n\
+    \n\
+    Options:\n\
+    \x20     --zone-file <PATH>  The zone file that the graph's zone `file` means, as of the tz database\n\
+    \x20     --task <ID>         The task to clear\n\
+    \x20     --run <T>           The logical date of the run in which it is cleared, in UTC, as 2024-01-31 or 2024-01-31T06:00:00Z\n\
+    \x20     --table <PATH>      The answers of the tasks' tries, a JSON file, in place of their programs\n\
+    \x20     --from <T>          The first moment at which an interval may start, in UTC, as 2024-01-31 or 2024-01-31T06:00:00Z\n\
+    \x20     --to <T>            The last moment at which an interval may start, in UTC, as 2024-01-31 or 2024-01-31T06:00:00Z\n\
+    \x20     --workers <N>       How many tries may run at once, 1 to 64; 1 where this isn't given\n\
+    \x20     --progress          Tells on standard error how far the runs are, at most once a second\n\
+    \x20     --launcher <PATH>   Hands the words of each task's command to this program; without it the first word is the program\n\
+    \x20 -h, --help              Print help\n\
+    \n\
+    Examples, the first of which makes the report of the second:\n\
+    \x20 backfill run --from 2024-01-01 --to 2024-01-07 examples/extract_transform_load/graph.json > report\n\
+    \x20 backfill clear --from 2024-01-01 --to 2024-01-07 --task load --run 2024-01-03 examples/extract_transform_load/graph.json report\n";
 
 const CHECK_HELP: &str = "Checks the graph, and tells how many tasks and edges it has\n\
     \n\
@@ -70,7 +108,10 @@ const CHECK_HELP: &str = "Checks the graph, and tells how many tasks and edges i
     \n\
     Options:\n\
     \x20     --zone-file <PATH>  The zone file that the graph's zone `file` means, as of the tz database\n\
-    \x20 -h, --help              Print help\n";
+    \x20 -h, --help              Print help\n\
+    \n\
+    Example:\n\
+    \x20 backfill check examples/every_key/graph.json\n";
 
 /// Wrong lines, and the lines by which `clap` begins its answer, each ended by a bar.
 const WRONG: &str = "\
@@ -78,7 +119,10 @@ check => error: the following required arguments were not provided:|  <GRAPH>|
 check g h => error: unexpected argument 'h' found|
 list g => error: the following required arguments were not provided:|  --from <T>|  --to <T>|
 check g --zone-file => error: a value is required for '--zone-file <PATH>' but none was supplied|
-clear => error: unrecognized subcommand 'clear'|
+clear => error: the following required arguments were not provided:|  --task <ID>|  --run <T>|  --from <T>|  --to <T>|  <GRAPH>|  <REPORT>|
+run g --from 2024-01-01 --to 2024-01-01 --launcher => error: a value is required for '--launcher <PATH>' but none was supplied|
+single g t --at 2024-01-01 --launcher on => error: unexpected argument '--launcher' found|
+resume => error: unrecognized subcommand 'resume'|
 run g --from 2024-01-01 => error: the following required arguments were not provided:|  --to <T>|
 --at 2024-01-01 => error: unexpected argument '--at' found|
 single => error: the following required arguments were not provided:|  --at <T>|  <GRAPH>|  <TABLE>|
@@ -92,16 +136,17 @@ dry --workers 65 => error: invalid value '65' for '--workers <N>': 65 is not in 
 single g t -x => error: unexpected argument '-x' found|
 single g t --at => error: a value is required for '--at <T>' but none was supplied|
 single g t --at 2024-01-01 --at 2024-01-02 => error: the argument '--at <T>' cannot be used multiple times|
--V => error: unexpected argument '-V' found|";
+run -V => error: unexpected argument '-V' found|";
 
 /// Lines that ask for help, and what is shown.
-const HELPED: [(&str, &str); 9] = [
+const HELPED: [(&str, &str); 10] = [
     ("--help", HELP),
     ("-h", HELP),
     ("help", HELP),
     ("check --help", CHECK_HELP),
     ("list --help", LIST_HELP),
     ("run --help", RUN_HELP),
+    ("clear --help", CLEAR_HELP),
     ("single --help", SINGLE_HELP),
     ("single g -h", SINGLE_HELP),
     ("help single", SINGLE_HELP),

@@ -1,9 +1,12 @@
-//! Tests of the program: command lines, the files that it reads, the order of its faults, its devices, and whole backfills.
+//! Tests of the program: command lines, the files that it reads, the order of its faults, its devices, whole backfills, and
+//! those that go on from a report.
 //! What it prints of small graphs is compared by tests/rows.sh.
 #![tactic(auto)]
 
 #[cfg(test)]
 mod calling;
+#[cfg(test)]
+mod clearing;
 #[cfg(test)]
 mod command_line;
 #[cfg(test)]

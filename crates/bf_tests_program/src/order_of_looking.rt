@@ -45,6 +45,7 @@ single none table --at 2024-02-30 => 2 refused 28 bad moment
 single broken bad_table --at 2024-02-30 => 2 refused 28 bad moment
 list none --from 2024-02-30 --to 2024-01-01 => 2 refused 28 bad moment
 run none --from 2024-01-01 --to 2024-02-30 => 2 refused 28 bad moment
+clear none none --task a --run 2024-02-30 --from 2024-01-01 --to 2024-01-01 => 2 refused 28 bad moment
 # Then the files are read: the graph, the zone file, and the table.
 check none => 3 fault: cannot read none
 single none none --at 2024-01-01 => 3 fault: cannot read none
@@ -53,6 +54,7 @@ single broken none --at 2200-01-01 => 3 fault: cannot read none
 check none --zone-file absent => 3 fault: cannot read none
 check one --zone-file absent => 3 fault: cannot read absent
 single broken none --at 2024-01-01 --zone-file absent => 3 fault: cannot read absent
+clear broken none --task a --run 2024-01-01 --from 2024-01-01 --to 2024-01-01 --table none => 3 fault: cannot read none
 # Then what they hold: the graph file, its graph, the table, and last the range.
 single broken bad_table --at 2200-01-01 => 2 refused 1 not json
 single shapeless bad_table --at 2200-01-01 => 2 refused 2 shape: dag_id
@@ -66,6 +68,10 @@ list one --from 2200-01-01 --to 2024-01-01 => 2 refused 25 outside years
 list one --from 2024-01-02 --to 2024-01-01 => 2 refused 26 range reversed
 dry one table --from 2024-01-02 --to 2024-01-01 => 2 refused 26 range reversed
 run one --from 2024-01-02 --to 2024-01-01 => 2 refused 26 range reversed
+clear one none --task q --run 2024-01-01 --from 2024-01-02 --to 2024-01-01 --table table => 2 refused 26 range reversed
+# The report of clear comes last, and then the seed.
+clear one none --task q --run 2024-01-01 --from 2024-01-01 --to 2024-01-01 => 3 fault: cannot read none
+clear one table --task q --run 2024-01-01 --from 2024-01-01 --to 2024-01-01 => 2 refused 32 truncated
 # A zone file is looked at for the zone of the file alone.
 check zoned => 2 refused 13 bad zone
 check zoned --zone-file no_zone => 2 refused 13 bad zone

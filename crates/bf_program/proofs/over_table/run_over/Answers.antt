@@ -1,4 +1,4 @@
-use Rattle.std.proofs.lemmas.Result.{err_from_is_err_and, IfOk-weaker}
+use Rattle.std.proofs.lemmas.Result.{IfOk-weaker}
 use Rattle.bf_program.proofs.Faults.{leaves_due_in}
 use Rattle.bf_program.proofs.Over.{over_as, reported_over}
 use Rattle.bf_program.proofs.over_table.run_over.Goals as goal

@@ -63,3 +63,14 @@ returns-in-Ok-Run-clause-why g c = λ none.
 
 pub returns-in-Ok-Run-clause-refused : goal.returns-in-Ok-Run-clause-refused
 returns-in-Ok-Run-clause-refused g c = refusal_leaves_in _ _ _ _ c.run_answered.result c.run_answered.ensures.left
+
+pub returns-in-Ok-Clear-clause-done : goal.returns-in-Ok-Clear-clause-done
+returns-in-Ok-Clear-clause-done g c = λ none.
+    IfOk-weaker c.clear_answered.result _ _ (λ s sends. done (g.RT.Starter.may_hear c.args.rt.now) (g.RT.Starter.may_lose c.args.rt.now) _ _ (Asked.Clear c.in-Ok-Clear.clear) (rw c.in-Ok-Clear.field-0-is at c.in-Ok-Clear.ensures.ok) _ _ s sends) c.clear_answered.ensures.answer
+
+pub returns-in-Ok-Clear-clause-why : goal.returns-in-Ok-Clear-clause-why
+returns-in-Ok-Clear-clause-why g c = λ none.
+    may_in (g.RT.Starter.may_hear c.args.rt.now) (g.RT.Starter.may_lose c.args.rt.now) _ _ (Asked.Clear c.in-Ok-Clear.clear) (rw c.in-Ok-Clear.field-0-is at c.in-Ok-Clear.ensures.ok) _ _ _ c.clear_answered.result c.clear_answered.ensures.fault c.clear_answered.ensures.left
+
+pub returns-in-Ok-Clear-clause-refused : goal.returns-in-Ok-Clear-clause-refused
+returns-in-Ok-Clear-clause-refused g c = refusal_leaves_in _ _ _ _ c.clear_answered.result c.clear_answered.ensures.left
