@@ -150,6 +150,10 @@ printf '{"dag_id":"d","schedule":"30 2 * * *","zone":"file","tasks":[]}' > "$wor
     done
     printf '\nCET-1CEST,M3.5.0,M10.5.0/3\n'
 } > "$work/zone_file"
+# A report of either version to go on from.
+"$program" dry every_key/graph.json every_key/table.json --from 2024-01-01 --to 2024-01-02 > "$work/report_2"
+sed -e '1s/^@backfill 2 /@backfill 1 /' -e '/^@item /d' -e '/^@pull /d' "$work/report_2" > "$work/report_1"
+cleared=(--from 2024-01-01 --to 2024-01-02 --task m --run 2024-01-01T05:00:00Z --table every_key/table.json)
 for call in memory open read write; do
     for example in one_task diamond skip; do
         each "$call" single "$example/graph.json" "$example/table.json" --at 2024-01-01
@@ -162,6 +166,9 @@ for call in memory open read write; do
     each "$call" dry every_key/graph.json every_key/table.json --from 2024-01-01 --to 2024-01-03
     each "$call" dry every_key/graph.json every_key/table.json --from 2024-01-01 --to 2024-01-03 --workers 2
     each "$call" dry every_key/graph.json every_key/table.json --from 2024-01-03 --to 2024-01-01
+    each "$call" clear every_key/graph.json "$work/report_1" "${cleared[@]}"
+    each "$call" clear every_key/graph.json "$work/report_2" "${cleared[@]}" --workers 2
+    each "$call" clear every_key/graph.json "$work/zone_file" "${cleared[@]}"
     each "$call" single "$work/cycle" one_task/table.json --at 2024-01-01
     each "$call" single one_task/graph.json one_task/table.json --at 2024-02-30
     each "$call" single --help

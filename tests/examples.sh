@@ -1,27 +1,32 @@
 #!/usr/bin/env bash
 # Runs each command line of `./backfill` that stands in a fenced block of these pages, from the root of the repository, and compares
-# what it prints with the block below it where the page says that it prints that, and its exit status with the one that the page
-# tells, else with 0 or 1. A block of JSON above a command line has to be the graph file that the line names. The last line is the
-# sum, and the status is 1 where something differs. Other pages may be named, from the root.
+# what it prints with the block below it where the page says that it prints that, and with the file where the page says that the same
+# stands in it; and its exit status with the one that the page tells, else with 0 or 1. A block of JSON above a command line has to be
+# the graph file that the line names, and a list the table. Each folder of examples/ has a heading in its page, and each report in it is compared. The last
+# line is the sum, and the status is 1 where something differs. Other pages may be named, and then these alone are looked at.
 set -euo pipefail
 
 source "$(dirname "$(readlink -f "${BASH_SOURCE[0]}")")/../bench/program.sh"
 pages=("$@")
-[[ $# -gt 0 ]] || pages=("$root/examples/README.md" "$root/docs/FROM_AIRFLOW.md")
+[[ $# -gt 0 ]] || pages=("$root/README.md" "$root/examples/README.md" "$root/docs/FROM_AIRFLOW.md")
 rows=0
 differing=0
+
+# What a page says of a file that has what is printed; its path is seen from the page.
+same_in='The same stands in \[[^]]*\]\(([^)]+)\)'
 
 differs() {
     differing=$((differing + 1))
     echo "$page: differs, $1: $command"
 }
 
-# The graph file that the page shows is the one of the command line.
-compare_graph() {
-    local words
+# The graph file that the page shows is the one of the command line, and so is a table, which is a list.
+compare_shown() {
+    local words place=2
     read -ra words <<< "$command"
     rows=$((rows + 1))
-    diff "$work/shown" "${words[2]}" || differs 'the graph file'
+    [[ $(head -n 1 "$work/shown") != '['* ]] || place=3
+    diff "$work/shown" "${words[place]}" || differs "the file ${words[place]}"
     rm "$work/shown"
 }
 
@@ -39,9 +44,13 @@ run_met() {
         cat "$work/err"
     elif [[ -e $work/wanted ]] && ! diff "$work/wanted" "$work/out"; then
         differs 'in what it prints'
+    elif [[ -n $file ]] && ! diff "$file" "$work/out"; then
+        differs "from $file"
     fi
+    [[ -z $file ]] || realpath "$file" >> "$work/compared"
     command=''
     told=''
+    file=''
     rm -f "$work/wanted"
 }
 
@@ -57,6 +66,7 @@ outside() {
         '') ;;
         *)
             [[ ! $1 =~ ^and\ exits\ with\ ([0-9]+) ]] || told=${BASH_REMATCH[1]}
+            [[ -z $command || ! $1 =~ $same_in ]] || file=${page%/*}/${BASH_REMATCH[1]}
             before=$1
             ;;
     esac
@@ -71,17 +81,35 @@ inside() {
             [[ $1 == './backfill '* ]] || return 0
             run_met
             command=$1
-            [[ ! -e $work/shown ]] || compare_graph
+            [[ ! -e $work/shown ]] || compare_shown
             ;;
     esac
 }
 
+# Each folder of examples/ has its heading, and each report in them was compared.
+look_at_folders() {
+    local folder report
+    page=$root/examples/README.md
+    for folder in examples/*/; do
+        rows=$((rows + 1))
+        command=${folder%/}
+        grep -qx "## $(basename "$folder")" "$page" || differs 'no heading'
+    done
+    while IFS= read -r report; do
+        rows=$((rows + 1))
+        command=$report
+        grep -qxF "$root/$report" "$work/compared" || differs 'no command line prints it'
+    done < <(grep -l '^@backfill ' examples/*/*)
+}
+
 cd "$root"
+: > "$work/compared"
 for page in "${pages[@]}"; do
     kind=''
     before=''
     command=''
     told=''
+    file=''
     met=$rows
     rm -f "$work/shown"
     while IFS= read -r line; do
@@ -100,5 +128,6 @@ for page in "${pages[@]}"; do
         differs 'it has no command line'
     fi
 done
+[[ $# -gt 0 ]] || look_at_folders
 echo "$((rows - differing)) passed, $differing failed"
 [[ $differing -eq 0 ]]

@@ -1,28 +1,14 @@
 #!/usr/bin/env bash
 # Compares the man page with the help that the built program prints: each command, what stands on its line and what of it may be
-# left out, and each option, are the same in both. And runs the lines of the page's examples. The last line is the sum, and the
-# status is 1 where something differs.
+# left out, and each option, are the same in both. And runs the lines of the page's examples, and those of the help's. And compares
+# what --version prints with the file VERSION. The last line is the sum, and the status is 1 where something differs.
 set -euo pipefail
 
 source "$(dirname "$(readlink -f "${BASH_SOURCE[0]}")")/../bench/program.sh"
+source "$root/tests/shared/help.sh"
 page=${1:-$root/docs/backfill.1}
 rows=0
 differing=0
-
-# The help of a command, or of the whole line.
-help() {
-    "$program" "$@" --help
-}
-
-# The commands that the help shows.
-commands_in_help() {
-    help | sed -n '/^Commands:/,/^$/s/^  \([a-z]*\) .*/\1/p'
-}
-
-# The options in the help of a command, or of the whole line, as `--from T`.
-options_in_help() {
-    help "$@" | sed -n '/^Options:/,$s/^  *\(\(-[a-z], \)\?--[a-z-]*\( <[A-Z]*>\)\?\).*/\1/p' | tr -d '<>'
-}
 
 # The pieces of a command's line: `GRAPH`, `--from T`, or in brackets what may be left out.
 piece='\[(--[a-z-]+( [A-Z]+)?|[A-Z]+)\]|--[a-z-]+( [A-Z]+)?|[A-Z]+'
@@ -119,6 +105,35 @@ while read -ra words; do
         cat "$work/err"
     fi
 done < "$work/examples"
+
+# The examples in the help of each command, in their order, by a shell where the folder examples stands. Each ends with 0.
+mkdir "$work/bin" "$work/folder"
+ln -s "$program" "$work/bin/backfill"
+cp -r "$root/examples" "$work/folder"
+cd "$work/folder"
+for command in $(commands_in_help | grep -vx help); do
+    help "$command" | sed -n '/^Example/,$s/^  //p' > "$work/examples"
+    rows=$((rows + 1))
+    if ! grep -q "^backfill $command " "$work/examples"; then
+        differing=$((differing + 1))
+        echo "the help of $command has no example of it"
+    fi
+    while IFS= read -r line; do
+        rows=$((rows + 1))
+        if ! PATH=$work/bin:$PATH sh -c "$line" > "$work/out" 2> "$work/err" < /dev/null; then
+            differing=$((differing + 1))
+            echo "the example of the help fails: $line"
+            cat "$work/err"
+        fi
+    done < "$work/examples"
+done
+
+# The number of the version is the one that the release has.
+rows=$((rows + 1))
+if [[ $("$program" --version) != "backfill $(< "$root/VERSION")" ]]; then
+    differing=$((differing + 1))
+    echo "differs between --version and VERSION: $("$program" --version), $(< "$root/VERSION")"
+fi
 
 echo "$((rows - differing)) passed, $differing failed"
 [[ $differing -eq 0 ]]

@@ -122,6 +122,8 @@ done
 # where it started no other before.
 
 cat > "$work/look.sh" <<'LOOK'
+# The runner may still be closing its ends of what this program was started with.
+sleep 0.3
 descriptors=$(ls "/proc/$PPID/fd" | wc -l)
 threads=$(ls "/proc/$PPID/task" | wc -l)
 dead=$(cat /proc/[0-9]*/stat 2> /dev/null | grep -c ") Z $PPID ")

@@ -4,47 +4,7 @@
 # row differs.
 set -euo pipefail
 
-source "$(dirname "$(readlink -f "${BASH_SOURCE[0]}")")/../bench/program.sh"
-graph=$work/graph.json
-table=$work/table.json
-rows=0
-differing=0
-
-# Requires the exit status of a run. What it is to print stands in the files `wanted_out` and `wanted_err`.
-ends() {
-    local wanted=$1 status=0
-    shift
-    "$program" "$@" > "$work/out" 2> "$work/err" || status=$?
-    rows=$((rows + 1))
-    if [[ $status -ne $wanted ]] || ! cmp -s "$work/out" "$work/wanted_out" || ! cmp -s "$work/err" "$work/wanted_err"; then
-        differing=$((differing + 1))
-        echo "differs, with status $status for $wanted: $*"
-        cat "$graph"
-        diff "$work/wanted_out" "$work/out" || true
-        diff "$work/wanted_err" "$work/err" || true
-    fi
-}
-
-# An answer: the lines on standard input go to standard output, and nothing to standard error.
-answers() {
-    cat > "$work/wanted_out"
-    : > "$work/wanted_err"
-    ends "$@"
-}
-
-# A refusal or a fault, by its whole line.
-tells() {
-    local status=$1 line=$2
-    shift 2
-    : > "$work/wanted_out"
-    echo "$line" > "$work/wanted_err"
-    ends "$status" "$@"
-}
-
-# Writes a graph of these tasks.
-tasks() {
-    echo "{\"dag_id\":\"d\",\"schedule\":\"@daily\",\"tasks\":[$1]}" > "$graph"
-}
+source "$(dirname "$(readlink -f "${BASH_SOURCE[0]}")")/shared/compare.sh"
 
 # Writes a graph without tasks that has this schedule, and this zone.
 scheduled() {
@@ -546,5 +506,4 @@ tells 3 "fault: cannot read $work/none" list "$graph" --zone-file "$work/none" -
 tells 3 "fault: cannot read $work/none" single "$graph" "$work/none" --at 2024-01-01
 tells 3 "fault: cannot read $work/none" dry "$graph" "$work/none" --from 2024-01-01 --to 2024-01-01
 
-echo "$((rows - differing)) passed, $differing failed"
-[[ $differing -eq 0 ]]
+sum

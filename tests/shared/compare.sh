@@ -1,0 +1,63 @@
+# Compares what the built program prints. Sourced by scripts of this folder: sets what bench/program.sh sets, and counts `rows`
+# and `differing`.
+source "$(dirname "$(readlink -f "${BASH_SOURCE[0]}")")/../../bench/program.sh"
+graph=$work/graph.json
+table=$work/table.json
+rows=0
+differing=0
+
+# Counts a row, and where it differs what is told on standard input.
+differs() {
+    differing=$((differing + 1))
+    echo "differs: $*"
+    cat
+}
+
+# Requires the exit status of a run. What it is to print stands in the files `wanted_out` and `wanted_err`. A run that takes more
+# than two minutes hangs.
+ends() {
+    local wanted=$1 status=0
+    shift
+    timeout 120 "$program" "$@" > "$work/out" 2> "$work/err" || status=$?
+    rows=$((rows + 1))
+    if [[ $status -ne $wanted ]] || ! cmp -s "$work/out" "$work/wanted_out" || ! cmp -s "$work/err" "$work/wanted_err"; then
+        differs "status $status for $wanted, of $*" < <(
+            head -c 2000 "$graph"
+            diff "$work/wanted_out" "$work/out" | head -n 40
+            diff "$work/wanted_err" "$work/err" | head -n 40
+        )
+    fi
+}
+
+# An answer: the lines on standard input go to standard output, and nothing to standard error.
+answers() {
+    cat > "$work/wanted_out"
+    : > "$work/wanted_err"
+    ends "$@"
+}
+
+# A refusal or a fault, by its whole line. Nothing goes to standard output.
+tells() {
+    local status=$1 line=$2
+    shift 2
+    : > "$work/wanted_out"
+    echo "$line" > "$work/wanted_err"
+    ends "$status" "$@"
+}
+
+# Requires that two texts are the same.
+is_same() {
+    rows=$((rows + 1))
+    [[ $2 == "$3" ]] || differs "$1" < <(diff <(echo "$2") <(echo "$3"))
+}
+
+# Writes a graph of these tasks.
+tasks() {
+    echo "{\"dag_id\":\"d\",\"schedule\":\"@daily\",\"tasks\":[$1]}" > "$graph"
+}
+
+# The sum, with which a script ends.
+sum() {
+    echo "$((rows - differing)) passed, $differing failed"
+    [[ $differing -eq 0 ]]
+}
