@@ -9,16 +9,16 @@ use Rattle.bf_check.specs.Schedules.{IsScheduled}
 use Rattle.bf_interval.specs.declared.fault.IntervalFault.{IntervalFault}
 use Rattle.bf_interval.specs.declared.interval.Interval.{Interval}
 use Rattle.bf_try.specs.Tables.{table_of}
-use Rattle.bf_program.specs.declared.check.GraphSize.{GraphSize}
-use Rattle.bf_program.specs.declared.fault.CommandFault.{CommandFault}
-use Rattle.bf_program.specs.declared.fault.CommandFault.TheVariants.{Read, Check, Table, Range, Report, Clear, BadMoment, OutOfMemory, CannotRead, CannotWrite, Stopped}
-use Rattle.bf_program.specs.DatedRuns.{IsFaultOfDry, IsReportIn}
+use Rattle.bf_command_fault.specs.declared.fault.CommandFault.{CommandFault}
+use Rattle.bf_command_fault.specs.declared.fault.CommandFault.TheVariants.{Read, Check, Table, Range, Report, Clear, BadMoment, OutOfMemory, CannotRead, CannotWrite, Stopped}
+use Rattle.bf_commands.specs.declared.check.GraphSize.{GraphSize}
+use Rattle.bf_commands.specs.DatedRuns.{IsFaultOfDry, IsReportIn}
+use Rattle.bf_commands.specs.Graphs.{IsFaultIn, IsFileOf, IsGraph, IsSizeOf}
+use Rattle.bf_commands.specs.Lists.{HasListing, IsFaultOfList, IsListIn}
+use Rattle.bf_commands.specs.OneRun.{IsFaultOfSingle, IsReportAt}
+use Rattle.bf_commands.specs.OverTable.{IsTable}
+use Rattle.bf_commands.specs.Programs.{Hearing, Losing, IsFaultOfRun, IsRunReport}
 use Rattle.bf_program.specs.Files.{AreAlike}
-use Rattle.bf_program.specs.Graphs.{IsFaultIn, IsFileOf, IsGraph, IsSizeOf}
-use Rattle.bf_program.specs.Lists.{HasListing, IsFaultOfList, IsListIn}
-use Rattle.bf_program.specs.OneRun.{IsFaultOfSingle, IsReportAt}
-use Rattle.bf_program.specs.OverTable.{IsTable}
-use Rattle.bf_program.specs.Programs.{Hearing, Losing, IsFaultOfRun, IsRunReport}
 
 module _ (read held : List ℕ) (one two : Option (List ℕ)) (alike : AreAlike read held one two) where
   scheduled : (draft : Draft) → IsScheduled draft one → IsScheduled draft two

@@ -10,20 +10,20 @@ use Rattle.bf_command_line.specs.declared.forms.SingleAsked.{SingleAsked}
 use Rattle.bf_report.specs.declared.sending.Cause.{Cause}
 use Rattle.bf_report.specs.declared.sending.Cause.TheVariants as cause
 use Rattle.bf_report.specs.declared.sending.WriteFault.{WriteFault}
-use Rattle.bf_program.specs.declared.check.GraphSize.{GraphSize}
-use Rattle.bf_program.specs.declared.input.MomentRange.{MomentRange}
-use Rattle.bf_program.specs.declared.fault.CommandFault.{CommandFault}
-use Rattle.bf_program.specs.declared.fault.CommandFault.TheVariants.{Read, Check, Table, Range, Report, Clear, BadMoment, OutOfMemory, CannotRead, CannotWrite, Stopped}
-use Rattle.bf_program.specs.declared.status.Status.{Status}
+use Rattle.bf_command_fault.specs.declared.fault.CommandFault.{CommandFault}
+use Rattle.bf_command_fault.specs.declared.fault.CommandFault.TheVariants.{Read, Check, Table, Range, Report, Clear, BadMoment, OutOfMemory, CannotRead, CannotWrite, Stopped}
+use Rattle.bf_command_fault.specs.declared.status.Status.{Status}
+use Rattle.bf_command_fault.specs.Refusal.{Leaves, of_cause, of_write}
+use Rattle.bf_command_fault.specs.Status.{of_runs}
+use Rattle.bf_commands.specs.declared.check.GraphSize.{GraphSize}
+use Rattle.bf_commands.specs.declared.range.MomentRange.{MomentRange}
+use Rattle.bf_commands.specs.DatedRuns.{IsFaultOfDry, IsReportIn}
+use Rattle.bf_commands.specs.Graphs.{IsFaultIn, IsSizeOf}
+use Rattle.bf_commands.specs.Lists.{IsFaultOfList, IsListIn}
+use Rattle.bf_commands.specs.OneRun.{IsFaultOfSingle, IsReportAt}
+use Rattle.bf_commands.specs.Programs.{Hearing, Losing, IsFaultOfRun, IsRunReport, launched, launched_lost}
 use Rattle.bf_program.specs.Commands.{AreReadable, Files, IsCheckAnswer, IsCheckFault, IsDryAnswer, IsDryFault, IsListAnswer, IsListFault, IsNoMoment, IsRunAnswer, IsRunFault, IsSingleAnswer, IsSingleFault, Means, MeansRange, OfFiles, OfFilesAndTable, graph_paths, run_paths, size_text}
-use Rattle.bf_program.specs.DatedRuns.{IsFaultOfDry, IsReportIn}
 use Rattle.bf_program.specs.Files.{AreAlike, IsReadingFault}
-use Rattle.bf_program.specs.Graphs.{IsFaultIn, IsSizeOf}
-use Rattle.bf_program.specs.Lists.{IsFaultOfList, IsListIn}
-use Rattle.bf_program.specs.OneRun.{IsFaultOfSingle, IsReportAt}
-use Rattle.bf_program.specs.Programs.{Hearing, Losing, IsFaultOfRun, IsRunReport, launched, launched_lost}
-use Rattle.bf_program.specs.Refusal.{of_cause, of_write}
-use Rattle.bf_program.specs.Status.{of_runs}
 use Rattle.bf_program.proofs.Alike.{dry_fault, fault_in, list_fault, list_of, report_at, report_in, run_fault, run_report, single_fault, size_of}
 
 -- ---- what was lent is what was read
@@ -41,6 +41,22 @@ lent_table_alike files asked path lent read lent_table table lent_zone zone same
       subst (λ (z : Option (List ℕ)). AreAlike lent graph z held) (sym alike) (subst (λ (g : List ℕ). AreAlike g graph zone held) (sym same) both.0),
       ap table_of one ∙ both.1,
     )
+
+-- ---- files that can't be read
+
+-- nothing went out then
+pub reading_leaves : (Halted : Type 0) (IsDue : List ℕ → Type 0) (before : Option (List ℕ)) (files : Files) (paths : List (List ℕ)) (fault : CommandFault) → IsReadingFault files paths fault → Leaves Halted IsDue before before fault
+reading_leaves Halted IsDue before files paths (Read fault) is = refl
+reading_leaves Halted IsDue before files paths (Check fault) is = refl
+reading_leaves Halted IsDue before files paths (Table fault) is = refl
+reading_leaves Halted IsDue before files paths (Range fault) is = refl
+reading_leaves Halted IsDue before files paths (Report fault) is = refl
+reading_leaves Halted IsDue before files paths (Clear fault) is = refl
+reading_leaves Halted IsDue before files paths BadMoment is = refl
+reading_leaves Halted IsDue before files paths OutOfMemory is = refl
+reading_leaves Halted IsDue before files paths (CannotRead path) is = refl
+reading_leaves Halted IsDue before files paths (CannotWrite n) is = absurd is
+reading_leaves Halted IsDue before files paths (Stopped stop) is = refl
 
 -- ---- `check`
 

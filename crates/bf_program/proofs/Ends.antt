@@ -9,14 +9,15 @@ use Rattle.bf_command_line.specs.declared.forms.Asked.TheVariants as asked
 use Rattle.bf_command_line.specs.Asked.{IsAskedBy}
 use Rattle.bf_report.specs.Device.{sent}
 use Rattle.bf_report.specs.declared.sending.WriteFault.{WriteFault}
+use Rattle.bf_command_fault.specs.Refusal.{Leaves, Sends, number_of}
+use Rattle.bf_command_fault.specs.Status.{code_of, of_runs}
+use Rattle.bf_command_fault.specs.declared.fault.CommandFault.{CommandFault}
+use Rattle.bf_command_fault.specs.declared.fault.CommandFault.TheVariants.{Read, Check, Table, Range, Report, Clear, BadMoment, OutOfMemory, CannotRead, CannotWrite, Stopped}
+use Rattle.bf_command_fault.specs.declared.status.Status.{Status}
+use Rattle.bf_command_fault.proofs.Leaving.{refusal_leaves}
+use Rattle.bf_commands.specs.Programs.{Hearing, Losing}
 use Rattle.bf_program.specs.Commands.{Files, IsAnswer, IsDone, IsFault, IsFaulted, IsTold, MayBeFaulted, MayTell, Tells}
-use Rattle.bf_program.specs.Programs.{Hearing, Losing}
-use Rattle.bf_program.specs.Refusal.{Leaves, Sends, number_of}
-use Rattle.bf_program.specs.Status.{EndsAs, code_of, of_runs, shown_as}
-use Rattle.bf_program.specs.declared.fault.CommandFault.{CommandFault}
-use Rattle.bf_program.specs.declared.fault.CommandFault.TheVariants.{Read, Check, Table, Range, Report, Clear, BadMoment, OutOfMemory, CannotRead, CannotWrite, Stopped}
-use Rattle.bf_program.specs.declared.status.Status.{Status}
-use Rattle.bf_program.proofs.Faults.{refusal_leaves}
+use Rattle.bf_program.specs.Shown.{EndsAs, shown_as}
 
 -- ---- lines that `clap` answers
 

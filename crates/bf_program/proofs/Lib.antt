@@ -1,13 +1,6 @@
 pub mod FoundFiles
 pub mod Ends
-pub mod Over
-pub mod ByPrograms
-pub mod FromKept
-pub mod Faults
-pub mod OneList
-pub mod OneReport
 pub mod Alike
 pub mod CommandFacts
 pub mod CommandEnds
 pub mod ClearEnds
-pub mod ListedIntervals

@@ -16,22 +16,22 @@ use Rattle.bf_command_line.specs.declared.forms.RunAsked.{RunAsked}
 use Rattle.bf_command_line.specs.declared.forms.SeedAsked.{SeedAsked}
 use Rattle.bf_command_line.specs.declared.forms.SingleAsked.{SingleAsked}
 use Rattle.bf_dependents.specs.declared.seeds.Seed.{Seed}
-use Rattle.bf_program.specs.declared.check.GraphSize.{GraphSize}
-use Rattle.bf_program.specs.declared.input.MomentRange.{MomentRange}
-use Rattle.bf_program.specs.declared.fault.CommandFault.{CommandFault}
-use Rattle.bf_program.specs.declared.fault.CommandFault.TheVariants.{BadMoment, Clear as NotCleared, OutOfMemory, CannotRead, CannotWrite, Report as BadReport, Stopped}
-use Rattle.bf_program.specs.declared.status.Status.{Status}
 use Rattle.bf_command_line.specs.Asked.{IsAskedBy}
 use Rattle.bf_command_line.specs.CommandLine.{backfill_app}
 use Rattle.bf_report_reader.specs.Faults.{Tells as TellsFault}
-use Rattle.bf_program.specs.Cleared.{IsClearReport, IsFaultBefore, IsReady, IsUnclearable, StopsClearing}
-use Rattle.bf_program.specs.DatedRuns.{IsFaultOfDry, IsReportIn}
-use Rattle.bf_program.specs.Graphs.{IsFaultIn, IsSizeOf}
-use Rattle.bf_program.specs.Lists.{IsFaultOfList, IsListIn}
-use Rattle.bf_program.specs.OneRun.{IsFaultOfSingle, IsReportAt}
-use Rattle.bf_program.specs.Programs.{Hearing, Losing, IsFaultOfRun, IsRunReport, launched, launched_lost}
-use Rattle.bf_program.specs.Refusal.{Leaves, line_of, status_of}
-use Rattle.bf_program.specs.Status.{code_of, of_runs}
+use Rattle.bf_command_fault.specs.declared.fault.CommandFault.{CommandFault}
+use Rattle.bf_command_fault.specs.declared.fault.CommandFault.TheVariants.{BadMoment, Clear as NotCleared, OutOfMemory, CannotRead, CannotWrite, Report as BadReport, Stopped}
+use Rattle.bf_command_fault.specs.declared.status.Status.{Status}
+use Rattle.bf_command_fault.specs.Refusal.{Leaves, line_of, status_of}
+use Rattle.bf_command_fault.specs.Status.{code_of, of_runs}
+use Rattle.bf_commands.specs.declared.check.GraphSize.{GraphSize}
+use Rattle.bf_commands.specs.declared.range.MomentRange.{MomentRange}
+use Rattle.bf_commands.specs.Cleared.{IsClearReport, IsFaultBefore, IsReady, IsUnclearable, StopsClearing}
+use Rattle.bf_commands.specs.DatedRuns.{IsFaultOfDry, IsReportIn}
+use Rattle.bf_commands.specs.Graphs.{IsFaultIn, IsSizeOf}
+use Rattle.bf_commands.specs.Lists.{IsFaultOfList, IsListIn}
+use Rattle.bf_commands.specs.OneRun.{IsFaultOfSingle, IsReportAt}
+use Rattle.bf_commands.specs.Programs.{Hearing, Losing, IsFaultOfRun, IsRunReport, launched, launched_lost}
 
 -- ---- the words of a line
 

@@ -1,11 +1,12 @@
 -- What is read of files, for private clauses.
-use Rattle.std.specs.Prelude.{◌≡◌, ℕ, List, Option, option_map, Vec}
+use Rattle.std.specs.Prelude.{◌≡◌, ◌≢◌, ◌≤◌, ℕ, List, length, Option, Some, None, option_map, Vec}
 use Rattle.std.specs.Global.{Global}
 use Rattle.jiff.specs.Types.{TimeZone}
 use Rattle.bf_read.specs.Reading.{graph_in}
 use Rattle.bf_zone.specs.Zones.{Asked, IsZone}
-use Rattle.bf_program.specs.declared.fault.CommandFault.{CommandFault}
-use Rattle.bf_program.specs.declared.fault.CommandFault.TheVariants.{OutOfMemory, CannotRead}
+use Rattle.bf_report_reader.specs.Faults.{Tells}
+use Rattle.bf_command_fault.specs.declared.fault.CommandFault.{CommandFault}
+use Rattle.bf_command_fault.specs.declared.fault.CommandFault.TheVariants.{OutOfMemory, CannotRead, Report as BadReport}
 use Rattle.bf_program.specs.Commands.{Files, IsFirstUntold}
 
 -- the bytes of a zone file, where one was read
@@ -27,3 +28,10 @@ abbrev pub IsReadingFault : Files → List (List ℕ) → CommandFault → Type 
 IsReadingFault files paths (CannotRead path) = IsFirstUntold files paths path
 IsReadingFault files paths OutOfMemory = Unit {0}
 IsReadingFault files paths _ = ⊥
+
+-- the report's file can't be read, or it holds no report; or memory is wanting
+abbrev pub IsReportFault : List ℕ → Option (Option (List ℕ)) → CommandFault → Type 0
+IsReportFault path file (CannotRead p) = (p ≡ path) × ((held : List ℕ) → file ≢ Some (Some held))
+IsReportFault path file (BadReport fault) = (file ≢ Some None) × ((held : List ℕ) → file ≡ Some (Some held) → length held ≤ 9_223_372_036_854_775_806 → Tells held fault)
+IsReportFault path file OutOfMemory = Unit {0}
+IsReportFault path file _ = ⊥

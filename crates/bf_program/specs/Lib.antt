@@ -1,14 +1,5 @@
 pub mod Source
 pub mod Stored
-pub mod Refusal
-pub mod Status
-pub mod Reported
-pub mod OverTable
-pub mod OneRun
-pub mod DatedRuns
-pub mod Graphs
-pub mod Lists
-pub mod Programs
-pub mod Cleared
+pub mod Shown
 pub mod Commands
 pub mod Files

@@ -1,47 +1,18 @@
 //! The command `check`: whether a graph file has a fault.
-ghost use Rattle.std.specs.Prelude.{IfOk, IfErr, option_map, ◌≡◌, string_bytes};
-ghost use Rattle.bf_program.specs.Graphs.{IsFaultIn, IsSizeOf};
+ghost use Rattle.std.specs.Prelude.{IfOk, IfErr, ◌≡◌, string_bytes};
 ghost use Rattle.bf_report.specs.Device.{HasHalted};
+ghost use Rattle.bf_command_fault.specs.Refusal.{Leaves, Sends};
+ghost use Rattle.bf_command_fault.specs.declared.status.Status.{Status as StatusTerm};
 ghost use Rattle.bf_program.specs.Commands.{IsCheckAnswer, IsCheckFault, size_text};
-ghost use Rattle.bf_program.specs.Refusal.{Leaves, Sends};
-ghost use Rattle.bf_program.specs.declared.status.Status.{Status as StatusTerm};
 
-use crate::fault::CommandFault;
 use crate::input::graph_files;
-use crate::plan::draft_in;
 use crate::source::Source;
-use crate::status::Status;
-use bf_check::check;
+use bf_command_fault::{CommandFault, Status};
 use bf_command_line::GraphAsked;
+use bf_commands::{GraphSize, check_graph};
 use bf_report::{Write, send};
 use bf_value::OutOfMemory;
 use std::alloc::Global;
-
-/// How many tasks and distinct edges a graph has.
-#[derive(Clone, Copy, Debug, PartialEq, Eq)]
-pub struct GraphSize {
-    pub tasks: usize,
-    pub edges: usize,
-}
-
-/// Checks a graph file, and tells the size of its graph. The bytes of a zone file are looked at only where the graph's zone is
-/// `file`.
-pub fn check_graph(
-    alloc: Global,
-    graph: &[u8],
-    zone_file: Option<&[u8]>,
-) -> Result<GraphSize, CommandFault>
-    ensures size { IfOk result (IsSizeOf graph.now (option_map (λ s. s.now) zone_file.entry)) }
-    ensures fault { IfErr result (IsFaultIn graph.now (option_map (λ s. s.now) zone_file.entry)) }
-{
-    let draft = draft_in(alloc, graph)?;
-    let size = GraphSize {
-        tasks: draft.tasks.len(),
-        edges: draft.edge_count(),
-    };
-    let _plan = check(alloc, draft, zone_file)?;
-    Ok(size)
-}
 
 /// The line for standard output. There is no singular.
 fn size_line(alloc: Global, size: GraphSize) -> Result<String, OutOfMemory>

@@ -2,29 +2,19 @@
 ghost use Rattle.std.specs.Prelude.{◌≡◌, ℕ, List, IfOk, IfErr, OnOk, option_map, string_bytes};
 ghost use Rattle.bf_report.specs.Device.{HasHalted};
 ghost use Rattle.bf_try.specs.Tables.{table_of};
-ghost use Rattle.bf_program.specs.Cleared.{AreAnswersIn, IsFaultBefore, IsFaultOfNamed, IsPrepared};
+ghost use Rattle.bf_command_fault.specs.Refusal.{Leaves, Sends};
+ghost use Rattle.bf_command_fault.specs.declared.status.Status.{Status as StatusTerm};
 ghost use Rattle.bf_program.specs.Commands.{AreReadable, IsClearAnswer, IsClearFault, IsNoMoment, MeansSeed, OfFilesAndNamedTable, clear_paths};
 ghost use Rattle.bf_program.specs.Files.{AreAlike, IsReadingFault, bytes_of};
-ghost use Rattle.bf_program.specs.Refusal.{Leaves, Sends};
-ghost use Rattle.bf_program.specs.declared.status.Status.{Status as StatusTerm};
 
-use crate::crew::Crew;
-use crate::fault::CommandFault;
-use crate::input::{
-    GraphFiles, MomentRange, graph_files, moment_of, named_table_bytes, range_of, report_in,
-};
-use crate::over_table::table_in;
-use crate::plan::{TimedPlan, timed_plan_in};
-use crate::resumed::run_again;
-use crate::screen::Screen;
+use crate::input::{GraphFiles, graph_files, moment_of, named_table_bytes, range_of, report_in};
 use crate::source::Source;
-use crate::status::Status;
+use bf_command_fault::{CommandFault, Status};
 use bf_command_line::{ClearAsked, GraphAsked, SeedAsked};
+use bf_commands::{Crew, Prepared, Screen, prepare, run_again};
 use bf_dependents::Seed;
-use bf_interval::Interval;
 use bf_process::Starter;
 use bf_report::Write;
-use bf_try::Table;
 use bf_value::Text;
 use std::alloc::Global;
 use std::sync::Wait;
@@ -50,6 +40,18 @@ struct ClearFiles {
     table: Option<Vec<u8>>,
 }
 
+impl ClearFiles {
+    /// What the table holds, where there is one.
+    fn table(&self) -> Option<&[u8]>
+        ensures { option_map (λ s. s.now) result ≡ bytes_of self.now.table }
+    {
+        match &self.table {
+            Some(bytes) => Some(bytes.as_slice()),
+            None => None,
+        }
+    }
+}
+
 /// Reads the graph file, the zone file where one is named, and the table where one is.
 fn clear_files<S: Source>(
     alloc: Global,
@@ -66,45 +68,6 @@ fn clear_files<S: Source>(
     let graph = graph_files(alloc, graph, files)?;
     let table = named_table_bytes(alloc, table, files)?;
     Ok(ClearFiles { graph, table })
-}
-
-/// The answers that a table's bytes say, where there is one.
-fn answers_in(alloc: Global, table: &Option<Vec<u8>>) -> Result<Option<Table>, CommandFault>
-    ensures ok { IfOk result (λ answers. AreAnswersIn (bytes_of table.now) answers) }
-    ensures fault { IfErr result (IsFaultOfNamed (bytes_of table.now)) }
-{
-    match table {
-        Some(bytes) => {
-            let table = table_in(alloc, bytes)?;
-            Ok(Some(table))
-        }
-        None => Ok(None),
-    }
-}
-
-/// What the files come to before the report is read.
-#[derive(Drop)]
-struct Prepared {
-    timed: TimedPlan,
-    found: Vec<Interval>,
-    answers: Option<Table>,
-}
-
-/// Looks at the graph, then at the table, and then at the range.
-fn prepare(alloc: Global, files: &ClearFiles, range: MomentRange) -> Result<Prepared, CommandFault>
-    ensures ok { IfOk result (λ p. IsPrepared files.now.graph.graph.items (bytes_of files.now.graph.zone_file) (bytes_of files.now.table)
-        range.from.nanosecond range.to.nanosecond p.timed.plan.dag p.found.items p.answers) }
-    ensures fault { IfErr result (IsFaultBefore files.now.graph.graph.items (bytes_of files.now.graph.zone_file) (bytes_of files.now.table)
-        range.from.nanosecond range.to.nanosecond) }
-{
-    let timed = timed_plan_in(alloc, &files.graph.graph, files.graph.zone_file())?;
-    let answers = answers_in(alloc, &files.table)?;
-    let found = timed.intervals(alloc, range)?;
-    Ok(Prepared {
-        timed,
-        found,
-        answers,
-    })
 }
 
 /// The moments are looked at first. Then the files are read but for the report, and what they hold is looked at; then the
@@ -128,10 +91,16 @@ pub fn clear_answered<RT: Starter + Screen + Threads + Wait + Clock + Sync, S: S
     let seed = seed_of(asked.seed)?;
     let read = clear_files(alloc, asked.graph, asked.table, files)?;
     let Prepared {
-        timed,
-        found,
+        plan,
+        intervals,
         answers,
-    } = prepare(alloc, &read, range)?;
+    } = prepare(
+        alloc,
+        &read.graph.graph,
+        read.graph.zone_file(),
+        read.table(),
+        range,
+    )?;
     let report = report_in(alloc, asked.report, files)?;
     let crew = Crew {
         rt,
@@ -140,6 +109,6 @@ pub fn clear_answered<RT: Starter + Screen + Threads + Wait + Clock + Sync, S: S
         progress: asked.progress,
         launcher: asked.launcher,
     };
-    let succeeded = run_again(&crew, &timed.plan, &found, &report, seed, answers, out)?;
+    let succeeded = run_again(&crew, &plan, &intervals, &report, seed, answers, out)?;
     Ok(Status::of_runs(succeeded))
 }

@@ -2,15 +2,15 @@
 ghost use Rattle.std.specs.Prelude.{◌≡◌, ◌<◌, ◌^◌, ◌⊎◌, ℕ, List, [], ◌∷◌, Option, IfOk, IfErr, IfSome, OnOk, option_map, string_bytes};
 ghost use Rattle.bf_read.specs.Reading.{graph_in};
 ghost use Rattle.bf_try.specs.Tables.{table_of};
+ghost use Rattle.bf_commands.specs.Cleared.{IsReadAs};
 ghost use Rattle.bf_program.specs.Commands.{AreReadable, IsHeld, IsNoLonger, IsNoMoment, IsReadable, IsHeldIfNamed, Means, MeansRange, OfFiles, OfFilesAndTable, graph_paths, run_paths, named_paths};
-ghost use Rattle.bf_program.specs.Cleared.{IsReadAs, IsReportFault};
-ghost use Rattle.bf_program.specs.Files.{AreAlike, IsReadingFault, MeanAlike, bytes_of};
-ghost use Rattle.bf_program.specs.OverTable.{IsUnsent};
+ghost use Rattle.bf_program.specs.Files.{AreAlike, IsReadingFault, IsReportFault, MeanAlike, bytes_of};
 ghost use Rattle.bf_program.specs.Source.{IsWholeUpTo};
 
-use crate::fault::CommandFault;
 use crate::source::{Source, SourceFault};
+use bf_command_fault::CommandFault;
 use bf_command_line::{GraphAsked, RangeAsked};
+use bf_commands::MomentRange;
 use bf_report::{Bytes, Report, moment_in};
 use bf_report_reader::read_report;
 use bf_value::Text;
@@ -198,13 +198,6 @@ pub(crate) fn moment_of(text: &str) -> Result<Timestamp, CommandFault>
         Some(moment) => Ok(moment),
         None => Err(CommandFault::BadMoment),
     }
-}
-
-/// The first and the last moment at which a data interval may start.
-#[derive(Clone, Copy, Debug, PartialEq, Eq)]
-pub struct MomentRange {
-    pub from: Timestamp,
-    pub to: Timestamp,
 }
 
 /// The range of two texts.

@@ -2,22 +2,22 @@
 ghost use Rattle.std.specs.Prelude.{◌≡◌, ◌≢◌, ◌≤◌, ◌⊎◌, [], None, IfOk, IfErr, IsErr, IsSome, OnErr};
 ghost use Rattle.clap.specs.Words.{kind_of};
 ghost use Rattle.bf_report.specs.Device.{HasHalted};
+ghost use Rattle.bf_command_fault.specs.Refusal.{number_of};
+ghost use Rattle.bf_command_fault.specs.Status.{code_of};
+ghost use Rattle.bf_command_fault.specs.declared.fault.CommandFault.{CommandFault as FaultTerm};
 ghost use Rattle.bf_program.specs.Commands.{IsDone, IsTold, MayBeFaulted, MayTell, Tells, found_in, wrongs_of};
-ghost use Rattle.bf_program.specs.Refusal.{number_of};
-ghost use Rattle.bf_program.specs.Status.{code_of, shown_as, EndsAs};
-ghost use Rattle.bf_program.specs.declared.fault.CommandFault.{CommandFault as FaultTerm};
+ghost use Rattle.bf_program.specs.Shown.{shown_as, EndsAs};
 
 use crate::check::check_answered;
 use crate::clear::clear_answered;
 use crate::dry::dry_answered;
-use crate::fault::CommandFault;
 use crate::list::list_answered;
 use crate::run::run_answered;
-use crate::screen::Screen;
 use crate::single::single_answered;
 use crate::source::Source;
-use crate::status::Status;
+use bf_command_fault::{CommandFault, Status};
 use bf_command_line::{Asked, asked};
+use bf_commands::Screen;
 use bf_process::Starter;
 use bf_report::{Write, send};
 use clap::Error;

@@ -1,9 +1,10 @@
 use Rattle.std.proofs.Common.{◌∙◌}
 use Rattle.std.proofs.lemmas.Result.{err_from_is_err_and}
+use Rattle.bf_command_fault.specs.declared.status.Status.{Status}
+use Rattle.bf_command_fault.proofs.Leaving.{send_leaves}
+use Rattle.bf_commands.proofs.Faults.{graph_leaves}
 use Rattle.bf_program.specs.Commands.{graph_paths}
-use Rattle.bf_program.specs.declared.status.Status.{Status}
-use Rattle.bf_program.proofs.CommandEnds.{check_answer, check_files, check_reading, check_write, lent_alike}
-use Rattle.bf_program.proofs.Faults.{graph_leaves, reading_leaves, send_leaves}
+use Rattle.bf_program.proofs.CommandEnds.{check_answer, check_files, check_reading, check_write, lent_alike, reading_leaves}
 use Rattle.bf_program.proofs.check.check_answered.Goals as goal
 
 pub returns-in_err-files-clause-fault : goal.returns-in_err-files-clause-fault

@@ -1,9 +1,9 @@
 use Rattle.std.proofs.Common.{string_bytes}
 use Rattle.std.proofs.lemmas.Result.{err_from_is_err_and}
+use Rattle.bf_command_fault.specs.Status.{of_runs}
+use Rattle.bf_command_fault.proofs.Leaving.{leaves_due, moment_leaves}
 use Rattle.bf_program.specs.Commands.{run_paths}
-use Rattle.bf_program.specs.Status.{of_runs}
-use Rattle.bf_program.proofs.CommandEnds.{dry_answer, dry_files, dry_moments, dry_reading, lent_table_alike}
-use Rattle.bf_program.proofs.Faults.{leaves_due, moment_leaves, reading_leaves}
+use Rattle.bf_program.proofs.CommandEnds.{dry_answer, dry_files, dry_moments, dry_reading, lent_table_alike, reading_leaves}
 use Rattle.bf_program.proofs.dry.dry_answered.Goals as goal
 
 pub returns-in_err-range-clause-fault : goal.returns-in_err-range-clause-fault

@@ -1,8 +1,8 @@
 use Rattle.std.proofs.lemmas.Result.{err_from_is_err_and}
+use Rattle.bf_command_fault.specs.declared.status.Status.{Status}
+use Rattle.bf_command_fault.proofs.Leaving.{leaves_due, moment_leaves}
 use Rattle.bf_program.specs.Commands.{graph_paths}
-use Rattle.bf_program.specs.declared.status.Status.{Status}
-use Rattle.bf_program.proofs.CommandEnds.{lent_alike, list_answer, list_files, list_moments, list_reading}
-use Rattle.bf_program.proofs.Faults.{leaves_due, moment_leaves, reading_leaves}
+use Rattle.bf_program.proofs.CommandEnds.{lent_alike, list_answer, list_files, list_moments, list_reading, reading_leaves}
 use Rattle.bf_program.proofs.list.list_answered.Goals as goal
 
 pub returns-in_err-range-clause-fault : goal.returns-in_err-range-clause-fault

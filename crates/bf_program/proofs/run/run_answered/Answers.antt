@@ -1,8 +1,8 @@
 use Rattle.std.proofs.lemmas.Result.{err_from_is_err_and}
+use Rattle.bf_command_fault.specs.Status.{of_runs}
+use Rattle.bf_command_fault.proofs.Leaving.{leaves_due, moment_leaves}
 use Rattle.bf_program.specs.Commands.{graph_paths}
-use Rattle.bf_program.specs.Status.{of_runs}
-use Rattle.bf_program.proofs.CommandEnds.{lent_alike, run_answer, run_files, run_moments, run_reading}
-use Rattle.bf_program.proofs.Faults.{leaves_due, moment_leaves, reading_leaves}
+use Rattle.bf_program.proofs.CommandEnds.{lent_alike, run_answer, run_files, run_moments, run_reading, reading_leaves}
 use Rattle.bf_program.proofs.run.run_answered.Goals as goal
 
 pub returns-in_err-range-clause-fault : goal.returns-in_err-range-clause-fault

@@ -1,10 +1,10 @@
 use Rattle.std.proofs.Common.{string_bytes}
 use Rattle.std.proofs.lemmas.Result.{err_from_is_err_and}
+use Rattle.bf_command_fault.specs.Status.{of_runs}
+use Rattle.bf_command_fault.proofs.Leaving.{leaves_due, moment_leaves}
 use Rattle.bf_program.specs.Commands.{run_paths}
-use Rattle.bf_program.specs.Status.{of_runs}
-use Rattle.bf_program.proofs.CommandEnds.{single_answer, single_files, single_moment, single_reading, lent_table_alike}
+use Rattle.bf_program.proofs.CommandEnds.{single_answer, single_files, single_moment, single_reading, lent_table_alike, reading_leaves}
 use Rattle.bf_program.proofs.CommandFacts.{means_lent, no_moment_lent, whole_in_years}
-use Rattle.bf_program.proofs.Faults.{leaves_due, moment_leaves, reading_leaves}
 use Rattle.bf_program.proofs.single.single_answered.Goals as goal
 
 pub returns-in_err-at-clause-fault : goal.returns-in_err-at-clause-fault

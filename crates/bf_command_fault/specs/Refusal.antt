@@ -1,0 +1,124 @@
+-- Why a command gave no answer, as it is numbered, printed and told by the exit status.
+use Rattle.std.specs.Prelude.{◌≡◌, ◌≤◌, ℕ, List, ◌++◌, length, take, Option, Some, None, codes, decimal}
+use Rattle.std.specs.Fmt.{signed_decimal}
+use Rattle.bf_read.specs.declared.fault.ReadFault.{ReadFault}
+use Rattle.bf_read.specs.declared.fault.ReadFault.TheVariants as read
+use Rattle.bf_read.specs.Faults as graph_file
+use Rattle.bf_check.specs.declared.fault.CheckFault.{CheckFault}
+use Rattle.bf_check.specs.declared.fault.CheckFault.TheVariants as check
+use Rattle.bf_check.specs.Refusals as graph
+use Rattle.bf_interval.specs.declared.fault.IntervalFault.{IntervalFault}
+use Rattle.bf_interval.specs.declared.fault.IntervalFault.TheVariants as interval
+use Rattle.bf_interval.specs.Intervals as range
+use Rattle.bf_try.specs.declared.table.TableFault.{TableFault}
+use Rattle.bf_try.specs.declared.table.TableFault.TheVariants as table
+use Rattle.bf_try.specs.Tables as answers
+use Rattle.bf_dependents.specs.declared.fault.ClearFault.{ClearFault}
+use Rattle.bf_dependents.specs.declared.fault.ClearFault.TheVariants as clear
+use Rattle.bf_dependents.specs.Faults as clearing
+use Rattle.bf_report_reader.specs.declared.fault.ReportFault.{ReportFault}
+use Rattle.bf_report_reader.specs.declared.fault.ReportFault.TheVariants as report
+use Rattle.bf_report_reader.specs.Refusals as reading
+use Rattle.bf_report.specs.declared.sending.Cause.{Cause}
+use Rattle.bf_report.specs.declared.sending.Cause.TheVariants as cause
+use Rattle.bf_report.specs.declared.sending.WriteFault.{WriteFault}
+use Rattle.bf_report.specs.Device.{sent}
+use Rattle.bf_command_fault.specs.declared.fault.CommandFault.{CommandFault}
+use Rattle.bf_command_fault.specs.declared.fault.CommandFault.TheVariants.{Read, Check, Table, Range, Report, Clear, BadMoment, OutOfMemory, CannotRead, CannotWrite, Stopped}
+use Rattle.bf_command_fault.specs.declared.stop.StopFault.{StopFault}
+use Rattle.bf_command_fault.specs.declared.status.Status.{Status}
+
+-- ---- numbers and words
+
+-- refusals have numbers, and faults have none
+abbrev pub number_of : CommandFault → Option ℕ
+number_of (Read fault) = graph_file.fault_number fault
+number_of (Check fault) = graph.check_number fault
+number_of (Table fault) = answers.fault_number fault
+number_of (Range fault) = range.fault_number fault
+number_of (Report fault) = reading.fault_number fault
+number_of (Clear fault) = clearing.fault_number fault
+number_of BadMoment = Some 28
+number_of OutOfMemory = None
+number_of (CannotRead path) = None
+number_of (CannotWrite sent) = None
+number_of (Stopped fault) = None
+
+-- why a backfill stopped
+abbrev pub stop_words : StopFault → List ℕ
+stop_words StopFault.CannotStart = codes "cannot start workers"
+stop_words (StopFault.GaveUp task index attempt) = codes "runner gave up: " ++ (task ++ (codes " " ++ (signed_decimal index ++ (codes " " ++ decimal attempt))))
+
+abbrev pub words_of : CommandFault → List ℕ
+words_of (Read fault) = graph_file.fault_text fault
+words_of (Check fault) = graph.fault_text fault
+words_of (Table fault) = answers.fault_text fault
+words_of (Range fault) = range.fault_text fault
+words_of (Report fault) = reading.fault_text fault
+words_of (Clear fault) = clearing.fault_text fault
+words_of BadMoment = codes "bad moment"
+words_of OutOfMemory = codes "out of memory"
+words_of (CannotRead path) = codes "cannot read " ++ path
+words_of (CannotWrite sent) = codes "cannot write"
+words_of (Stopped fault) = stop_words fault
+
+-- the line of a refusal, with its number, or of a fault
+abbrev pub line_with : Option ℕ → List ℕ → List ℕ
+line_with (Some number) words = codes "refused " ++ (decimal number ++ (codes " " ++ (words ++ codes "\n")))
+line_with None words = codes "fault: " ++ (words ++ codes "\n")
+
+-- what is printed
+abbrev pub line_of : CommandFault → List ℕ
+line_of fault = line_with (number_of fault) (words_of fault)
+
+abbrev pub status_with : Option ℕ → Status
+status_with (Some number) = Status.Refused
+status_with None = Status.Fault
+
+-- how the program ends
+abbrev pub status_of : CommandFault → Status
+status_of fault = status_with (number_of fault)
+
+-- ---- want of memory is one fault, whatever wanted it
+
+abbrev pub of_read : ReadFault → CommandFault
+of_read read.OutOfMemory = OutOfMemory
+of_read fault = Read fault
+
+abbrev pub of_check : CheckFault → CommandFault
+of_check check.OutOfMemory = OutOfMemory
+of_check fault = Check fault
+
+abbrev pub of_table : TableFault → CommandFault
+of_table table.OutOfMemory = OutOfMemory
+of_table fault = Table fault
+
+abbrev pub of_range : IntervalFault → CommandFault
+of_range interval.OutOfMemory = OutOfMemory
+of_range fault = Range fault
+
+abbrev pub of_report : ReportFault → CommandFault
+of_report report.OutOfMemory = OutOfMemory
+of_report fault = Report fault
+
+abbrev pub of_clear : ClearFault → CommandFault
+of_clear clear.OutOfMemory = OutOfMemory
+of_clear fault = Clear fault
+
+abbrev pub of_cause : Cause → ℕ → CommandFault
+of_cause cause.Io sent = CannotWrite sent
+of_cause cause.OutOfMemory sent = OutOfMemory
+
+abbrev pub of_write : WriteFault → CommandFault
+of_write fault = of_cause fault.cause fault.sent
+
+-- ---- what went out
+
+-- a text that was due, behind what had gone out before
+abbrev pub Sends : (List ℕ → Type 0) → Option (List ℕ) → Option (List ℕ) → Type 0
+Sends IsDue before after = (text : List ℕ) × IsDue text × (after ≡ sent before text)
+
+-- at a fault: where the text that was due can't be written, the device has halted, and just the first bytes went out; else nothing did
+abbrev pub Leaves : Type 0 → (List ℕ → Type 0) → Option (List ℕ) → Option (List ℕ) → CommandFault → Type 0
+Leaves Halted IsDue before after (CannotWrite n) = Halted × (text : List ℕ) × IsDue text × (n ≤ length text) × (after ≡ sent before (take n text))
+Leaves Halted IsDue before after fault = after ≡ before

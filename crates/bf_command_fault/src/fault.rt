@@ -1,0 +1,221 @@
+//! Why a command gave no answer, and what is printed then.
+ghost use Rattle.std.specs.Prelude.{◌≡◌, IfOk, string_bytes};
+ghost use Rattle.bf_command_fault.specs.Refusal.{line_of, number_of, status_of};
+
+use crate::status::Status;
+use crate::stop::StopFault;
+use bf_check::CheckFault;
+use bf_dependents::ClearFault;
+use bf_interval::IntervalFault;
+use bf_read::ReadFault;
+use bf_report::{Cause, WriteFault};
+use bf_report_reader::ReportFault;
+use bf_try::TableFault;
+use bf_value::{OutOfMemory, Text};
+use std::alloc::{AllocError, Global};
+use std::error::Error;
+use std::fmt;
+
+/// Why a command gave no answer: a refusal of what it was given, which has a number, or a fault, which has none.
+#[derive(Debug, Drop)]
+pub enum CommandFault {
+    /// The graph file says no graph.
+    Read(ReadFault),
+    /// The graph has a fault.
+    Check(CheckFault),
+    /// The table of answers has one.
+    Table(TableFault),
+    /// No runs are made in the range, or none at the moment.
+    Range(IntervalFault),
+    /// The report to go on from is none.
+    Report(ReportFault),
+    /// Nothing is cleared in it.
+    Clear(ClearFault),
+    /// A text that is no moment, or one of a date that doesn't exist.
+    BadMoment,
+    OutOfMemory,
+    /// A path, as it stood on the line, whose file can't be read.
+    CannotRead(Text),
+    /// How many bytes of the text went out before the device failed.
+    CannotWrite(u64),
+    /// The backfill stopped before its end.
+    Stopped(StopFault),
+}
+
+impl CommandFault {
+    /// The number of a refusal.
+    pub fn number(&self) -> Option<u32>
+        ensures { result ≡ number_of self.now }
+    {
+        match self {
+            CommandFault::Read(fault) => fault.number(),
+            CommandFault::Check(fault) => fault.number(),
+            CommandFault::Table(fault) => fault.number(),
+            CommandFault::Range(fault) => fault.number(),
+            CommandFault::Report(fault) => fault.number(),
+            CommandFault::Clear(fault) => fault.number(),
+            CommandFault::BadMoment => Some(28),
+            CommandFault::OutOfMemory
+            | CommandFault::CannotRead(_)
+            | CommandFault::CannotWrite(_)
+            | CommandFault::Stopped(_) => None,
+        }
+    }
+
+    /// How the program ends.
+    pub fn status(&self) -> Status
+        ensures { result ≡ status_of self.now }
+    {
+        match self.number() {
+            Some(_) => Status::Refused,
+            None => Status::Fault,
+        }
+    }
+
+    /// The line for standard error: `refused`, the number and the words, or `fault:` and the words.
+    pub fn line(&self, alloc: Global) -> Result<String, OutOfMemory>
+        ensures { IfOk result (λ line. string_bytes line ≡ line_of self.now) }
+    {
+        let line = match self.number() {
+            Some(number) => format!(in alloc; "refused {number} {self}\n"),
+            None => format!(in alloc; "fault: {self}\n"),
+        };
+        Ok(line?)
+    }
+}
+
+impl fmt::Display for CommandFault {
+    ghost use Rattle.std.specs.Prelude.{Some};
+    ghost use Rattle.bf_command_fault.specs.Refusal.{words_of};
+
+    ghost output = { λ fault. Some (words_of fault) };
+
+    fn fmt<W: fmt::Write>(&self, f: &mut fmt::Formatter<W>) -> fmt::Result {
+        match self {
+            CommandFault::Read(fault) => write!(f, "{fault}"),
+            CommandFault::Check(fault) => write!(f, "{fault}"),
+            CommandFault::Table(fault) => write!(f, "{fault}"),
+            CommandFault::Range(fault) => write!(f, "{fault}"),
+            CommandFault::Report(fault) => write!(f, "{fault}"),
+            CommandFault::Clear(fault) => write!(f, "{fault}"),
+            CommandFault::BadMoment => write!(f, "bad moment"),
+            CommandFault::OutOfMemory => write!(f, "out of memory"),
+            CommandFault::CannotRead(path) => write!(f, "cannot read {path}"),
+            CommandFault::CannotWrite(_) => write!(f, "cannot write"),
+            CommandFault::Stopped(fault) => write!(f, "{fault}"),
+        }
+    }
+}
+
+impl Error for CommandFault {}
+
+impl From<OutOfMemory> for CommandFault {
+    ghost use Rattle.bf_command_fault.specs.declared.fault.CommandFault.TheVariants.{OutOfMemory as NoMemory};
+
+    ghost from_gives = { λ _ e. e ≡ NoMemory };
+
+    fn from(_e: OutOfMemory) -> CommandFault {
+        CommandFault::OutOfMemory
+    }
+}
+
+impl From<AllocError> for CommandFault {
+    ghost use Rattle.bf_command_fault.specs.declared.fault.CommandFault.TheVariants.{OutOfMemory as NoMemory};
+
+    ghost from_gives = { λ _ e. e ≡ NoMemory };
+
+    fn from(_e: AllocError) -> CommandFault {
+        CommandFault::OutOfMemory
+    }
+}
+
+impl From<ReadFault> for CommandFault {
+    ghost use Rattle.bf_command_fault.specs.Refusal.{of_read};
+
+    ghost from_gives = { λ fault e. e ≡ of_read fault };
+
+    fn from(fault: ReadFault) -> CommandFault {
+        match fault {
+            ReadFault::OutOfMemory => CommandFault::OutOfMemory,
+            fault => CommandFault::Read(fault),
+        }
+    }
+}
+
+impl From<CheckFault> for CommandFault {
+    ghost use Rattle.bf_command_fault.specs.Refusal.{of_check};
+
+    ghost from_gives = { λ fault e. e ≡ of_check fault };
+
+    fn from(fault: CheckFault) -> CommandFault {
+        match fault {
+            CheckFault::OutOfMemory => CommandFault::OutOfMemory,
+            fault => CommandFault::Check(fault),
+        }
+    }
+}
+
+impl From<TableFault> for CommandFault {
+    ghost use Rattle.bf_command_fault.specs.Refusal.{of_table};
+
+    ghost from_gives = { λ fault e. e ≡ of_table fault };
+
+    fn from(fault: TableFault) -> CommandFault {
+        match fault {
+            TableFault::OutOfMemory => CommandFault::OutOfMemory,
+            fault => CommandFault::Table(fault),
+        }
+    }
+}
+
+impl From<IntervalFault> for CommandFault {
+    ghost use Rattle.bf_command_fault.specs.Refusal.{of_range};
+
+    ghost from_gives = { λ fault e. e ≡ of_range fault };
+
+    fn from(fault: IntervalFault) -> CommandFault {
+        match fault {
+            IntervalFault::OutOfMemory => CommandFault::OutOfMemory,
+            fault => CommandFault::Range(fault),
+        }
+    }
+}
+
+impl From<ReportFault> for CommandFault {
+    ghost use Rattle.bf_command_fault.specs.Refusal.{of_report};
+
+    ghost from_gives = { λ fault e. e ≡ of_report fault };
+
+    fn from(fault: ReportFault) -> CommandFault {
+        match fault {
+            ReportFault::OutOfMemory => CommandFault::OutOfMemory,
+            fault => CommandFault::Report(fault),
+        }
+    }
+}
+
+impl From<ClearFault> for CommandFault {
+    ghost use Rattle.bf_command_fault.specs.Refusal.{of_clear};
+
+    ghost from_gives = { λ fault e. e ≡ of_clear fault };
+
+    fn from(fault: ClearFault) -> CommandFault {
+        match fault {
+            ClearFault::OutOfMemory => CommandFault::OutOfMemory,
+            fault => CommandFault::Clear(fault),
+        }
+    }
+}
+
+impl From<WriteFault> for CommandFault {
+    ghost use Rattle.bf_command_fault.specs.Refusal.{of_write};
+
+    ghost from_gives = { λ fault e. e ≡ of_write fault };
+
+    fn from(fault: WriteFault) -> CommandFault {
+        match fault.cause {
+            Cause::Io => CommandFault::CannotWrite(fault.sent),
+            Cause::OutOfMemory => CommandFault::OutOfMemory,
+        }
+    }
+}

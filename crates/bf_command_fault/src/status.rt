@@ -1,0 +1,35 @@
+//! Exit statuses.
+ghost use Rattle.std.specs.Prelude.{◌≡◌};
+ghost use Rattle.bf_command_fault.specs.Status.{code_of, of_runs};
+
+/// How the program ends.
+#[derive(Clone, Copy, Debug, PartialEq, Eq)]
+pub enum Status {
+    /// Every run is a success, or help was asked for.
+    Success = 0,
+    /// Some run failed.
+    Failed = 1,
+    /// The line, a file or a moment was refused.
+    Refused = 2,
+    Fault = 3,
+}
+
+impl Status {
+    /// How it ends where it is known whether every run is a success.
+    pub fn of_runs(succeeded: bool) -> Status
+        ensures { result ≡ of_runs succeeded }
+    {
+        if succeeded {
+            Status::Success
+        } else {
+            Status::Failed
+        }
+    }
+
+    /// The exit status as the system has it.
+    pub fn code(self) -> u8
+        ensures { result ≡ code_of self }
+    {
+        self as u8
+    }
+}

@@ -1,0 +1,39 @@
+//! Why a backfill stopped before its end.
+ghost use Rattle.std.specs.Prelude.{◌≡◌};
+
+use bf_value::Text;
+use std::error::Error;
+use std::fmt;
+
+/// Why a backfill stopped before its end. Tries that ran were waited for.
+#[derive(Debug, Drop)]
+pub enum StopFault {
+    /// A worker's thread could not be started.
+    CannotStart,
+    /// The program of a try was started, and could not be waited for.
+    GaveUp {
+        task: Text,
+        index: i32,
+        attempt: u32,
+    },
+}
+
+impl fmt::Display for StopFault {
+    ghost use Rattle.std.specs.Prelude.{Some};
+    ghost use Rattle.bf_command_fault.specs.Refusal.{stop_words};
+
+    ghost output = { λ fault. Some (stop_words fault) };
+
+    fn fmt<W: fmt::Write>(&self, f: &mut fmt::Formatter<W>) -> fmt::Result {
+        match self {
+            StopFault::CannotStart => write!(f, "cannot start workers"),
+            StopFault::GaveUp {
+                task,
+                index,
+                attempt,
+            } => write!(f, "runner gave up: {task} {index} {attempt}"),
+        }
+    }
+}
+
+impl Error for StopFault {}

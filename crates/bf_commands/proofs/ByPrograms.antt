@@ -1,0 +1,31 @@
+-- Backfills with the programs of the tasks.
+use Rattle.std.proofs.Common.{◌≡◌, ◌<◌, ℕ, Bool, List, None, Some, Option, refl, slice_get, length}
+use Rattle.std.proofs.lemmas.Option.{slice_get_within}
+use Rattle.bf_value.specs.declared.name.JobName.{JobName}
+use Rattle.bf_check.specs.declared.plan.Dag.{Dag}
+use Rattle.bf_check.specs.declared.plan.Task.{Task}
+use Rattle.bf_xcom.specs.declared.values.Given.{Given}
+use Rattle.bf_process.specs.Words.{HoldsOfTry, IsLost, MayGiveUp}
+use Rattle.bf_interval.specs.declared.interval.Interval.{Interval}
+use Rattle.bf_core.specs.Events.{entry_in}
+use Rattle.bf_core.specs.declared.ended.Ended.{Ended}
+use Rattle.bf_commands.specs.Programs.{Hearing, IsEndedBy, IsReportBy, Losing}
+use Rattle.bf_commands.specs.Reported.{IsReportOf}
+
+-- the report over the ledger of a backfill with programs that has ended
+pub reported : (may_hear : Hearing) (dag : Dag) (intervals : List Interval) (ended : Ended) → IsEndedBy may_hear dag intervals ended
+    → (text : List ℕ) (success : Bool) → IsReportOf dag intervals (entry_in ended.state.ledger) text success → IsReportBy may_hear dag intervals text success
+reported may_hear dag intervals ended is text success reports = record {
+  ledger = ended.state.ledger;
+  tries = is.outcome.tries;
+  graded = is.graded;
+  reported = reports;
+}
+
+-- a try that is given up has its task
+pub given-up-there : (may_lose : Losing) (dag : Dag) (intervals : List Interval) (name : JobName) (given : Given) → MayGiveUp may_lose dag intervals name given → name.task < length dag.tasks
+given-up-there may_lose dag intervals name given may = go (slice_get dag.tasks name.task) refl (slice_get intervals name.run) may
+  where
+    go : (o : Option Task) → slice_get dag.tasks name.task ≡ o → (i : Option Interval) → HoldsOfTry ⊥ (IsLost may_lose) dag name given o i → name.task < length dag.tasks
+    go None e i holds = absurd holds
+    go (Some task) e i holds = slice_get_within dag.tasks name.task task e

@@ -1,0 +1,41 @@
+-- What is listed of a graph's schedule.
+use Rattle.std.proofs.Common.{◌≡◌, ℕ, ℤ, List, Option, All, Result, Ok, arith, subst}
+use Rattle.std.proofs.lemmas.Int.{ints}
+use Rattle.jiff.specs.Types.{TimeZone}
+use Rattle.bf_cron.specs.declared.spec.CronSpec.{CronSpec}
+use Rattle.bf_zone.specs.Zones.{IsZoneOf}
+use Rattle.bf_zone.specs.declared.zone.Zone.{Zone}
+use Rattle.bf_interval.specs.Intervals.{IsAnswer}
+use Rattle.bf_interval.specs.declared.fault.IntervalFault.{IntervalFault}
+use Rattle.bf_interval.specs.declared.interval.Interval.{Interval}
+use Rattle.bf_interval.proofs.Ending.{intervals_end_by_2208}
+use Rattle.bf_report_reader.specs.Written.{AreOfRuns}
+use Rattle.bf_commands.specs.Graphs.{IsTimed}
+use Rattle.bf_commands.specs.Lists.{HasListing, IsSince1970}
+
+-- what the schedule has in the zone that is lent is the listing of the graph
+pub listing : (graph : List ℕ) (file : Option (List ℕ)) (schedule lent : CronSpec) (zone : Zone) (tz : TimeZone) (from to : ℤ) (answer : Result (List Interval) IntervalFault)
+    → IsTimed graph file schedule zone → lent ≡ schedule → IsZoneOf zone tz → IsAnswer lent tz from to answer → HasListing graph file from to answer
+listing graph file schedule lent zone tz from to answer timed same lends answers = record {
+  draft = timed.draft;
+  graph_is = timed.graph_is;
+  schedule = schedule;
+  fires = timed.fires;
+  zone = tz;
+  zone_is = timed.zone_is tz lends;
+  answers = subst (λ (s : CronSpec). IsAnswer s tz from to answer) same answers;
+}
+
+-- no interval that is listed begins or ends before 1970
+pub since_1970 : (graph : List ℕ) (file : Option (List ℕ)) (from to : ℤ) (found : List Interval) → HasListing graph file from to (Ok found) → All IsSince1970 found
+since_1970 graph file from to found is k d h =
+    let years = is.answers.0.from_in_years.0 in
+    let (interval, after, before) = is.answers.2.each k d h in
+    let rises = interval.rises in
+    (omega (arith, ints, years, after), omega (arith, ints, years, after, rises))
+
+-- the intervals that are listed are of runs
+pub of_runs : (graph : List ℕ) (file : Option (List ℕ)) (from to : ℤ) (found : List Interval) → HasListing graph file from to (Ok found) → AreOfRuns found
+of_runs graph file from to found is =
+    let (range, few, are) = is.answers in
+    record { few = few; each = intervals_end_by_2208 is.draft.schedule is.schedule is.fires.says is.zone from to range found are; rising = are.rising }

@@ -1,0 +1,68 @@
+-- The files and the range leave one listing.
+use Rattle.std.proofs.Common.{◌≡◌, ℕ, ℤ, List, Option, Some, None, Ok, get_or, sym, ap, ◌∙◌, subst}
+use Rattle.jiff.specs.Types.{DateTime, TimeZone}
+use Rattle.jiff.specs.Words.{picked_instant}
+use Rattle.bf_cron.specs.Cron.{Schedule, IsRead, spec_matches}
+use Rattle.bf_cron.specs.declared.spec.CronSpec.{CronSpec}
+use Rattle.bf_cron.proofs.Rules.{matches_is}
+use Rattle.bf_zone.specs.Zones.{asked, IsZone}
+use Rattle.bf_zone.proofs.SameZone.{same_instants}
+use Rattle.bf_read.specs.Reading.{GraphFile, graph_file_of}
+use Rattle.bf_check.specs.Schedules.{IsScheduleOf}
+use Rattle.bf_interval.specs.Fires.{IsFire}
+use Rattle.bf_interval.specs.Intervals.{AreIntervals, StartsIn, ends}
+use Rattle.bf_interval.specs.declared.interval.Interval.{Interval}
+use Rattle.bf_interval.proofs.OneListing as listings
+use Rattle.bf_commands.specs.Lists.{HasListing}
+
+-- two words that keep one schedule match the same civil minutes
+same_minutes : (said : Option Schedule) (x y : CronSpec) (at : DateTime) → IsRead said (Ok x) → IsRead said (Ok y) → spec_matches x at ≡ spec_matches y at
+same_minutes (Some s) x y at keeps_x keeps_y = matches_is x s at keeps_x ∙ sym (matches_is y s at keeps_y)
+same_minutes None x y at wrong other = absurd wrong
+
+module _ (x y : CronSpec) (one two : TimeZone) (matching : (at : DateTime) → spec_matches x at ≡ spec_matches y at) (placed : (at : DateTime) → picked_instant one at ≡ picked_instant two at) where
+  same_fires : (instant : ℤ) → IsFire x one instant → IsFire y two instant
+  same_fires instant fire = record {
+    minute = fire.minute;
+    in_dates = fire.in_dates;
+    at = fire.at;
+    shown = fire.shown;
+    matching = sym (matching fire.at) ∙ fire.matching;
+    placed = fire.placed ∙ placed fire.at;
+  }
+
+module _ (x y : CronSpec) (one two : TimeZone) (matching : (at : DateTime) → spec_matches x at ≡ spec_matches y at) (placed : (at : DateTime) → picked_instant one at ≡ picked_instant two at) where
+  back : (instant : ℤ) → IsFire y two instant → IsFire x one instant
+  back = same_fires y x two one (λ at. sym (matching at)) (λ at. sym (placed at))
+
+  same_start : (from to : ℤ) (i : ℤ × ℤ) → StartsIn x one from to i → StartsIn y two from to i
+  same_start from to (start, end) (is, after, before) = (
+    record {
+      opens = same_fires x y one two matching placed start is.opens;
+      closes = same_fires x y one two matching placed end is.closes;
+      rises = is.rises;
+      next = λ later fire above. is.next later (back later fire) above;
+    },
+    after,
+    before,
+  )
+
+module _ (x y : CronSpec) (one two : TimeZone) (matching : (at : DateTime) → spec_matches x at ≡ spec_matches y at) (placed : (at : DateTime) → picked_instant one at ≡ picked_instant two at) where
+  same_intervals : (from to : ℤ) (found : List Interval) → AreIntervals x one from to found → AreIntervals y two from to found
+  same_intervals from to found are = record {
+    rising = are.rising;
+    each = λ k d h. same_start x y one two matching placed from to (ends (get_or found k d)) (are.each k d h);
+    all = λ i starts. are.all i (same_start y x two one (λ at. sym (matching at)) (λ at. sym (placed at)) from to i starts);
+  }
+
+pub one_list : (graph : List ℕ) (file : Option (List ℕ)) (from to : ℤ) (xs ys : List Interval) → HasListing graph file from to (Ok xs) → HasListing graph file from to (Ok ys) → xs ≡ ys
+one_list graph file from to xs ys a b =
+    let said : Ok (graph_file_of a.draft) ≡ Ok (graph_file_of b.draft) = sym a.graph_is.says ∙ b.graph_is.says in
+    let one_file : graph_file_of a.draft ≡ graph_file_of b.draft = cc in
+    let text : b.draft.schedule ≡ a.draft.schedule = sym (ap (λ (f : GraphFile). f.schedule) one_file) in
+    let zone : b.draft.zone ≡ a.draft.zone = sym (ap (λ (f : GraphFile). f.zone) one_file) in
+    let says : IsScheduleOf a.draft.schedule b.schedule = subst (λ (s : List ℕ). IsScheduleOf s b.schedule) text b.fires.says in
+    let meant : IsZone (asked a.draft.zone) file b.zone = subst (λ (s : List ℕ). IsZone (asked s) file b.zone) zone b.zone_is in
+    let matching = λ (at : DateTime). same_minutes _ b.schedule a.schedule at says a.fires.says in
+    let placed = λ (at : DateTime). same_instants (asked a.draft.zone) file b.zone a.zone meant a.zone_is at in
+    listings.one_listing a.schedule a.zone from to xs ys a.answers.2 (same_intervals b.schedule a.schedule b.zone a.zone matching placed from to ys b.answers.2)

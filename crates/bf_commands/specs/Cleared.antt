@@ -1,0 +1,141 @@
+-- What the command `clear` reports: a backfill that goes on from what is kept of a report.
+use Rattle.std.specs.Prelude.{◌≡◌, ℕ, ℤ, Bool, List, [], ◌∷◌, length, Option, Some, None, Ok, Err, option_map}
+use Rattle.std.specs.FinMap as finite
+use Rattle.bf_value.specs.declared.name.JobName.{JobName}
+use Rattle.bf_value.specs.Names.{name_cmp}
+use Rattle.bf_read.specs.declared.draft.Draft.{Draft}
+use Rattle.bf_check.specs.Checking.{dag_of}
+use Rattle.bf_check.specs.declared.plan.Dag.{Dag}
+use Rattle.bf_interval.specs.declared.interval.Interval.{Interval}
+use Rattle.bf_xcom.specs.declared.values.Given.{Given}
+use Rattle.bf_try.specs.declared.answers.Raw.{Raw}
+use Rattle.bf_try.specs.declared.ledger.Entry.{Entry}
+use Rattle.bf_try.specs.declared.table.TableEntry.{TableEntry}
+use Rattle.bf_try.specs.Tables.{answer_of, table_of}
+use Rattle.bf_try.specs.Tries.{Look, AreAlike}
+use Rattle.bf_core.specs.Agreement.{AreRunStates, HoldsItsTries, IsOutcome}
+use Rattle.bf_core.specs.Events.{entry_in}
+use Rattle.bf_core.specs.declared.ended.Ended.{Ended}
+use Rattle.bf_process.specs.Words.{MayAnswer}
+use Rattle.bf_kept.specs.Kept.{AreGradedAnew}
+use Rattle.bf_report.specs.declared.report.Report.{Report}
+use Rattle.bf_report.specs.Report.{report_text}
+use Rattle.bf_report_reader.specs.Rules.{IsShownReport}
+use Rattle.bf_dependents.specs.declared.fault.ClearFault.{ClearFault}
+use Rattle.bf_dependents.specs.declared.seeds.Seed.{Seed}
+use Rattle.bf_dependents.specs.Seeds.{places_of}
+use Rattle.bf_clear.specs.Keeping.{AreKept}
+use Rattle.bf_clear.specs.Matching.{clear_fault}
+use Rattle.bf_command_fault.specs.declared.fault.CommandFault.{CommandFault}
+use Rattle.bf_command_fault.specs.declared.fault.CommandFault.TheVariants.{Clear as NotCleared, Range, Stopped, Table}
+use Rattle.bf_command_fault.specs.declared.stop.StopFault.{StopFault}
+use Rattle.bf_commands.specs.Graphs.{IsFaultIn, IsGraph}
+use Rattle.bf_commands.specs.Lists.{HasListing}
+use Rattle.bf_commands.specs.OverTable.{IsTableFault, IsWantingWorkers, answering}
+use Rattle.bf_commands.specs.Programs.{Hearing, IsStopOrWanting, Losing}
+use Rattle.bf_commands.specs.Reported.{IsReportOf}
+
+-- the answers of the table where there is one, and else what is heard of the programs of a try's words
+abbrev pub MayAnswerBy : Hearing → Option (List TableEntry) → Dag → List Interval → JobName → Given → Raw → Type 0
+MayAnswerBy may_hear (Some entries) dag intervals n given raw = raw ≡ answer_of (answering dag entries intervals) n
+MayAnswerBy may_hear None dag intervals n given raw = MayAnswer may_hear dag intervals n given raw
+
+-- the bytes say a report, by the rules by which reports are read
+pub record IsReadAs (bytes : List ℕ) (report : Report) : Type 0 where
+  pub text_is : bytes ≡ report_text report
+  pub shown : IsShownReport report
+
+-- the report is one of the plan over these data intervals, the seed one of its tasks in one of its runs, and this is what is kept
+pub record IsKeptOf (dag : Dag) (intervals : List Interval) (was : Report) (seed : Seed) (kept : Look) : Type 0 where
+  pub not_refused : clear_fault dag intervals was (seed ∷ []) ≡ None
+  pub are_kept : AreKept dag (places_of dag intervals (seed ∷ [])) was kept
+
+-- the text is that of the recursion's report over the ledger of a backfill in which the kept tries stand as they are kept, and
+-- every other has the grade of an answer that may come; and whether every run of it is a success
+pub record IsReportFrom (kept : Look) (may_answer : JobName → Given → Raw → Type 0) (dag : Dag) (intervals : List Interval) (text : List ℕ) (success : Bool) : Type 0 where
+  pub ledger : finite.FinMap name_cmp Entry
+  pub tries : HoldsItsTries dag (length intervals) (finite.get ledger)
+  pub again : AreAlike kept (finite.get ledger)
+  pub anew : AreGradedAnew kept may_answer dag (finite.get ledger)
+  pub reported : IsReportOf dag intervals (finite.get ledger) text success
+
+-- so it is with what is kept of this report where this seed is cleared
+pub record IsReportAfter (may_hear : Hearing) (answers : Option (List TableEntry)) (dag : Dag) (intervals : List Interval) (was : Report) (seed : Seed) (text : List ℕ) (success : Bool) : Type 0 where
+  pub kept : Look
+  pub kept_is : IsKeptOf dag intervals was seed kept
+  pub reported : IsReportFrom kept (MayAnswerBy may_hear answers dag intervals) dag intervals text success
+
+-- the table's bytes say these answers, where there is a table
+abbrev pub AreAnswersIn : Option (List ℕ) → Option (List TableEntry) → Type 0
+AreAnswersIn table answers = option_map table_of table ≡ option_map Ok answers
+
+-- the bytes say a graph, which has no fault, a table where there is one, and a report of the graph's runs in the range; and the
+-- text is the report of the backfill that goes on from it where the seed is cleared
+pub record IsClearReport (may_hear : Hearing) (graph : List ℕ) (file table : Option (List ℕ)) (report : List ℕ) (from to : ℤ) (seed : Seed) (text : List ℕ) (success : Bool) : Type 0 where
+  pub draft : Draft
+  pub answers : Option (List TableEntry)
+  pub found : List Interval
+  pub was : Report
+  pub graph_is : IsGraph graph file draft
+  pub table_says : AreAnswersIn table answers
+  pub listing : HasListing graph file from to (Ok found)
+  pub report_says : IsReadAs report was
+  pub reported : IsReportAfter may_hear answers (dag_of draft) found was seed text success
+
+-- ---- what goes wrong
+
+-- what the bytes of a graph and of a table come to over a range: a graph's tasks, its runs, and the answers where there is a table
+pub record IsPrepared (graph : List ℕ) (file table : Option (List ℕ)) (from to : ℤ) (dag : Dag) (found : List Interval) (answers : Option (List TableEntry)) : Type 0 where
+  pub draft : Draft
+  pub graph_is : IsGraph graph file draft
+  pub dag_is : dag ≡ dag_of draft
+  pub table_says : AreAnswersIn table answers
+  pub listing : HasListing graph file from to (Ok found)
+
+-- the graph, the table and the range have no fault
+pub record IsReady (graph : List ℕ) (file table : Option (List ℕ)) (from to : ℤ) : Type 0 where
+  pub dag : Dag
+  pub found : List Interval
+  pub answers : Option (List TableEntry)
+  pub prepared : IsPrepared graph file table from to dag found answers
+
+-- the fault is the first: those of the graph go before those of the table, where there is one, and those of the range come last
+abbrev pub IsFaultBefore : List ℕ → Option (List ℕ) → Option (List ℕ) → ℤ → ℤ → CommandFault → Type 0
+IsFaultBefore graph file table from to (Table fault) = (draft : Draft) × IsGraph graph file draft × (option_map table_of table ≡ Some (Err fault))
+IsFaultBefore graph file table from to (Range fault) = (answers : Option (List TableEntry)) × AreAnswersIn table answers × HasListing graph file from to (Err fault)
+IsFaultBefore graph file table from to fault = IsFaultIn graph file fault
+
+-- they have none, the bytes say a report, and the seed isn't cleared in it for this
+pub record IsUnclearable (graph : List ℕ) (file table : Option (List ℕ)) (report : List ℕ) (from to : ℤ) (seed : Seed) (fault : ClearFault) : Type 0 where
+  pub ready : IsReady graph file table from to
+  pub was : Report
+  pub report_says : IsReadAs report was
+  pub fault_is : clear_fault ready.dag ready.found was (seed ∷ []) ≡ Some fault
+
+-- where a table answers, a worker can't be started; else the backfill stops as one of programs does; or memory or the device is wanting
+abbrev pub IsStopOrWantingBy : Losing → Option (List TableEntry) → Dag → List Interval → CommandFault → Type 0
+IsStopOrWantingBy may_lose (Some entries) dag intervals fault = IsWantingWorkers fault
+IsStopOrWantingBy may_lose None dag intervals fault = IsStopOrWanting may_lose dag intervals fault
+
+-- they have none, and the backfill stops
+pub record StopsClearing (may_lose : Losing) (graph : List ℕ) (file table : Option (List ℕ)) (from to : ℤ) (stop : StopFault) : Type 0 where
+  pub ready : IsReady graph file table from to
+  pub stops : IsStopOrWantingBy may_lose ready.answers ready.dag ready.found (Stopped stop)
+
+-- ---- for private clauses
+
+-- the seed isn't cleared in the report; or the backfill stops; or memory or the device is wanting
+abbrev pub IsFaultAgain : Losing → Option (List TableEntry) → Dag → List Interval → Report → Seed → CommandFault → Type 0
+IsFaultAgain may_lose answers dag intervals was seed (NotCleared fault) = clear_fault dag intervals was (seed ∷ []) ≡ Some fault
+IsFaultAgain may_lose answers dag intervals was seed fault = IsStopOrWantingBy may_lose answers dag intervals fault
+
+-- the fault is that of the table's bytes, where there are some
+abbrev pub IsFaultOfNamed : Option (List ℕ) → CommandFault → Type 0
+IsFaultOfNamed table fault = (bytes : List ℕ) × (table ≡ Some bytes) × IsTableFault bytes fault
+
+-- a backfill that has ended, in which the kept tries stand as they are kept, and every other has the grade of an answer that may come
+pub record IsEndedFrom (kept : Look) (may_answer : JobName → Given → Raw → Type 0) (dag : Dag) (intervals : List Interval) (ended : Ended) : Type 0 where
+  pub outcome : IsOutcome dag (length intervals) ended.state
+  pub run_states : AreRunStates dag (entry_in ended.state.ledger) (length intervals) ended.run_states
+  pub again : AreAlike kept (entry_in ended.state.ledger)
+  pub anew : AreGradedAnew kept may_answer dag (entry_in ended.state.ledger)

@@ -1,0 +1,31 @@
+-- What the command `dry` reports: a run for each data interval of a range, over a table.
+use Rattle.std.specs.Prelude.{◌≡◌, ℕ, ℤ, Bool, List, Option, Ok, Err}
+use Rattle.bf_read.specs.declared.draft.Draft.{Draft}
+use Rattle.bf_check.specs.Checking.{dag_of}
+use Rattle.bf_interval.specs.declared.interval.Interval.{Interval}
+use Rattle.bf_try.specs.declared.table.TableEntry.{TableEntry}
+use Rattle.bf_try.specs.Tables.{table_of}
+use Rattle.bf_command_fault.specs.declared.fault.CommandFault.{CommandFault}
+use Rattle.bf_command_fault.specs.declared.fault.CommandFault.TheVariants.{Table, Range, CannotWrite, Stopped}
+use Rattle.bf_command_fault.specs.declared.stop.StopFault.{StopFault}
+use Rattle.bf_commands.specs.Graphs.{IsGraph, IsFaultIn}
+use Rattle.bf_commands.specs.Lists.{HasListing}
+use Rattle.bf_commands.specs.OverTable.{IsReportOver, IsTable}
+
+-- the bytes say a graph, which has no fault, and a table, and the text is the report of the graph's runs in the range over that
+pub record IsReportIn (graph : List ℕ) (file : Option (List ℕ)) (table : List ℕ) (from to : ℤ) (text : List ℕ) (success : Bool) : Type 0 where
+  pub draft : Draft
+  pub entries : List TableEntry
+  pub found : List Interval
+  pub graph_is : IsGraph graph file draft
+  pub table_says : table_of table ≡ Ok entries
+  pub listing : HasListing graph file from to (Ok found)
+  pub reported : IsReportOver (dag_of draft) entries found text success
+
+-- the fault is the first: those of the graph go before those of the table, and those of the range come last; or memory, a worker or the device is wanting
+abbrev pub IsFaultOfDry : List ℕ → Option (List ℕ) → List ℕ → ℤ → ℤ → CommandFault → Type 0
+IsFaultOfDry graph file table from to (Table fault) = (draft : Draft) × IsGraph graph file draft × (table_of table ≡ Err fault)
+IsFaultOfDry graph file table from to (Range fault) = IsTable table × HasListing graph file from to (Err fault)
+IsFaultOfDry graph file table from to (CannotWrite n) = Unit {0}
+IsFaultOfDry graph file table from to (Stopped stop) = stop ≡ StopFault.CannotStart
+IsFaultOfDry graph file table from to fault = IsFaultIn graph file fault

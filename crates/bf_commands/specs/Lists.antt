@@ -1,0 +1,54 @@
+-- What the command `list` prints: the data intervals of a graph's schedule that start in a range.
+use Rattle.std.specs.Prelude.{◌≡◌, ℕ, ℤ, pos, ◌≤ℤ◌, List, [], ◌∷◌, ◌++◌, Option, Result, Ok, Err}
+use Rattle.std.specs.List.{flat_map}
+use Rattle.jiff.specs.Types.{TimeZone}
+use Rattle.bf_cron.specs.declared.spec.CronSpec.{CronSpec}
+use Rattle.bf_zone.specs.Zones.{asked, IsZone}
+use Rattle.bf_read.specs.declared.draft.Draft.{Draft}
+use Rattle.bf_check.specs.Schedules.{Fires}
+use Rattle.bf_interval.specs.Intervals.{IsAnswer}
+use Rattle.bf_interval.specs.declared.fault.IntervalFault.{IntervalFault}
+use Rattle.bf_interval.specs.declared.interval.Interval.{Interval}
+use Rattle.bf_moment.specs.Moment.{moment_text}
+use Rattle.bf_command_fault.specs.declared.fault.CommandFault.{CommandFault}
+use Rattle.bf_command_fault.specs.declared.fault.CommandFault.TheVariants.{Range, OutOfMemory, CannotWrite}
+use Rattle.bf_commands.specs.Graphs.{IsGraph, IsFaultIn}
+
+-- the bytes say a graph without a fault, whose schedule in its zone has this answer for the range
+pub record HasListing (graph : List ℕ) (file : Option (List ℕ)) (from to : ℤ) (answer : Result (List Interval) IntervalFault) : Type 0 where
+  pub draft : Draft
+  pub graph_is : IsGraph graph file draft
+  pub schedule : CronSpec
+  pub fires : Fires draft.schedule schedule
+  pub zone : TimeZone
+  pub zone_is : IsZone (asked draft.zone) file zone
+  pub answers : IsAnswer schedule zone from to answer
+
+-- a data interval: its start and its end
+abbrev pub interval_line : Interval → List ℕ
+interval_line i = moment_text i.start.nanosecond ++ 32 ∷ moment_text i.end.nanosecond ++ 10 ∷ []
+
+abbrev pub intervals_text : List Interval → List ℕ
+intervals_text intervals = flat_map interval_line intervals
+
+-- the text has the lines of the data intervals
+pub record IsListIn (graph : List ℕ) (file : Option (List ℕ)) (from to : ℤ) (text : List ℕ) : Type 0 where
+  pub found : List Interval
+  pub listing : HasListing graph file from to (Ok found)
+  pub text_is : text ≡ intervals_text found
+
+-- the fault is the one that the range has; or memory is wanting
+abbrev pub IsRangeFault : List ℕ → Option (List ℕ) → ℤ → ℤ → CommandFault → Type 0
+IsRangeFault graph file from to (Range fault) = HasListing graph file from to (Err fault)
+IsRangeFault graph file from to OutOfMemory = Unit {0}
+IsRangeFault graph file from to _ = ⊥
+
+-- the fault is the first: those of the graph go before those of the range; or memory or the device is wanting
+abbrev pub IsFaultOfList : List ℕ → Option (List ℕ) → ℤ → ℤ → CommandFault → Type 0
+IsFaultOfList graph file from to (Range fault) = HasListing graph file from to (Err fault)
+IsFaultOfList graph file from to (CannotWrite n) = Unit {0}
+IsFaultOfList graph file from to fault = IsFaultIn graph file fault
+
+-- neither its start nor its end lies before 1970
+abbrev pub IsSince1970 : Interval → Type 0
+IsSince1970 i = (pos 0 ≤ℤ i.start.nanosecond) × (pos 0 ≤ℤ i.end.nanosecond)

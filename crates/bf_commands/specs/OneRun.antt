@@ -1,0 +1,34 @@
+-- What the command `single` reports: one run, at a moment, over a table.
+use Rattle.std.specs.Prelude.{◌≡◌, ℕ, Bool, List, [], ◌∷◌, Option, Ok, Err}
+use Rattle.jiff.specs.declared.timestamp.Timestamp.{Timestamp}
+use Rattle.bf_read.specs.declared.draft.Draft.{Draft}
+use Rattle.bf_check.specs.Checking.{dag_of}
+use Rattle.bf_interval.specs.declared.fault.IntervalFault.{IntervalFault}
+use Rattle.bf_interval.specs.declared.interval.Interval.{Interval}
+use Rattle.bf_interval.specs.Years.{IsInYears}
+use Rattle.bf_try.specs.declared.table.TableEntry.{TableEntry}
+use Rattle.bf_try.specs.Tables.{table_of}
+use Rattle.bf_command_fault.specs.declared.fault.CommandFault.{CommandFault}
+use Rattle.bf_command_fault.specs.declared.fault.CommandFault.TheVariants.{Table, Range, CannotWrite}
+use Rattle.bf_commands.specs.Graphs.{IsGraph, IsFaultIn}
+use Rattle.bf_commands.specs.OverTable.{IsReportOver, IsTable}
+
+-- the one interval of a run at a moment
+abbrev pub intervals_at : Timestamp → List Interval
+intervals_at at = record { start = at; end = at } ∷ []
+
+-- the bytes say a graph, which has no fault, and a table, and the text is the report of one run of this over that
+pub record IsReportAt (graph : List ℕ) (file : Option (List ℕ)) (table : List ℕ) (at : Timestamp) (text : List ℕ) (success : Bool) : Type 0 where
+  pub draft : Draft
+  pub entries : List TableEntry
+  pub graph_is : IsGraph graph file draft
+  pub table_says : table_of table ≡ Ok entries
+  pub in_years : IsInYears at.nanosecond
+  pub reported : IsReportOver (dag_of draft) entries (intervals_at at) text success
+
+-- the fault is the first: those of the graph go before those of the table, and the moment comes last; or memory or the device is wanting
+abbrev pub IsFaultOfSingle : List ℕ → Option (List ℕ) → List ℕ → Timestamp → CommandFault → Type 0
+IsFaultOfSingle graph file table at (Table fault) = (draft : Draft) × IsGraph graph file draft × (table_of table ≡ Err fault)
+IsFaultOfSingle graph file table at (Range fault) = (draft : Draft) × IsGraph graph file draft × IsTable table × (fault ≡ IntervalFault.OutsideYears) × ¬ (IsInYears at.nanosecond)
+IsFaultOfSingle graph file table at (CannotWrite n) = Unit {0}
+IsFaultOfSingle graph file table at fault = IsFaultIn graph file fault

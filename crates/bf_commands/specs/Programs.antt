@@ -1,0 +1,84 @@
+-- What the command `run` reports: a run for each data interval of a range, with the programs of its tasks.
+use Rattle.std.specs.Prelude.{◌≡◌, ℕ, ℤ, Bool, List, length, Option, Ok, Err, String, option_map, string_bytes}
+use Rattle.std.specs.Global.{Global}
+use Rattle.std.specs.FinMap as finite
+use Rattle.bf_value.specs.declared.name.JobName.{JobName}
+use Rattle.bf_value.specs.Names.{name_cmp}
+use Rattle.bf_read.specs.declared.draft.Draft.{Draft}
+use Rattle.bf_check.specs.Checking.{dag_of}
+use Rattle.bf_check.specs.Plans.{task_of}
+use Rattle.bf_check.specs.declared.plan.Dag.{Dag}
+use Rattle.bf_interval.specs.declared.interval.Interval.{Interval}
+use Rattle.bf_xcom.specs.declared.values.Given.{Given}
+use Rattle.bf_try.specs.declared.answers.Raw.{Raw}
+use Rattle.bf_try.specs.declared.ledger.Entry.{Entry}
+use Rattle.bf_core.specs.Agreement.{AreRunStates, HoldsItsTries, IsOutcome}
+use Rattle.bf_core.specs.Answered.{AreGraded}
+use Rattle.bf_core.specs.Events.{entry_in}
+use Rattle.bf_core.specs.declared.ended.Ended.{Ended}
+use Rattle.bf_process.specs.Words.{MayAnswer, MayGiveUp, lost_through, through}
+use Rattle.bf_command_fault.specs.declared.fault.CommandFault.{CommandFault}
+use Rattle.bf_command_fault.specs.declared.fault.CommandFault.TheVariants.{Range, CannotWrite, Stopped}
+use Rattle.bf_command_fault.specs.declared.stop.StopFault.{StopFault}
+use Rattle.bf_commands.specs.Graphs.{IsGraph, IsFaultIn}
+use Rattle.bf_commands.specs.Lists.{HasListing}
+use Rattle.bf_commands.specs.OverTable.{IsWanting}
+use Rattle.bf_commands.specs.Reported.{IsReportOf}
+
+-- what is heard of programs that are started by these words
+abbrev pub Hearing : Type 1
+Hearing = List (List ℕ) → Raw → Type 0
+
+-- which of them may be lost: they can't be waited for
+abbrev pub Losing : Type 1
+Losing = List (List ℕ) → Type 0
+
+-- what is heard of words that are handed to the launcher of this path, where there is one
+abbrev pub launched : Option (String Global) → Hearing → Hearing
+launched path may_hear = through (option_map string_bytes path) may_hear
+
+-- and which of them may be lost
+abbrev pub launched_lost : Option (String Global) → Losing → Losing
+launched_lost path may_lose = lost_through (option_map string_bytes path) may_lose
+
+-- the text is that of the recursion's report over the ledger of a backfill, whose tries have the grades of what is heard of the
+-- programs of their words; and whether every run of it is a success
+pub record IsReportBy (may_hear : Hearing) (dag : Dag) (intervals : List Interval) (text : List ℕ) (success : Bool) : Type 0 where
+  pub ledger : finite.FinMap name_cmp Entry
+  pub tries : HoldsItsTries dag (length intervals) (finite.get ledger)
+  pub graded : AreGraded (MayAnswer may_hear dag intervals) dag (finite.get ledger)
+  pub reported : IsReportOf dag intervals (finite.get ledger) text success
+
+-- the bytes say a graph, which has no fault, and the text is the report of its runs in the range, with the programs of its tasks
+pub record IsRunReport (may_hear : Hearing) (graph : List ℕ) (file : Option (List ℕ)) (from to : ℤ) (text : List ℕ) (success : Bool) : Type 0 where
+  pub draft : Draft
+  pub found : List Interval
+  pub graph_is : IsGraph graph file draft
+  pub listing : HasListing graph file from to (Ok found)
+  pub reported : IsReportBy may_hear (dag_of draft) found text success
+
+-- a worker can't be started; or the program of this try can't be waited for
+abbrev pub IsStop : Losing → Dag → List Interval → StopFault → Type 0
+IsStop may_lose dag intervals StopFault.CannotStart = Unit {0}
+IsStop may_lose dag intervals (StopFault.GaveUp task index attempt) =
+    (name : JobName) × (given : Given) × MayGiveUp may_lose dag intervals name given × (task ≡ (task_of dag name.task).id) × (index ≡ name.index) × (attempt ≡ name.attempt)
+
+-- the fault is the first: those of the graph go before those of the range; then the backfill stops; or memory or the device is wanting
+abbrev pub IsFaultOfRun : Losing → List ℕ → Option (List ℕ) → ℤ → ℤ → CommandFault → Type 0
+IsFaultOfRun may_lose graph file from to (Range fault) = HasListing graph file from to (Err fault)
+IsFaultOfRun may_lose graph file from to (CannotWrite n) = Unit {0}
+IsFaultOfRun may_lose graph file from to (Stopped stop) = (draft : Draft) × (found : List Interval) × IsGraph graph file draft × HasListing graph file from to (Ok found) × IsStop may_lose (dag_of draft) found stop
+IsFaultOfRun may_lose graph file from to fault = IsFaultIn graph file fault
+
+-- ---- for private clauses
+
+-- a backfill that has ended, whose tries have the grades of what is heard of the programs of their words
+pub record IsEndedBy (may_hear : Hearing) (dag : Dag) (intervals : List Interval) (ended : Ended) : Type 0 where
+  pub outcome : IsOutcome dag (length intervals) ended.state
+  pub run_states : AreRunStates dag (entry_in ended.state.ledger) (length intervals) ended.run_states
+  pub graded : AreGraded (MayAnswer may_hear dag intervals) dag (entry_in ended.state.ledger)
+
+-- the backfill stops; or memory or the device is wanting
+abbrev pub IsStopOrWanting : Losing → Dag → List Interval → CommandFault → Type 0
+IsStopOrWanting may_lose dag intervals (Stopped stop) = IsStop may_lose dag intervals stop
+IsStopOrWanting may_lose dag intervals fault = IsWanting fault

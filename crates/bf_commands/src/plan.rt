@@ -1,0 +1,60 @@
+//! The plans of graph files.
+ghost use Rattle.std.specs.Prelude.{◌≡◌, ℕ, List, Option, option_map, IfOk, IfErr, Ok};
+ghost use Rattle.bf_commands.specs.Graphs.{IsFileOf, IsFaultIn, IsPlanOf, IsTimed};
+ghost use Rattle.bf_commands.specs.Lists.{HasListing, IsRangeFault};
+
+use crate::range::MomentRange;
+use bf_check::{Plan, Zone, check};
+use bf_command_fault::CommandFault;
+use bf_interval::{Interval, intervals};
+use bf_read::{Draft, read_graph};
+use std::alloc::Global;
+
+/// The plan of a graph file, and the zone of its schedule.
+#[derive(Drop)]
+pub(crate) struct TimedPlan {
+    pub(crate) plan: Plan,
+    zone: Zone,
+}
+
+impl TimedPlan {
+    /// The data intervals of the plan's schedule that start in the range.
+    pub(crate) fn intervals(
+        &self,
+        alloc: Global,
+        range: MomentRange,
+    ) -> Result<Vec<Interval>, CommandFault>
+        ensures ok { IfOk result (λ found. (graph : List ℕ) (file : Option (List ℕ)) → IsTimed graph file self.now.plan.schedule self.now.zone
+            → HasListing graph file range.from.nanosecond range.to.nanosecond (Ok found.items)) }
+        ensures fault { IfErr result (λ f. (graph : List ℕ) (file : Option (List ℕ)) → IsTimed graph file self.now.plan.schedule self.now.zone
+            → IsRangeFault graph file range.from.nanosecond range.to.nanosecond f) }
+    {
+        let zone = self.zone.as_time_zone();
+        let found = intervals(alloc, self.plan.schedule(), &zone, range.from, range.to)?;
+        Ok(found)
+    }
+}
+
+/// What a graph file says.
+pub(crate) fn draft_in(alloc: Global, graph: &[u8]) -> Result<Draft, CommandFault>
+    ensures ok { IfOk result (IsFileOf graph.now) }
+    ensures fault { IfErr result (λ f. (file : Option (List ℕ)) → IsFaultIn graph.now file f) }
+{
+    let draft = read_graph(alloc, graph)?;
+    Ok(draft)
+}
+
+/// The plan of a graph file, with its zone.
+pub(crate) fn timed_plan_in(
+    alloc: Global,
+    graph: &[u8],
+    zone_file: Option<&[u8]>,
+) -> Result<TimedPlan, CommandFault>
+    ensures plan { IfOk result (λ timed. IsPlanOf graph.now (option_map (λ s. s.now) zone_file.entry) timed.plan) }
+    ensures zone { IfOk result (λ timed. IsTimed graph.now (option_map (λ s. s.now) zone_file.entry) timed.plan.schedule timed.zone) }
+    ensures fault { IfErr result (IsFaultIn graph.now (option_map (λ s. s.now) zone_file.entry)) }
+{
+    let draft = draft_in(alloc, graph)?;
+    let (plan, zone) = check(alloc, draft, zone_file)?;
+    Ok(TimedPlan { plan, zone })
+}
