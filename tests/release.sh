@@ -47,6 +47,12 @@ tar -x -f "dist/$name.tar.gz" -C "$work/unpacked"
     git ls-files examples
 } | sed "s#^#./$name/#" | sort > "$work/wanted"
 holds 'the files' diff "$work/wanted" "$work/found"
+for format in graph table; do
+    holds "the schema $format" cmp "$work/unpacked/$name/schemas/$format.schema.json" <("$program" schema "$format")
+done
+for shell in bash zsh fish; do
+    holds "the completions of $shell" cmp "$work/unpacked/$name/completions/backfill.$shell" <("$program" completions "$shell")
+done
 cd "$work/unpacked/$name"
 while IFS= read -r line; do
     holds "in the archive: $line" bash -c "($line) < /dev/null || [[ \$? -eq 1 ]]"

@@ -1,5 +1,5 @@
 #!/usr/bin/env bash
-# Holds the schemas of graph files and tables beside the program: over good and bad files, `check` and `dry` answer as it is told
+# Holds the schemas that `schema` prints beside the rest of the program: over good and bad files, `check` and `dry` answer as it is told
 # here, which was worked out by hand from docs/FORMATS.md, and the schema refuses just what they refuse as 2, 3, 5, 10 and 19. A row
 # `beyond N` is one that the program refuses by N and no schema can tell: a number written as 1.0 or -0, bytes of letters that have
 # several, sums over the file, a day that its month doesn't have. The keys of the schemas, their defaults and limits are compared with
@@ -450,16 +450,16 @@ import sys
 
 from jsonschema import Draft202012Validator
 
-schema = json.loads(pathlib.Path(sys.argv[1]).read_text())
+schema = json.load(sys.stdin)
 Draft202012Validator.check_schema(schema)
 validator = Draft202012Validator(schema)
-for line in pathlib.Path(sys.argv[2], "wanted").read_text().splitlines():
+for line in pathlib.Path(sys.argv[1], "wanted").read_text().splitlines():
     name = line.split(" ")[0]
-    value = json.loads(pathlib.Path(sys.argv[2], name).read_bytes())
+    value = json.loads(pathlib.Path(sys.argv[1], name).read_bytes())
     print(name, "accepted" if validator.is_valid(value) else "refused")
 PY
 for kind in graph table; do
-    python3 "$work/validate.py" "$root/schemas/$kind.schema.json" "$work/$kind" > "$work/said"
+    "$program" schema "$kind" | python3 "$work/validate.py" "$work/$kind" > "$work/said"
     rows=$((rows + $(wc -l < "$work/$kind/wanted")))
     while read -r name wanted; do
         differs "the schema of a $kind is to have $wanted: $(head -c 300 "$work/$kind/$name")"
@@ -471,10 +471,15 @@ cat > "$work/keys.py" <<'PY'
 import json
 import pathlib
 import re
+import subprocess
 import sys
 
-root = pathlib.Path(sys.argv[1])
-page = (root / "docs/FORMATS.md").read_text()
+program = sys.argv[1]
+page = pathlib.Path(sys.argv[2]).read_text()
+
+
+def schema_of(format):
+    return json.loads(subprocess.check_output([program, "schema", format]))
 
 
 def table_behind(words):
@@ -533,14 +538,14 @@ def compare(name, schema, held, rows, defaults_in_column):
                 print(f"{name}, {key}: the limits of the page are {least} and {most}")
 
 
-graph = json.loads((root / "schemas/graph.schema.json").read_text())
+graph = schema_of("graph")
 compare("graph", graph, graph, table_behind("## Graph file"), True)
 compare("task", graph, graph["$defs"]["task"], table_behind("A task object has these keys."), True)
-answers = json.loads((root / "schemas/table.schema.json").read_text())
+answers = schema_of("table")
 compare("table", answers, answers["items"], table_behind("## Table of answers"), False)
 PY
 rows=$((rows + 1))
-[[ -z $(python3 "$work/keys.py" "$root" | tee "$work/told") ]] || differs "the keys: $(< "$work/told")"
+[[ -z $(python3 "$work/keys.py" "$program" "$root/docs/FORMATS.md" | tee "$work/told") ]] || differs "the keys: $(< "$work/told")"
 
 echo "$((rows - differing)) passed, $differing failed"
 [[ $differing -eq 0 ]]

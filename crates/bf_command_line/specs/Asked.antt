@@ -4,10 +4,14 @@ use Rattle.std.specs.declared.alloc.Global.{Global}
 use Rattle.std.specs.Str.Parse.{ParsesUnsigned}
 use Rattle.clap.specs.Words.{Row, Text, first_of}
 use Rattle.bf_command_line.specs.declared.forms.Asked.{Asked}
-use Rattle.bf_command_line.specs.declared.forms.Asked.TheVariants.{Check, Clear, Dry, List as Intervals, Run, Single}
+use Rattle.bf_command_line.specs.declared.forms.Asked.TheVariants.{Check, Clear, Completions, Dry, List as Intervals, Run, Schema, Single}
+use Rattle.bf_command_line.specs.declared.forms.Format.{Format}
+use Rattle.bf_command_line.specs.declared.forms.Format.TheVariants as format
 use Rattle.bf_command_line.specs.declared.forms.GraphAsked.{GraphAsked}
 use Rattle.bf_command_line.specs.declared.forms.RangeAsked.{RangeAsked}
 use Rattle.bf_command_line.specs.declared.forms.SeedAsked.{SeedAsked}
+use Rattle.bf_command_line.specs.declared.forms.Shell.{Shell}
+use Rattle.bf_command_line.specs.declared.forms.Shell.TheVariants.{Bash, Fish, Zsh}
 
 -- the paths of a graph file and of a zone file
 abbrev pub IsGraphBy : List Row → GraphAsked → Type 0
@@ -46,6 +50,25 @@ IsProgressBy rows told = told ≡ says_true (first_of (codes "progress") rows)
 abbrev pub IsLauncherBy : List Row → Option (String Global) → Type 0
 IsLauncherBy rows launcher = first_of (codes "launcher") rows ≡ option_map string_bytes launcher
 
+-- the word of a format
+abbrev pub format_word : Format → Text
+format_word format.Graph = codes "graph"
+format_word format.Table = codes "table"
+
+-- the format whose schema is printed
+abbrev pub IsFormatBy : List Row → Format → Type 0
+IsFormatBy rows format = first_of (codes "format") rows ≡ Some (format_word format)
+
+-- the word of a shell
+abbrev pub shell_word : Shell → Text
+shell_word Bash = codes "bash"
+shell_word Zsh = codes "zsh"
+shell_word Fish = codes "fish"
+
+-- the shell whose completions are printed
+abbrev pub IsShellBy : List Row → Shell → Type 0
+IsShellBy rows shell = first_of (codes "shell") rows ≡ Some (shell_word shell)
+
 -- the subcommand's name, and the value of each of its arguments
 abbrev pub IsAskedBy : Option (Text × List Row) → Asked → Type 0
 IsAskedBy None a = ⊥
@@ -78,3 +101,5 @@ IsAskedBy (Some (name, rows)) (Clear c) = (name ≡ codes "clear")
     × IsWorkersBy rows c.workers
     × IsProgressBy rows c.progress
     × IsLauncherBy rows c.launcher
+IsAskedBy (Some (name, rows)) (Schema format) = (name ≡ codes "schema") × IsFormatBy rows format
+IsAskedBy (Some (name, rows)) (Completions shell) = (name ≡ codes "completions") × IsShellBy rows shell

@@ -57,6 +57,14 @@ progress_rule = record (new_rule (codes "progress")) { long = Some (codes "progr
 abbrev pub launcher_rule : Rule
 launcher_rule = record (new_rule (codes "launcher")) { long = Some (codes "launcher"); value_names = 1 }
 
+-- `FORMAT`
+abbrev pub format_rule : Rule
+format_rule = record (new_rule (codes "format")) { value_names = 1; required = true }
+
+-- `SHELL`
+abbrev pub shell_rule : Rule
+shell_rule = record (new_rule (codes "shell")) { value_names = 1; required = true }
+
 -- `check GRAPH [--zone-file PATH]`
 abbrev pub check_app : App
 check_app = with_rule (with_rule (new_app (codes "check")) graph_rule) zone_file_rule
@@ -93,6 +101,14 @@ clearing_app = seeded_app (with_rule (with_rule (with_rule (new_app (codes "clea
 abbrev pub clear_app : App
 clear_app = with_rule (ranged_app (with_rule clearing_app optional_table_rule)) launcher_rule
 
+-- `schema FORMAT`
+abbrev pub schema_app : App
+schema_app = with_rule (new_app (codes "schema")) format_rule
+
+-- `completions SHELL`
+abbrev pub completions_app : App
+completions_app = with_rule (new_app (codes "completions")) shell_rule
+
 -- `backfill`, which has a version, wants a subcommand, and without a word shows its help
 abbrev pub bare_app : App
 bare_app = record {
@@ -108,5 +124,9 @@ looking_app = with_subcommand (with_subcommand bare_app check_app.top) list_app.
 abbrev pub answered_app : App
 answered_app = with_subcommand (with_subcommand looking_app single_app.top) dry_app.top
 
+-- and those that start programs
+abbrev pub running_app : App
+running_app = with_subcommand (with_subcommand answered_app run_app.top) clear_app.top
+
 abbrev pub backfill_app : App
-backfill_app = with_subcommand (with_subcommand answered_app run_app.top) clear_app.top
+backfill_app = with_subcommand (with_subcommand running_app schema_app.top) completions_app.top

@@ -1,10 +1,11 @@
 //! The command line as `clap` reads it.
 ghost use Rattle.std.specs.Prelude.{◌≡◌, IfOk, false};
-ghost use Rattle.clap.specs.Words.{app_of, new_app, rule_of};
+ghost use Rattle.clap.specs.Words.{app_of, kind_of, new_app, rule_of};
 ghost use Rattle.clap.specs.declared.builder.command.Command.TheViews.{out-Command};
-ghost use Rattle.bf_command_line.specs.CommandLine.{answered_app, backfill_app, looking_app, check_app, clear_app, clearing_app, dry_app, list_app, ranged_app, run_app, seeded_app, single_app, graph_rule, zone_file_rule, table_rule, optional_table_rule, report_rule, task_rule, run_rule, at_rule, from_rule, to_rule, workers_rule, progress_rule, launcher_rule};
+ghost use Rattle.bf_command_line.specs.CommandLine.{answered_app, backfill_app, looking_app, check_app, clear_app, clearing_app, dry_app, completions_app, list_app, ranged_app, run_app, running_app, schema_app, seeded_app, single_app, format_rule, graph_rule, zone_file_rule, table_rule, optional_table_rule, report_rule, task_rule, run_rule, at_rule, from_rule, to_rule, workers_rule, progress_rule, launcher_rule, shell_rule};
 
-use clap::{Arg, ArgAction, Command, value_parser};
+use clap::error::ErrorKind;
+use clap::{Arg, ArgAction, Command, Error, value_parser};
 use std::alloc::{AllocError, Global};
 
 /// The number of the version, as in the file VERSION.
@@ -29,6 +30,18 @@ const RUN_EXAMPLES: &str = "Examples:\n\
 const CLEAR_EXAMPLES: &str = "Examples, the first of which makes the report of the second:\n\
     \x20 backfill run --from 2024-01-01 --to 2024-01-07 examples/extract_transform_load/graph.json > report\n\
     \x20 backfill clear --from 2024-01-01 --to 2024-01-07 --task load --run 2024-01-03 examples/extract_transform_load/graph.json report";
+
+const SCHEMA_EXAMPLE: &str = "Example:\n\
+    \x20 backfill schema graph > graph.schema.json";
+
+const COMPLETIONS_EXAMPLE: &str = "Example, of a file for bash to source:\n\
+    \x20 backfill completions bash > backfill.bash";
+
+const NO_FORMAT: &str = "invalid value for '<FORMAT>'\n\
+    \x20 [possible values: graph, table]";
+
+const NO_SHELL: &str = "invalid value for '<SHELL>'\n\
+    \x20 [possible values: bash, zsh, fish]";
 
 fn graph<'a>(alloc: Global) -> Arg<'a>
     ensures rule { rule_of result ≡ graph_rule }
@@ -174,6 +187,26 @@ fn launcher<'a>(alloc: Global) -> Arg<'a>
         )
 }
 
+fn format<'a>(alloc: Global) -> Arg<'a>
+    ensures rule { rule_of result ≡ format_rule }
+    ensures local { result.global ≡ false }
+{
+    Arg::new(alloc, "format")
+        .value_name("FORMAT")
+        .help("The format of the files, graph or table")
+        .required(true)
+}
+
+fn shell<'a>(alloc: Global) -> Arg<'a>
+    ensures rule { rule_of result ≡ shell_rule }
+    ensures local { result.global ≡ false }
+{
+    Arg::new(alloc, "shell")
+        .value_name("SHELL")
+        .help("The shell, bash, zsh or fish")
+        .required(true)
+}
+
 /// A subcommand with what its help says.
 fn subcommand<'a>(alloc: Global, name: &'a str, about: &'a str, examples: &'a str) -> Command<'a>
     ensures app { app_of result ≡ new_app name.entry.now }
@@ -306,6 +339,32 @@ fn clear<'a>(alloc: Global) -> Result<Command<'a>, AllocError>
     ranged(alloc, command)?.arg(launcher(alloc))
 }
 
+fn schema<'a>(alloc: Global) -> Result<Command<'a>, AllocError>
+    ensures app { IfOk result (λ c. app_of c ≡ schema_app) }
+    ensures local { IfOk result (λ c. (out-Command c).has_globals ≡ false) }
+{
+    subcommand(
+        alloc,
+        "schema",
+        "Prints the JSON Schema of graph files or tables, for editors",
+        SCHEMA_EXAMPLE,
+    )
+    .arg(format(alloc))
+}
+
+fn completions<'a>(alloc: Global) -> Result<Command<'a>, AllocError>
+    ensures app { IfOk result (λ c. app_of c ≡ completions_app) }
+    ensures local { IfOk result (λ c. (out-Command c).has_globals ≡ false) }
+{
+    subcommand(
+        alloc,
+        "completions",
+        "Prints what a shell completes of a command line",
+        COMPLETIONS_EXAMPLE,
+    )
+    .arg(shell(alloc))
+}
+
 /// The line with the commands that look at a graph alone.
 fn looking<'a>(alloc: Global) -> Result<Command<'a>, AllocError>
     ensures { IfOk result (λ c. app_of c ≡ looking_app) }
@@ -328,11 +387,38 @@ fn answered<'a>(alloc: Global) -> Result<Command<'a>, AllocError>
         .subcommand(dry(alloc)?)
 }
 
-/// The whole command line.
-pub(crate) fn backfill<'a>(alloc: Global) -> Result<Command<'a>, AllocError>
-    ensures { IfOk result (λ c. app_of c ≡ backfill_app) }
+/// The line with the commands that start programs too.
+fn running<'a>(alloc: Global) -> Result<Command<'a>, AllocError>
+    ensures { IfOk result (λ c. app_of c ≡ running_app) }
 {
     answered(alloc)?
         .subcommand(run(alloc)?)?
         .subcommand(clear(alloc)?)
+}
+
+/// The whole command line.
+pub(crate) fn backfill<'a>(alloc: Global) -> Result<Command<'a>, AllocError>
+    ensures { IfOk result (λ c. app_of c ≡ backfill_app) }
+{
+    running(alloc)?
+        .subcommand(schema(alloc)?)?
+        .subcommand(completions(alloc)?)
+}
+
+/// What is said of a word that is no format.
+pub(crate) fn no_format(alloc: Global) -> Result<Error, AllocError>
+    ensures { IfOk result (λ e. kind_of e ≡ ErrorKind.InvalidValue) }
+{
+    schema(alloc)?
+        .bin_name("backfill schema")?
+        .error(ErrorKind::InvalidValue, NO_FORMAT)
+}
+
+/// What is said of a word that is no shell.
+pub(crate) fn no_shell(alloc: Global) -> Result<Error, AllocError>
+    ensures { IfOk result (λ e. kind_of e ≡ ErrorKind.InvalidValue) }
+{
+    completions(alloc)?
+        .bin_name("backfill completions")?
+        .error(ErrorKind::InvalidValue, NO_SHELL)
 }

@@ -76,6 +76,21 @@ pub struct ClearAsked {
     pub launcher: Option<String>,
 }
 
+/// A format that a file of its own is written in, and that has a schema.
+#[derive(Clone, Copy, Debug, PartialEq, Eq)]
+pub enum Format {
+    Graph,
+    Table,
+}
+
+/// A shell that completes command lines.
+#[derive(Clone, Copy, Debug, PartialEq, Eq)]
+pub enum Shell {
+    Bash,
+    Zsh,
+    Fish,
+}
+
 /// A subcommand with its paths and options.
 #[derive(Debug, Drop)]
 pub enum Asked {
@@ -86,4 +101,8 @@ pub enum Asked {
     Dry(DryAsked),
     Run(RunAsked),
     Clear(ClearAsked),
+    /// `schema FORMAT`: the schema of the files of a format.
+    Schema(Format),
+    /// `completions SHELL`: what a shell completes.
+    Completions(Shell),
 }

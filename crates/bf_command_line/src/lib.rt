@@ -7,8 +7,8 @@ mod reading;
 mod workers;
 
 pub use forms::{
-    Asked, ClearAsked, DryAsked, GraphAsked, ListAsked, RangeAsked, RunAsked, SeedAsked,
-    SingleAsked,
+    Asked, ClearAsked, DryAsked, Format, GraphAsked, ListAsked, RangeAsked, RunAsked, SeedAsked,
+    Shell, SingleAsked,
 };
 pub use reading::asked;
 pub use workers::Workers;

@@ -2,12 +2,13 @@
 ghost use Rattle.std.specs.Prelude.{◌≡◌, IfOk, map, option_map, string_bytes, Some, codes};
 ghost use Rattle.clap.specs.Words.{fault_of, FailsBy, subcommand_of, first_of, found_of, rows_of, subcommand_rows_of};
 ghost use Rattle.bf_command_line.specs.CommandLine.{backfill_app};
-ghost use Rattle.bf_command_line.specs.Asked.{IsAskedBy, IsGraphBy, IsLauncherBy, IsProgressBy, IsRangeBy, IsSeedBy, IsWorkersBy};
+ghost use Rattle.bf_command_line.specs.Wrongs.{format_words, found_wrongs, shell_words, value_wrongs, wrongs_of};
+ghost use Rattle.bf_command_line.specs.Asked.{IsAskedBy, IsFormatBy, IsGraphBy, IsLauncherBy, IsProgressBy, IsRangeBy, IsSeedBy, IsShellBy, IsWorkersBy};
 
-use crate::command::backfill;
+use crate::command::{backfill, no_format, no_shell};
 use crate::forms::{
-    Asked, ClearAsked, DryAsked, GraphAsked, ListAsked, RangeAsked, RunAsked, SeedAsked,
-    SingleAsked,
+    Asked, ClearAsked, DryAsked, Format, GraphAsked, ListAsked, RangeAsked, RunAsked, SeedAsked,
+    Shell, SingleAsked,
 };
 use crate::workers::Workers;
 use clap::{ArgMatches, Error};
@@ -19,11 +20,10 @@ use std::alloc::{AllocError, Global};
 /// `clap`'s, with its words on a wrong line and its help where that was asked for.
 pub fn asked(alloc: Global, words: &[String]) -> Result<Asked, Error>
     ensures ok { IfOk result (IsAskedBy (subcommand_of backfill_app (map string_bytes words.now))) }
-    ensures err { FailsBy (fault_of backfill_app (map string_bytes words.now)) result }
+    ensures err { FailsBy (wrongs_of (map string_bytes words.now)) result }
 {
     let matches = matches_of(alloc, words)?;
-    let asked = subcommand_asked(alloc, &matches)?;
-    Ok(asked)
+    subcommand_asked(alloc, &matches)
 }
 
 fn matches_of<'a>(alloc: Global, words: &'a [String]) -> Result<ArgMatches<'a>, Error>
@@ -35,8 +35,9 @@ fn matches_of<'a>(alloc: Global, words: &'a [String]) -> Result<ArgMatches<'a>, 
 
 // `clap` has seen to it that a subcommand and what it requires are there. No contract hands this on
 // for a subcommand's own arguments, so that the arms without them answer as want of memory does.
-fn subcommand_asked(alloc: Global, matches: &ArgMatches<'_>) -> Result<Asked, AllocError>
-    ensures { IfOk result (IsAskedBy (subcommand_rows_of matches.now)) }
+fn subcommand_asked(alloc: Global, matches: &ArgMatches<'_>) -> Result<Asked, Error>
+    ensures ok { IfOk result (IsAskedBy (subcommand_rows_of matches.now)) }
+    ensures err { FailsBy (found_wrongs (subcommand_rows_of matches.now)) result }
 {
     match matches.subcommand() {
         Some(("check", inner)) => Ok(Asked::Check(graph_asked(alloc, inner)?)),
@@ -45,7 +46,9 @@ fn subcommand_asked(alloc: Global, matches: &ArgMatches<'_>) -> Result<Asked, Al
         Some(("dry", inner)) => Ok(Asked::Dry(dry_asked(alloc, inner)?)),
         Some(("run", inner)) => Ok(Asked::Run(run_asked(alloc, inner)?)),
         Some(("clear", inner)) => Ok(Asked::Clear(clear_asked(alloc, inner)?)),
-        _ => Err(AllocError),
+        Some(("schema", inner)) => Ok(Asked::Schema(format_asked(alloc, inner)?)),
+        Some(("completions", inner)) => Ok(Asked::Completions(shell_asked(alloc, inner)?)),
+        _ => Err(AllocError.into()),
     }
 }
 
@@ -167,6 +170,34 @@ fn clear_asked(alloc: Global, matches: &ArgMatches<'_>) -> Result<ClearAsked, Al
         progress: progress_asked(matches),
         launcher: launcher_asked(alloc, matches)?,
     })
+}
+
+// `clap` is handed no list of possible values: a clause can't tell where such a list lies, and so not which line has it.
+#[tactic(auto, using(crate::proofs::Rows::first_rows))]
+fn format_asked(alloc: Global, matches: &ArgMatches<'_>) -> Result<Format, Error>
+    ensures ok { IfOk result (IsFormatBy (rows_of (found_of matches.now))) }
+    ensures err { FailsBy (value_wrongs format_words (first_of (codes "format") (rows_of (found_of matches.now)))) result }
+{
+    match matches.get_str("format") {
+        Some("graph") => Ok(Format::Graph),
+        Some("table") => Ok(Format::Table),
+        Some(_) => Err(no_format(alloc)?),
+        None => Err(AllocError.into()),
+    }
+}
+
+#[tactic(auto, using(crate::proofs::Rows::first_rows))]
+fn shell_asked(alloc: Global, matches: &ArgMatches<'_>) -> Result<Shell, Error>
+    ensures ok { IfOk result (IsShellBy (rows_of (found_of matches.now))) }
+    ensures err { FailsBy (value_wrongs shell_words (first_of (codes "shell") (rows_of (found_of matches.now)))) result }
+{
+    match matches.get_str("shell") {
+        Some("bash") => Ok(Shell::Bash),
+        Some("zsh") => Ok(Shell::Zsh),
+        Some("fish") => Ok(Shell::Fish),
+        Some(_) => Err(no_shell(alloc)?),
+        None => Err(AllocError.into()),
+    }
 }
 
 #[tactic(auto, using(crate::proofs::Rows::first_rows))]

@@ -64,6 +64,8 @@ answer_low may_hear files (asked.Single a) text status is = rw is.status_is (run
 answer_low may_hear files (asked.Dry a) text status is = rw is.status_is (runs_low is.succeeded)
 answer_low may_hear files (asked.Run a) text status is = rw is.status_is (runs_low is.succeeded)
 answer_low may_hear files (asked.Clear a) text status is = rw is.status_is (runs_low is.succeeded)
+answer_low may_hear files (asked.Schema format) text status is = rw is.0 (omega arith)
+answer_low may_hear files (asked.Completions shell) text status is = rw is.0 (omega arith)
 
 pub done_low : (may_hear : Hearing) (files : Files) (matched : Option (Text × List Row)) (before after : Option (List ℕ)) (code : ℕ) → IsDone may_hear files matched before after code → code ≤ 1
 done_low may_hear files matched before after code is = rw is.code_is (answer_low may_hear files is.asked is.text is.status is.answer)

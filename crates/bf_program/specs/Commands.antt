@@ -1,12 +1,12 @@
 -- What the commands come to, by what the files hold that they name.
 use Rattle.std.specs.Prelude.{◌≡◌, ◌≢◌, ◌≤◌, ◌⊎◌, ℕ, ℤ, Bool, List, [], ◌∷◌, ◌++◌, length, take, All, Option, Some, None, String, map, option_map, codes, decimal, string_bytes}
 use Rattle.std.specs.Global.{Global}
-use Rattle.clap.specs.Words.{Kinds, Row, Text, fault_of, subcommand_of}
+use Rattle.clap.specs.Words.{Kinds, Row, Text, subcommand_of}
 use Rattle.jiff.specs.declared.timestamp.Timestamp.{Timestamp}
 use Rattle.bf_moment.specs.Moment.{Spells, nearest}
 use Rattle.bf_report.specs.Device.{sent}
 use Rattle.bf_command_line.specs.declared.forms.Asked.{Asked}
-use Rattle.bf_command_line.specs.declared.forms.Asked.TheVariants.{Check, Clear, Dry, List as Intervals, Run, Single}
+use Rattle.bf_command_line.specs.declared.forms.Asked.TheVariants.{Check, Clear, Completions, Dry, List as Intervals, Run, Schema, Single}
 use Rattle.bf_command_line.specs.declared.forms.ClearAsked.{ClearAsked}
 use Rattle.bf_command_line.specs.declared.forms.DryAsked.{DryAsked}
 use Rattle.bf_command_line.specs.declared.forms.GraphAsked.{GraphAsked}
@@ -18,6 +18,7 @@ use Rattle.bf_command_line.specs.declared.forms.SingleAsked.{SingleAsked}
 use Rattle.bf_dependents.specs.declared.seeds.Seed.{Seed}
 use Rattle.bf_command_line.specs.Asked.{IsAskedBy}
 use Rattle.bf_command_line.specs.CommandLine.{backfill_app}
+use Rattle.bf_command_line.specs.Wrongs as line
 use Rattle.bf_report_reader.specs.Faults.{Tells as TellsFault}
 use Rattle.bf_command_fault.specs.declared.fault.CommandFault.{CommandFault}
 use Rattle.bf_command_fault.specs.declared.fault.CommandFault.TheVariants.{BadMoment, Clear as NotCleared, OutOfMemory, CannotRead, CannotWrite, Report as BadReport, Stopped}
@@ -32,14 +33,15 @@ use Rattle.bf_commands.specs.Graphs.{IsFaultIn, IsSizeOf}
 use Rattle.bf_commands.specs.Lists.{IsFaultOfList, IsListIn}
 use Rattle.bf_commands.specs.OneRun.{IsFaultOfSingle, IsReportAt}
 use Rattle.bf_commands.specs.Programs.{Hearing, Losing, IsFaultOfRun, IsRunReport, launched, launched_lost}
+use Rattle.bf_program.specs.Texts.{IsDeviceFault, IsPrinted, completions_text, schema_text}
 
 -- ---- the words of a line
 
--- what `clap` finds wrong with them
+-- what is wrong with them
 abbrev pub wrongs_of : List (String Global) → Kinds
-wrongs_of words = fault_of backfill_app (map string_bytes words)
+wrongs_of words = line.wrongs_of (map string_bytes words)
 
--- the subcommand that it finds in them, with its arguments
+-- the subcommand that `clap` finds in them, with its arguments
 abbrev pub found_in : List (String Global) → Option (Text × List Row)
 found_in words = subcommand_of backfill_app (map string_bytes words)
 
@@ -214,6 +216,8 @@ IsAnswer may_hear files (Single asked) text status = IsSingleAnswer files asked 
 IsAnswer may_hear files (Dry asked) text status = IsDryAnswer files asked text status
 IsAnswer may_hear files (Run asked) text status = IsRunAnswer may_hear files asked text status
 IsAnswer may_hear files (Clear asked) text status = IsClearAnswer may_hear files asked text status
+IsAnswer may_hear files (Schema format) text status = IsPrinted (schema_text format) text status
+IsAnswer may_hear files (Completions shell) text status = IsPrinted (completions_text shell) text status
 
 -- the subcommand that was found was answered so: its text is all that went out, behind what had gone out before, and that is the exit status
 pub record IsDone (may_hear : Hearing) (files : Files) (matched : Option (Text × List Row)) (before after : Option (List ℕ)) (code : ℕ) : Type 0 where
@@ -300,6 +304,8 @@ IsFault may_lose files (Single asked) fault = IsSingleFault files asked fault
 IsFault may_lose files (Dry asked) fault = IsDryFault files asked fault
 IsFault may_lose files (Run asked) fault = IsRunFault may_lose files asked fault
 IsFault may_lose files (Clear asked) fault = IsClearFault may_lose files asked fault
+IsFault may_lose files (Schema format) fault = IsDeviceFault fault
+IsFault may_lose files (Completions shell) fault = IsDeviceFault fault
 
 -- the fault is one of the subcommand that was found, and this is what it leaves
 pub record IsFaulted (may_hear : Hearing) (may_lose : Losing) (files : Files) (matched : Option (Text × List Row)) (Halted : Type 0) (before after : Option (List ℕ)) (fault : CommandFault) : Type 0 where

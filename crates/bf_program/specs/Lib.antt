@@ -1,5 +1,6 @@
 pub mod Source
 pub mod Stored
 pub mod Shown
+pub mod Texts
 pub mod Commands
 pub mod Files

@@ -12,6 +12,7 @@ mod run;
 mod single;
 mod source;
 mod stored;
+mod texts;
 
 pub use disk::Disk;
 pub use program::answer;

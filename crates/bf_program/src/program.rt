@@ -15,6 +15,7 @@ use crate::list::list_answered;
 use crate::run::run_answered;
 use crate::single::single_answered;
 use crate::source::Source;
+use crate::texts::{completions_answered, schema_answered};
 use bf_command_fault::{CommandFault, Status};
 use bf_command_line::{Asked, asked};
 use bf_commands::Screen;
@@ -28,9 +29,9 @@ use std::thread::Threads;
 use std::time::Clock;
 
 /// Answers a command line, of which the first word is the program's own name. Files are read from `files`, the
-/// report, the size of a graph, the intervals or help goes to `out`, and why there is none to `err`. Gives the exit
-/// status: 0 where every run is a success, a graph has no fault, the intervals were listed, or help was asked for, 1
-/// where some run failed, 2 where something was refused, and 3 at a fault.
+/// report, the size of a graph, the intervals, a schema, completions or help goes to `out`, and why there is none to
+/// `err`. Gives the exit status: 0 where every run is a success, a graph has no fault, the intervals were listed, or a
+/// text was asked for, 1 where some run failed, 2 where something was refused, and 3 at a fault.
 #[tactic(auto, using(crate::proofs::Ends::fault_ends))]
 pub fn answer<RT, S: Source, W: Write, E: Write>(
     rt: &RT,
@@ -49,7 +50,7 @@ where
     ensures done { wrongs_of words.now ≡ [] → result ≤ 1
         → IsDone (RT.may_hear rt.now) (S.file files.old) (found_in words.now) (W.written out.old) (W.written out.new) result }
 
-    // Of a line that `clap` finds nothing wrong with: which fault came, and what is told of it.
+    // Of a line with which nothing is wrong: which fault came, and what is told of it.
     ensures why { wrongs_of words.now ≡ [] → 2 ≤ result → (fault : FaultTerm)
         × MayBeFaulted (RT.may_hear rt.now) (RT.may_lose rt.now) (S.file files.old) (found_in words.now) (HasHalted (W.failures out.old) (W.failures out.new)
         (W.interruptions out.old) (W.interruptions out.new))
@@ -101,6 +102,8 @@ where
         Ok(Asked::Dry(dry)) => dry_answered(rt, alloc, dry, files, out),
         Ok(Asked::Run(ran)) => run_answered(rt, alloc, ran, files, out),
         Ok(Asked::Clear(clear)) => clear_answered(rt, alloc, clear, files, out),
+        Ok(Asked::Schema(format)) => schema_answered(format, out),
+        Ok(Asked::Completions(shell)) => completions_answered(shell, out),
         Err(error) => shown(alloc, &error, out, err),
     }
 }

@@ -9,13 +9,15 @@ const HELP: &str = "Runs a graph of tasks once for each data interval of a range
     Usage: backfill <COMMAND>\n\
     \n\
     Commands:\n\
-    \x20 check   Checks the graph, and tells how many tasks and edges it has\n\
-    \x20 list    Lists the data intervals of the graph's schedule that start in a range\n\
-    \x20 single  Runs the graph once, answering each task from a table\n\
-    \x20 dry     Runs the graph for each data interval that starts in a range, answering each task from a table\n\
-    \x20 run     Runs the graph for each data interval that starts in a range, with the programs of its tasks\n\
-    \x20 clear   Runs a task of a run again, with all that follows from it, and keeps the rest of a report\n\
-    \x20 help    Print this message or the help of the given subcommand(s)\n\
+    \x20 check        Checks the graph, and tells how many tasks and edges it has\n\
+    \x20 list         Lists the data intervals of the graph's schedule that start in a range\n\
+    \x20 single       Runs the graph once, answering each task from a table\n\
+    \x20 dry          Runs the graph for each data interval that starts in a range, answering each task from a table\n\
+    \x20 run          Runs the graph for each data interval that starts in a range, with the programs of its tasks\n\
+    \x20 clear        Runs a task of a run again, with all that follows from it, and keeps the rest of a report\n\
+    \x20 schema       Prints the JSON Schema of graph files or tables, for editors\n\
+    \x20 completions  Prints what a shell completes of a command line\n\
+    \x20 help         Print this message or the help of the given subcommand(s)\n\
     \n\
     Options:\n\
     \x20 -h, --help     Print help\n\
@@ -113,6 +115,32 @@ const CHECK_HELP: &str = "Checks the graph, and tells how many tasks and edges i
     Example:\n\
     \x20 backfill check examples/every_key/graph.json\n";
 
+const SCHEMA_HELP: &str = "Prints the JSON Schema of graph files or tables, for editors\n\
+    \n\
+    Usage: backfill schema <FORMAT>\n\
+    \n\
+    Arguments:\n\
+    \x20 <FORMAT>  The format of the files, graph or table\n\
+    \n\
+    Options:\n\
+    \x20 -h, --help  Print help\n\
+    \n\
+    Example:\n\
+    \x20 backfill schema graph > graph.schema.json\n";
+
+const COMPLETIONS_HELP: &str = "Prints what a shell completes of a command line\n\
+    \n\
+    Usage: backfill completions <SHELL>\n\
+    \n\
+    Arguments:\n\
+    \x20 <SHELL>  The shell, bash, zsh or fish\n\
+    \n\
+    Options:\n\
+    \x20 -h, --help  Print help\n\
+    \n\
+    Example, of a file for bash to source:\n\
+    \x20 backfill completions bash > backfill.bash\n";
+
 /// Wrong lines, and the lines by which `clap` begins its answer, each ended by a bar.
 const WRONG: &str = "\
 check => error: the following required arguments were not provided:|  <GRAPH>|
@@ -122,6 +150,11 @@ check g --zone-file => error: a value is required for '--zone-file <PATH>' but n
 clear => error: the following required arguments were not provided:|  --task <ID>|  --run <T>|  --from <T>|  --to <T>|  <GRAPH>|  <REPORT>|
 run g --from 2024-01-01 --to 2024-01-01 --launcher => error: a value is required for '--launcher <PATH>' but none was supplied|
 single g t --at 2024-01-01 --launcher on => error: unexpected argument '--launcher' found|
+schema => error: the following required arguments were not provided:|  <FORMAT>|
+schema report => error: invalid value for '<FORMAT>'|  [possible values: graph, table]|
+schema graph table => error: unexpected argument 'table' found|
+completions => error: the following required arguments were not provided:|  <SHELL>|
+completions ksh => error: invalid value for '<SHELL>'|  [possible values: bash, zsh, fish]|
 resume => error: unrecognized subcommand 'resume'|
 run g --from 2024-01-01 => error: the following required arguments were not provided:|  --to <T>|
 --at 2024-01-01 => error: unexpected argument '--at' found|
@@ -139,7 +172,7 @@ single g t --at 2024-01-01 --at 2024-01-02 => error: the argument '--at <T>' can
 run -V => error: unexpected argument '-V' found|";
 
 /// Lines that ask for help, and what is shown.
-const HELPED: [(&str, &str); 10] = [
+const HELPED: [(&str, &str); 12] = [
     ("--help", HELP),
     ("-h", HELP),
     ("help", HELP),
@@ -147,6 +180,8 @@ const HELPED: [(&str, &str); 10] = [
     ("list --help", LIST_HELP),
     ("run --help", RUN_HELP),
     ("clear --help", CLEAR_HELP),
+    ("schema --help", SCHEMA_HELP),
+    ("completions --help", COMPLETIONS_HELP),
     ("single --help", SINGLE_HELP),
     ("single g -h", SINGLE_HELP),
     ("help single", SINGLE_HELP),

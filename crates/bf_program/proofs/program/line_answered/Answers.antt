@@ -74,3 +74,25 @@ returns-in-Ok-Clear-clause-why g c = λ none.
 
 pub returns-in-Ok-Clear-clause-refused : goal.returns-in-Ok-Clear-clause-refused
 returns-in-Ok-Clear-clause-refused g c = refusal_leaves_in _ _ _ _ c.clear_answered.result c.clear_answered.ensures.left
+
+pub returns-in-Ok-Schema-clause-done : goal.returns-in-Ok-Schema-clause-done
+returns-in-Ok-Schema-clause-done g c = λ none.
+    IfOk-weaker c.schema_answered.result _ _ (λ s sends. done (g.RT.Starter.may_hear c.args.rt.now) (g.RT.Starter.may_lose c.args.rt.now) _ _ (Asked.Schema c.in-Ok-Schema.format) (rw c.in-Ok-Schema.field-0-is at c.in-Ok-Schema.ensures.ok) _ _ s sends) c.schema_answered.ensures.answer
+
+pub returns-in-Ok-Schema-clause-why : goal.returns-in-Ok-Schema-clause-why
+returns-in-Ok-Schema-clause-why g c = λ none.
+    may_in (g.RT.Starter.may_hear c.args.rt.now) (g.RT.Starter.may_lose c.args.rt.now) _ _ (Asked.Schema c.in-Ok-Schema.format) (rw c.in-Ok-Schema.field-0-is at c.in-Ok-Schema.ensures.ok) _ _ _ c.schema_answered.result c.schema_answered.ensures.fault c.schema_answered.ensures.left
+
+pub returns-in-Ok-Schema-clause-refused : goal.returns-in-Ok-Schema-clause-refused
+returns-in-Ok-Schema-clause-refused g c = refusal_leaves_in _ _ _ _ c.schema_answered.result c.schema_answered.ensures.left
+
+pub returns-in-Ok-Completions-clause-done : goal.returns-in-Ok-Completions-clause-done
+returns-in-Ok-Completions-clause-done g c = λ none.
+    IfOk-weaker c.completions_answered.result _ _ (λ s sends. done (g.RT.Starter.may_hear c.args.rt.now) (g.RT.Starter.may_lose c.args.rt.now) _ _ (Asked.Completions c.in-Ok-Completions.shell) (rw c.in-Ok-Completions.field-0-is at c.in-Ok-Completions.ensures.ok) _ _ s sends) c.completions_answered.ensures.answer
+
+pub returns-in-Ok-Completions-clause-why : goal.returns-in-Ok-Completions-clause-why
+returns-in-Ok-Completions-clause-why g c = λ none.
+    may_in (g.RT.Starter.may_hear c.args.rt.now) (g.RT.Starter.may_lose c.args.rt.now) _ _ (Asked.Completions c.in-Ok-Completions.shell) (rw c.in-Ok-Completions.field-0-is at c.in-Ok-Completions.ensures.ok) _ _ _ c.completions_answered.result c.completions_answered.ensures.fault c.completions_answered.ensures.left
+
+pub returns-in-Ok-Completions-clause-refused : goal.returns-in-Ok-Completions-clause-refused
+returns-in-Ok-Completions-clause-refused g c = refusal_leaves_in _ _ _ _ c.completions_answered.result c.completions_answered.ensures.left

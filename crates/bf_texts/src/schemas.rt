@@ -1,4 +1,7 @@
-{
+//! JSON Schemas of the formats whose files are written by hand.
+
+/// Of graph files.
+pub const GRAPH: &str = r##"{
   "$schema": "https://json-schema.org/draft/2020-12/schema",
   "title": "Task graph of backfill",
   "description": "What tasks there are, what each waits for, the program of each, and the schedule whose data intervals they are run for.",
@@ -205,3 +208,55 @@
     }
   }
 }
+"##;
+
+/// Of tables.
+pub const TABLE: &str = r##"{
+  "$schema": "https://json-schema.org/draft/2020-12/schema",
+  "title": "Table of answers of backfill",
+  "description": "What tries answer in place of their programs. The first entry that matches a try answers it; where none does, it exits with 0 and pushes nothing.",
+  "type": "array",
+  "items": {
+    "type": "object",
+    "additionalProperties": false,
+    "properties": {
+      "task": {
+        "description": "The task's id. Without it the entry matches every task.",
+        "type": "string"
+      },
+      "index": {
+        "description": "The map index, -1 where the task isn't expanded. Without it the entry matches every one.",
+        "$ref": "#/$defs/number"
+      },
+      "run": {
+        "description": "The logical date of the run, as 2024-01-31T06:00:00Z. Without it the entry matches every run.",
+        "type": "string",
+        "pattern": "^[0-9]{4}-(0[1-9]|1[0-2])-(0[1-9]|[12][0-9]|3[01])T([01][0-9]|2[0-3]):[0-5][0-9]:[0-5][0-9]Z(?![\\s\\S])"
+      },
+      "try": {
+        "description": "The number of the try, from 1. Without it the entry matches every try.",
+        "$ref": "#/$defs/number"
+      },
+      "status": {
+        "description": "The exit code: 0 is success, 99 skipped, any other failed.",
+        "type": "integer",
+        "minimum": 0,
+        "maximum": 255,
+        "default": 0
+      },
+      "out": {
+        "description": "The standard output, whose last line is the value that the task pushes.",
+        "type": "string",
+        "default": ""
+      }
+    }
+  },
+  "$defs": {
+    "number": {
+      "type": "integer",
+      "minimum": -9223372036854775808,
+      "maximum": 9223372036854775807
+    }
+  }
+}
+"##;

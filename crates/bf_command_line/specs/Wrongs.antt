@@ -1,0 +1,31 @@
+-- What is wrong with the words of a command line.
+use Rattle.std.specs.Prelude.{List, [], ◌∷◌, Option, None, Some, codes, bytes_eq, if◌then◌else◌}
+use Rattle.std.specs.List.{list_any}
+use Rattle.clap.specs.Kinds.{or_else}
+use Rattle.clap.specs.Words.{Kinds, Row, Text, fault_of, first_of, subcommand_of}
+use Rattle.clap.specs.declared.error.kind.ErrorKind.TheVariants.{InvalidValue}
+use Rattle.bf_command_line.specs.Asked.{format_word, shell_word}
+use Rattle.bf_command_line.specs.CommandLine.{backfill_app}
+use Rattle.bf_command_line.specs.declared.forms.Format.TheVariants.{Graph, Table}
+use Rattle.bf_command_line.specs.declared.forms.Shell.TheVariants.{Bash, Fish, Zsh}
+
+abbrev pub format_words : List Text
+format_words = format_word Graph ∷ format_word Table ∷ []
+
+abbrev pub shell_words : List Text
+shell_words = shell_word Bash ∷ shell_word Zsh ∷ shell_word Fish ∷ []
+
+-- the value is none of the words that are possible
+abbrev pub value_wrongs : List Text → Option Text → Kinds
+value_wrongs words None = []
+value_wrongs words (Some value) = if list_any (bytes_eq value) words then [] else InvalidValue ∷ []
+
+-- of the subcommand's arguments, those whose values `clap` doesn't look at
+abbrev pub found_wrongs : Option (Text × List Row) → Kinds
+found_wrongs None = []
+found_wrongs (Some (name, rows)) = if bytes_eq name (codes "schema") then value_wrongs format_words (first_of (codes "format") rows)
+    else (if bytes_eq name (codes "completions") then value_wrongs shell_words (first_of (codes "shell") rows) else [])
+
+-- what `clap` finds, and else a value that isn't possible
+abbrev pub wrongs_of : List Text → Kinds
+wrongs_of words = or_else (fault_of backfill_app words) (found_wrongs (subcommand_of backfill_app words))

@@ -1,0 +1,66 @@
+//! The commands `schema` and `completions`: texts that are printed as they stand.
+ghost use Rattle.std.specs.Prelude.{◌≡◌, IfOk, IfErr};
+ghost use Rattle.bf_report.specs.Device.{HasHalted};
+ghost use Rattle.bf_command_fault.specs.Refusal.{Leaves, Sends};
+ghost use Rattle.bf_command_fault.specs.declared.status.Status.{Status as StatusTerm};
+ghost use Rattle.bf_program.specs.Texts.{IsDeviceFault, IsPrinted, completions_text, schema_text};
+
+use bf_command_fault::{CommandFault, Status};
+use bf_command_line::{Format, Shell};
+use bf_report::{Write, send};
+use bf_texts::{completions, schemas};
+
+fn schema_of(format: Format) -> &'static str
+    ensures { result.now ≡ schema_text format }
+{
+    match format {
+        Format::Graph => schemas::GRAPH,
+        Format::Table => schemas::TABLE,
+    }
+}
+
+fn completions_of(shell: Shell) -> &'static str
+    ensures { result.now ≡ completions_text shell }
+{
+    match shell {
+        Shell::Bash => completions::BASH,
+        Shell::Zsh => completions::ZSH,
+        Shell::Fish => completions::FISH,
+    }
+}
+
+fn printed<W: Write>(text: &str, out: &mut W) -> Result<Status, CommandFault>
+    ensures answer { IfOk result (λ status. Sends (λ sent. IsPrinted text.now sent status) (W.written out.old) (W.written out.new)) }
+    ensures fault { IfErr result IsDeviceFault }
+    ensures left { IfErr result (Leaves (HasHalted (W.failures out.old) (W.failures out.new)
+        (W.interruptions out.old) (W.interruptions out.new))
+        (λ sent. (status : StatusTerm) × IsPrinted text.now sent status)
+        (W.written out.old) (W.written out.new)) }
+{
+    send(out, text.as_bytes())?;
+    Ok(Status::Success)
+}
+
+/// Prints the schema of a format's files.
+pub fn schema_answered<W: Write>(format: Format, out: &mut W) -> Result<Status, CommandFault>
+    ensures answer { IfOk result (λ status. Sends (λ text. IsPrinted (schema_text format) text status) (W.written out.old) (W.written out.new)) }
+    ensures fault { IfErr result IsDeviceFault }
+    ensures left { IfErr result (Leaves (HasHalted (W.failures out.old) (W.failures out.new)
+        (W.interruptions out.old) (W.interruptions out.new))
+        (λ text. (status : StatusTerm) × IsPrinted (schema_text format) text status)
+        (W.written out.old) (W.written out.new)) }
+{
+    printed(schema_of(format), out)
+}
+
+/// Prints what a shell completes.
+pub fn completions_answered<W: Write>(shell: Shell, out: &mut W) -> Result<Status, CommandFault>
+    ensures answer { IfOk result (λ status. Sends (λ text. IsPrinted (completions_text shell) text status) (W.written out.old) (W.written out.new)) }
+    ensures fault { IfErr result IsDeviceFault }
+    ensures left { IfErr result (Leaves (HasHalted (W.failures out.old) (W.failures out.new)
+        (W.interruptions out.old) (W.interruptions out.new))
+        (λ text. (status : StatusTerm) × IsPrinted (completions_text shell) text status)
+        (W.written out.old) (W.written out.new)) }
+{
+    printed(completions_of(shell), out)
+}

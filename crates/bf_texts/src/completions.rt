@@ -1,0 +1,156 @@
+//! What shells complete of the command line. A new option or subcommand goes into each of the three.
+
+/// Of bash.
+pub const BASH: &str =
+    r#"# Completions of backfill for bash. Source them, or keep them as backfill in ~/.local/share/bash-completion/completions.
+
+# The files that begin with the word.
+_backfill_files() {
+    compopt -o filenames 2> /dev/null
+    mapfile -t COMPREPLY < <(compgen -f -- "$1")
+}
+
+_backfill() {
+    local word=$2 before=$3 commands='check list single dry run clear schema completions help' command='' options='' words='' at
+    COMPREPLY=()
+    # --from=T comes in three words
+    [[ $word != '=' ]] || word=''
+    [[ $before != '=' ]] || before=${COMP_WORDS[COMP_CWORD - 2]}
+    for ((at = 1; at < COMP_CWORD; at++)); do
+        if [[ ${COMP_WORDS[at]} != -* ]]; then
+            command=${COMP_WORDS[at]}
+            break
+        fi
+    done
+
+    case $before in
+        --zone-file | --table | --launcher)
+            _backfill_files "$word"
+            return
+            ;;
+        --at | --from | --to | --task | --run | --workers) return ;;
+    esac
+
+    case $command in
+        '') options='--help --version' words=$commands ;;
+        help) words=$commands ;;
+        check) options='--zone-file --help' ;;
+        list) options='--zone-file --from --to --help' ;;
+        single) options='--zone-file --at --help' ;;
+        dry) options='--zone-file --from --to --workers --progress --help' ;;
+        run) options='--zone-file --from --to --workers --progress --launcher --help' ;;
+        clear) options='--zone-file --task --run --table --from --to --workers --progress --launcher --help' ;;
+        schema) options='--help' words='graph table' ;;
+        completions) options='--help' words='bash zsh fish' ;;
+    esac
+    if [[ $word == -* ]]; then
+        mapfile -t COMPREPLY < <(compgen -W "$options" -- "$word")
+    elif [[ -n $words ]]; then
+        mapfile -t COMPREPLY < <(compgen -W "$words" -- "$word")
+    else
+        _backfill_files "$word"
+    fi
+}
+
+complete -F _backfill backfill
+"#;
+
+/// Of zsh.
+pub const ZSH: &str = r#"#compdef backfill
+# Completions of backfill for zsh. Source them, or keep them as _backfill in a folder of $fpath.
+
+_backfill() {
+    local curcontext=$curcontext state line
+    typeset -A opt_args
+    local -a commands help version zone_file at from to task run table workers progress launcher graph_file table_file report_file format shell
+
+    commands=(
+        'check:Checks the graph, and tells how many tasks and edges it has'
+        'list:Lists the data intervals that start in a range'
+        'single:Runs the graph once, answered from a table'
+        'dry:Runs the graph over a range, answered from a table'
+        'run:Runs the graph over a range, with the programs of its tasks'
+        'clear:Runs a task of a run again, with all that follows from it'
+        'schema:Prints the JSON Schema of graph files or tables'
+        'completions:Prints what a shell completes'
+        'help:Prints help'
+    )
+
+    help=('(-h --help)'{-h,--help}'[Prints help]')
+    version=('(-V --version)'{-V,--version}'[Prints the version]')
+    zone_file=('--zone-file[The zone file that the zone `file` means]:zone file:_files')
+    at=('--at[The moment of the run]:moment: ')
+    from=('--from[The first moment at which an interval may start]:moment: ')
+    to=('--to[The last moment at which an interval may start]:moment: ')
+    task=('--task[The task to clear]:task: ')
+    run=('--run[The logical date of the run in which it is cleared]:moment: ')
+    table=('--table[The table that answers in place of programs]:table:_files')
+    workers=('--workers[How many tries may run at once]:number from 1 to 64: ')
+    progress=('--progress[Tells how far the runs are]')
+    launcher=('--launcher[The program that the words of commands are handed to]:program:_files')
+    graph_file=('1:graph:_files')
+    table_file=('2:table:_files')
+    report_file=('2:report:_files')
+    format=('1:format:(graph table)')
+    shell=('1:shell:(bash zsh fish)')
+
+    _arguments -C $help $version '1:command:->command' '*::argument:->argument'
+    case $state in
+        command) _describe command commands ;;
+        argument)
+            case $line[1] in
+                help) _describe command commands ;;
+                check) _arguments $help $zone_file $graph_file ;;
+                list) _arguments $help $zone_file $from $to $graph_file ;;
+                single) _arguments $help $zone_file $at $graph_file $table_file ;;
+                dry) _arguments $help $zone_file $from $to $workers $progress $graph_file $table_file ;;
+                run) _arguments $help $zone_file $from $to $workers $progress $launcher $graph_file ;;
+                clear) _arguments $help $zone_file $task $run $table $from $to $workers $progress $launcher $graph_file $report_file ;;
+                schema) _arguments $help $format ;;
+                completions) _arguments $help $shell ;;
+            esac
+            ;;
+    esac
+}
+
+# Loaded by the completion system it is called at once, and sourced it is made known.
+if [[ $funcstack[1] == _backfill ]]; then
+    _backfill "$@"
+else
+    compdef _backfill backfill
+fi
+"#;
+
+/// Of fish.
+pub const FISH: &str =
+    r#"# Completions of backfill for fish. Source them, or keep them as backfill.fish in ~/.config/fish/completions.
+
+complete -c backfill -f
+complete -c backfill -n __fish_use_subcommand -a check -d 'Checks the graph, and tells how many tasks and edges it has'
+complete -c backfill -n __fish_use_subcommand -a list -d 'Lists the data intervals that start in a range'
+complete -c backfill -n __fish_use_subcommand -a single -d 'Runs the graph once, answered from a table'
+complete -c backfill -n __fish_use_subcommand -a dry -d 'Runs the graph over a range, answered from a table'
+complete -c backfill -n __fish_use_subcommand -a run -d 'Runs the graph over a range, with the programs of its tasks'
+complete -c backfill -n __fish_use_subcommand -a clear -d 'Runs a task of a run again, with all that follows from it'
+complete -c backfill -n __fish_use_subcommand -a schema -d 'Prints the JSON Schema of graph files or tables'
+complete -c backfill -n __fish_use_subcommand -a completions -d 'Prints what a shell completes'
+complete -c backfill -n __fish_use_subcommand -a help -d 'Prints help'
+
+complete -c backfill -n '__fish_seen_subcommand_from help' -a 'check list single dry run clear schema completions help'
+complete -c backfill -n '__fish_seen_subcommand_from schema' -a 'graph table'
+complete -c backfill -n '__fish_seen_subcommand_from completions' -a 'bash zsh fish'
+complete -c backfill -n '__fish_seen_subcommand_from check list single dry run clear' -F
+
+complete -c backfill -n 'not __fish_seen_subcommand_from help' -s h -l help -d 'Prints help'
+complete -c backfill -n __fish_use_subcommand -s V -l version -d 'Prints the version'
+complete -c backfill -n '__fish_seen_subcommand_from check list single dry run clear' -l zone-file -r -F -d 'The zone file that the zone `file` means'
+complete -c backfill -n '__fish_seen_subcommand_from single' -l at -x -d 'The moment of the run'
+complete -c backfill -n '__fish_seen_subcommand_from clear' -l task -x -d 'The task to clear'
+complete -c backfill -n '__fish_seen_subcommand_from clear' -l run -x -d 'The logical date of the run in which it is cleared'
+complete -c backfill -n '__fish_seen_subcommand_from clear' -l table -r -F -d 'The table that answers in place of programs'
+complete -c backfill -n '__fish_seen_subcommand_from list dry run clear' -l from -x -d 'The first moment at which an interval may start'
+complete -c backfill -n '__fish_seen_subcommand_from list dry run clear' -l to -x -d 'The last moment at which an interval may start'
+complete -c backfill -n '__fish_seen_subcommand_from dry run clear' -l workers -x -d 'How many tries may run at once, 1 to 64'
+complete -c backfill -n '__fish_seen_subcommand_from dry run clear' -l progress -d 'Tells how far the runs are'
+complete -c backfill -n '__fish_seen_subcommand_from run clear' -l launcher -r -F -d 'The program that the words of commands are handed to'
+"#;

@@ -1,0 +1,5 @@
+//! Texts that the program prints as they stand.
+#![tactic(auto)]
+
+pub mod completions;
+pub mod schemas;
