@@ -3,6 +3,7 @@ pub mod Words
 pub mod Spelled
 pub mod Growth
 pub mod HeldFacts
+pub mod Pieces
 pub mod RunFacts
 pub mod Rooms
 pub mod Ruled

@@ -1,7 +1,6 @@
 -- Lines, and how many there are.
-use Rattle.std.proofs.Common.{◌≡◌, ◌⊎◌, ◌≤◌, ◌+◌, ◌==◌, ◌||◌, ℕ, List, [], ◌∷◌, ◌++◌, cond, true, false, true≢false, Option, Some, None, is_some, length, inl, inr, refl, sym, ap, ◌∙◌, subst, append_assoc, append-nil, arith}
+use Rattle.std.proofs.Common.{◌≡◌, ◌⊎◌, ◌≤◌, ◌<◌, ◌+◌, ◌==◌, ℕ, List, [], ◌∷◌, ◌++◌, cond, true≢false, Option, Some, None, length, inl, inr, refl, sym, ap, ◌∙◌, subst, append_assoc, append-nil, arith}
 use Rattle.std.specs.Prelude.{IfSome}
-use Rattle.std.specs.List.{list_any}
 use Rattle.std.specs.Io.KnownBytes.{prepend_known, Consumes, IsAtEnd}
 use Rattle.std.proofs.lemmas.Bool.{cases_Bool}
 use Rattle.std.proofs.lemmas.List.Sums.{sum_by-append, sum_by-cons}
@@ -12,20 +11,12 @@ use Rattle.bf_report.specs.Report.{report_text}
 use Rattle.bf_report_reader.specs.Rules.{IsShownReport}
 use Rattle.bf_report_reader.proofs.HeldFacts.{nothing_first, consumes_more}
 use Rattle.bf_report_reader.specs.Faults.{IsInLine, longest_line, lines_in, IsOpening, Tells, StopsAt}
-use Rattle.bf_report_reader.specs.Held.{IsNextByte}
 use Rattle.bf_report_reader.specs.declared.beginning.Beginning.{Beginning}
 use Rattle.bf_report_reader.specs.Beginning.{so_far, opening_text}
 use Rattle.bf_report_reader.specs.Steps.{ReadsOn, MayStand}
 use Rattle.bf_report_reader.specs.Extensions.{SaysHead, head_of, IsKnown}
 use Rattle.bf_report_reader.proofs.Chains.{Keeps, Goes, IsNextOf, known_goes, no_such_line, no_long_line}
 use Rattle.bf_report_reader.proofs.Reports.{head_goes, opens, opens_nothing}
-
-in_line_push : (text : List ℕ) (b : ℕ) → IsInLine text → (b == 10) ≡ false → IsInLine (text ++ b ∷ [])
-in_line_push [] b e other = rw other refl
-in_line_push (x ∷ xs) b e other = elim (cases_Bool (x == 10)) as (λ _. (x == 10 || list_any (λ b. b == 10) (xs ++ b ∷ [])) ≡ false) [
-  | inl is ↦ absurd (true≢false (rw is at e))
-  | inr not_is ↦ rw not_is (in_line_push xs b (rw not_is at e) other)
-]
 
 -- text within a line ends none
 no_lines : (text : List ℕ) → IsInLine text → lines_in text ≡ 0
@@ -146,15 +137,16 @@ line_tells a b c before text read number on keeps known none place came in_line 
     tells_on a b before (opening_text (so_far read)) (ReportFault.BadLine number) on
     (line_told (opening_text (so_far read)) text (IsNextOf read) number b c (opens read keeps known) (known_goes read keeps known) (λ report stands. none stands.stands) place came in_line short)
 
--- a byte came behind a report
-pub more_tells : (a b c : Option (List ℕ)) (before : List ℕ) (report : Report) (first number : ℕ) → IsShownReport report → ReadsOn a b before (report_text report) → number ≡ lines_in (report_text report) + 1 → Consumes b c (first ∷ [])
-    → IfSome a (λ bytes. Tells (before ++ bytes) (ReportFault.BadLine number))
-more_tells a b c before report first number shown on place came = tells_on a b before (report_text report) (ReportFault.BadLine number) on (go b c came)
+-- bytes came behind a report
+pub more_tells : (a b left : Option (List ℕ)) (before held : List ℕ) (report : Report) (number : ℕ) → IsShownReport report → ReadsOn a b before (report_text report) → number ≡ lines_in (report_text report) + 1 → Consumes b (prepend_known held left) []
+    → 0 < length held → IfSome a (λ bytes. Tells (before ++ bytes) (ReportFault.BadLine number))
+more_tells a b left before [] report number shown on place came some = absurd (omega (arith, some))
+more_tells a b left before (x ∷ xs) report number shown on place came some = tells_on a b before (report_text report) (ReportFault.BadLine number) on (go b left came)
   where
-    go : (o p : Option (List ℕ)) → Consumes o p (first ∷ []) → IfSome o (λ bytes. Tells (report_text report ++ bytes) (ReportFault.BadLine number))
+    go : (o p : Option (List ℕ)) → Consumes o (prepend_known (x ∷ xs) p) [] → IfSome o (λ bytes. Tells (report_text report ++ bytes) (ReportFault.BadLine number))
     go None p came = tt
-    go (Some xs) None came = absurd came
-    go (Some xs) (Some ys) came = inr (record { report = report; first = first; rest = ys; shown = shown; bytes_are = ap (λ l. report_text report ++ l) came; place = place })
+    go (Some ys) None came = absurd came
+    go (Some ys) (Some zs) came = inr (record { report = report; first = x; rest = xs ++ zs; shown = shown; bytes_are = ap (λ l. report_text report ++ l) came; place = place })
 
 -- the first line is read behind nothing
 pub first_read : (left b : Option (List ℕ)) (bytes text after : List ℕ) → bytes ≡ [] → Consumes (prepend_known bytes left) b text → after ≡ text → ReadsOn left b [] after
@@ -165,16 +157,11 @@ first_read left b bytes text after none came is =
 pub reads_twice : (a b c : Option (List ℕ)) (x y z : List ℕ) → ReadsOn a b x y → ReadsOn b c y z → ReadsOn a c x z
 reads_twice a b c x y z (s, came, is) (t, next, then) = (s ++ t, consumes_more a b c s t came next, then ∙ ap (λ l. l ++ t) is ∙ append_assoc x s t)
 
-pub some_byte : (o : Option ℕ) (a b : Option (List ℕ)) → is_some o ≡ true → IsNextByte a b o → (x : ℕ) × Consumes a b (x ∷ [])
-some_byte None a b e next = absurd (true≢false (sym e))
-some_byte (Some x) a b e next = (x, next)
-
 -- the bytes end behind a report
-pub ends_there : (a b c : Option (List ℕ)) (text : List ℕ) (o : Option ℕ) → ReadsOn a b [] text → is_some o ≡ false → IsNextByte b c o → IfSome a (λ bytes. bytes ≡ text)
-ends_there a b c text (Some x) on none next = absurd (true≢false none)
-ends_there a b c text None (read, came, is) none next =
+pub ends_there : (a b c : Option (List ℕ)) (text : List ℕ) → ReadsOn a b [] text → Consumes b c [] → IsAtEnd c → IfSome a (λ bytes. bytes ≡ text)
+ends_there a b c text (read, came, is) none ends =
     let P : List ℕ → Type 0 = λ t. IfSome a (λ bytes. bytes ≡ t) in
-    subst P (sym is) (ends_as a b read came next.0)
+    subst P (append-nil read ∙ sym is) (ends_as a c (read ++ []) (consumes_more a b c read [] came none) ends)
 
 -- a device that halts, or want of memory, says nothing of the bytes
 pub halts_stop : (a : Option (List ℕ)) (fault : ReportFault) (number : ℕ) → (fault ≡ ReportFault.Io) ⊎ (fault ≡ ReportFault.OutOfMemory) → IfSome a (StopsAt fault number)

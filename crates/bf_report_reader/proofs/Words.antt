@@ -177,15 +177,15 @@ few_bytes line few = elim (cases_Bool (bytes_eq (take 6 line) (codes "@pull ")))
   | inr not_is ↦ rw not_is refl
 ]
 
--- a line may be as long with a byte more
-pub limit_push : (line : List ℕ) (b : ℕ) → longest_line line ≤ longest_line (line ++ b ∷ [])
-limit_push line b = elim (cases_Bool (nat_lt (length line) 6)) [
+-- a line may be as long with more bytes
+pub limit_append : (line more : List ℕ) → longest_line line ≤ longest_line (line ++ more)
+limit_append line more = elim (cases_Bool (nat_lt (length line) 6)) [
   | inl is ↦
       let few : length line < 6 = grind (arith, nat_tests, is) in
-      omega (arith, few_bytes line few, at_least (line ++ b ∷ []))
+      omega (arith, few_bytes line few, at_least (line ++ more))
   | inr not_is ↦
       let many : 6 ≤ length line = grind (arith, nat_tests, not_is) in
-      omega (arith, same_limit (line ++ b ∷ []) line (take-append-le 6 line (b ∷ []) many))
+      omega (arith, same_limit (line ++ more) line (take-append-le 6 line more many))
 ]
 
 -- ---- values

@@ -158,6 +158,7 @@ impl Beginning {
     }
 
     /// Adds a task by its first instance, where it may stand next.
+    #[inline(always)]
     fn add_open(&mut self, alloc: Global, id: &str, task: OpenTask) -> Result<bool, OutOfMemory>
         ensures { IfOk result (λ taken.
             with_open self.old id.now task ≡ (if taken then Some self.new else None)) }

@@ -1,5 +1,5 @@
-//! The bytes of a device, one by one.
-ghost use Rattle.std.specs.Prelude.{◌≡◌, ◌∷◌, [], ◌≤◌, ◌<◌, ◌↔◌, length, false, IfOk, OnOk, OnErr, IsTrue};
+//! The bytes of a device, over a room that is filled by few reads.
+ghost use Rattle.std.specs.Prelude.{◌≡◌, [], ◌≤◌, ◌<◌, ◌↔◌, length, drop, false, IfOk, OnOk, OnErr, IsTrue};
 ghost use Rattle.std.specs.Io.KnownBytes.{Consumes, IsAtEnd};
 
 use crate::fault::Halted;
@@ -27,7 +27,7 @@ pub(crate) struct Held {
 }
 
 impl Held {
-    ghost use Rattle.bf_report_reader.specs.Held.{held_bytes, ahead, Tallies, Breaks, IsNextByte};
+    ghost use Rattle.bf_report_reader.specs.Held.{held_bytes, ahead, Tallies, Breaks};
 
     pub fn new(alloc: Global) -> Result<Held, OutOfMemory>
         ensures { IfOk result (λ held. (held_bytes held ≡ []) × (held.interruptions ≡ 0)) }
@@ -73,21 +73,13 @@ impl Held {
         }
     }
 
-    /// Takes the first of the bytes that are held.
-    fn take_byte(&mut self) -> u8
-        requires { self.old.start < self.old.end }
-        ensures byte { held_bytes self.old ≡ result ∷ held_bytes self.new }
-        ensures same { self.new.interruptions ≡ self.old.interruptions }
-    {
-        let byte = self.room[self.start];
-        self.start += 1;
-        byte
-    }
-
-    /// The next byte, if the device does not end.
-    pub fn next_byte<R: Read>(&mut self, device: &mut R) -> Result<Option<u8>, Halted>
-        ensures byte { IfOk result
-            (IsNextByte (ahead self.old (R.left device.old)) (ahead self.new (R.left device.new))) }
+    /// Whether more bytes come: where none are held, it reads.
+    pub fn has_more<R: Read>(&mut self, device: &mut R) -> Result<bool, Halted>
+        ensures same { OnOk result (Consumes (ahead self.old (R.left device.old))
+            (ahead self.new (R.left device.new)) []) }
+        ensures more { IfOk result (λ more. IsTrue more ↔ (0 < length (held_bytes self.new))) }
+        ensures end { IfOk result (λ more.
+            more ≡ false → IsAtEnd (ahead self.new (R.left device.new))) }
         ensures tallied { OnOk result (Tallies
             self.old.interruptions (R.interruptions device.old) (R.failures device.old)
             self.new.interruptions (R.interruptions device.new) (R.failures device.new)) }
@@ -96,11 +88,24 @@ impl Held {
             (R.interruptions device.new) (R.failures device.new)) }
     {
         if self.start < self.end {
-            return Ok(Some(self.take_byte()));
+            return Ok(true);
         }
-        if !self.fill(device)? {
-            return Ok(None);
-        }
-        Ok(Some(self.take_byte()))
+        self.fill(device)
+    }
+
+    /// The bytes that are held.
+    pub fn bytes(&self) -> &[u8]
+        ensures { result.now ≡ held_bytes self.now }
+    {
+        &self.room[self.start..self.end]
+    }
+
+    /// Lets go of the first bytes that are held.
+    pub fn skip(&mut self, count: usize)
+        requires { count ≤ length (held_bytes self.old) }
+        ensures bytes { held_bytes self.new ≡ drop count (held_bytes self.old) }
+        ensures same { self.new.interruptions ≡ self.old.interruptions }
+    {
+        self.start += count;
     }
 }

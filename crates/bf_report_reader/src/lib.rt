@@ -3,7 +3,7 @@
 //! `read_report` takes exactly the texts of reports by the rules, as `write_report` of bf_report writes them, one spelling
 //! a report. It looks at the lines in order, and answers the first that may not stand in its place:
 //!
-//! - `held` gives the bytes of a device one by one, over a room that is filled by few reads;
+//! - `held` gives the bytes of a device, over a room that is filled by few reads;
 //! - `line` takes a line off them;
 //! - `field`, `value`, `entry`, `part` and `interval` read what a line says;
 //! - `open` keeps the run whose tasks are read, and its task that may have more lines;

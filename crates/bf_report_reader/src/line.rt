@@ -1,6 +1,6 @@
 //! Lines, taken off a device.
-ghost use Rattle.std.specs.Prelude.{◌≡◌, ◌≤◌, ◌↔◌, ◌++◌, ◌∷◌, [], length, IsTrue, IfOk, OnOk, IfErr};
-ghost use Rattle.bf_report_reader.specs.Held.{ahead, Tallies, Breaks};
+ghost use Rattle.std.specs.Prelude.{◌≡◌, ◌==◌, ◌≤◌, if◌then◌else◌, length, position, IfOk, OnOk, IfErr};
+ghost use Rattle.bf_report_reader.specs.Held.{held_bytes, ahead, Tallies, Breaks, MovesPiece};
 ghost use Rattle.bf_report_reader.specs.Faults.{longest_line, Came, IsInLine, IsFromOutside};
 
 use crate::fault::ReportFault;
@@ -24,23 +24,51 @@ pub(crate) enum LineEnd {
     TooMuch,
 }
 
-/// Whether a line that begins so may have more bytes, or ends here at the latest.
-fn is_short(line: &[u8]) -> bool
-    ensures { IsTrue result ↔ (length line.now ≤ longest_line line.now) }
+/// How many bytes a line may have that begins so. Where it may yet become that of a pull, that is the lesser limit.
+fn limit_of(line: &[u8]) -> usize
+    ensures { result ≡ longest_line line.now }
 {
-    line.len() <= LONGEST_LINE
-        || (line.len() <= LONGEST_PULL_LINE && line.starts_with(b"@pull ".as_slice()))
+    if line.starts_with(b"@pull ".as_slice()) {
+        LONGEST_PULL_LINE
+    } else {
+        LONGEST_LINE
+    }
 }
 
-fn push_byte(line: &mut Vec<u8>, byte: u8) -> Result<(), OutOfMemory>
-    ensures { OnOk result (line.new.items ≡ line.old.items ++ byte ∷ []) }
+/// Where the first line feed stands.
+fn line_feed_in(bytes: &[u8]) -> Option<usize>
+    ensures { result ≡ position (λ b. b == 10) bytes.now }
 {
-    line.push(byte)?;
-    Ok(())
+    bytes.iter().position(|byte| *byte == b'\n')
+}
+
+/// Moves bytes that are held to a line, up to the first that is one too many for it, or up to the line feed, which is
+/// let go of. Says whether it was there.
+fn move_piece(held: &mut Held, line: &mut Vec<u8>) -> Result<bool, OutOfMemory>
+    requires { length line.old.items ≤ longest_line line.old.items }
+    ensures piece { IfOk result (λ ended. MovesPiece ended
+        (held_bytes held.old) (held_bytes held.new) line.old.items line.new.items) }
+    ensures same { OnOk result (held.new.interruptions ≡ held.old.interruptions) }
+{
+    let most = limit_of(line.as_slice()) + 1 - line.len();
+    let bytes = held.bytes();
+    let piece = &bytes[..most.min(bytes.len())];
+    match line_feed_in(piece) {
+        Some(at) => {
+            line.extend_from_slice(&piece[..at])?;
+            held.skip(at + 1);
+            Ok(true)
+        }
+        None => {
+            let count = piece.len();
+            line.extend_from_slice(piece)?;
+            held.skip(count);
+            Ok(false)
+        }
+    }
 }
 
 /// Takes the bytes of a line off a device.
-#[tactic(auto, using(crate::proofs::Words::limit_push, crate::proofs::Words::at_most))]
 pub(crate) fn next_line<R: Read>(
     held: &mut Held,
     device: &mut R,
@@ -58,11 +86,12 @@ pub(crate) fn next_line<R: Read>(
         (R.interruptions device.new) (R.failures device.new)) }
 {
     line.clear();
-    while is_short(line.as_slice()) {
-        match held.next_byte(device)? {
-            Some(b'\n') => return Ok(LineEnd::LineFeed),
-            Some(byte) => push_byte(line, byte)?,
-            None => return Ok(LineEnd::Nothing),
+    while line.len() <= limit_of(line.as_slice()) {
+        if !held.has_more(device)? {
+            return Ok(LineEnd::Nothing);
+        }
+        if move_piece(held, line)? {
+            return Ok(LineEnd::LineFeed);
         }
     }
     Ok(LineEnd::TooMuch)

@@ -286,7 +286,7 @@ pub fn read_report<R: Read>(alloc: Global, device: &mut R) -> Result<Report, Rep
     };
     let mut beginning = Beginning::new(alloc, version, dag_id);
     read_lines(alloc, &mut lines, device, &mut beginning)?;
-    if lines.held.next_byte(device)?.is_some() {
+    if lines.held.has_more(device)? {
         return Err(ReportFault::BadLine(lines.number + 1));
     }
     Ok(beginning.into_report()?)

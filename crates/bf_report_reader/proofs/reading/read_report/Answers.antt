@@ -1,11 +1,11 @@
-use Rattle.std.proofs.Common.{◌≡◌, ◌++◌, ◌∷◌, ◌+◌, [], true, false, is_some, ap, sym, subst, ◌∙◌, arith, rules}
+use Rattle.std.proofs.Common.{◌++◌, ◌∷◌, ◌+◌, [], ap, sym, subst, ◌∙◌, arith}
 use Rattle.std.proofs.lemmas.Result.{err_from_is_err_and}
 use Rattle.bf_report.specs.Report.{report_text}
-use Rattle.bf_report_reader.specs.Held.{IsTallied}
+use Rattle.bf_report_reader.specs.Held.{held_bytes, IsTallied}
 use Rattle.bf_report_reader.specs.Beginning.{so_far, opening_text}
 use Rattle.bf_report_reader.specs.Extensions.{SaysHead, IsKnown}
 use Rattle.bf_report_reader.specs.Faults.{lines_in}
-use Rattle.bf_report_reader.proofs.LineFacts.{one_line_more, tells_on, first_read, first_stops, first_told, reads_twice, more_tells, some_byte, ends_there}
+use Rattle.bf_report_reader.proofs.LineFacts.{one_line_more, tells_on, first_read, first_stops, first_told, reads_twice, more_tells, ends_there}
 use Rattle.bf_report_reader.proofs.StepFacts.{head_opens}
 use Rattle.bf_report_reader.proofs.Reports.{known_start, reads_whole, reads_if_err}
 use Rattle.bf_report_reader.proofs.reading.read_report.Goals as goal
@@ -54,26 +54,25 @@ returns-in_err-read_lines-clause-reads g c = reads_if_err (g.R.Read.left c.args.
 
 -- ---- the end
 
-pub returns-in_err-next_byte-clause-io : goal.returns-in_err-next_byte-clause-io
-returns-in_err-next_byte-clause-io g c =
-    let p = err_from_is_err_and c.from_residual-in_err-next_byte.result c.from_residual-in_err-next_byte.ensures.1 in
+pub returns-in_err-has_more-clause-io : goal.returns-in_err-has_more-clause-io
+returns-in_err-has_more-clause-io g c =
+    let p = err_from_is_err_and c.from_residual-in_err-has_more.result c.from_residual-in_err-has_more.ensures.1 in
     let base = g.R.Read.interruptions c.args.device.now in
     let failed = g.R.Read.failures c.args.device.now in
     let first : IsTallied base failed c.in_ok-lines.lines.held.interruptions base failed = (omega (arith, c.in_ok-lines.ensures.1), omega arith) in
-    rw p.1 (λ io. c.in_err-next_byte.ensures.halted base failed (c.in_ok-read_lines.ensures.tallied base failed (c.in_ok-read.ensures.tallied base failed first)))
+    rw p.1 (λ io. c.in_err-has_more.ensures.halted base failed (c.in_ok-read_lines.ensures.tallied base failed (c.in_ok-read.ensures.tallied base failed first)))
 
-pub returns-then-is_some-clause-err : goal.returns-then-is_some-clause-err
-returns-then-is_some-clause-err g c =
+pub returns-then-branch-clause-err : goal.returns-then-branch-clause-err
+returns-then-branch-clause-err g c =
     let said = rw c.in-Some.is at c.in_ok-version.ensures.some in
     let opens = head_opens c.new-beginning.result (c.in-Some.version, c.in-Some.dag_id) c.as_slice.result.now c.new-beginning.ensures said.1 ∙ ap (λ l. l ++ 10 ∷ []) c.as_slice.ensures.value in
     let on = first_read (g.R.Read.left c.args.device.now) _ _ (c.read.new.self.line.items ++ 10 ∷ []) (opening_text (so_far c.new-beginning.result)) c.in_ok-lines.ensures.0 c.in_ok-read.ensures.line opens in
     let all = reads_twice (g.R.Read.left c.args.device.now) _ _ [] (opening_text (so_far c.new-beginning.result)) (report_text (so_far c.read_lines.new.beginning)) on c.in_ok-read_lines.ensures.ok in
-    let there : is_some c.in_ok-next_byte.field-0 ≡ true = search (rules, c.is_some.ensures, c.if-is_some.true) in
-    let (x, came) = some_byte c.in_ok-next_byte.field-0 _ _ there c.in_ok-next_byte.ensures.byte in
-    more_tells (g.R.Read.left c.args.device.now) _ _ [] (so_far c.read_lines.new.beginning) x (c.read_lines.new.lines.number + 1) c.in_ok-read_lines.ensures.rules all (ap (λ n. n + 1) c.in_ok-read_lines.ensures.place) came
+    more_tells (g.R.Read.left c.args.device.now) _ (g.R.Read.left c.has_more.new.device) [] (held_bytes c.has_more.new.self) (so_far c.read_lines.new.beginning) (c.read_lines.new.lines.number + 1) c.in_ok-read_lines.ensures.rules all (ap (λ n. n + 1) c.in_ok-read_lines.ensures.place)
+    c.in_ok-has_more.ensures.same (c.in_ok-has_more.ensures.more.0 c.if-branch.true)
 
-pub returns-then-is_some-clause-reads : goal.returns-then-is_some-clause-reads
-returns-then-is_some-clause-reads g c = reads_whole (g.R.Read.left c.args.device.now) _ (returns-then-is_some-clause-err g c)
+pub returns-then-branch-clause-reads : goal.returns-then-branch-clause-reads
+returns-then-branch-clause-reads g c = reads_whole (g.R.Read.left c.args.device.now) _ (returns-then-branch-clause-err g c)
 
 pub returns-clause-ok : goal.returns-clause-ok
 returns-clause-ok g c =
@@ -81,5 +80,4 @@ returns-clause-ok g c =
     let opens = head_opens c.new-beginning.result (c.in-Some.version, c.in-Some.dag_id) c.as_slice.result.now c.new-beginning.ensures said.1 ∙ ap (λ l. l ++ 10 ∷ []) c.as_slice.ensures.value in
     let on = first_read (g.R.Read.left c.args.device.now) _ _ (c.read.new.self.line.items ++ 10 ∷ []) (opening_text (so_far c.new-beginning.result)) c.in_ok-lines.ensures.0 c.in_ok-read.ensures.line opens in
     let all = reads_twice (g.R.Read.left c.args.device.now) _ _ [] (opening_text (so_far c.new-beginning.result)) (report_text (so_far c.read_lines.new.beginning)) on c.in_ok-read_lines.ensures.ok in
-    let none : is_some c.in_ok-next_byte.field-0 ≡ false = search (rules, c.is_some.ensures, c.if-is_some.false) in
-    rw c.in_ok-into_report.ensures (ends_there (g.R.Read.left c.args.device.now) _ _ (report_text (so_far c.read_lines.new.beginning)) c.in_ok-next_byte.field-0 all none c.in_ok-next_byte.ensures.byte)
+    rw c.in_ok-into_report.ensures (ends_there (g.R.Read.left c.args.device.now) _ _ (report_text (so_far c.read_lines.new.beginning)) all c.in_ok-has_more.ensures.same (c.in_ok-has_more.ensures.end c.if-branch.false))
