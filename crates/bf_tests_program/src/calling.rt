@@ -1,6 +1,6 @@
 //! The program, called over files in memory.
-use bf_process::Starter;
 use bf_commands::Screen;
+use bf_process::Starter;
 use bf_program::{Source, StoredFiles, answer};
 use bf_report::Memory;
 use bf_value::OutOfMemory;
