@@ -1,8 +1,8 @@
 //! Runs dated task graphs; `backfill --help` says how.
 #![tactic(auto)]
 
+use bf_device::Output;
 use bf_program::{Disk, answer};
-use bf_report::Output;
 use std::process::ExitCode;
 use std::{env, io};
 

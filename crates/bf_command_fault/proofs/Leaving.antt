@@ -1,9 +1,9 @@
 -- What a fault leaves of a text that was due.
 use Rattle.std.proofs.Common.{◌≡◌, ◌≤◌, ℕ, List, [], Option, Some, None, Result, Ok, Err, IfErr, IsSome, length, take, refl, sym, ◌∙◌, ap, append-nil, subst, true≢false}
-use Rattle.bf_report.specs.Device.{sent}
-use Rattle.bf_report.specs.declared.sending.Cause.{Cause}
-use Rattle.bf_report.specs.declared.sending.Cause.TheVariants as cause
-use Rattle.bf_report.specs.declared.sending.WriteFault.{WriteFault}
+use Rattle.bf_device.specs.Device.{sent}
+use Rattle.bf_device.specs.declared.sending.Cause.{Cause}
+use Rattle.bf_device.specs.declared.sending.Cause.TheVariants as cause
+use Rattle.bf_device.specs.declared.sending.WriteFault.{WriteFault}
 use Rattle.bf_command_fault.specs.Refusal.{Leaves, number_of, of_cause, of_write}
 use Rattle.bf_command_fault.specs.declared.fault.CommandFault.{CommandFault}
 use Rattle.bf_command_fault.specs.declared.fault.CommandFault.TheVariants.{Read, Check, Table, Range, Report, Clear, BadMoment, OutOfMemory, CannotRead, CannotWrite, Stopped}

@@ -19,10 +19,10 @@ use Rattle.bf_dependents.specs.Faults as clearing
 use Rattle.bf_report_reader.specs.declared.fault.ReportFault.{ReportFault}
 use Rattle.bf_report_reader.specs.declared.fault.ReportFault.TheVariants as report
 use Rattle.bf_report_reader.specs.Refusals as reading
-use Rattle.bf_report.specs.declared.sending.Cause.{Cause}
-use Rattle.bf_report.specs.declared.sending.Cause.TheVariants as cause
-use Rattle.bf_report.specs.declared.sending.WriteFault.{WriteFault}
-use Rattle.bf_report.specs.Device.{sent}
+use Rattle.bf_device.specs.declared.sending.Cause.{Cause}
+use Rattle.bf_device.specs.declared.sending.Cause.TheVariants as cause
+use Rattle.bf_device.specs.declared.sending.WriteFault.{WriteFault}
+use Rattle.bf_device.specs.Device.{sent}
 use Rattle.bf_command_fault.specs.declared.fault.CommandFault.{CommandFault}
 use Rattle.bf_command_fault.specs.declared.fault.CommandFault.TheVariants.{Read, Check, Table, Range, Report, Clear, BadMoment, OutOfMemory, CannotRead, CannotWrite, Stopped}
 use Rattle.bf_command_fault.specs.declared.stop.StopFault.{StopFault}

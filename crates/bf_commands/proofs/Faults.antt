@@ -19,9 +19,9 @@ use Rattle.bf_try.specs.declared.table.TableEntry.{TableEntry}
 use Rattle.bf_try.specs.declared.table.TableFault.{TableFault}
 use Rattle.bf_try.specs.declared.table.TableFault.TheVariants as table
 use Rattle.bf_try.specs.Tables.{table_of}
-use Rattle.bf_report.specs.declared.sending.Cause.{Cause}
-use Rattle.bf_report.specs.declared.sending.Cause.TheVariants as cause
-use Rattle.bf_report.specs.declared.sending.WriteFault.{WriteFault}
+use Rattle.bf_device.specs.declared.sending.Cause.{Cause}
+use Rattle.bf_device.specs.declared.sending.Cause.TheVariants as cause
+use Rattle.bf_device.specs.declared.sending.WriteFault.{WriteFault}
 use Rattle.bf_command_fault.specs.Refusal.{Leaves, of_cause, of_check, of_range, of_read, of_table, of_write}
 use Rattle.bf_command_fault.specs.declared.fault.CommandFault.{CommandFault}
 use Rattle.bf_command_fault.specs.declared.fault.CommandFault.TheVariants.{Read, Check, Table, Range, Report, Clear, BadMoment, OutOfMemory, CannotRead, CannotWrite, Stopped}

@@ -1,6 +1,6 @@
 //! The command `dry`: a run for each data interval of a range, answered from a table.
 ghost use Rattle.std.specs.Prelude.{Bool, IfOk, IfErr, option_map};
-ghost use Rattle.bf_report.specs.Device.{HasHalted};
+ghost use Rattle.bf_device.specs.Device.{HasHalted};
 ghost use Rattle.bf_command_fault.specs.Refusal.{Leaves, Sends};
 ghost use Rattle.bf_commands.specs.DatedRuns.{IsFaultOfDry, IsReportIn};
 
@@ -10,7 +10,7 @@ use crate::plan::timed_plan_in;
 use crate::range::MomentRange;
 use crate::screen::Screen;
 use bf_command_fault::CommandFault;
-use bf_report::Write;
+use bf_device::Write;
 use std::sync::Wait;
 use std::thread::Threads;
 use std::time::Clock;

@@ -1,14 +1,15 @@
 //! The command `list`: the data intervals of a graph's schedule that start in a range.
 ghost use Rattle.std.specs.Prelude.{◌≡◌, ◌++◌, IfOk, IfErr, OnOk, All, option_map, string_bytes};
-ghost use Rattle.bf_report.specs.Device.{HasHalted};
+ghost use Rattle.bf_device.specs.Device.{HasHalted};
 ghost use Rattle.bf_command_fault.specs.Refusal.{Leaves, Sends};
 ghost use Rattle.bf_commands.specs.Lists.{IsFaultOfList, IsListIn, IsSince1970, interval_line, intervals_text};
 
 use crate::plan::timed_plan_in;
 use crate::range::MomentRange;
 use bf_command_fault::CommandFault;
+use bf_device::{Write, send};
 use bf_interval::Interval;
-use bf_report::{Moment, Write, send};
+use bf_moment::Moment;
 use bf_value::OutOfMemory;
 use std::alloc::Global;
 

@@ -3,7 +3,7 @@ ghost use Rattle.std.specs.Prelude.{◌≡◌, ◌≤◌, Bool, IfOk, IfErr, Ok,
 ghost use Rattle.bf_core.specs.Cores.{IsJournal};
 ghost use Rattle.bf_report_reader.specs.Written.{AreOfRuns};
 ghost use Rattle.bf_try.specs.Tables.{table_of};
-ghost use Rattle.bf_report.specs.Device.{HasHalted};
+ghost use Rattle.bf_device.specs.Device.{HasHalted};
 ghost use Rattle.bf_command_fault.specs.Refusal.{Leaves, Sends};
 ghost use Rattle.bf_commands.specs.OverTable.{IsOver, IsReportOver, IsTableFault, IsUnsent, IsWanting, IsWantingWorkers, answering};
 
@@ -13,10 +13,10 @@ use crate::screen::Screen;
 use bf_check::Plan;
 use bf_command_fault::{CommandFault, StopFault};
 use bf_core::{BackfillFault, Ended};
+use bf_device::Write;
 use bf_interval::Interval;
 use bf_lane::Jump;
 use bf_plain::one_by_one;
-use bf_report::Write;
 use bf_try::{Table, TableRunner};
 use bf_value::OutOfMemory;
 use jiff::Timestamp;

@@ -4,7 +4,7 @@ ghost use Rattle.std.specs.List.{list_all};
 ghost use Rattle.bf_core.specs.Agreement.{AreRunStates, IsOutcome};
 ghost use Rattle.bf_core.specs.Cores.{IsJournal};
 ghost use Rattle.bf_core.specs.Events.{entry_in};
-ghost use Rattle.bf_report.specs.Device.{HasHalted};
+ghost use Rattle.bf_device.specs.Device.{HasHalted};
 ghost use Rattle.bf_report_reader.specs.Written.{AreOfRuns};
 ghost use Rattle.bf_command_fault.specs.Refusal.{Leaves, Sends};
 ghost use Rattle.bf_commands.specs.OverTable.{IsWanting};
@@ -13,8 +13,9 @@ ghost use Rattle.bf_commands.specs.Reported.{IsReportOf, is_success as succeeds}
 use bf_check::Plan;
 use bf_command_fault::CommandFault;
 use bf_core::Ended;
+use bf_device::Write;
 use bf_interval::Interval;
-use bf_report::{RunReport, Write, report_of, write_report};
+use bf_report::{RunReport, report_of, write_report};
 use bf_xcom::RunState;
 use std::alloc::Global;
 

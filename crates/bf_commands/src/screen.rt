@@ -1,6 +1,6 @@
 //! Where progress is shown.
 
-use bf_report::{Output, send};
+use bf_device::{Output, send};
 use std::io::IsTerminal;
 
 /// Shows how far a backfill is, beside what it prints.

@@ -2,15 +2,15 @@
 ghost use Rattle.std.specs.Prelude.{Bool, IfOk, IfErr, option_map};
 ghost use Rattle.bf_interval.specs.Years.{IsInYears};
 ghost use Rattle.bf_moment.specs.Moment.{IsWhole};
-ghost use Rattle.bf_report.specs.Device.{HasHalted};
+ghost use Rattle.bf_device.specs.Device.{HasHalted};
 ghost use Rattle.bf_command_fault.specs.Refusal.{Leaves, Sends};
 ghost use Rattle.bf_commands.specs.OneRun.{IsFaultOfSingle, IsReportAt};
 
 use crate::over_table::{run_over, table_in};
 use crate::plan::timed_plan_in;
 use bf_command_fault::CommandFault;
+use bf_device::Write;
 use bf_interval::{Interval, IntervalFault, is_in_years};
-use bf_report::Write;
 use jiff::Timestamp;
 use std::alloc::Global;
 

@@ -1,4 +1,2 @@
-pub mod Device
-pub mod Input
 pub mod Output
 pub mod Words

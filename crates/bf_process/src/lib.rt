@@ -14,15 +14,11 @@
 //! A program may start others that hold its output open: then its try ends when the last of them closes it.
 #![tactic(auto)]
 
-mod device;
-mod input;
 mod line;
 mod program;
 mod runner;
 mod starter;
 
-pub use device::{Halt, Halts, Read};
-pub use input::Input;
 pub use line::{LONGEST_OUTPUT, line_of};
 pub use runner::ProcessRunner;
 pub use starter::Starter;

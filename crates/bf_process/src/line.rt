@@ -1,19 +1,16 @@
 //! The last line of an output, which is read up to a limit.
 ghost use Rattle.std.specs.Prelude.{◌≡◌, IfOk, IfSome};
 ghost use Rattle.bf_try.specs.declared.answers.Line.{Line as LineTerm};
-ghost use Rattle.bf_process.specs.Device.{HasHalted};
+ghost use Rattle.bf_device.specs.Device.{HasHalted};
 ghost use Rattle.bf_process.specs.Output.{IsLineOf};
 
-use crate::device::{Halt, Read};
+use bf_device::{Halt, MOST_INTERRUPTIONS, Read};
 use bf_try::Line;
 use bf_value::{OutOfMemory, Sequence, last_line};
 use std::alloc::Global;
 
 /// How many bytes an output may have.
 pub const LONGEST_OUTPUT: usize = 1_048_576;
-
-/// How often one call goes on after an interruption.
-const MOST_INTERRUPTIONS: u32 = 1_000;
 
 /// How many bytes one read may give.
 const ROOM: usize = 8_192;

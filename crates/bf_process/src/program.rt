@@ -5,8 +5,8 @@ ghost use Rattle.bf_graph.specs.Shape.{texts};
 ghost use Rattle.bf_try.specs.declared.answers.Line.{Line as LineTerm};
 ghost use Rattle.bf_process.specs.Output.{IsLineOf, exit_in, not_started as nothing_started};
 
-use crate::input::Input;
 use crate::line::line_of;
+use bf_device::Input;
 use bf_try::{Exit, Line, Raw, RunnerFault};
 use bf_value::{OutOfMemory, Sequence};
 use std::alloc::Global;

@@ -7,9 +7,9 @@ use Rattle.bf_command_line.specs.declared.forms.GraphAsked.{GraphAsked}
 use Rattle.bf_command_line.specs.declared.forms.ListAsked.{ListAsked}
 use Rattle.bf_command_line.specs.declared.forms.RunAsked.{RunAsked}
 use Rattle.bf_command_line.specs.declared.forms.SingleAsked.{SingleAsked}
-use Rattle.bf_report.specs.declared.sending.Cause.{Cause}
-use Rattle.bf_report.specs.declared.sending.Cause.TheVariants as cause
-use Rattle.bf_report.specs.declared.sending.WriteFault.{WriteFault}
+use Rattle.bf_device.specs.declared.sending.Cause.{Cause}
+use Rattle.bf_device.specs.declared.sending.Cause.TheVariants as cause
+use Rattle.bf_device.specs.declared.sending.WriteFault.{WriteFault}
 use Rattle.bf_command_fault.specs.declared.fault.CommandFault.{CommandFault}
 use Rattle.bf_command_fault.specs.declared.fault.CommandFault.TheVariants.{Read, Check, Table, Range, Report, Clear, BadMoment, OutOfMemory, CannotRead, CannotWrite, Stopped}
 use Rattle.bf_command_fault.specs.declared.status.Status.{Status}

@@ -7,8 +7,8 @@ use Rattle.clap.specs.declared.error.kind.ErrorKind.TheVariants as kind
 use Rattle.bf_command_line.specs.declared.forms.Asked.{Asked}
 use Rattle.bf_command_line.specs.declared.forms.Asked.TheVariants as asked
 use Rattle.bf_command_line.specs.Asked.{IsAskedBy}
-use Rattle.bf_report.specs.Device.{sent}
-use Rattle.bf_report.specs.declared.sending.WriteFault.{WriteFault}
+use Rattle.bf_device.specs.Device.{sent}
+use Rattle.bf_device.specs.declared.sending.WriteFault.{WriteFault}
 use Rattle.bf_command_fault.specs.Refusal.{Leaves, Sends, number_of}
 use Rattle.bf_command_fault.specs.Status.{code_of, of_runs}
 use Rattle.bf_command_fault.specs.declared.fault.CommandFault.{CommandFault}

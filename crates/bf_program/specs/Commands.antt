@@ -4,7 +4,7 @@ use Rattle.std.specs.Global.{Global}
 use Rattle.clap.specs.Words.{Kinds, Row, Text, subcommand_of}
 use Rattle.jiff.specs.declared.timestamp.Timestamp.{Timestamp}
 use Rattle.bf_moment.specs.Moment.{Spells, nearest}
-use Rattle.bf_report.specs.Device.{sent}
+use Rattle.bf_device.specs.Device.{sent}
 use Rattle.bf_command_line.specs.declared.forms.Asked.{Asked}
 use Rattle.bf_command_line.specs.declared.forms.Asked.TheVariants.{Check, Clear, Completions, Dry, List as Intervals, Run, Schema, Single}
 use Rattle.bf_command_line.specs.declared.forms.ClearAsked.{ClearAsked}

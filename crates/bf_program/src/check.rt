@@ -1,6 +1,6 @@
 //! The command `check`: whether a graph file has a fault.
 ghost use Rattle.std.specs.Prelude.{IfOk, IfErr, ◌≡◌, string_bytes};
-ghost use Rattle.bf_report.specs.Device.{HasHalted};
+ghost use Rattle.bf_device.specs.Device.{HasHalted};
 ghost use Rattle.bf_command_fault.specs.Refusal.{Leaves, Sends};
 ghost use Rattle.bf_command_fault.specs.declared.status.Status.{Status as StatusTerm};
 ghost use Rattle.bf_program.specs.Commands.{IsCheckAnswer, IsCheckFault, size_text};
@@ -10,7 +10,7 @@ use crate::source::Source;
 use bf_command_fault::{CommandFault, Status};
 use bf_command_line::GraphAsked;
 use bf_commands::{GraphSize, check_graph};
-use bf_report::{Write, send};
+use bf_device::{Write, send};
 use bf_value::OutOfMemory;
 use std::alloc::Global;
 

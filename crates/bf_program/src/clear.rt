@@ -1,6 +1,6 @@
 //! The command `clear`: a backfill that goes on from its report, where a task in a run is cleared with all that follows from it.
 ghost use Rattle.std.specs.Prelude.{◌≡◌, ℕ, List, IfOk, IfErr, OnOk, option_map, string_bytes};
-ghost use Rattle.bf_report.specs.Device.{HasHalted};
+ghost use Rattle.bf_device.specs.Device.{HasHalted};
 ghost use Rattle.bf_try.specs.Tables.{table_of};
 ghost use Rattle.bf_command_fault.specs.Refusal.{Leaves, Sends};
 ghost use Rattle.bf_command_fault.specs.declared.status.Status.{Status as StatusTerm};
@@ -13,8 +13,8 @@ use bf_command_fault::{CommandFault, Status};
 use bf_command_line::{ClearAsked, GraphAsked, SeedAsked};
 use bf_commands::{Crew, Prepared, Screen, prepare, run_again};
 use bf_dependents::Seed;
+use bf_device::Write;
 use bf_process::Starter;
-use bf_report::Write;
 use bf_value::Text;
 use std::alloc::Global;
 use std::sync::Wait;

@@ -2,15 +2,12 @@
 ghost use Rattle.std.specs.Prelude.{◌≡◌, ◌≤◌, IfOk, IfSome, None, take, vec_len};
 
 use crate::source::{Source, SourceFault};
-use bf_report::Halt;
+use bf_device::{Halt, MOST_INTERRUPTIONS};
 use std::alloc::Global;
 use std::fs::File;
 use std::io;
 use std::io::ErrorKind;
 use std::rt::Files;
-
-// A read that a signal interrupts is repeated, but not for ever.
-const INTERRUPTIONS: u32 = 1_000;
 
 const CHUNK: usize = 8_192;
 
@@ -76,7 +73,7 @@ fn first_read<R: io::Read>(
             Ok(0) => break,
             Ok(n) => bytes.extend_from_slice(&chunk[..n])?,
             Err(error) => {
-                if Halt::of(&error) == Halt::Failed || interruptions == INTERRUPTIONS {
+                if Halt::of(&error) == Halt::Failed || interruptions == MOST_INTERRUPTIONS {
                     return Err(error.into());
                 }
                 interruptions += 1;

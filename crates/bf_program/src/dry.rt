@@ -1,6 +1,6 @@
 //! The command `dry`: a run for each data interval of a range, answered from a table.
 ghost use Rattle.std.specs.Prelude.{IfOk, IfErr};
-ghost use Rattle.bf_report.specs.Device.{HasHalted};
+ghost use Rattle.bf_device.specs.Device.{HasHalted};
 ghost use Rattle.bf_command_fault.specs.Refusal.{Leaves, Sends};
 ghost use Rattle.bf_command_fault.specs.declared.status.Status.{Status as StatusTerm};
 ghost use Rattle.bf_program.specs.Commands.{IsDryAnswer, IsDryFault};
@@ -10,7 +10,7 @@ use crate::source::Source;
 use bf_command_fault::{CommandFault, Status};
 use bf_command_line::DryAsked;
 use bf_commands::{Crew, Screen, run_dry};
-use bf_report::Write;
+use bf_device::Write;
 use std::alloc::Global;
 use std::sync::Wait;
 use std::thread::Threads;

@@ -1,6 +1,6 @@
 //! The command `list`: the data intervals of a graph's schedule that start in a range.
 ghost use Rattle.std.specs.Prelude.{IfOk, IfErr};
-ghost use Rattle.bf_report.specs.Device.{HasHalted};
+ghost use Rattle.bf_device.specs.Device.{HasHalted};
 ghost use Rattle.bf_command_fault.specs.Refusal.{Leaves, Sends};
 ghost use Rattle.bf_command_fault.specs.declared.status.Status.{Status as StatusTerm};
 ghost use Rattle.bf_program.specs.Commands.{IsListAnswer, IsListFault};
@@ -10,7 +10,7 @@ use crate::source::Source;
 use bf_command_fault::{CommandFault, Status};
 use bf_command_line::ListAsked;
 use bf_commands::run_list;
-use bf_report::Write;
+use bf_device::Write;
 use std::alloc::Global;
 
 /// The moments are looked at first. Then the files are read, and only then what they hold is looked at.

@@ -1,7 +1,7 @@
 //! The whole program below `main`.
 ghost use Rattle.std.specs.Prelude.{◌≡◌, ◌≢◌, ◌≤◌, ◌⊎◌, [], None, IfOk, IfErr, IsErr, IsSome, OnErr};
 ghost use Rattle.clap.specs.Words.{kind_of};
-ghost use Rattle.bf_report.specs.Device.{HasHalted};
+ghost use Rattle.bf_device.specs.Device.{HasHalted};
 ghost use Rattle.bf_command_fault.specs.Refusal.{number_of};
 ghost use Rattle.bf_command_fault.specs.Status.{code_of};
 ghost use Rattle.bf_command_fault.specs.declared.fault.CommandFault.{CommandFault as FaultTerm};
@@ -19,8 +19,8 @@ use crate::texts::{completions_answered, schema_answered};
 use bf_command_fault::{CommandFault, Status};
 use bf_command_line::{Asked, asked};
 use bf_commands::Screen;
+use bf_device::{Write, send};
 use bf_process::Starter;
-use bf_report::{Write, send};
 use clap::Error;
 use clap::error::ErrorKind;
 use std::alloc::Global;

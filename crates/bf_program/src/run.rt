@@ -1,6 +1,6 @@
 //! The command `run`: a run for each data interval of a range, with the programs of its tasks.
 ghost use Rattle.std.specs.Prelude.{IfOk, IfErr};
-ghost use Rattle.bf_report.specs.Device.{HasHalted};
+ghost use Rattle.bf_device.specs.Device.{HasHalted};
 ghost use Rattle.bf_command_fault.specs.Refusal.{Leaves, Sends};
 ghost use Rattle.bf_command_fault.specs.declared.status.Status.{Status as StatusTerm};
 ghost use Rattle.bf_program.specs.Commands.{IsRunAnswer, IsRunFault};
@@ -10,8 +10,8 @@ use crate::source::Source;
 use bf_command_fault::{CommandFault, Status};
 use bf_command_line::RunAsked;
 use bf_commands::{Crew, Screen, run_programs};
+use bf_device::Write;
 use bf_process::Starter;
-use bf_report::Write;
 use std::alloc::Global;
 use std::sync::Wait;
 use std::thread::Threads;

@@ -1,13 +1,13 @@
 //! The commands `schema` and `completions`: texts that are printed as they stand.
 ghost use Rattle.std.specs.Prelude.{◌≡◌, IfOk, IfErr};
-ghost use Rattle.bf_report.specs.Device.{HasHalted};
+ghost use Rattle.bf_device.specs.Device.{HasHalted};
 ghost use Rattle.bf_command_fault.specs.Refusal.{Leaves, Sends};
 ghost use Rattle.bf_command_fault.specs.declared.status.Status.{Status as StatusTerm};
 ghost use Rattle.bf_program.specs.Texts.{IsDeviceFault, IsPrinted, completions_text, schema_text};
 
 use bf_command_fault::{CommandFault, Status};
 use bf_command_line::{Format, Shell};
-use bf_report::{Write, send};
+use bf_device::{Write, send};
 use bf_texts::{completions, schemas};
 
 fn schema_of(format: Format) -> &'static str

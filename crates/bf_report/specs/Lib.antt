@@ -1,8 +1,3 @@
-pub mod Device
-pub mod Memory
-pub mod Output
-pub mod Bytes
-pub mod Input
 pub mod Report
 pub mod Dated
 pub mod Values

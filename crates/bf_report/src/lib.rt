@@ -1,4 +1,4 @@
-//! Reports of a backfill, and the devices that they are written to and read from.
+//! Reports of a backfill.
 //!
 //! A report is the list of runs by date, and in each run what came of each task in file order. Its text has a
 //! head line, a line for each run with the lines of its tasks behind it, and an end line. Behind the line of an
@@ -20,32 +20,17 @@
 //!
 //! `report_of` makes version 2. One of version 1 has no such lines; the text has what the report has.
 //!
-//! `write_report` makes the whole text in memory and then sends it to a device, a `Write`.
+//! `write_report` makes the whole text in memory and then sends it to a device.
 #![tactic(auto)]
 
-mod bytes;
 mod dated;
-mod device;
-mod halting;
-mod input;
 mod instances;
 mod laws;
 mod lines;
-mod memory;
-mod output;
 mod report;
-mod sending;
 mod writing;
 
-pub use bf_moment::{Moment, moment_bytes, moment_in};
-pub use bytes::Bytes;
 pub use dated::report_of;
-pub use device::{Halt, Halts, Read, Write};
-pub use halting::Halting;
-pub use input::Input;
 pub use laws::alike_ledgers_report_alike;
-pub use memory::Memory;
-pub use output::Output;
 pub use report::{InstanceReport, Pull, Report, RunReport, TaskReport, Version};
-pub use sending::{Cause, WriteFault, send};
 pub use writing::write_report;

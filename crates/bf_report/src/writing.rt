@@ -1,12 +1,11 @@
 //! Reports to devices.
 ghost use Rattle.std.specs.Prelude.{◌≡◌, ◌≤◌, length, take, OnOk, IfErr};
-ghost use Rattle.bf_report.specs.Device.{sent, HasHalted};
+ghost use Rattle.bf_device.specs.Device.{sent, HasHalted};
 ghost use Rattle.bf_report.specs.Report.{report_text};
 
-use crate::device::Write;
 use crate::lines::text_of_report;
 use crate::report::Report;
-use crate::sending::{Cause, WriteFault, send};
+use bf_device::{Cause, Write, WriteFault, send};
 use std::alloc::Global;
 
 /// Writes a report. The whole text is made first, so want of memory is known before the first byte goes out.

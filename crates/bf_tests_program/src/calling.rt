@@ -1,8 +1,8 @@
 //! The program, called over files in memory.
 use bf_commands::Screen;
+use bf_device::Memory;
 use bf_process::Starter;
 use bf_program::{Source, StoredFiles, answer};
-use bf_report::Memory;
 use bf_value::OutOfMemory;
 use std::alloc::{AllocGlobal, Global};
 use std::process::Abort;

@@ -1,7 +1,7 @@
 //! Standard output and standard error that fail.
 use crate::calling::{Machine, ONE, stored, text_in, words_in};
+use bf_device::{Halt, Halting, Memory};
 use bf_program::answer;
-use bf_report::{Halt, Halting, Memory};
 use std::alloc::Global;
 use std::test::Fail;
 

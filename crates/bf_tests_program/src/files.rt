@@ -1,8 +1,9 @@
 //! Files of the system, and a writer of std.
 use crate::calling::{Machine, ONE, ONE_REPORT, answered, words_in};
 use bf_commands::run_single;
+use bf_device::Output;
+use bf_moment::moment_in;
 use bf_program::{Disk, Source};
-use bf_report::{Output, moment_in};
 use std::alloc::Global;
 use std::test::Fail;
 

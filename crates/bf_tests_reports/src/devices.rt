@@ -1,8 +1,7 @@
 //! Devices that halt: those of this project, and readers and writers of std that raise errors.
 use crate::reports::{FULL, ONE};
-use bf_report::{
-    Bytes, Cause, Halt, Halting, Input, Memory, Output, Report, WriteFault, write_report,
-};
+use bf_device::{Bytes, Cause, Halt, Halting, Input, Memory, Output, WriteFault};
+use bf_report::{Report, write_report};
 use bf_report_reader::{ReportFault, read_report};
 use std::alloc::Global;
 use std::io;

@@ -1,6 +1,6 @@
 //! Reading a report: which lines may stand where, and which fault comes first.
 use crate::reports::{FULL, ONE, TWO};
-use bf_report::Bytes;
+use bf_device::Bytes;
 use bf_report_reader::{ReportFault, read_report};
 use bf_value::OutOfMemory;
 use std::alloc::Global;

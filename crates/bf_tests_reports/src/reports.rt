@@ -1,5 +1,6 @@
 //! Reports: their text, and the words of what is told of a bad one.
-use bf_report::{Bytes, Memory, write_report};
+use bf_device::{Bytes, Memory};
+use bf_report::write_report;
 use bf_report_reader::{ReportFault, read_report};
 use std::alloc::Global;
 use std::test::Fail;

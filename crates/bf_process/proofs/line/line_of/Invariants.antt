@@ -1,6 +1,6 @@
 use Rattle.std.proofs.Common.{◌+◌, ◌-◌, ◌≤◌, vec_len}
 use Rattle.std.specs.Io.KnownBytes.{Consumes}
-use Rattle.bf_process.specs.Device.{WentOn}
+use Rattle.bf_device.specs.Device.{WentOn}
 use Rattle.bf_process.proofs.line.line_of.Given as goal
 
 abbrev pub invariant-loop-bytes : goal.invariant-loop-bytes

@@ -1,12 +1,9 @@
 //! A text sent to a device.
 ghost use Rattle.std.specs.Prelude.{◌≡◌, ◌≤◌, ◌⊎◌, length, take, OnOk, IfErr};
-ghost use Rattle.bf_report.specs.Device.{sent, WentOn, HasHalted};
+ghost use Rattle.bf_device.specs.Device.{sent, WentOn, HasHalted};
 
-use crate::device::{Halt, Write};
+use crate::device::{Halt, MOST_INTERRUPTIONS, Write};
 use thiserror::Error;
-
-/// How often one call goes on after an interruption.
-const MOST_INTERRUPTIONS: u32 = 1_000;
 
 /// Why a text was not written.
 #[derive(Clone, Copy, Debug, PartialEq, Eq, Error)]

@@ -3,9 +3,12 @@ ghost use Rattle.std.specs.Prelude.{◌≡◌, ◌↔◌, ℕ, ◌≤◌, List, 
 ghost use Rattle.std.specs.Io.KnownBytes.{ReadConsumes};
 ghost use Rattle.std.specs.IoError.{error_kind};
 ghost use Rattle.std.specs.declared.io.ErrorKind.TheVariants.{Interrupted};
-ghost use Rattle.bf_report.specs.Device.{sent, taken, interrupted, write_failed, read_failed, WentOn};
+ghost use Rattle.bf_device.specs.Device.{sent, taken, interrupted, write_failed, read_failed, WentOn};
 
 use std::io;
+
+/// How often one call of a device goes on after an interruption, as a signal makes one.
+pub const MOST_INTERRUPTIONS: u32 = 1_000;
 
 /// Why a device took or gave nothing.
 #[derive(Clone, Copy, Debug, PartialEq, Eq)]

@@ -1,7 +1,7 @@
 -- What a device was given, and what it gave.
 use Rattle.std.specs.Prelude.{◌≡◌, ℕ, zero, suc, ◌+◌, ◌%◌, ◌^◌, ◌⊎◌, List, [], ◌∷◌, ◌++◌, Option, option_map, Result, Ok, Err}
-use Rattle.bf_report.specs.declared.device.Halt.{Halt}
-use Rattle.bf_report.specs.declared.device.Halt.TheVariants.{Again, Failed}
+use Rattle.bf_device.specs.declared.device.Halt.{Halt}
+use Rattle.bf_device.specs.declared.device.Halt.TheVariants.{Again, Failed}
 
 -- the bytes that went out, with more behind them, where they are told
 abbrev pub sent : Option (List ℕ) → List ℕ → Option (List ℕ)

@@ -1,6 +1,6 @@
 -- What a writer of std answered.
 use Rattle.std.specs.Prelude.{ℕ}
-use Rattle.bf_report.specs.declared.output.Output.{Output}
+use Rattle.bf_device.specs.declared.output.Output.{Output}
 
 -- how many writes were interrupted
 abbrev pub interrupted_writes : {W : Type 0} → Output W → ℕ

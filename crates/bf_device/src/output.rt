@@ -1,6 +1,6 @@
 //! The device over a writer of std.
 ghost use Rattle.std.specs.Prelude.{◌≡◌};
-ghost use Rattle.bf_report.specs.Output.{interrupted_writes, failed_writes};
+ghost use Rattle.bf_device.specs.Output.{interrupted_writes, failed_writes};
 
 use crate::device::{Halt, Halts, Write};
 use std::io;

@@ -1,6 +1,6 @@
 //! The device that keeps what is written.
 ghost use Rattle.std.specs.Prelude.{◌≡◌, []};
-ghost use Rattle.bf_report.specs.Memory.{bytes_in, refused_writes};
+ghost use Rattle.bf_device.specs.Memory.{bytes_in, refused_writes};
 
 use crate::device::{Halt, Write};
 use std::alloc::Global;

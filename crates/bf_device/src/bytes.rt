@@ -12,7 +12,7 @@ pub struct Bytes {
 }
 
 impl Bytes {
-    ghost use Rattle.bf_report.specs.Bytes.{bytes_left};
+    ghost use Rattle.bf_device.specs.Bytes.{bytes_left};
 
     /// Bytes that are all to be read.
     pub fn new(bytes: Vec<u8>) -> Bytes
@@ -24,7 +24,7 @@ impl Bytes {
 
 impl Read for Bytes {
     ghost use Rattle.std.specs.Prelude.{Some};
-    ghost use Rattle.bf_report.specs.Bytes.{bytes_left};
+    ghost use Rattle.bf_device.specs.Bytes.{bytes_left};
 
     ghost left = { λ b. Some (bytes_left b) };
 

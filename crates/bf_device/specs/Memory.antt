@@ -1,6 +1,6 @@
 -- Bytes in memory.
 use Rattle.std.specs.Prelude.{ℕ, List}
-use Rattle.bf_report.specs.declared.memory.Memory.{Memory}
+use Rattle.bf_device.specs.declared.memory.Memory.{Memory}
 
 -- the bytes that were written
 abbrev pub bytes_in : Memory → List ℕ

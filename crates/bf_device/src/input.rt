@@ -1,11 +1,11 @@
 //! The device over a reader of std.
 ghost use Rattle.std.specs.Prelude.{◌≡◌};
-ghost use Rattle.bf_process.specs.Input.{interrupted_reads, failed_reads};
+ghost use Rattle.bf_device.specs.Input.{interrupted_reads, failed_reads};
 
 use crate::device::{Halt, Halts, Read};
 use std::io;
 
-/// A reader of std, as the pipe from a program. It tells what that reader tells.
+/// A reader of std, as a file. It tells what that reader tells.
 #[derive(Drop)]
 pub struct Input<R: io::Read + Drop> {
     pub inner: R,
@@ -21,6 +21,14 @@ impl<R: io::Read + Drop> Input<R> {
             inner,
             halts: Halts::none(),
         }
+    }
+
+    /// Gives the reader back.
+    pub fn into_inner(self) -> R
+        ensures { result ≡ self.inner }
+    {
+        let Input { inner, halts: _ } = self;
+        inner
     }
 }
 

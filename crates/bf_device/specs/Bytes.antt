@@ -1,6 +1,6 @@
 -- Bytes in memory to be read.
 use Rattle.std.specs.Prelude.{ℕ, List, drop}
-use Rattle.bf_report.specs.declared.bytes.Bytes.{Bytes}
+use Rattle.bf_device.specs.declared.bytes.Bytes.{Bytes}
 
 -- the bytes that were not read yet
 abbrev pub bytes_left : Bytes → List ℕ

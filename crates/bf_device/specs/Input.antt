@@ -1,6 +1,6 @@
 -- What a reader of std answered.
 use Rattle.std.specs.Prelude.{ℕ}
-use Rattle.bf_process.specs.declared.input.Input.{Input}
+use Rattle.bf_device.specs.declared.input.Input.{Input}
 
 -- how many reads were interrupted
 abbrev pub interrupted_reads : {R : Type 0} → Input R → ℕ

@@ -1,0 +1,5 @@
+pub mod Device
+pub mod Memory
+pub mod Output
+pub mod Bytes
+pub mod Input
