@@ -5,7 +5,7 @@ use Rattle.bf_check.specs.Sound.{AreLimits}
 use Rattle.bf_pool.specs.Slots.{Slots, occupied_of}
 use Rattle.bf_core.specs.Terms.{Clock, Dag, Limits, JobName, State, Event, Instance, Phase, IsSound, task_of, map_index}
 use Rattle.bf_core.specs.declared.event.Illegal.{Illegal}
-use Rattle.bf_core.specs.Events.{IsLegal, replay, start, after, occupied, IsEnabled, IsPresent, HasEnded, cell_at, instance_of, entry_in, place_in}
+use Rattle.bf_core.specs.Events.{IsLegal, replay, start, after, occupied, next_run, open_now, IsEnabled, IsPresent, HasEnded, cell_at, instance_of, entry_in, place_in}
 use Rattle.bf_core.specs.Clocks.{AreTimely, IsMove, IsTimely, KeepsTime, clock_after, clock_of, start_clock}
 use Rattle.bf_core.specs.Few.{AreFew, AreFitting}
 
@@ -107,7 +107,7 @@ IsRefusal backfill event fault = Refuses backfill.dag backfill.limits backfill.s
 
 -- ---- what a core keeps
 
-pub record IsCore (backfill : Backfill) (pools : Slots) (rooms : ℕ) : Type 0 where
+pub record IsCore (backfill : Backfill) (pools : Slots) (rooms opened active : ℕ) : Type 0 where
   pub replayed : IsReplay backfill
   pub limits_fit : AreLimits backfill.dag backfill.limits
   pub few_runs : backfill.runs ≤ 4_096
@@ -117,3 +117,5 @@ pub record IsCore (backfill : Backfill) (pools : Slots) (rooms : ℕ) : Type 0 w
   pub rooms_fit : rooms ≡ backfill.runs
   pub sizes : pools.sizes ≡ backfill.limits.pools
   pub held : (pool : ℕ) → occupied_of pools pool ≡ occupied backfill.limits backfill.state pool
+  pub opened_are : opened ≡ next_run backfill.state
+  pub active_are : active ≡ open_now backfill.state

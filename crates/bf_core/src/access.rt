@@ -118,6 +118,8 @@ impl<'a> Core<'a> {
             pools: _,
             state,
             clock: _,
+            opened_runs: _,
+            active_runs: _,
             mut run_states,
             journal,
         } = self;

@@ -1,7 +1,7 @@
 //! Which events may come now, asked by whoever chooses among them. Nothing here takes memory.
 ghost use Rattle.std.specs.Prelude.{◌≡◌, ◌<◌, ◌≤◌, ◌↔◌, length, is_some, IsTrue, IfSome, IfNone, OnSome, option_copied};
 ghost use Rattle.bf_core.specs.Deciding.{after_verdict};
-ghost use Rattle.bf_core.specs.Events.{seen_in, cell_at, value_in, goes_on as goes_on_now, instance_of, place_in, given_in, IsPresent, IsDecidable, has_room};
+ghost use Rattle.bf_core.specs.Events.{seen_in, cell_at, value_in, goes_on as goes_on_now, instance_of, place_in, given_in, IsPresent, IsDecidable, has_room, next_run};
 ghost use Rattle.bf_core.specs.Running.{running_now};
 ghost use Rattle.bf_core.specs.Checks.{HasRows, IsUndecidedNow};
 ghost use Rattle.bf_core.specs.Cores.{GoesOn, IsThere, MayCome, deciding};
@@ -60,6 +60,15 @@ impl<'a> Core<'a> {
         ensures few { result ≤ 4_096 }
     {
         self.runs
+    }
+
+    /// How many runs were opened so far, and so which is the next to open.
+    pub fn opened_runs(&self) -> u32
+        ensures next { result ≡ next_run self.now.state }
+        ensures within { result ≤ length self.now.state.runs }
+        ensures few { result ≤ 4_096 }
+    {
+        self.opened_runs
     }
 
     /// A law: never stuck. While no try runs, a backfill that hasn't ended has an event that may come and is no tick, or a

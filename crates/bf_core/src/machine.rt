@@ -1,10 +1,10 @@
 //! The core: the state of a backfill, the events that led to it, and what one more event does.
-ghost use Rattle.std.specs.Prelude.{◌≡◌, ◌≤◌, ◌<◌, [], length, OnOk, OnErr, IfOk, IfErr, IfSome, IfNone};
-ghost use Rattle.bf_core.specs.Events.{start, next_run, decision_in};
+ghost use Rattle.std.specs.Prelude.{◌≡◌, ◌≤◌, ◌<◌, length, OnOk, OnErr, IfOk, IfErr, IfSome, IfNone};
+ghost use Rattle.bf_core.specs.Events.{next_run, decision_in};
 ghost use Rattle.bf_core.specs.Cores.{deciding, opening, HasCome, IsRefusal, MayCome};
 ghost use Rattle.bf_core.specs.Tries.{IsBeginning};
 
-use crate::checks::{closable, first_unopened_run, open_runs, undecided, waiting};
+use crate::checks::{closable, undecided, waiting};
 use crate::clock::{Clock, Moments};
 use crate::deciding::{Decision, decide, gate, goes_on};
 use crate::event::{Event, Illegal};
@@ -30,6 +30,9 @@ pub struct Core<'a> {
     pub(crate) pools: Pools,
     pub(crate) state: State,
     pub(crate) clock: Clock,
+    /// How many runs were opened, which is the next one to open, and how many of these are open still.
+    pub(crate) opened_runs: u32,
+    pub(crate) active_runs: u32,
     /// Room for the states of the runs, which are known once the backfill has ended.
     pub(crate) run_states: Vec<RunState>,
     pub(crate) journal: Vec<Event>,
@@ -51,7 +54,7 @@ impl<'a> Model for Core<'a> {
 
     ghost view = { λ c. record { dag = c.plan.now.dag; limits = c.plan.now.limits; runs = c.runs; state = c.state; clock = c.clock; journal = c.journal.items } };
 
-    ghost invariant = { λ c. IsCore (record { dag = c.plan.now.dag; limits = c.plan.now.limits; runs = c.runs; state = c.state; clock = c.clock; journal = c.journal.items }) c.pools (vec_len c.run_states) };
+    ghost invariant = { λ c. IsCore (record { dag = c.plan.now.dag; limits = c.plan.now.limits; runs = c.runs; state = c.state; clock = c.clock; journal = c.journal.items }) c.pools (vec_len c.run_states) c.opened_runs c.active_runs };
 }
 
 impl<'a> Core<'a> {
@@ -81,6 +84,8 @@ impl<'a> Core<'a> {
                 time: 0,
                 moments: Moments::new(alloc),
             },
+            opened_runs: 0,
+            active_runs: 0,
             run_states,
             journal: Vec::new(alloc),
         })
@@ -91,16 +96,10 @@ impl<'a> Core<'a> {
         ensures some { IfSome result (λ k. (k ≡ next_run self.now.state) × MayCome self.now Event.Open) }
         ensures none { IfNone result (¬ (MayCome self.now Event.Open)) }
     {
-        let runs = self.state.runs.as_slice();
-        match first_unopened_run(runs) {
-            None => None,
-            Some(run) => {
-                if open_runs(runs) < self.plan.limits().max_active_runs as usize {
-                    Some(run as u32)
-                } else {
-                    None
-                }
-            }
+        if self.opened_runs < self.runs && self.active_runs < self.plan.limits().max_active_runs {
+            Some(self.opened_runs)
+        } else {
+            None
         }
     }
 
@@ -115,6 +114,8 @@ impl<'a> Core<'a> {
         };
         self.journal.reserve(1)?;
         self.state.set_phase(run, RunPhase::Open);
+        self.opened_runs += 1;
+        self.active_runs += 1;
         self.journal.push_reserved(Event::Open);
         Ok(())
     }
@@ -211,6 +212,7 @@ impl<'a> Core<'a> {
         closable(self.plan.dag(), &self.state, run)?;
         self.journal.reserve(1)?;
         self.state.set_phase(run, RunPhase::Closed);
+        self.active_runs -= 1;
         self.journal.push_reserved(Event::Close { run });
         Ok(())
     }

@@ -1,6 +1,6 @@
 //! The state of a backfill.
 ghost use Rattle.std.specs.Prelude.{◌≡◌, ◌<◌, ◌↔◌, length, IsSome, IfSome, IfNone};
-ghost use Rattle.bf_core.specs.Events.{put, with_phase, row_of, cell_at, phase_of, is_open, is_closed, is_unopened};
+ghost use Rattle.bf_core.specs.Events.{put, with_phase, row_of, cell_at, phase_of, is_open, is_closed};
 
 use bf_try::{Ledger, Outcome};
 use bf_value::Sequence;
@@ -44,12 +44,6 @@ pub enum RunPhase {
 }
 
 impl RunPhase {
-    pub(crate) fn is_unopened(self) -> bool
-        ensures { result ≡ is_unopened self }
-    {
-        matches!(self, RunPhase::Unopened)
-    }
-
     pub(crate) fn is_closed(self) -> bool
         ensures { result ≡ is_closed self }
     {

@@ -1,7 +1,8 @@
 //! Orders of events: the report doesn't rest on them.
 use crate::steps::{Answered, EPOCH, End, Step, take};
 use bf_core::{Core, Illegal};
-use bf_report::{Memory, report_of, write_report};
+use bf_device::Memory;
+use bf_report::{report_of, write_report};
 use bf_tests_graphs::{job, plan_of};
 use std::alloc::Global;
 use std::process::Abort;

@@ -1,5 +1,6 @@
 //! Room in pools.
 use crate::steps::{Answered, EPOCH, End, Step, take, walk};
+use bf_check::Plan;
 use bf_core::{Core, Illegal};
 use bf_tests_graphs::{job, plan_of};
 use std::alloc::Global;
@@ -43,6 +44,32 @@ fn occupied_after(
     Ok(core.occupied(P))
 }
 
+/// How many are occupied after some steps, and how many after more of them.
+fn occupied_in_turn(
+    rt: &impl Abort,
+    alloc: Global,
+    core: &mut Core<'_>,
+    begins: &[Answered],
+    ends: &[Answered],
+) -> Result<(u32, u32), Fail> {
+    let between = occupied_after(rt, alloc, core, begins)?;
+    let behind = occupied_after(rt, alloc, core, ends)?;
+    assert_eq!(rt; core.journal().len(), begins.len() + ends.len());
+    Ok((between, behind))
+}
+
+/// The same from the start of a backfill of one run.
+fn occupied_from_start(
+    rt: &impl Abort,
+    alloc: Global,
+    plan: &Plan,
+    begins: &[Answered],
+    ends: &[Answered],
+) -> Result<(u32, u32), Fail> {
+    let mut core = Core::new(alloc, plan, &[EPOCH])?;
+    occupied_in_turn(rt, alloc, &mut core, begins, ends)
+}
+
 #[test]
 fn slots_are_occupied_while_a_try_runs(rt: HostRuntime) -> Result<(), Fail> {
     let begins: [Answered; 3] = [
@@ -52,9 +79,7 @@ fn slots_are_occupied_while_a_try_runs(rt: HostRuntime) -> Result<(), Fail> {
     ];
     let ends: [Answered; 1] = [(Step::End(job(0, -1, 1), End::Succeeds), Ok(()))];
     let plan = plan_of(rt.alloc(), NARROW)?;
-    let mut core = Core::new(rt.alloc(), &plan, &[EPOCH])?;
-    assert_eq!(rt; occupied_after(&rt, rt.alloc(), &mut core, &begins)?, 2);
-    assert_eq!(rt; occupied_after(&rt, rt.alloc(), &mut core, &ends)?, 0);
-    assert_eq!(rt; core.journal().len(), 4);
+    let occupied = occupied_from_start(&rt, rt.alloc(), &plan, &begins, &ends)?;
+    assert_eq!(rt; occupied, (2, 0));
     Ok(())
 }

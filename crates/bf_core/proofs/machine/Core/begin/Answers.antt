@@ -41,6 +41,8 @@ invariant_of-self-in-Ok c =
     (ap (λ (p : Slots). p.sizes) now)
     (λ q. ap (λ (p : Slots). occupied_of p q) now
     ∙ taken limits pools c.self.inside.state next t there c.self.invariant.held (occupied-begun c.self.inside.plan.now.dag limits c.self.inside.runs c.self.inside.state (replay-shaped _ c.self.invariant.replayed) c.args.name is.present) q)
+    refl
+    refl
 
 pub returns-in-Ok-clause-ok : goal.returns-in-Ok-clause-ok
 unfolding after

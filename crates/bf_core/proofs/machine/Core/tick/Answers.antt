@@ -17,6 +17,8 @@ invariant_of-self-2 c =
     (c.push_reserved.ensures.items ∙ rw (c.in_ok-reserve.ensures.items, moment) refl)
     refl
     is.held
+    refl
+    refl
 
 pub returns-clause-ok : goal.returns-clause-ok
 unfolding after
