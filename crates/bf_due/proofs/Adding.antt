@@ -1,5 +1,6 @@
 -- Adding steps to an agenda, of several kinds in turn.
 use Rattle.std.proofs.Common.{◌≡◌, ◌⊎◌, ℕ, zero, suc, ◌+◌, ◌<◌, ◌≤◌, Bool, true, false, List, [], ◌∷◌, length, get_or, slice_set, Some, Contains, refl, sym, ap, ◌∙◌, subst, subst₂, inl, inr, arith}
+use Rattle.std.proofs.lemmas.Bool.{both_ways}
 use Rattle.std.specs.List.Sorted.{IsStrictlyIncreasing}
 use Rattle.bf_graph.specs.Edges.{IsRank, IsUpstream}
 use Rattle.bf_graph.specs.Lookups.{IsRisingListOf}
@@ -7,6 +8,7 @@ use Rattle.bf_check.specs.Plans.{shape_of}
 use Rattle.bf_pool.proofs.WeightFacts.{tasks_there}
 use Rattle.bf_core.specs.Terms.{Dag}
 use Rattle.bf_core.specs.declared.event.Event.{Event}
+use Rattle.bf_core.specs.declared.state.State.{State}
 use Rattle.bf_core.specs.Events.{IsDecidable, goes_on}
 use Rattle.bf_core.specs.Cores.{Backfill, MayCome, deciding}
 use Rattle.bf_core.proofs.Enabling.{able-decidable}
@@ -15,7 +17,10 @@ use Rattle.bf_core.proofs.Numbers.{below-or}
 use Rattle.bf_due.specs.declared.agenda.Step.{Step}
 use Rattle.bf_due.specs.declared.agenda.Turn.{Turn}
 use Rattle.bf_due.specs.declared.progress.Progress.{Progress}
-use Rattle.bf_due.specs.Dues.{Asks, AsksAll, HasAdded, IsAround, IsBelow, IsCloseOf, IsDue, IsOfFirst, IsOfRun, IsOfRunBelow, IsOfTask, IsOpening, IsRanked, IsUnder}
+use Rattle.bf_due.specs.declared.news.News.{News}
+use Rattle.bf_due.specs.Cursors.{AreReached}
+use Rattle.bf_due.specs.Stirring.{is_settled, matters}
+use Rattle.bf_due.specs.Dues.{Asks, AsksAll, HasAdded, IsAround, IsBelow, IsCloseOf, IsDue, IsOfFirst, IsOfRun, IsOfRunBelow, IsOfTask, IsOpening, IsRanked, IsStirred, IsUnder}
 use Rattle.bf_due.proofs.Reached.{held-at, row-put}
 
 module _ (b : Backfill) where
@@ -30,6 +35,10 @@ module _ (b : Backfill) where
     added = λ x r due. elim (split x r due) [ inl p ↦ second.kept x (first.added x p due) | inr q ↦ second.added x q due ];
     ranked = λ h. second.ranked (first.ranked h);
   }
+
+  -- of fewer steps too those that may come were added
+  pub fewer-added : (P Q : Step → Type 0) (old new : List Step) → ((x : Step) → Q x → P x) → HasAdded b P old new → HasAdded b Q old new
+  fewer-added P Q old new fewer all = record { kept = all.kept; added = λ x q due. all.added x (fewer x q) due; ranked = all.ranked }
 
   -- one step was added, and no other of these may come
   pub one-added : (P : Step → Type 0) (step : Step) (old new : List Step) → IsRanked b.dag step → ((x : Step) → P x → IsDue b x → x ≡ step) → Contains new step →
@@ -117,10 +126,10 @@ below-there dag u ds rising i l =
     omega (arith, there, tasks_there dag)
 
 -- a step of one of the first n + 1 is one of the first n or of that one
-first-more : (k : ℕ) (ts : List ℕ) (n : ℕ) (x : Step) → IsOfFirst k ts (n + 1) x → IsOfFirst k ts n x ⊎ IsOfTask k (get_or ts n 0) x
-first-more k ts n x of = elim (below-or of.0 n of.1) [
+first-more : (dag : Dag) (s : State) (n : News) (ts : List ℕ) (m : ℕ) (x : Step) → IsOfFirst dag s n ts (m + 1) x → IsOfFirst dag s n ts m x ⊎ IsStirred dag s n (get_or ts m 0) x
+first-more dag s n ts m x of = elim (below-or of.0 m of.1) [
   | inl less ↦ inl (of.0, less, of.2)
-  | inr same ↦ inr (subst (λ (i : ℕ). IsOfTask k (get_or ts i 0) x) same of.2)
+  | inr same ↦ inr (subst (λ (i : ℕ). IsStirred dag s n (get_or ts i 0) x) same of.2)
 ]
 
 -- the same, of tasks by number
@@ -162,19 +171,25 @@ none-run-below (Step.Expand y) of = omega (arith, of)
 pub no-runs : (b : Backfill) (old : List Step) → HasAdded b (IsOfRunBelow 0) old old
 no-runs b old = none-added b _ old (λ x of due. none-run-below x of)
 
--- a step under a task: of the tasks below it, or the close of the run
-under-split : (b : Backfill) (j u : ℕ) (ds : List ℕ) → IsRisingListOf (IsUpstream (shape_of b.dag).upstreams u) ds → (x : Step) → IsUnder b.dag j u x → IsOfFirst j ds (length ds) x ⊎ IsCloseOf j x
-under-split b j u ds rising (Step.Close k) of = inr of
-under-split b j u ds rising Step.Open of = absurd of
-under-split b j u ds rising (Step.Settle y) of = let at : _ = any-of ds y.task ((rising.exact y.task).1 of.1) in inl (at.0, at.1, (of.0, sym at.2))
-under-split b j u ds rising (Step.Expand y) of = let at : _ = any-of ds y.task ((rising.exact y.task).1 of.1) in inl (at.0, at.1, (of.0, sym at.2))
+-- a step under the news: of the tasks below theirs, or the close of the run
+under-split : (b : Backfill) (s : State) (n : News) (ds : List ℕ) → IsRisingListOf (IsUpstream (shape_of b.dag).upstreams n.task) ds → (x : Step) → IsUnder b.dag s n x → IsOfFirst b.dag s n ds (length ds) x ⊎ IsCloseOf n.run x
+under-split b s n ds rising (Step.Close k) of = inr of
+under-split b s n ds rising Step.Open of = absurd of
+under-split b s n ds rising (Step.Settle y) of =
+    let at : _ = any-of ds y.task ((rising.exact y.task).1 of.1) in
+    inl (at.0, at.1, ((of.0, sym at.2), subst (λ (t : ℕ). matters b.dag s n t ≡ true) (sym at.2) of.2))
+under-split b s n ds rising (Step.Expand y) of =
+    let at : _ = any-of ds y.task ((rising.exact y.task).1 of.1) in
+    inl (at.0, at.1, ((of.0, sym at.2), subst (λ (t : ℕ). matters b.dag s n t ≡ true) (sym at.2) of.2))
 
--- a step around a task: under it, or of the same task in the next run
-around-split : (b : Backfill) (j u : ℕ) (x : Step) → IsAround b.dag j u x → IsUnder b.dag j u x ⊎ IsOfTask (j + 1) u x
-around-split b j u (Step.Close k) of = inl of
-around-split b j u Step.Open of = absurd of
-around-split b j u (Step.Settle y) of = of
-around-split b j u (Step.Expand y) of = of
+-- a step around the news: under them, or of the same task in the next run once it is settled
+around-split : (dag : Dag) (s : State) (n : News) (x : Step) → IsAround dag s n x → IsUnder dag s n x ⊎ (IsOfTask (n.run + 1) n.task x × (is_settled s n.run n.task ≡ true))
+around-split dag s n (Step.Close k) of = inl of
+around-split dag s n Step.Open of = absurd of
+around-split dag s n (Step.Settle y) (inl below) = inl below
+around-split dag s n (Step.Settle y) (inr behind) = inr ((behind.0, behind.1), behind.2)
+around-split dag s n (Step.Expand y) (inl below) = inl below
+around-split dag s n (Step.Expand y) (inr behind) = inr ((behind.0, behind.1), behind.2)
 
 -- ---- single steps
 
@@ -206,12 +221,16 @@ then-asks b k P Q R first second third old mid new split p q = λ is.
     let there : _ = q here.0 in
     (there.0, then-added b P Q R old mid new split here.1 there.1)
 
-pub one-asked : (b : Backfill) (k : ℕ) (ts : List ℕ) (n : ℕ) (first second third : Progress) (old mid new : List Step) →
-    Asks b k (IsOfFirst k ts n) first second old mid → Asks b k (IsOfTask k (get_or ts n 0)) second third mid new → Asks b k (IsOfFirst k ts (n + 1)) first third old new
-one-asked b k ts n first second third old mid new = then-asks b k _ _ _ first second third old mid new (λ x of due. first-more k ts n x of)
+-- news that don't matter to a task stir it not
+pub not-stirred : (b : Backfill) (s : State) (n : News) (t : ℕ) → matters b.dag s n t ≡ false → (old : List Step) → HasAdded b (IsStirred b.dag s n t) old old
+not-stirred b s n t calm old = none-added b _ old (λ x of due. both_ways _ calm of.1)
 
-pub none-asked : (b : Backfill) (k : ℕ) (ts : List ℕ) (row : Progress) (old : List Step) → Asks b k (IsOfFirst k ts 0) row row old old
-none-asked b k ts row old = asks-none b k _ row old (λ x of due. omega (arith, of.1))
+pub one-stirred : (b : Backfill) (s : State) (n : News) (ts : List ℕ) (m : ℕ) (first second third : Progress) (old mid new : List Step) →
+    Asks b n.run (IsOfFirst b.dag s n ts m) first second old mid → Asks b n.run (IsStirred b.dag s n (get_or ts m 0)) second third mid new → Asks b n.run (IsOfFirst b.dag s n ts (m + 1)) first third old new
+one-stirred b s n ts m first second third old mid new = then-asks b n.run _ _ _ first second third old mid new (λ x of due. first-more b.dag s n ts m x of)
+
+pub none-stirred : (b : Backfill) (s : State) (n : News) (ts : List ℕ) (row : Progress) (old : List Step) → Asks b n.run (IsOfFirst b.dag s n ts 0) row row old old
+none-stirred b s n ts row old = asks-none b n.run _ row old (λ x of due. omega (arith, of.1))
 
 pub below-asked : (b : Backfill) (k n : ℕ) (first second third : Progress) (old mid new : List Step) →
     Asks b k (IsBelow k n) first second old mid → Asks b k (IsOfTask k n) second third mid new → Asks b k (IsBelow k (n + 1)) first third old new
@@ -224,9 +243,9 @@ pub run-asked : (b : Backfill) (k : ℕ) (first second third : Progress) (old mi
     Asks b k (IsBelow k (length b.dag.tasks)) first second old mid → Asks b k (IsCloseOf k) second third mid new → Asks b k (IsOfRun k) first third old new
 run-asked b k first second third old mid new = then-asks b k _ _ _ first second third old mid new (run-split b k)
 
-pub under-asked : (b : Backfill) (k u : ℕ) (ds : List ℕ) → IsRisingListOf (IsUpstream (shape_of b.dag).upstreams u) ds → (first second third : Progress) (old mid new : List Step) →
-    Asks b k (IsOfFirst k ds (length ds)) first second old mid → Asks b k (IsCloseOf k) second third mid new → Asks b k (IsUnder b.dag k u) first third old new
-under-asked b k u ds rising first second third old mid new = then-asks b k _ _ _ first second third old mid new (λ x of due. under-split b k u ds rising x of)
+pub under-asked : (b : Backfill) (s : State) (n : News) (ds : List ℕ) → IsRisingListOf (IsUpstream (shape_of b.dag).upstreams n.task) ds → (first second third : Progress) (old mid new : List Step) →
+    Asks b n.run (IsOfFirst b.dag s n ds (length ds)) first second old mid → Asks b n.run (IsCloseOf n.run) second third mid new → Asks b n.run (IsUnder b.dag s n) first third old new
+under-asked b s n ds rising first second third old mid new = then-asks b n.run _ _ _ first second third old mid new (λ x of due. under-split b s n ds rising x of)
 
 -- a run is asked by its row
 pub row-asked : (b : Backfill) (k : ℕ) (P : Step → Type 0) (rows : List Progress) (row after : Progress) (old new : List Step) → k < length rows → row ≡ get_or rows k row → Asks b k P row after old new →
@@ -235,12 +254,25 @@ row-asked b k P rows row after old new l at asks = λ reached.
     let r : _ = asks (reached k row (held-at rows k row l at)) in
     (row-put b rows k after reached r.0, r.1)
 
-pub around-asked : (b : Backfill) (j u : ℕ) (first second third : List Progress) (old mid new : List Step) →
-    AsksAll b (IsUnder b.dag j u) first second old mid → AsksAll b (IsOfTask (j + 1) u) second third mid new → AsksAll b (IsAround b.dag j u) first third old new
-around-asked b j u first second third old mid new p q = λ reached.
+pub around-asked : (b : Backfill) (s : State) (n : News) (first second third : List Progress) (old mid new : List Step) →
+    AsksAll b (IsUnder b.dag s n) first second old mid → AsksAll b (IsOfTask (n.run + 1) n.task) second third mid new → AsksAll b (IsAround b.dag s n) first third old new
+around-asked b s n first second third old mid new p q = λ reached.
     let here : _ = p reached in
     let there : _ = q here.0 in
-    (there.0, then-added b _ _ _ old mid new (λ x of due. around-split b j u x of) here.1 there.1)
+    (there.0, then-added b _ _ _ old mid new (λ x of due. behind-or x of) here.1 there.1)
+  where
+    behind-or : (x : Step) → IsAround b.dag s n x → IsUnder b.dag s n x ⊎ IsOfTask (n.run + 1) n.task x
+    behind-or x of = elim (around-split b.dag s n x of) [ inl under ↦ inl under | inr behind ↦ inr behind.0 ]
+
+-- while the task isn't settled there is nothing to ask of the next run
+pub around-open : (b : Backfill) (s : State) (n : News) (first second : List Progress) (old new : List Step) →
+    AsksAll b (IsUnder b.dag s n) first second old new → (AreReached b first → is_settled s n.run n.task ≡ false) → AsksAll b (IsAround b.dag s n) first second old new
+around-open b s n first second old new p unsettled = λ reached.
+    ((p reached).0, fewer-added b _ _ old new (λ x of. only x (unsettled reached) (around-split b.dag s n x of)) (p reached).1)
+  where
+    only : (x : Step) → is_settled s n.run n.task ≡ false → IsUnder b.dag s n x ⊎ (IsOfTask (n.run + 1) n.task x × (is_settled s n.run n.task ≡ true)) → IsUnder b.dag s n x
+    only x h (inl under) = under
+    only x h (inr behind) = absurd (both_ways _ h behind.1)
 
 -- ---- where there is none
 

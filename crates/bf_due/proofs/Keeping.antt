@@ -1,5 +1,5 @@
 -- What is kept stays up to date over an event, and its first step is the next.
-use Rattle.std.proofs.Common.{◌≡◌, ◌⊎◌, ℕ, ◌+◌, ◌<◌, true, false, List, [], length, slice_get, None, Some, IfSome, Contains, refl, sym, ap, ◌∙◌, subst, inl, inr, arith}
+use Rattle.std.proofs.Common.{◌≡◌, ◌⊎◌, ℕ, List, [], length, slice_get, None, Some, IfSome, Contains, refl, sym, ap, ◌∙◌, subst, inl, inr, arith}
 use Rattle.bf_graph.specs.Edges.{IsRank}
 use Rattle.bf_graph.specs.Ranks.{Ranking}
 use Rattle.bf_check.specs.Plans.{shape_of}
@@ -12,6 +12,7 @@ use Rattle.bf_core.specs.Events.{after, next_run}
 use Rattle.bf_core.specs.Cores.{Backfill, IsReplay, MayCome, moved}
 use Rattle.bf_core.proofs.Enabling.{present-there}
 use Rattle.bf_core.proofs.Kept.{replay-rows, replay-shaped}
+use Rattle.bf_core.proofs.NextRun.{open-before}
 use Rattle.bf_core.proofs.Shape.{open-run}
 use Rattle.bf_due.specs.declared.agenda.Step.{Step}
 use Rattle.bf_due.specs.declared.agenda.Turn.{Turn}
@@ -19,12 +20,11 @@ use Rattle.bf_due.specs.Steps.{ComesBefore, IsEarlier, IsNextStep, IsStep}
 use Rattle.bf_due.specs.Agendas.{Comes, TurnComes, event_of}
 use Rattle.bf_due.specs.declared.progress.Progress.{Progress}
 use Rattle.bf_due.specs.Cursors.{AreReached}
-use Rattle.bf_due.specs.Dues.{AsksAll, Concerns, HasAdded, IsCleaned, IsOfRunBelow, IsOpening, IsRanked, IsUpToDate, Kept, SpeaksOfTask, opens}
+use Rattle.bf_due.specs.Dues.{AsksAll, Concerns, HasAdded, IsCleaned, IsOfRunBelow, IsOpening, IsRanked, IsUpToDate, Kept, SpeaksOfTask}
 use Rattle.bf_due.proofs.Adding.{one-rank}
 use Rattle.bf_due.proofs.AgendaFacts.{top-in, no-items}
 use Rattle.bf_due.proofs.Newly.{newly-due}
 use Rattle.bf_due.proofs.Reached.{none-reached, reached-stays}
-use Rattle.bf_due.proofs.Opened.{next-after, next_of, open-before}
 
 -- ---- an event
 
@@ -56,58 +56,38 @@ speaks-as d e r s dags count (Event.Tick m) h = tt
 pub speaks : (b now : Backfill) (e : Event) → IsReplay b → IsReplay now → MayCome b e → now ≡ moved b e → SpeaksOfTask now.dag now.state e
 speaks b now e is was able same = speaks-as now.dag b.dag now.state b.state (ap (λ (n : Backfill). n.dag) same) (same-runs b now e is was same) e (speaks-before b is e able)
 
--- the next run to open is the one that was counted
-next-is : (b now : Backfill) (e : Event) → IsReplay b → IsReplay now → MayCome b e → now ≡ moved b e → (old new : ℕ) → old ≡ next_run b.state →
-    (opens e ≡ true → old < length now.state.runs → new ≡ old + 1) → (opens e ≡ false → new ≡ old) → new ≡ next_run now.state
-next-is b now e is was able same old new old_is up stays =
-    by e able (ap (λ (n : Backfill). next_run n.state) same ∙ next-after b.dag b.runs b.limits b.state (replay-shaped b is) e able.0) up stays
-  where
-    count : length now.state.runs ≡ length b.state.runs
-    count = same-runs b now e is was same
-
-    by : (x : Event) → MayCome b x → next_run now.state ≡ next_of x (next_run b.state) → (opens x ≡ true → old < length now.state.runs → new ≡ old + 1) → (opens x ≡ false → new ≡ old) → new ≡ next_run now.state
-    by Event.Open may n u d = omega (arith, n, old_is, u refl (omega (arith, old_is, count, may.0.0)))
-    by (Event.Settle k t) may n u d = omega (arith, n, old_is, d refl)
-    by (Event.Expand k t) may n u d = omega (arith, n, old_is, d refl)
-    by (Event.Begin m) may n u d = omega (arith, n, old_is, d refl)
-    by (Event.End m o) may n u d = omega (arith, n, old_is, d refl)
-    by (Event.Close k) may n u d = omega (arith, n, old_is, d refl)
-    by (Event.Tick m) may n u d = omega (arith, n, old_is, d refl)
-
 -- what is kept is up to date after the event, where it was so before it
 pub keeps : (b now : Backfill) (e : Event) → IsReplay now → MayCome b e → now ≡ moved b e → (old : Kept) → IsUpToDate b old → (rows after : List Progress) (mid new : List Step) →
-    AsksAll now (Concerns now.dag old.next e) old.progress rows old.steps mid → ((n : Backfill) → AreReached n rows → AreReached n after) → IsCleaned now mid new → (room next : ℕ) → (opens e ≡ true → old.next < length now.state.runs → next ≡ old.next + 1) → (opens e ≡ false → next ≡ old.next) → IsUpToDate now (record { steps = new; room = room; next = next; progress = after })
-keeps b now e was able same old is rows after mid new asks forgets cleaned room next up stays = record {
+    AsksAll now (Concerns now.dag now.state e) old.progress rows old.steps mid → ((n : Backfill) → AreReached n rows → AreReached n after) → IsCleaned now mid new → (room : ℕ) → IsUpToDate now (record { steps = new; room = room; progress = after })
+keeps b now e was able same old is rows after mid new asks forgets cleaned room = record {
   replayed = was;
   ranking = subst (λ (d : Dag). Ranking (shape_of d).upstreams) (sym dags) is.ranking;
   holds = λ x due. cleaned.kept x (elim (newly-due b is.replayed e able x (subst (λ (n : Backfill). MayCome n (event_of x)) same due.1)) [
     | inl before ↦ added.kept x (is.holds x (subst (λ (d : Dag). IsRanked d x) dags due.0, before))
-    | inr c ↦ added.added x (subst (λ (d : Dag). Concerns d old.next e x) (sym dags) (subst (λ (n : ℕ). Concerns b.dag n e x) (sym is.next_is) c)) due
+    | inr c ↦ added.added x (subst (λ (n : Backfill). Concerns n.dag n.state e x) (sym same) c) due
   ]) due.1;
   ranked = λ x c. added.ranked (λ y h. subst (λ (d : Dag). IsRanked d y) (sym dags) (is.ranked y h)) x (cleaned.fewer x c);
   live = cleaned.live;
-  next_is = next-is b now e is.replayed was able same old.next next is.next_is up stays;
   reached = forgets now (asks reached).0;
 }
   where
     reached : AreReached now old.progress
     reached = reached-stays b now e able same old.progress is.reached
 
-    added : HasAdded now (Concerns now.dag old.next e) old.steps mid
+    added : HasAdded now (Concerns now.dag now.state e) old.steps mid
     added = (asks reached).1
 
     dags : now.dag ≡ b.dag
     dags = ap (λ (n : Backfill). n.dag) same
 
 -- room that was made, and rows that were made, leave it up to date
-pub room-made : (b : Backfill) (old new : Kept) → new.steps ≡ old.steps → new.next ≡ old.next → (AreReached b old.progress → AreReached b new.progress) → IsUpToDate b old → IsUpToDate b new
-room-made b old new steps next rows is = record {
+pub room-made : (b : Backfill) (old new : Kept) → new.steps ≡ old.steps → (AreReached b old.progress → AreReached b new.progress) → IsUpToDate b old → IsUpToDate b new
+room-made b old new steps rows is = record {
   replayed = is.replayed;
   ranking = is.ranking;
   holds = λ x due. subst (λ (xs : List Step). Contains xs x) (sym steps) (is.holds x due);
   ranked = λ x c. is.ranked x (subst (λ (xs : List Step). Contains xs x) steps c);
   live = subst (λ (xs : List Step). IfSome (slice_get xs 0) (λ y. MayCome b (event_of y))) (sym steps) is.live;
-  next_is = next ∙ is.next_is;
   reached = rows is.reached;
 }
 
@@ -124,18 +104,17 @@ opened-step b is (Step.Settle x) may = inl (open-before b.dag b.runs b.state (re
 opened-step b is (Step.Expand x) may = inl (open-before b.dag b.runs b.state (replay-shaped b is) x.run may.0.0.run_is_open)
 
 -- the steps of the opened runs, and then the opening of the next
-pub starts : (b : Backfill) → IsReplay b → Ranking (shape_of b.dag).upstreams → (next : ℕ) → next ≡ next_run b.state → (first second new : List Step) →
-    HasAdded b (IsOfRunBelow next) [] first → HasAdded b IsOpening first second → IsCleaned b second new → (room : ℕ) (rows : List Progress) → rows ≡ [] → IsUpToDate b (record { steps = new; room = room; next = next; progress = rows })
-starts b is ranking next next_is first second new runs opening cleaned room rows no_rows = record {
+pub starts : (b : Backfill) → IsReplay b → Ranking (shape_of b.dag).upstreams → (first second new : List Step) →
+    HasAdded b (IsOfRunBelow (next_run b.state)) [] first → HasAdded b IsOpening first second → IsCleaned b second new → (room : ℕ) (rows : List Progress) → rows ≡ [] → IsUpToDate b (record { steps = new; room = room; progress = rows })
+starts b is ranking first second new runs opening cleaned room rows no_rows = record {
   replayed = is;
   ranking = ranking;
   holds = λ x due. cleaned.kept x (elim (opened-step b is x due.1) [
-    | inl l ↦ opening.kept x (runs.added x (subst (λ (n : ℕ). IsOfRunBelow n x) (sym next_is) l) due)
+    | inl l ↦ opening.kept x (runs.added x l due)
     | inr o ↦ opening.added x o due
   ]) due.1;
   ranked = λ x c. opening.ranked (runs.ranked (λ y h. absurd (omega (arith, h.1)))) x (cleaned.fewer x c);
   live = cleaned.live;
-  next_is = next_is;
   reached = none-reached b rows no_rows;
 }
 

@@ -1,7 +1,7 @@
 pub mod Locality
 pub mod Reached
+pub mod Early
 pub mod AgendaFacts
-pub mod Opened
 pub mod Newly
 pub mod Adding
 pub mod Keeping

@@ -2,7 +2,7 @@
 -- of a run that it opens or closes.
 use Rattle.std.proofs.Common.{◌≡◌, ◌≢◌, ℕ, suc, zero, ◌⊎◌, ◌&&◌, Bool, true, false, List, [], ◌∷◌, slice_get, Option, None, Some, is_some, option_map, refl, sym, ap, ap₂, ◌∙◌, arith, inl, inr, subst}
 use Rattle.std.specs.List.{list_all, list_any}
-use Rattle.bf_core.specs.Terms.{Dag, Limits, Task, task_of, Verdict, TaskResult, TaskValue, Xval, Items, items, IsOneOf, IsSound, add}
+use Rattle.bf_core.specs.Terms.{Dag, Limits, Task, task_of, Verdict, TaskValue, Xval, items, IsOneOf, IsSound, add}
 use Rattle.bf_core.specs.declared.state.State.{State}
 use Rattle.bf_core.specs.declared.state.Cell.{Cell}
 use Rattle.bf_core.specs.declared.state.Instance.{Instance}
@@ -10,7 +10,7 @@ use Rattle.bf_core.specs.declared.state.Phase.{Phase}
 use Rattle.bf_core.specs.declared.state.RunPhase.{RunPhase}
 use Rattle.bf_core.specs.declared.event.Event.{Event}
 use Rattle.bf_core.specs.declared.deciding.Decision.{Decision}
-use Rattle.bf_core.specs.Deciding.{Seen, lets_decide, branch_is, branch_skips, is_blocked, counts_over, ruling, and_then_past, gate, pulled, instances, mapped, after_verdict, decision}
+use Rattle.bf_core.specs.Deciding.{Seen, lets_decide, branch_is, branch_skips, is_blocked, counts_over, ruling, gate, pulled, instances, mapped, after_verdict, decision}
 use Rattle.bf_core.specs.Events.{cell_at, phase_of, results, cons_result, counts_of_instance, counts_of_instances, seen_in, before_in, decision_in, goes_on, is_run, instance_of, change_at, change_instance, begun, place_in, next_run, put, after, IsDecidable, IsEnabled}
 use Rattle.bf_core.proofs.Reading.{put-cases, with_phase-cell}
 use Rattle.bf_core.proofs.Instances.{IsUnfinished, not_yet}
@@ -48,9 +48,9 @@ ruling-alike dag a b t h =
       counts-alike a b (task_of dag t).upstreams h,
     )
 
-pub gate-alike : (dag : Dag) (k : ℕ) (a b : ℕ → Seen) (p q : Option TaskValue) (t : ℕ) → AlikeOn a b (task_of dag t).upstreams → p ≡ q → gate dag k a p t ≡ gate dag k b q t
+gate-alike : (dag : Dag) (k : ℕ) (a b : ℕ → Seen) (p q : Option TaskValue) (t : ℕ) → ruling dag a t ≡ ruling dag b t → p ≡ q → gate dag k a p t ≡ gate dag k b q t
 unfolding gate
-gate-alike dag k a b p q t h e = rw (e, ruling-alike dag a b t h)
+gate-alike dag k a b p q t h e = rw (e, h)
 
 -- what comes of a task that goes on, by its source's value
 from : (dag : Dag) → List (Option Xval) → ℕ → Option TaskValue → Decision
@@ -75,29 +75,40 @@ waits-alike dag a b t Verdict.Run same n = go (task_of dag t).expand same n
     go None same n = λ e. cc
     go (Some s) same n = from-alike dag (pulled dag a t) (pulled dag b t) s (a s).value (b s).value (ap (λ (x : Seen). x.value) (same s refl)) n
 
--- a decision that does not wait doesn't, wherever the same is known of the upstreams and of the past
-pub decision-alike : (dag : Dag) → IsSound dag → (k : ℕ) (a b : ℕ → Seen) (p q : Option TaskValue) (t : ℕ) → AlikeOn a b (task_of dag t).upstreams → p ≡ q →
+-- a decision that does not wait doesn't, wherever the ruling is the same, and the same is known of the source and of the past
+pub decision-alike : (dag : Dag) (k : ℕ) (a b : ℕ → Seen) (p q : Option TaskValue) (t : ℕ) → ruling dag a t ≡ ruling dag b t → ((s : ℕ) → (task_of dag t).expand ≡ Some s → a s ≡ b s) → p ≡ q →
     decision dag k a p t ≢ Decision.Wait → decision dag k b q t ≢ Decision.Wait
 unfolding decision
-decision-alike dag sound k a b p q t h e n =
+decision-alike dag k a b p q t h source e n =
     subst (λ (v : Verdict). after_verdict dag b t v ≢ Decision.Wait) (gate-alike dag k a b p q t h e)
-    (waits-alike dag a b t (gate dag k a p t) (λ s x. h s (sound.source_is_upstream t s x)) n)
+    (waits-alike dag a b t (gate dag k a p t) source n)
 
--- what is looked at when the task t is decided in the run k is the same in both states
+-- the ruling on the task t in the run k is the same in both states, and so is what is seen of its source
+pub record RulesAlike (dag : Dag) (r s : State) (k t : ℕ) : Type 0 where
+  pub ruling : ruling dag (λ u. seen_in (cell_at r k u)) t ≡ ruling dag (λ u. seen_in (cell_at s k u)) t
+  pub source : (u : ℕ) → (task_of dag t).expand ≡ Some u → seen_in (cell_at r k u) ≡ seen_in (cell_at s k u)
+
+-- what is looked at when the task is decided comes to the same in both states
 pub record LooksAlike (dag : Dag) (r s : State) (k t : ℕ) : Type 0 where
   pub phase : phase_of r k ≡ phase_of s k
   pub cell : cell_at r k t ≡ Cell.Undecided → cell_at s k t ≡ Cell.Undecided
-  pub upstreams : (u : ℕ) → IsOneOf (task_of dag t).upstreams u → seen_in (cell_at r k u) ≡ seen_in (cell_at s k u)
+  pub rules : RulesAlike dag r s k t
   pub past : before_in r k t ≡ before_in s k t
 
-pub decidable-alike : (dag : Dag) → IsSound dag → (r s : State) (k t : ℕ) → LooksAlike dag r s k t → IsDecidable dag r k t → IsDecidable dag s k t
+pub decidable-alike : (dag : Dag) (r s : State) (k t : ℕ) → LooksAlike dag r s k t → IsDecidable dag r k t → IsDecidable dag s k t
 unfolding decision_in
-decidable-alike dag sound r s k t alike able = record {
+decidable-alike dag r s k t alike able = record {
   run_is_open = sym alike.phase ∙ able.run_is_open;
   is_task = able.is_task;
   undecided = alike.cell able.undecided;
-  decides = decision-alike dag sound k (λ u. seen_in (cell_at r k u)) (λ u. seen_in (cell_at s k u)) (before_in r k t) (before_in s k t) t alike.upstreams alike.past able.decides;
+  decides = decision-alike dag k (λ u. seen_in (cell_at r k u)) (λ u. seen_in (cell_at s k u)) (before_in r k t) (before_in s k t) t alike.rules.ruling alike.rules.source alike.past able.decides;
 }
+
+-- where it does, the task goes on to its expansion or doesn't as before
+pub goes_on-alike : (dag : Dag) (r s : State) (k t : ℕ) → LooksAlike dag r s k t → goes_on dag r k t ≡ goes_on dag s k t
+unfolding goes_on
+goes_on-alike dag r s k t alike =
+    ap (λ v. is_some (task_of dag t).expand && is_run v) (gate-alike dag k (λ u. seen_in (cell_at r k u)) (λ u. seen_in (cell_at s k u)) (before_in r k t) (before_in s k t) t alike.rules.ruling alike.past)
 
 -- ---- what an event changes
 
@@ -189,17 +200,11 @@ undecided-back dag limits s (Event.End m o) able j u h = put-undecided s m.run m
 undecided-back dag limits s (Event.Close k) able j u h = sym (with_phase-cell s k RunPhase.Closed j u) ∙ h
 undecided-back dag limits s (Event.Tick m) able j u h = h
 
--- ---- what becomes due
+-- ---- what an event may make due
 
 abbrev pub PastTouched : Event → ℕ → ℕ → Type 0
 PastTouched e zero u = ⊥
 PastTouched e (suc j) u = Touches e j u
-
--- the event may make the task u in the run j due: it touches an upstream, or the past, or it opens the run
-pub data IsStirred (dag : Dag) (s : State) (e : Event) (j u : ℕ) : Type 0 where
-  ByUpstream : (v : ℕ) → IsOneOf (task_of dag u).upstreams v → Touches e j v → IsStirred dag s e j u
-  ByPast : PastTouched e j u → IsStirred dag s e j u
-  ByRun : Turns s e j → IsStirred dag s e j u
 
 same? : (a b : ℕ) → (a ≡ b) ⊎ (a ≡ b → ⊥)
 same? a b = grind arith
@@ -207,7 +212,7 @@ same? a b = grind arith
 both? : (a b c d : ℕ) → ((a ≡ b) × (c ≡ d)) ⊎ ((a ≡ b) × (c ≡ d) → ⊥)
 both? a b c d = elim (same? a b) [ inr n ↦ inr (λ p. n p.0) | inl p ↦ elim (same? c d) [ inl q ↦ inl (p, q) | inr n ↦ inr (λ q. n q.1) ] ]
 
-touches? : (e : Event) (j u : ℕ) → Touches e j u ⊎ (Touches e j u → ⊥)
+pub touches? : (e : Event) (j u : ℕ) → Touches e j u ⊎ (Touches e j u → ⊥)
 touches? Event.Open j u = inr (λ x. x)
 touches? (Event.Settle k t) j u = both? j k u t
 touches? (Event.Expand k t) j u = both? j k u t
@@ -215,10 +220,6 @@ touches? (Event.Begin m) j u = inr (λ x. x)
 touches? (Event.End m o) j u = both? j m.run u m.task
 touches? (Event.Close k) j u = inr (λ x. x)
 touches? (Event.Tick m) j u = inr (λ x. x)
-
-past? : (e : Event) (j u : ℕ) → PastTouched e j u ⊎ (PastTouched e j u → ⊥)
-past? e zero u = inr (λ x. x)
-past? e (suc j) u = touches? e j u
 
 pub turns? : (s : State) (e : Event) (j : ℕ) → Turns s e j ⊎ (Turns s e j → ⊥)
 turns? s Event.Open j = same? j (next_run s)
@@ -239,39 +240,20 @@ any-touched e j (u ∷ us) = elim (touches? e j u) [
   ]
 ]
 
-past-kept : (dag : Dag) (limits : Limits) (s : State) (e : Event) → IsEnabled dag limits s e → (j u : ℕ) → (PastTouched e j u → ⊥) → before_in (after dag s e) j u ≡ before_in s j u
+pub past-kept : (dag : Dag) (limits : Limits) (s : State) (e : Event) → IsEnabled dag limits s e → (j u : ℕ) → (PastTouched e j u → ⊥) → before_in (after dag s e) j u ≡ before_in s j u
 past-kept dag limits s e able zero u n = refl
 past-kept dag limits s e able (suc j) u n = ap (λ (x : Seen). x.value) (seen-kept dag limits s e able j u n)
 
--- the locality of an event: what is looked at when a task is decided is as it was, or the event stirs the task
-pub looks-alike : (dag : Dag) (limits : Limits) (s : State) (e : Event) → IsEnabled dag limits s e → (j u : ℕ) → LooksAlike dag (after dag s e) s j u ⊎ IsStirred dag s e j u
-looks-alike dag limits s e able j u =
-    elim (turns? s e j) [
-      | inl x ↦ inr (ByRun x)
-      | inr same_run ↦ elim (past? e j u) [
-        | inl x ↦ inr (ByPast x)
-        | inr same_past ↦ elim (any-touched e j (task_of dag u).upstreams) [
-          | inl w ↦ inr (ByUpstream w.0 w.1 w.2)
-          | inr none ↦ inl (record {
-            phase = phase-kept dag s e j same_run;
-            cell = undecided-back dag limits s e able j u;
-            upstreams = λ v h. seen-kept dag limits s e able j v (none v h);
-            past = past-kept dag limits s e able j u same_past;
-          })
-        ]
-      ]
-    ]
-
--- what may be decided after the event could be before it, or the event stirs it
-pub newly-due : (dag : Dag) → IsSound dag → (limits : Limits) (s : State) (e : Event) → IsEnabled dag limits s e → (j u : ℕ) → IsDecidable dag (after dag s e) j u → IsDecidable dag s j u ⊎ IsStirred dag s e j u
-newly-due dag sound limits s e able j u due =
-    elim (looks-alike dag limits s e able j u) [ inl alike ↦ inl (decidable-alike dag sound (after dag s e) s j u alike due) | inr x ↦ inr x ]
-
--- where the same is looked at, a task goes on to its expansion or doesn't as before
-pub goes_on-alike : (dag : Dag) (r s : State) (k t : ℕ) → LooksAlike dag r s k t → goes_on dag r k t ≡ goes_on dag s k t
-unfolding goes_on
-goes_on-alike dag r s k t alike =
-    ap (λ v. is_some (task_of dag t).expand && is_run v) (gate-alike dag k (λ u. seen_in (cell_at r k u)) (λ u. seen_in (cell_at s k u)) (before_in r k t) (before_in s k t) t alike.upstreams alike.past)
+-- the ruling on a task is as it was, or the event touches an upstream
+pub rules-alike : (dag : Dag) → IsSound dag → (limits : Limits) (s : State) (e : Event) → IsEnabled dag limits s e → (j u : ℕ) →
+    RulesAlike dag (after dag s e) s j u ⊎ ((v : ℕ) × IsOneOf (task_of dag u).upstreams v × Touches e j v)
+rules-alike dag sound limits s e able j u = elim (any-touched e j (task_of dag u).upstreams) [
+  | inl w ↦ inr w
+  | inr none ↦ inl (record {
+    ruling = ruling-alike dag (λ v. seen_in (cell_at (after dag s e) j v)) (λ v. seen_in (cell_at s j v)) u (λ v h. seen-kept dag limits s e able j v (none v h));
+    source = λ v is. seen-kept dag limits s e able j v (none v (sound.source_is_upstream u v is));
+  })
+]
 
 -- ---- what a task waits for
 

@@ -1,68 +1,116 @@
 -- Which steps an event may make possible.
-use Rattle.std.proofs.Common.{◌≡◌, ◌⊎◌, ℕ, zero, suc, Bool, true, false, if◌then◌else◌, List, [], ◌∷◌, slice_index_or, slice_set, is_some, Contains, refl, sym, ap, ◌∙◌, subst, subst₂, inl, inr, arith}
+use Rattle.std.proofs.Common.{◌≡◌, ◌⊎◌, ℕ, zero, suc, Bool, true, false, if◌then◌else◌, List, [], ◌∷◌, slice_index_or, slice_set, Option, None, Some, is_some, Contains, refl, sym, ap, ◌∙◌, subst, subst₂, inl, inr, arith}
 use Rattle.std.specs.List.{count_by}
+use Rattle.std.proofs.lemmas.Bool.{both_ways, cases_Bool}
 use Rattle.std.proofs.lemmas.List.Sums.{sum_by-cons}
 use Rattle.bf_check.proofs.PullLemmas.{contains_one}
 use Rattle.bf_pool.proofs.WeightFacts.{upstreams_are}
-use Rattle.bf_core.specs.Terms.{Dag, Limits, IsSound, task_of}
+use Rattle.bf_core.specs.Terms.{Dag, Limits, IsSound, TaskValue, task_of}
 use Rattle.bf_core.specs.declared.state.State.{State}
 use Rattle.bf_core.specs.declared.state.Run.{Run}
 use Rattle.bf_core.specs.declared.state.RunPhase.{RunPhase}
 use Rattle.bf_core.specs.declared.state.Cell.{Cell}
 use Rattle.bf_core.specs.declared.event.Event.{Event}
 use Rattle.bf_core.specs.Deciding.{Seen}
-use Rattle.bf_core.specs.Events.{no_run, after, goes_on, is_open, next_run, open_now, phase_of, put, put_in, with_phase, IsDecidable, IsEnabled}
+use Rattle.bf_core.specs.Events.{no_run, after, before_in, cell_at, goes_on, value_in, is_open, next_run, open_now, phase_of, put, put_in, with_phase, IsDecidable, IsEnabled}
 use Rattle.bf_core.specs.Cores.{Backfill, IsReplay, MayCome, moved}
 use Rattle.bf_core.proofs.Shape.{IsShaped, open-run, phase-there, length-put}
 use Rattle.bf_core.proofs.Kept.{replay-shaped}
+use Rattle.bf_core.proofs.NextRun.{next-after}
 use Rattle.bf_due.specs.declared.agenda.Step.{Step}
 use Rattle.bf_due.specs.declared.agenda.Turn.{Turn}
 use Rattle.bf_due.specs.Agendas.{event_of}
-use Rattle.bf_due.specs.Dues.{Concerns, LooksAt}
-use Rattle.bf_due.proofs.Locality.{IsStirred, ByUpstream, ByPast, ByRun, Touches, Turns, looks-alike, decidable-alike, goes_on-alike, seen-kept, phase-kept, turns?}
-use Rattle.bf_due.proofs.Opened.{next-after}
+use Rattle.bf_due.specs.declared.news.News.{News}
+use Rattle.bf_due.specs.Stirring.{decided_at, ended_at, is_settled, matters}
+use Rattle.bf_due.specs.Dues.{Concerns, Hears, IsBehindNews, IsBelowNews, newest}
+use Rattle.bf_due.proofs.Locality.{LooksAlike, PastTouched, RulesAlike, Touches, Turns, decidable-alike, goes_on-alike, past-kept, phase-kept, rules-alike, seen-kept, touches?, turns?, undecided-back}
+use Rattle.bf_due.proofs.Reached.{settled-stays}
+use Rattle.bf_due.proofs.Early.{IsTold, told-end, told-expand, told-settle, unmoved-rules}
 
 -- ---- a task
 
-around-task : (dag : Dag) (s : State) (e : Event) (j u k t : ℕ) → ((a b : ℕ) → Touches e a b → (a ≡ j) × (b ≡ u)) → (Turns s e k → ⊥) → IsStirred dag s e k t → LooksAt dag j u k t
-around-task dag s e j u k t only turns (ByUpstream v is x) =
-    inl ((only k v x).0, subst₂ (λ (us : List ℕ) (w : ℕ). Contains us w) (upstreams_are dag t) (only k v x).1 (contains_one (task_of dag t).upstreams v is))
-around-task dag s e j u zero t only turns (ByPast x) = absurd x
-around-task dag s e j u (suc i) t only turns (ByPast x) = inr (let h : i ≡ j = (only i t x).0 in omega (arith, h), (only i t x).1)
-around-task dag s e j u k t only turns (ByRun x) = absurd (turns x)
+-- of a task that may be decided after the event, and couldn't be so before: the run is opened, or the task hears the news
+abbrev Reaches : Dag → State → Event → ℕ → ℕ → Type 0
+Reaches dag s Event.Open k t = k ≡ newest s
+Reaches dag s (Event.Settle j u) k t = Hears dag s (decided_at s j u) k t
+Reaches dag s (Event.Expand j u) k t = Hears dag s (decided_at s j u) k t
+Reaches dag s (Event.End n o) k t = Hears dag s (ended_at dag s n) k t
+Reaches dag s e k t = ⊥
 
--- of a task that the event stirs and that may be decided afterwards: the run is opened, or the task looks at the event's
-abbrev Reaches : Dag → ℕ → Event → ℕ → ℕ → Type 0
-Reaches dag next Event.Open k t = k ≡ next
-Reaches dag next (Event.Settle j u) k t = LooksAt dag j u k t
-Reaches dag next (Event.Expand j u) k t = LooksAt dag j u k t
-Reaches dag next (Event.End n o) k t = LooksAt dag n.run n.task k t
-Reaches dag next e k t = ⊥
+module _ (dag : Dag) (sound : IsSound dag) (limits : Limits) (s : State) (e : Event) (able : IsEnabled dag limits s e) where
+  -- the past is as it was until it is settled
+  past-open : (j u : ℕ) → is_settled (after dag s e) j u ≡ false → value_in (cell_at (after dag s e) j u) ≡ value_in (cell_at s j u)
+  past-open j u h = elim (cases_Bool (is_settled s j u)) [
+    | inl holds ↦ absurd (both_ways _ h (settled-stays dag limits s e able j u holds))
+    | inr fails ↦ none-alike (value_in (cell_at (after dag s e) j u)) (value_in (cell_at s j u)) h fails
+  ]
+    where
+      none-alike : (a b : Option TaskValue) → is_some a ≡ false → is_some b ≡ false → a ≡ b
+      none-alike None None h g = refl
+      none-alike None (Some v) h g = cc
+      none-alike (Some v) b h g = cc
+
+  module _ (n : News) (told : IsTold dag s e n) where
+    rules-or : (k t : ℕ) → IsDecidable dag (after dag s e) k t → RulesAlike dag (after dag s e) s k t ⊎ IsBelowNews dag (after dag s e) n k t
+    rules-or k t due = elim (rules-alike dag sound limits s e able k t) [
+      | inl alike ↦ inl alike
+      | inr w ↦ elim (cases_Bool (matters dag (after dag s e) n t)) [
+        | inl holds ↦ inr ((told.only k w.0 w.2).0, subst₂ (λ (us : List ℕ) (v : ℕ). Contains us v) (upstreams_are dag t) (told.only k w.0 w.2).1 (contains_one (task_of dag t).upstreams w.0 w.1), holds)
+        | inr fails ↦ inl (subst (λ (j : ℕ). RulesAlike dag (after dag s e) s j t) (sym (told.only k w.0 w.2).0) (unmoved-rules dag limits s e able n told t fails (subst (λ (j : ℕ). IsDecidable dag (after dag s e) j t) (told.only k w.0 w.2).0 due)))
+      ]
+    ]
+
+    past-or : (k t : ℕ) → (before_in (after dag s e) k t ≡ before_in s k t) ⊎ IsBehindNews (after dag s e) n k t
+    past-or zero t = inl refl
+    past-or (suc i) t = elim (touches? e i t) [
+      | inr none ↦ inl (past-kept dag limits s e able (suc i) t none)
+      | inl x ↦ elim (cases_Bool (is_settled (after dag s e) i t)) [
+        | inr fails ↦ inl (past-open i t fails)
+        | inl holds ↦ inr (let h : i ≡ n.run = (told.only i t x).0 in omega (arith, h), (told.only i t x).1, subst₂ (λ (j u : ℕ). is_settled (after dag s e) j u ≡ true) (told.only i t x).0 (told.only i t x).1 holds)
+      ]
+    ]
+
+  module _ (k t : ℕ) (goes : Bool) (due : IsDecidable dag (after dag s e) k t × (goes_on dag (after dag s e) k t ≡ goes)) where
+    -- it could be decided before, and in the same way
+    abbrev Could : Type 0
+    Could = IsDecidable dag s k t × (goes_on dag s k t ≡ goes)
+
+    could : (Turns s e k → ⊥) → RulesAlike dag (after dag s e) s k t → before_in (after dag s e) k t ≡ before_in s k t → Could
+    could turns rules past = (decidable-alike dag (after dag s e) s k t alike due.0, sym (goes_on-alike dag (after dag s e) s k t alike) ∙ due.1)
+      where
+        alike : LooksAlike dag (after dag s e) s k t
+        alike = record { phase = phase-kept dag s e k turns; cell = undecided-back dag limits s e able k t; rules = rules; past = past }
+
+    by-news : (n : News) → IsTold dag s e n → (Turns s e k → ⊥) → Could ⊎ Hears dag (after dag s e) n k t
+    by-news n told turns = elim (rules-or n told k t due.0) [
+      | inr below ↦ inr (inl below)
+      | inl rules ↦ elim (past-or n told k t) [ inr behind ↦ inr (inr behind) | inl past ↦ inl (could turns rules past) ]
+    ]
+
+    untouched : ((a b : ℕ) → Touches e a b → ⊥) → (Turns s e k → ⊥) → Could
+    untouched none turns = could turns rules (past-kept dag limits s e able k t (past-none k))
+      where
+        rules : RulesAlike dag (after dag s e) s k t
+        rules = elim (rules-alike dag sound limits s e able k t) [ inl alike ↦ alike | inr w ↦ absurd (none k w.0 w.2) ]
+
+        past-none : (j : ℕ) → PastTouched e j t → ⊥
+        past-none zero x = x
+        past-none (suc i) x = none i t x
+
+same? : (a b : ℕ) → (a ≡ b) ⊎ (a ≡ b → ⊥)
+same? a b = grind arith
 
 not-open : (s : State) (k : ℕ) → phase_of s k ≡ RunPhase.Open → phase_of (with_phase s k RunPhase.Closed) k ≡ RunPhase.Open → ⊥
 not-open s k was e = let f : RunPhase.Closed ≡ RunPhase.Open = sym (phase-there s k RunPhase.Closed (open-run s k was)) ∙ e in cc
 
-stirred-by : (dag : Dag) (limits : Limits) (s : State) (e : Event) → IsEnabled dag limits s e → (k t : ℕ) → IsStirred dag s e k t → IsDecidable dag (after dag s e) k t → Reaches dag (next_run s) e k t
+-- a run that was closed just now isn't open
+closed-now : (dag : Dag) (s : State) (j k : ℕ) → phase_of s j ≡ RunPhase.Open → k ≡ j → phase_of (after dag s (Event.Close j)) k ≡ RunPhase.Open → ⊥
 unfolding after
-stirred-by dag limits s Event.Open able k t (ByUpstream v is x) due = absurd x
-stirred-by dag limits s Event.Open able zero t (ByPast x) due = absurd x
-stirred-by dag limits s Event.Open able (suc i) t (ByPast x) due = absurd x
-stirred-by dag limits s Event.Open able k t (ByRun x) due = x
-stirred-by dag limits s (Event.Settle j u) able k t stirred due = around-task dag s (Event.Settle j u) j u k t (λ a b x. x) (λ x. x) stirred
-stirred-by dag limits s (Event.Expand j u) able k t stirred due = around-task dag s (Event.Expand j u) j u k t (λ a b x. x) (λ x. x) stirred
-stirred-by dag limits s (Event.End n o) able k t stirred due = around-task dag s (Event.End n o) n.run n.task k t (λ a b x. x) (λ x. x) stirred
-stirred-by dag limits s (Event.Begin n) able k t (ByUpstream v is x) due = absurd x
-stirred-by dag limits s (Event.Begin n) able zero t (ByPast x) due = absurd x
-stirred-by dag limits s (Event.Begin n) able (suc i) t (ByPast x) due = absurd x
-stirred-by dag limits s (Event.Begin n) able k t (ByRun x) due = absurd x
-stirred-by dag limits s (Event.Tick m) able k t (ByUpstream v is x) due = absurd x
-stirred-by dag limits s (Event.Tick m) able zero t (ByPast x) due = absurd x
-stirred-by dag limits s (Event.Tick m) able (suc i) t (ByPast x) due = absurd x
-stirred-by dag limits s (Event.Tick m) able k t (ByRun x) due = absurd x
-stirred-by dag limits s (Event.Close j) able k t (ByUpstream v is x) due = absurd x
-stirred-by dag limits s (Event.Close j) able zero t (ByPast x) due = absurd x
-stirred-by dag limits s (Event.Close j) able (suc i) t (ByPast x) due = absurd x
-stirred-by dag limits s (Event.Close j) able k t (ByRun x) due = absurd (not-open s j able.0 (subst (λ (i : ℕ). phase_of (with_phase s j RunPhase.Closed) i ≡ RunPhase.Open) x due.run_is_open))
+closed-now dag s j k was x e = not-open s j was (subst (λ (i : ℕ). phase_of (with_phase s j RunPhase.Closed) i ≡ RunPhase.Open) x e)
+
+-- the run that an event opens is the newest after it
+opened-last : (dag : Dag) (runs : ℕ) (limits : Limits) (s : State) → IsShaped dag runs s → IsEnabled dag limits s Event.Open → (k : ℕ) → k ≡ next_run s → k ≡ newest (after dag s Event.Open)
+opened-last dag runs limits s shaped able k e = let next : next_run (after dag s Event.Open) ≡ suc (next_run s) = next-after dag runs limits s shaped Event.Open able in omega (arith, e, next)
 
 -- ---- the close of a run
 
@@ -73,9 +121,6 @@ RunTouched (Event.Expand k t) j = j ≡ k
 RunTouched (Event.End n o) j = j ≡ n.run
 RunTouched e j = ⊥
 
-same? : (a b : ℕ) → (a ≡ b) ⊎ (a ≡ b → ⊥)
-same? a b = grind arith
-
 run-touched? : (e : Event) (j : ℕ) → RunTouched e j ⊎ ((u : ℕ) → Touches e j u → ⊥)
 run-touched? Event.Open j = inr (λ u x. x)
 run-touched? (Event.Settle k t) j = elim (same? j k) [ inl e ↦ inl e | inr n ↦ inr (λ u x. n x.0) ]
@@ -85,31 +130,31 @@ run-touched? (Event.End n o) j = elim (same? j n.run) [ inl e ↦ inl e | inr m 
 run-touched? (Event.Close k) j = inr (λ u x. x)
 run-touched? (Event.Tick m) j = inr (λ u x. x)
 
-touched-close : (dag : Dag) (next : ℕ) (e : Event) (k : ℕ) → RunTouched e k → Concerns dag next e (Step.Close k)
-touched-close dag next Event.Open k x = absurd x
-touched-close dag next (Event.Settle j u) k x = x
-touched-close dag next (Event.Expand j u) k x = x
-touched-close dag next (Event.Begin n) k x = absurd x
-touched-close dag next (Event.End n o) k x = x
-touched-close dag next (Event.Close j) k x = absurd x
-touched-close dag next (Event.Tick m) k x = absurd x
+touched-close : (dag : Dag) (s : State) (e : Event) (k : ℕ) → RunTouched e k → Concerns dag s e (Step.Close k)
+touched-close dag s Event.Open k x = absurd x
+touched-close dag s (Event.Settle j u) k x = x
+touched-close dag s (Event.Expand j u) k x = x
+touched-close dag s (Event.Begin n) k x = absurd x
+touched-close dag s (Event.End n o) k x = x
+touched-close dag s (Event.Close j) k x = absurd x
+touched-close dag s (Event.Tick m) k x = absurd x
 
-turned-close : (dag : Dag) (limits : Limits) (s : State) (e : Event) → IsEnabled dag limits s e → (k : ℕ) → Turns s e k → phase_of (after dag s e) k ≡ RunPhase.Open → Concerns dag (next_run s) e (Step.Close k)
+turned-close : (dag : Dag) (runs : ℕ) (limits : Limits) (s : State) → IsShaped dag runs s → (e : Event) → IsEnabled dag limits s e → (k : ℕ) → Turns s e k → phase_of (after dag s e) k ≡ RunPhase.Open → Concerns dag (after dag s e) e (Step.Close k)
 unfolding after
-turned-close dag limits s Event.Open able k x open_run = x
-turned-close dag limits s (Event.Settle j u) able k x open_run = absurd x
-turned-close dag limits s (Event.Expand j u) able k x open_run = absurd x
-turned-close dag limits s (Event.Begin n) able k x open_run = absurd x
-turned-close dag limits s (Event.End n o) able k x open_run = absurd x
-turned-close dag limits s (Event.Close j) able k x open_run = absurd (not-open s j able.0 (subst (λ (i : ℕ). phase_of (with_phase s j RunPhase.Closed) i ≡ RunPhase.Open) x open_run))
-turned-close dag limits s (Event.Tick m) able k x open_run = absurd x
+turned-close dag runs limits s shaped Event.Open able k x open_run = opened-last dag runs limits s shaped able k x
+turned-close dag runs limits s shaped (Event.Settle j u) able k x open_run = absurd x
+turned-close dag runs limits s shaped (Event.Expand j u) able k x open_run = absurd x
+turned-close dag runs limits s shaped (Event.Begin n) able k x open_run = absurd x
+turned-close dag runs limits s shaped (Event.End n o) able k x open_run = absurd x
+turned-close dag runs limits s shaped (Event.Close j) able k x open_run = absurd (closed-now dag s j k able.0 x open_run)
+turned-close dag runs limits s shaped (Event.Tick m) able k x open_run = absurd x
 
-newly-closable : (dag : Dag) (limits : Limits) (s : State) (e : Event) → IsEnabled dag limits s e → (k : ℕ) → IsEnabled dag limits (after dag s e) (Event.Close k) →
-    IsEnabled dag limits s (Event.Close k) ⊎ Concerns dag (next_run s) e (Step.Close k)
-newly-closable dag limits s e able k due = elim (turns? s e k) [
-  | inl x ↦ inr (turned-close dag limits s e able k x due.0)
+newly-closable : (dag : Dag) (runs : ℕ) (limits : Limits) (s : State) → IsShaped dag runs s → (e : Event) → IsEnabled dag limits s e → (k : ℕ) → IsEnabled dag limits (after dag s e) (Event.Close k) →
+    IsEnabled dag limits s (Event.Close k) ⊎ Concerns dag (after dag s e) e (Step.Close k)
+newly-closable dag runs limits s shaped e able k due = elim (turns? s e k) [
+  | inl x ↦ inr (turned-close dag runs limits s shaped e able k x due.0)
   | inr same ↦ elim (run-touched? e k) [
-    | inl x ↦ inr (touched-close dag (next_run s) e k x)
+    | inl x ↦ inr (touched-close dag (after dag s e) e k x)
     | inr none ↦ inl (sym (phase-kept dag s e k same) ∙ due.0, λ t l. ap (λ (x : Seen). is_some x.value) (sym (seen-kept dag limits s e able k t (none t))) ∙ due.1 t l)
   ]
 ]
@@ -139,7 +184,7 @@ module _ (dag : Dag) (runs : ℕ) (limits : Limits) (s : State) (shaped : IsShap
   put-openable : (k t : ℕ) (c : Cell) → next_run (put s k t c) ≡ next_run s → IsEnabled dag limits (put s k t c) Event.Open → IsEnabled dag limits s Event.Open
   put-openable k t c next due = (omega (arith, due.0, next, length-put s.runs k t c), omega (arith, due.1, open-put s k t c))
 
-  newly-openable : (e : Event) → IsEnabled dag limits s e → IsEnabled dag limits (after dag s e) Event.Open → IsEnabled dag limits s Event.Open ⊎ Concerns dag (next_run s) e Step.Open
+  newly-openable : (e : Event) → IsEnabled dag limits s e → IsEnabled dag limits (after dag s e) Event.Open → IsEnabled dag limits s Event.Open ⊎ Concerns dag (after dag s e) e Step.Open
   unfolding after
   newly-openable Event.Open able due = inl able
   newly-openable (Event.Settle k t) able due = inl (put-openable k t _ (next-after dag runs limits s shaped (Event.Settle k t) able) due)
@@ -151,41 +196,53 @@ module _ (dag : Dag) (runs : ℕ) (limits : Limits) (s : State) (shaped : IsShap
 
 -- ---- any step
 
-reached-settle : (dag : Dag) (next : ℕ) (e : Event) (x : Turn) → Reaches dag next e x.run x.task → Concerns dag next e (Step.Settle x)
-reached-settle dag next Event.Open x h = h
-reached-settle dag next (Event.Settle j u) x h = h
-reached-settle dag next (Event.Expand j u) x h = h
-reached-settle dag next (Event.Begin n) x h = h
-reached-settle dag next (Event.End n o) x h = h
-reached-settle dag next (Event.Close j) x h = absurd h
-reached-settle dag next (Event.Tick m) x h = h
+reached-settle : (dag : Dag) (s : State) (e : Event) (x : Turn) → Reaches dag s e x.run x.task → Concerns dag s e (Step.Settle x)
+reached-settle dag s Event.Open x h = h
+reached-settle dag s (Event.Settle j u) x h = h
+reached-settle dag s (Event.Expand j u) x h = h
+reached-settle dag s (Event.Begin n) x h = h
+reached-settle dag s (Event.End n o) x h = h
+reached-settle dag s (Event.Close j) x h = absurd h
+reached-settle dag s (Event.Tick m) x h = h
 
-reached-expand : (dag : Dag) (next : ℕ) (e : Event) (x : Turn) → Reaches dag next e x.run x.task → Concerns dag next e (Step.Expand x)
-reached-expand dag next Event.Open x h = h
-reached-expand dag next (Event.Settle j u) x h = h
-reached-expand dag next (Event.Expand j u) x h = h
-reached-expand dag next (Event.Begin n) x h = h
-reached-expand dag next (Event.End n o) x h = h
-reached-expand dag next (Event.Close j) x h = absurd h
-reached-expand dag next (Event.Tick m) x h = h
+reached-expand : (dag : Dag) (s : State) (e : Event) (x : Turn) → Reaches dag s e x.run x.task → Concerns dag s e (Step.Expand x)
+reached-expand dag s Event.Open x h = h
+reached-expand dag s (Event.Settle j u) x h = h
+reached-expand dag s (Event.Expand j u) x h = h
+reached-expand dag s (Event.Begin n) x h = h
+reached-expand dag s (Event.End n o) x h = h
+reached-expand dag s (Event.Close j) x h = absurd h
+reached-expand dag s (Event.Tick m) x h = h
 
 -- a task that may be decided could be so before the event, and in the same way, or the event reaches it
-newly-decidable : (dag : Dag) → IsSound dag → (limits : Limits) (s : State) (e : Event) → IsEnabled dag limits s e → (k t : ℕ) → (goes : Bool) →
-    IsDecidable dag (after dag s e) k t × (goes_on dag (after dag s e) k t ≡ goes) → (IsDecidable dag s k t × (goes_on dag s k t ≡ goes)) ⊎ Reaches dag (next_run s) e k t
-newly-decidable dag sound limits s e able k t goes due = elim (looks-alike dag limits s e able k t) [
-  | inl alike ↦ inl (decidable-alike dag sound (after dag s e) s k t alike due.0, sym (goes_on-alike dag (after dag s e) s k t alike) ∙ due.1)
-  | inr x ↦ inr (stirred-by dag limits s e able k t x due.0)
+newly-decidable : (dag : Dag) → IsSound dag → (runs : ℕ) (limits : Limits) (s : State) → IsShaped dag runs s → (e : Event) → IsEnabled dag limits s e → (k t : ℕ) → (goes : Bool) →
+    IsDecidable dag (after dag s e) k t × (goes_on dag (after dag s e) k t ≡ goes) → (IsDecidable dag s k t × (goes_on dag s k t ≡ goes)) ⊎ Reaches dag (after dag s e) e k t
+newly-decidable dag sound runs limits s shaped Event.Open able k t goes due = elim (same? k (next_run s)) [
+  | inl x ↦ inr (opened-last dag runs limits s shaped able k x)
+  | inr n ↦ inl (untouched dag sound limits s Event.Open able k t goes due (λ a b x. x) n)
+]
+newly-decidable dag sound runs limits s shaped (Event.Settle j u) able k t goes due =
+    by-news dag sound limits s (Event.Settle j u) able k t goes due (decided_at (after dag s (Event.Settle j u)) j u) (told-settle dag limits s j u able) (λ x. x)
+newly-decidable dag sound runs limits s shaped (Event.Expand j u) able k t goes due =
+    by-news dag sound limits s (Event.Expand j u) able k t goes due (decided_at (after dag s (Event.Expand j u)) j u) (told-expand dag limits s j u able) (λ x. x)
+newly-decidable dag sound runs limits s shaped (Event.Begin n) able k t goes due = inl (untouched dag sound limits s (Event.Begin n) able k t goes due (λ a b x. x) (λ x. x))
+newly-decidable dag sound runs limits s shaped (Event.End n o) able k t goes due =
+    by-news dag sound limits s (Event.End n o) able k t goes due (ended_at dag (after dag s (Event.End n o)) n) (told-end dag limits s n o able) (λ x. x)
+newly-decidable dag sound runs limits s shaped (Event.Tick m) able k t goes due = inl (untouched dag sound limits s (Event.Tick m) able k t goes due (λ a b x. x) (λ x. x))
+newly-decidable dag sound runs limits s shaped (Event.Close j) able k t goes due = elim (same? k j) [
+  | inl x ↦ absurd (closed-now dag s j k able.0 x due.0.run_is_open)
+  | inr n ↦ inl (untouched dag sound limits s (Event.Close j) able k t goes due (λ a b x. x) n)
 ]
 
 -- a step that may come after the event could come before it, or the event concerns it
-pub newly-due : (b : Backfill) → IsReplay b → (e : Event) → MayCome b e → (x : Step) → MayCome (moved b e) (event_of x) → MayCome b (event_of x) ⊎ Concerns b.dag (next_run b.state) e x
-newly-due b is e able (Step.Close k) due = elim (newly-closable b.dag b.limits b.state e able.0 k due.0) [ inl h ↦ inl (h, tt) | inr c ↦ inr c ]
+pub newly-due : (b : Backfill) → IsReplay b → (e : Event) → MayCome b e → (x : Step) → MayCome (moved b e) (event_of x) → MayCome b (event_of x) ⊎ Concerns b.dag (moved b e).state e x
+newly-due b is e able (Step.Close k) due = elim (newly-closable b.dag b.runs b.limits b.state (replay-shaped b is) e able.0 k due.0) [ inl h ↦ inl (h, tt) | inr c ↦ inr c ]
 newly-due b is e able Step.Open due = elim (newly-openable b.dag b.runs b.limits b.state (replay-shaped b is) e able.0 due.0) [ inl h ↦ inl (h, tt) | inr c ↦ inr c ]
-newly-due b is e able (Step.Settle x) due = elim (newly-decidable b.dag is.sound b.limits b.state e able.0 x.run x.task false due.0) [
+newly-due b is e able (Step.Settle x) due = elim (newly-decidable b.dag is.sound b.runs b.limits b.state (replay-shaped b is) e able.0 x.run x.task false due.0) [
   | inl h ↦ inl (h, tt)
-  | inr r ↦ inr (reached-settle b.dag (next_run b.state) e x r)
+  | inr r ↦ inr (reached-settle b.dag (after b.dag b.state e) e x r)
 ]
-newly-due b is e able (Step.Expand x) due = elim (newly-decidable b.dag is.sound b.limits b.state e able.0 x.run x.task true due.0) [
+newly-due b is e able (Step.Expand x) due = elim (newly-decidable b.dag is.sound b.runs b.limits b.state (replay-shaped b is) e able.0 x.run x.task true due.0) [
   | inl h ↦ inl (h, tt)
-  | inr r ↦ inr (reached-expand b.dag (next_run b.state) e x r)
+  | inr r ↦ inr (reached-expand b.dag (after b.dag b.state e) e x r)
 ]

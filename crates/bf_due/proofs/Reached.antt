@@ -1,5 +1,7 @@
 -- What a cursor says stays true over every event.
 use Rattle.std.proofs.Common.{◌≡◌, ◌⊎◌, ◌+◌, ◌++◌, ◌||◌, ℕ, zero, suc, ◌<◌, ◌≤◌, nat_le, Bool, true, false, List, [], ◌∷◌, length, get_or, slice_get, slice_set, replicate, Some, None, is_some, refl, sym, ap, ◌∙◌, subst, subst₂, inl, inr, arith}
+use Rattle.std.proofs.lemmas.Bool.{or_parts}
+use Rattle.std.proofs.lemmas.List.Folds.{list_all_at}
 use Rattle.std.specs.List.{list_all}
 use Rattle.bf_core.specs.Terms.{Dag, Limits, JobName, IsOneOf, task_of}
 use Rattle.bf_core.specs.declared.state.Cell.{Cell}
@@ -19,7 +21,8 @@ use Rattle.bf_core.proofs.Numbers.{below-or, le-from, lt-from}
 use Rattle.bf_core.proofs.Sums.{finished_settled}
 use Rattle.bf_due.proofs.Locality.{awaits-upstream}
 use Rattle.bf_due.specs.declared.progress.Progress.{Progress}
-use Rattle.bf_due.specs.Cursors.{AreFinished, ArePassed, AreReached, Awaits, HasFinished, IsFinished, IsReached, Lets}
+use Rattle.bf_due.specs.Cursors.{AreFinished, ArePassed, AreReached, Awaits, HasFinished, IsFinished, IsReached, is_early, lets}
+use Rattle.bf_due.specs.Stirring.{all_settled, is_settled}
 
 undecided-open : (c : Cell) → c ≡ Cell.Undecided → value_in c ≡ None
 undecided-open c e = ap value_in e
@@ -44,8 +47,8 @@ or-stays false true c h e = refl
 or-stays false false c h e = e
 
 -- an upstream that lets a task be decided does so from then on
-passed-stays : (dag : Dag) (limits : Limits) (s : State) (e : Event) → IsEnabled dag limits s e → (k t a : ℕ) → ArePassed dag s k t a → ArePassed dag (after dag s e) k t a
-passed-stays dag limits s e able k t a passed i l m =
+passed-stays : (dag : Dag) (limits : Limits) (s : State) (e : Event) → IsEnabled dag limits s e → (early : Bool) (k t a : ℕ) → ArePassed early dag s k t a → ArePassed early dag (after dag s e) k t a
+passed-stays dag limits s e able early k t a passed i l m =
     or-stays (is_some (value_in (cell_at s k (get_or (task_of dag t).upstreams i 0)))) (is_some (value_in (cell_at (after dag s e) k (get_or (task_of dag t).upstreams i 0)))) _
     (settled-stays dag limits s e able k (get_or (task_of dag t).upstreams i 0)) (passed i l m)
 
@@ -85,7 +88,8 @@ finished-stays dag limits s (Event.Tick m) able j u i h = h
 -- what is noted of the runs is right after each event, and need not be touched
 pub reached-stays : (b now : Backfill) (e : Event) → MayCome b e → now ≡ moved b e → (rows : List Progress) → AreReached b rows → AreReached now rows
 reached-stays b now e able same rows reached = subst (λ (n : Backfill). AreReached n rows) (sym same) (λ k row at. record {
-  passed = λ t. passed-stays b.dag b.limits b.state e able.0 k t _ ((reached k row at).passed t);
+  passed = λ t. passed-stays b.dag b.limits b.state e able.0 (is_early b.dag t) k t _ ((reached k row at).passed t);
+  upstreams = λ t. passed-stays b.dag b.limits b.state e able.0 false k t _ ((reached k row at).upstreams t);
   finished = λ t i l. finished-stays b.dag b.limits b.state e able.0 k t i ((reached k row at).finished t i l);
   settled = λ t l. settled-stays b.dag b.limits b.state e able.0 k t ((reached k row at).settled t l);
 })
@@ -93,9 +97,10 @@ reached-stays b now e able same rows reached = subst (λ (n : Backfill). AreReac
 -- ---- of a row
 
 -- nothing is known where nothing is noted
-pub unknown : (b : Backfill) (k : ℕ) (row : Progress) → ((t : ℕ) → get_or row.passed.items t 0 ≡ 0) → ((t : ℕ) → get_or row.finished.items t 0 ≡ 0) → row.settled ≡ 0 → IsReached b k row
-unknown b k row passed finished settled = record {
+pub unknown : (b : Backfill) (k : ℕ) (row : Progress) → ((t : ℕ) → get_or row.passed.items t 0 ≡ 0) → ((t : ℕ) → get_or row.settled_upstreams.items t 0 ≡ 0) → ((t : ℕ) → get_or row.finished.items t 0 ≡ 0) → row.settled ≡ 0 → IsReached b k row
+unknown b k row passed upstreams finished settled = record {
   passed = λ t i l m. absurd (omega (arith, l, passed t));
+  upstreams = λ t i l m. absurd (omega (arith, l, upstreams t));
   finished = λ t i l. absurd (omega (arith, l, finished t));
   settled = λ t l. absurd (omega (arith, l, settled));
 }
@@ -106,19 +111,34 @@ zeros (suc n) zero d e = refl
 zeros (suc n) (suc t) d e = zeros n t d e
 
 -- a number more is noted
-pub passed-noted : (b : Backfill) (k t n : ℕ) (old new : Progress) → IsReached b k old → ArePassed b.dag b.state k t n → new.passed.items ≡ slice_set old.passed.items t n → new.finished.items ≡ old.finished.items → new.settled ≡ old.settled → IsReached b k new
-passed-noted b k t n old new is here passed finished settled = record {
+pub passed-noted : (b : Backfill) (k t n : ℕ) (old new : Progress) → IsReached b k old → ArePassed (is_early b.dag t) b.dag b.state k t n →
+    new.passed.items ≡ slice_set old.passed.items t n → new.settled_upstreams.items ≡ old.settled_upstreams.items → new.finished.items ≡ old.finished.items → new.settled ≡ old.settled → IsReached b k new
+passed-noted b k t n old new is here passed upstreams finished settled = record {
   passed = λ u. elim (set-read old.passed.items t n u 0) [
-    | inl p ↦ rw (passed, p.1) (subst (λ (v : ℕ). ArePassed b.dag b.state k v n) (sym p.0) here)
+    | inl p ↦ rw (passed, p.1) (subst (λ (v : ℕ). ArePassed (is_early b.dag v) b.dag b.state k v n) (sym p.0) here)
     | inr e ↦ rw (passed, e) (is.passed u)
+  ];
+  upstreams = λ u. rw upstreams (is.upstreams u);
+  finished = λ u. rw finished (is.finished u);
+  settled = λ u l. is.settled u (omega (arith, l, settled));
+}
+
+pub upstreams-noted : (b : Backfill) (k t n : ℕ) (old new : Progress) → IsReached b k old → ArePassed false b.dag b.state k t n →
+    new.passed.items ≡ old.passed.items → new.settled_upstreams.items ≡ slice_set old.settled_upstreams.items t n → new.finished.items ≡ old.finished.items → new.settled ≡ old.settled → IsReached b k new
+upstreams-noted b k t n old new is here passed upstreams finished settled = record {
+  passed = λ u. rw passed (is.passed u);
+  upstreams = λ u. elim (set-read old.settled_upstreams.items t n u 0) [
+    | inl p ↦ rw (upstreams, p.1) (subst (λ (v : ℕ). ArePassed false b.dag b.state k v n) (sym p.0) here)
+    | inr e ↦ rw (upstreams, e) (is.upstreams u)
   ];
   finished = λ u. rw finished (is.finished u);
   settled = λ u l. is.settled u (omega (arith, l, settled));
 }
 
-pub finished-noted : (b : Backfill) (k t n : ℕ) (old new : Progress) → IsReached b k old → AreFinished (cell_at b.state k t) n → new.passed.items ≡ old.passed.items → new.finished.items ≡ slice_set old.finished.items t n → new.settled ≡ old.settled → IsReached b k new
-finished-noted b k t n old new is here passed finished settled = record {
+pub finished-noted : (b : Backfill) (k t n : ℕ) (old new : Progress) → IsReached b k old → AreFinished (cell_at b.state k t) n → new.passed.items ≡ old.passed.items → new.settled_upstreams.items ≡ old.settled_upstreams.items → new.finished.items ≡ slice_set old.finished.items t n → new.settled ≡ old.settled → IsReached b k new
+finished-noted b k t n old new is here passed upstreams finished settled = record {
   passed = λ u. rw passed (is.passed u);
+  upstreams = λ u. rw upstreams (is.upstreams u);
   finished = λ u. elim (set-read old.finished.items t n u 0) [
     | inl p ↦ rw (finished, p.1) (subst (λ (v : ℕ). AreFinished (cell_at b.state k v) n) (sym p.0) here)
     | inr e ↦ rw (finished, e) (is.finished u)
@@ -126,9 +146,10 @@ finished-noted b k t n old new is here passed finished settled = record {
   settled = λ u l. is.settled u (omega (arith, l, settled));
 }
 
-pub settled-noted : (b : Backfill) (k : ℕ) (old new : Progress) → IsReached b k old → is_some (value_in (cell_at b.state k old.settled)) ≡ true → new.passed.items ≡ old.passed.items → new.finished.items ≡ old.finished.items → new.settled ≡ old.settled + 1 → IsReached b k new
-settled-noted b k old new is here passed finished settled = record {
+pub settled-noted : (b : Backfill) (k : ℕ) (old new : Progress) → IsReached b k old → is_some (value_in (cell_at b.state k old.settled)) ≡ true → new.passed.items ≡ old.passed.items → new.settled_upstreams.items ≡ old.settled_upstreams.items → new.finished.items ≡ old.finished.items → new.settled ≡ old.settled + 1 → IsReached b k new
+settled-noted b k old new is here passed upstreams finished settled = record {
   passed = λ u. rw passed (is.passed u);
+  upstreams = λ u. rw upstreams (is.upstreams u);
   finished = λ u. rw finished (is.finished u);
   settled = λ u l. elim (below-or u old.settled (omega (arith, l, settled))) [
     | inl less ↦ is.settled u less
@@ -177,13 +198,17 @@ member (u ∷ us) zero l = inl refl
 member (u ∷ us) (suc i) l = inr (member us i (omega arith))
 
 -- while a task awaits an upstream it isn't due, whatever comes of the others
-pub awaits-not-due : (dag : Dag) (s : State) (k t i : ℕ) → Awaits dag s k t i → IsDecidable dag s k t → ⊥
+pub awaits-not-due : (dag : Dag) (s : State) (k t i : ℕ) → Awaits (is_early dag t) dag s k t i → IsDecidable dag s k t → ⊥
 awaits-not-due dag s k t i w due = awaits-upstream dag s k t (get_or (task_of dag t).upstreams i 0) (member (task_of dag t).upstreams i w.0) w.1 due
 
-pub passed-more : (dag : Dag) (s : State) (k t n : ℕ) → ArePassed dag s k t n → Lets dag s k t (get_or (task_of dag t).upstreams n 0) → ArePassed dag s k t (n + 1)
-passed-more dag s k t n passed here i l m = elim (below-or i n l) [
+-- while it awaits one to be settled not all are
+pub awaits-unsettled : (dag : Dag) (s : State) (k t i : ℕ) → Awaits false dag s k t i → all_settled dag s k t ≡ false
+awaits-unsettled dag s k t i w = list_all_at (is_settled s k) (task_of dag t).upstreams i 0 w.0 (or_parts _ false w.1).0
+
+pub passed-more : (dag : Dag) (s : State) (early : Bool) (k t n : ℕ) → ArePassed early dag s k t n → lets early dag s k (get_or (task_of dag t).upstreams n 0) ≡ true → ArePassed early dag s k t (n + 1)
+passed-more dag s early k t n passed here i l m = elim (below-or i n l) [
   | inl less ↦ passed i less m
-  | inr same ↦ subst (λ (j : ℕ). Lets dag s k t (get_or (task_of dag t).upstreams j 0)) (sym same) here
+  | inr same ↦ subst (λ (j : ℕ). lets early dag s k (get_or (task_of dag t).upstreams j 0) ≡ true) (sym same) here
 ]
 
 pub held-at : {X : Type 0} (xs : List X) (i : ℕ) (x : X) → i < length xs → x ≡ get_or xs i x → slice_get xs i ≡ Some x

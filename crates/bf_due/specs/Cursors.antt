@@ -1,27 +1,32 @@
 -- What is known of how far the runs have come.
-use Rattle.std.specs.Prelude.{◌≡◌, ℕ, ◌<◌, true, false, List, length, Some, is_some, slice_get, slice_index}
+use Rattle.std.specs.Prelude.{◌≡◌, ℕ, ◌<◌, Bool, true, false, not, ◌&&◌, ◌||◌, List, length, Some, is_some, slice_get, slice_index}
+use Rattle.bf_rule.specs.Verdicts.{is_waiting}
 use Rattle.bf_check.specs.declared.plan.Dag.{Dag}
+use Rattle.bf_check.specs.Plans.{is_branch}
 use Rattle.bf_core.specs.Terms.{task_of}
-use Rattle.bf_core.specs.Deciding.{lets_decide}
 use Rattle.bf_core.specs.declared.state.Cell.{Cell}
 use Rattle.bf_core.specs.declared.state.Instance.{Instance}
 use Rattle.bf_core.specs.declared.state.Phase.{Phase}
 use Rattle.bf_core.specs.declared.state.State.{State}
-use Rattle.bf_core.specs.Events.{cell_at, instance_of, seen_in, value_in}
+use Rattle.bf_core.specs.Events.{cell_at, instance_of, value_in}
 use Rattle.bf_core.specs.Cores.{Backfill}
 use Rattle.bf_due.specs.declared.progress.Progress.{Progress}
 
--- the upstream lets the task t be decided in the run k
-abbrev pub Lets : Dag → State → ℕ → ℕ → ℕ → Type 0
-Lets dag s k t u = lets_decide dag (task_of dag t) (λ v. seen_in (cell_at s k v)) u ≡ true
+-- nothing more of the upstream is waited for in the run k: it is settled, or it is early and the upstream is no branch
+abbrev pub lets : Bool → Dag → State → ℕ → ℕ → Bool
+lets early dag s k u = is_some (value_in (cell_at s k u)) || (early && not (is_branch (task_of dag u)))
 
--- so do the first n upstreams of the task
-abbrev pub ArePassed : Dag → State → ℕ → ℕ → ℕ → Type 0
-ArePassed dag s k t n = (i : ℕ) → i < n → i < length (task_of dag t).upstreams → Lets dag s k t (slice_index (task_of dag t).upstreams i)
+-- so it is with the first n upstreams of the task t
+abbrev pub ArePassed : Bool → Dag → State → ℕ → ℕ → ℕ → Type 0
+ArePassed early dag s k t n = (i : ℕ) → i < n → i < length (task_of dag t).upstreams → lets early dag s k (slice_index (task_of dag t).upstreams i) ≡ true
 
--- the upstream at place i does not
-abbrev pub Awaits : Dag → State → ℕ → ℕ → ℕ → Type 0
-Awaits dag s k t i = (i < length (task_of dag t).upstreams) × (lets_decide dag (task_of dag t) (λ v. seen_in (cell_at s k v)) (slice_index (task_of dag t).upstreams i) ≡ false)
+-- and not with the upstream at place i
+abbrev pub Awaits : Bool → Dag → State → ℕ → ℕ → ℕ → Type 0
+Awaits early dag s k t i = (i < length (task_of dag t).upstreams) × (lets early dag s k (slice_index (task_of dag t).upstreams i) ≡ false)
+
+-- the task need not wait for all of its upstreams
+abbrev pub is_early : Dag → ℕ → Bool
+is_early dag t = not (is_waiting (task_of dag t).rule)
 
 abbrev pub IsFinished : Phase → Type 0
 IsFinished (Phase.Finished o) = Unit {0}
@@ -37,7 +42,8 @@ AreFinished c n = (i : ℕ) → i < n → HasFinished c i
 
 -- what is noted of the run k is right
 pub record IsReached (b : Backfill) (k : ℕ) (row : Progress) : Type 0 where
-  pub passed : (t : ℕ) → ArePassed b.dag b.state k t (slice_index row.passed.items t)
+  pub passed : (t : ℕ) → ArePassed (is_early b.dag t) b.dag b.state k t (slice_index row.passed.items t)
+  pub upstreams : (t : ℕ) → ArePassed false b.dag b.state k t (slice_index row.settled_upstreams.items t)
   pub finished : (t : ℕ) → AreFinished (cell_at b.state k t) (slice_index row.finished.items t)
   pub settled : (t : ℕ) → t < row.settled → is_some (value_in (cell_at b.state k t)) ≡ true
 

@@ -1,5 +1,5 @@
 -- What is kept of a backfill, so that its next step is at hand.
-use Rattle.std.specs.Prelude.{◌≡◌, ◌⊎◌, ℕ, ◌+◌, ◌<◌, ◌≤◌, Bool, true, false, List, length, Contains, IfSome, slice_get, slice_index}
+use Rattle.std.specs.Prelude.{◌≡◌, ◌⊎◌, ℕ, ◌+◌, ◌-◌, ◌<◌, ◌≤◌, true, List, length, Contains, IfSome, slice_get, slice_index}
 use Rattle.bf_graph.specs.Edges.{IsRank, IsUpstream}
 use Rattle.bf_graph.specs.Ranks.{Ranking}
 use Rattle.bf_check.specs.declared.plan.Dag.{Dag}
@@ -9,15 +9,16 @@ use Rattle.bf_core.specs.declared.state.State.{State}
 use Rattle.bf_core.specs.Cores.{Backfill, IsReplay, IsThere, MayCome}
 use Rattle.bf_core.specs.Events.{next_run}
 use Rattle.bf_due.specs.declared.agenda.Step.{Step}
+use Rattle.bf_due.specs.declared.news.News.{News}
 use Rattle.bf_due.specs.declared.progress.Progress.{Progress}
 use Rattle.bf_due.specs.Cursors.{AreReached, IsReached}
 use Rattle.bf_due.specs.Agendas.{event_of}
+use Rattle.bf_due.specs.Stirring.{decided_at, ended_at, is_settled, matters}
 
--- the steps on the agenda, how many there is room for, the next run to open, and how far the runs have come
+-- the steps on the agenda, how many there is room for, and how far the runs have come
 pub record Kept : Type 0 where
   pub steps : List Step
   pub room : ℕ
-  pub next : ℕ
   pub progress : List Progress
 
 -- ---- the agenda
@@ -39,7 +40,6 @@ pub record IsUpToDate (b : Backfill) (kept : Kept) : Type 0 where
   pub holds : (x : Step) → IsDue b x → Contains kept.steps x
   pub ranked : (x : Step) → Contains kept.steps x → IsRanked b.dag x
   pub live : IfSome (slice_get kept.steps 0) (λ x. MayCome b (event_of x))
-  pub next_is : kept.next ≡ next_run b.state
   pub reached : AreReached b kept.progress
 
 -- ---- what an event may make possible
@@ -50,9 +50,13 @@ IsOfTask k t (Step.Settle x) = (x.run ≡ k) × (x.task ≡ t)
 IsOfTask k t (Step.Expand x) = (x.run ≡ k) × (x.task ≡ t)
 IsOfTask k t x = ⊥
 
--- a step of one of the first n of these tasks in the run k
-abbrev pub IsOfFirst : ℕ → List ℕ → ℕ → Step → Type 0
-IsOfFirst k ts n x = (i : ℕ) × (i < n) × IsOfTask k (slice_index ts i) x
+-- a step of the task t in the run of the news, to which they matter
+abbrev pub IsStirred : Dag → State → News → ℕ → Step → Type 0
+IsStirred dag s n t x = IsOfTask n.run t x × (matters dag s n t ≡ true)
+
+-- so it is with one of the first m of these tasks
+abbrev pub IsOfFirst : Dag → State → News → List ℕ → ℕ → Step → Type 0
+IsOfFirst dag s n ts m x = (i : ℕ) × (i < m) × IsStirred dag s n (slice_index ts i) x
 
 -- a step of a task in the run k below n
 abbrev pub IsBelow : ℕ → ℕ → Step → Type 0
@@ -84,33 +88,45 @@ IsOfRunBelow n Step.Open = ⊥
 IsOfRunBelow n (Step.Settle x) = x.run < n
 IsOfRunBelow n (Step.Expand x) = x.run < n
 
--- the task t in the run k looks at the task u in the run j: u is an upstream, or the same task in the previous run
-abbrev pub LooksAt : Dag → ℕ → ℕ → ℕ → ℕ → Type 0
-LooksAt dag j u k t = ((k ≡ j) × IsUpstream (shape_of dag).upstreams u t) ⊎ ((k ≡ j + 1) × (t ≡ u))
+-- the task t is below the one of the news, and they matter to it
+abbrev pub IsBelowNews : Dag → State → News → ℕ → ℕ → Type 0
+IsBelowNews dag s n k t = (k ≡ n.run) × IsUpstream (shape_of dag).upstreams n.task t × (matters dag s n t ≡ true)
 
--- a step of the tasks below u in the run j, or the close of that run
-abbrev pub IsUnder : Dag → ℕ → ℕ → Step → Type 0
-IsUnder dag j u (Step.Close k) = k ≡ j
-IsUnder dag j u Step.Open = ⊥
-IsUnder dag j u (Step.Settle x) = (x.run ≡ j) × IsUpstream (shape_of dag).upstreams u x.task
-IsUnder dag j u (Step.Expand x) = (x.run ≡ j) × IsUpstream (shape_of dag).upstreams u x.task
+-- the task t in the run k is the one of the news in the next run, and that one is settled now
+abbrev pub IsBehindNews : State → News → ℕ → ℕ → Type 0
+IsBehindNews s n k t = (k ≡ n.run + 1) × (t ≡ n.task) × (is_settled s n.run n.task ≡ true)
 
--- the step looks at the task u in the run j
-abbrev pub IsAround : Dag → ℕ → ℕ → Step → Type 0
-IsAround dag j u (Step.Close k) = k ≡ j
-IsAround dag j u Step.Open = ⊥
-IsAround dag j u (Step.Settle x) = LooksAt dag j u x.run x.task
-IsAround dag j u (Step.Expand x) = LooksAt dag j u x.run x.task
+-- the news may let the task t be decided in the run k: it is below theirs, or the same in the next run
+abbrev pub Hears : Dag → State → News → ℕ → ℕ → Type 0
+Hears dag s n k t = IsBelowNews dag s n k t ⊎ IsBehindNews s n k t
 
--- the event may make the step possible, where `next` was the next run to open
-abbrev pub Concerns : Dag → ℕ → Event → Step → Type 0
-Concerns dag next Event.Open x = IsOfRun next x
-Concerns dag next (Event.Settle j u) x = IsAround dag j u x
-Concerns dag next (Event.Expand j u) x = IsAround dag j u x
-Concerns dag next (Event.Begin n) x = ⊥
-Concerns dag next (Event.End n o) x = IsAround dag n.run n.task x
-Concerns dag next (Event.Close k) x = IsOpening x
-Concerns dag next (Event.Tick m) x = ⊥
+-- a step of the tasks below the one of the news to which they matter, or the close of its run
+abbrev pub IsUnder : Dag → State → News → Step → Type 0
+IsUnder dag s n (Step.Close k) = k ≡ n.run
+IsUnder dag s n Step.Open = ⊥
+IsUnder dag s n (Step.Settle x) = IsBelowNews dag s n x.run x.task
+IsUnder dag s n (Step.Expand x) = IsBelowNews dag s n x.run x.task
+
+-- a step that the news may make possible
+abbrev pub IsAround : Dag → State → News → Step → Type 0
+IsAround dag s n (Step.Close k) = k ≡ n.run
+IsAround dag s n Step.Open = ⊥
+IsAround dag s n (Step.Settle x) = Hears dag s n x.run x.task
+IsAround dag s n (Step.Expand x) = Hears dag s n x.run x.task
+
+-- the run that was opened last, or the first while none is
+abbrev pub newest : State → ℕ
+newest s = next_run s - 1
+
+-- the event that led to this state may have made the step possible
+abbrev pub Concerns : Dag → State → Event → Step → Type 0
+Concerns dag s Event.Open x = IsOfRun (newest s) x
+Concerns dag s (Event.Settle j u) x = IsAround dag s (decided_at s j u) x
+Concerns dag s (Event.Expand j u) x = IsAround dag s (decided_at s j u) x
+Concerns dag s (Event.Begin n) x = ⊥
+Concerns dag s (Event.End n o) x = IsAround dag s (ended_at dag s n) x
+Concerns dag s (Event.Close k) x = IsOpening x
+Concerns dag s (Event.Tick m) x = ⊥
 
 -- the task that the event decides, or of which a try ends, is there
 abbrev pub SpeaksOfTask : Dag → State → Event → Type 0
@@ -121,11 +137,6 @@ SpeaksOfTask dag s (Event.Begin n) = Unit {0}
 SpeaksOfTask dag s (Event.End n o) = IsThere dag s n.run n.task
 SpeaksOfTask dag s (Event.Close k) = Unit {0}
 SpeaksOfTask dag s (Event.Tick m) = Unit {0}
-
--- the event opens a run
-abbrev pub opens : Event → Bool
-opens Event.Open = true
-opens e = false
 
 -- ---- room
 

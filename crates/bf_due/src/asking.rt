@@ -1,5 +1,5 @@
 //! Asking the core which steps may come, and putting those on an agenda.
-ghost use Rattle.std.specs.Prelude.{◌≡◌, ◌<◌, ◌≤◌, ◌+◌, ◌↔◌, ℕ, Bool, length, slice_index, IsTrue, IfSome, IfNone, Some};
+ghost use Rattle.std.specs.Prelude.{◌≡◌, ◌<◌, ◌≤◌, ◌+◌, ◌↔◌, ℕ, Bool, length, slice_index, IsTrue, IfSome, IfNone, Some, false};
 ghost use Rattle.bf_graph.specs.Edges.{IsUpstream};
 ghost use Rattle.bf_graph.specs.Lookups.{IsRisingListOf};
 ghost use Rattle.bf_check.specs.Plans.{shape_of};
@@ -7,9 +7,12 @@ ghost use Rattle.bf_core.specs.Events.{IsDecidable};
 ghost use Rattle.bf_core.specs.Cores.{IsThere, MayCome, deciding};
 ghost use Rattle.bf_due.specs.declared.agenda.Step.{Step as StepTerm};
 ghost use Rattle.bf_due.specs.Agendas.{event_of};
-ghost use Rattle.bf_due.specs.Dues.{Asks, AsksAll, Concerns, HasAdded, HasRoom, IsAround, IsBelow, IsCleaned, IsCloseOf, IsDue, IsOfFirst, IsOfRun, IsOfTask, IsOpening, IsUnder, SpeaksOfTask};
+ghost use Rattle.bf_due.specs.Dues.{Asks, AsksAll, Concerns, HasAdded, HasRoom, IsAround, IsBelow, IsCleaned, IsCloseOf, IsDue, IsOfFirst, IsOfRun, IsOfTask, IsOpening, IsStirred, IsUnder, SpeaksOfTask, newest};
+ghost use Rattle.bf_due.specs.Cursors.{IsReached};
+ghost use Rattle.bf_due.specs.Stirring.{knows_past as knows_past_of, looks_beyond as looks_beyond_of, matters as matters_to};
 
 use crate::agenda::{Agenda, Step, Turn};
+use crate::news::{News, stirs};
 use crate::progress::Progress;
 use bf_core::{Core, Event};
 
@@ -113,16 +116,66 @@ fn ask(agenda: &mut Agenda, row: &mut Progress, core: &Core<'_>, run: u32, task:
     }
 }
 
-/// Adds the steps that decide these tasks, where they may be decided now.
-fn ask_each(agenda: &mut Agenda, row: &mut Progress, core: &Core<'_>, run: u32, tasks: &[u32])
+/// Whether a task below another looks at more of it than at how its instances finish.
+fn looks_beyond(core: &Core<'_>, upstream: u32, task: u32) -> bool
+    requires { task < length core.now.dag.tasks }
+    ensures { result ≡ looks_beyond_of core.now.dag upstream task }
+{
+    let dag = core.plan().dag();
+    let task = dag.task(task);
+    task.rule.waits() || task.expand.is_some() || dag.is_branch(upstream)
+}
+
+/// Whether a task doesn't wait for its previous run.
+fn knows_past(core: &Core<'_>, run: u32, task: u32) -> bool
+    requires { task < length core.now.dag.tasks }
+    ensures { result ≡ knows_past_of core.now.dag core.now.state run task }
+{
+    if !core.plan().dag().task(task).depends_on_past || run == 0 {
+        return true;
+    }
+    core.is_settled(run - 1, task)
+}
+
+/// Whether news may let a task be decided that is below theirs.
+fn matters(row: &mut Progress, core: &Core<'_>, news: News, task: u32) -> bool
+    requires { task < length core.now.dag.tasks }
+    ensures matters { IsReached core.now news.run row.old → result ≡ false → matters_to core.now.dag core.now.state news task ≡ false }
+    ensures reached { IsReached core.now news.run row.old → IsReached core.now news.run row.new }
+{
+    if looks_beyond(core, news.task, task) {
+        return true;
+    }
+    let rule = core.plan().dag().task(task).rule;
+    if stirs(rule, news.counts) && knows_past(core, news.run, task) {
+        return true;
+    }
+    row.are_settled(core, news.run, task)
+}
+
+/// Adds the step that decides a task below the one of the news, where they matter to it and it may be decided now.
+fn stir(agenda: &mut Agenda, row: &mut Progress, core: &Core<'_>, news: News, task: u32)
+    requires task { task < length core.now.dag.tasks }
+    requires room { length agenda.old.items + 1 ≤ agenda.old.room }
+    ensures asks { Asks core.now news.run (IsStirred core.now.dag core.now.state news task) row.old row.new agenda.old.items agenda.new.items }
+    ensures len { length agenda.new.items ≤ length agenda.old.items + 1 }
+    ensures room { agenda.old.room ≤ agenda.new.room }
+{
+    if matters(row, core, news, task) {
+        ask(agenda, row, core, news.run, task);
+    }
+}
+
+/// Adds the steps that decide these tasks, to which the news matter, where they may be decided now.
+fn stir_each(agenda: &mut Agenda, row: &mut Progress, core: &Core<'_>, news: News, tasks: &[u32])
     requires tasks { (i : ℕ) → i < length tasks.now → slice_index tasks.now i < length core.now.dag.tasks }
     requires room { length agenda.old.items + length tasks.now ≤ agenda.old.room }
-    ensures asks { Asks core.now run (IsOfFirst run tasks.now (length tasks.now)) row.old row.new agenda.old.items agenda.new.items }
+    ensures asks { Asks core.now news.run (IsOfFirst core.now.dag core.now.state news tasks.now (length tasks.now)) row.old row.new agenda.old.items agenda.new.items }
     ensures len { length agenda.new.items ≤ length agenda.old.items + length tasks.now }
     ensures room { agenda.old.room ≤ agenda.new.room }
 {
     for task in tasks {
-        ask(agenda, row, core, run, *task);
+        stir(agenda, row, core, news, *task);
     }
 }
 
@@ -170,16 +223,17 @@ fn downstreams<'a>(core: &Core<'a>, task: u32) -> &'a [u32]
     core.plan().graph().downstreams(task)
 }
 
-/// Adds the steps of the tasks below a task, and the close of its run, where they may come now.
-fn ask_under(agenda: &mut Agenda, row: &mut Progress, core: &Core<'_>, run: u32, task: u32)
-    requires task { task < length core.now.dag.tasks }
+/// Adds the steps of the tasks below the one of the news, to which they matter, and the close of its run, where they may
+/// come now.
+fn ask_under(agenda: &mut Agenda, row: &mut Progress, core: &Core<'_>, news: News)
+    requires task { news.task < length core.now.dag.tasks }
     requires room { HasRoom core.now.dag agenda.old.items agenda.old.room }
-    ensures asks { Asks core.now run (IsUnder core.now.dag run task) row.old row.new agenda.old.items agenda.new.items }
+    ensures asks { Asks core.now news.run (IsUnder core.now.dag core.now.state news) row.old row.new agenda.old.items agenda.new.items }
     ensures len { length agenda.new.items ≤ length agenda.old.items + (length core.now.dag.tasks + 1) }
     ensures room { agenda.old.room ≤ agenda.new.room }
 {
-    ask_each(agenda, row, core, run, downstreams(core, task));
-    ask_close(agenda, row, core, run);
+    stir_each(agenda, row, core, news, downstreams(core, news.task));
+    ask_close(agenda, row, core, news.run);
 }
 
 /// Adds the step that decides a task in a run, where there is such a run and it may be decided now.
@@ -207,39 +261,47 @@ fn ask_opened(agenda: &mut Agenda, rows: &mut Vec<Progress>, core: &Core<'_>, ru
     }
 }
 
-/// Adds the steps that may come now and look at a task: those of the tasks below it, that of the same task in the next
-/// run, and the close of its run.
-fn ask_around(agenda: &mut Agenda, rows: &mut Vec<Progress>, core: &Core<'_>, run: u32, task: u32)
-    requires there { IsThere core.now.dag core.now.state run task }
+/// Adds the steps that news may have made possible: those of the tasks below theirs, the close of its run, and, once it
+/// is settled, that of the same task in the next run.
+fn ask_around(agenda: &mut Agenda, rows: &mut Vec<Progress>, core: &Core<'_>, news: News)
+    requires there { IsThere core.now.dag core.now.state news.run news.task }
     requires rows { length core.now.state.runs ≤ length rows.old.items }
     requires room { HasRoom core.now.dag agenda.old.items agenda.old.room }
-    ensures { AsksAll core.now (IsAround core.now.dag run task) rows.old.items rows.new.items agenda.old.items agenda.new.items }
+    ensures { AsksAll core.now (IsAround core.now.dag core.now.state news) rows.old.items rows.new.items agenda.old.items agenda.new.items }
 {
     let _few = core.runs();
-    let row = &mut rows[run as usize];
-    ask_under(agenda, row, core, run, task);
-    ask_in(agenda, rows, core, run + 1, task);
+    let row = &mut rows[news.run as usize];
+    ask_under(agenda, row, core, news);
+    if row.is_settled(core, news.run, news.task) {
+        ask_in(agenda, rows, core, news.run + 1, news.task);
+    }
 }
 
-/// Adds the steps that an event may have made possible. `next` was the next run to open before it.
+/// The run that was opened last, or the first while none is.
+fn newest_run(core: &Core<'_>) -> u32
+    ensures { result ≡ newest core.now.state }
+{
+    core.opened_runs().saturating_sub(1)
+}
+
+/// Adds the steps that an event may have made possible.
 pub(crate) fn ask_after(
     agenda: &mut Agenda,
     rows: &mut Vec<Progress>,
     core: &Core<'_>,
     event: &Event,
-    next: u32,
 )
     requires there { SpeaksOfTask core.now.dag core.now.state event.now }
     requires rows { length core.now.state.runs ≤ length rows.old.items }
     requires room { HasRoom core.now.dag agenda.old.items agenda.old.room }
-    ensures { AsksAll core.now (Concerns core.now.dag next event.now) rows.old.items rows.new.items agenda.old.items agenda.new.items }
+    ensures { AsksAll core.now (Concerns core.now.dag core.now.state event.now) rows.old.items rows.new.items agenda.old.items agenda.new.items }
 {
     match event {
         Event::Settle { run, task } | Event::Expand { run, task } => {
-            ask_around(agenda, rows, core, *run, *task);
+            ask_around(agenda, rows, core, News::of_decision(core, *run, *task));
         }
-        Event::End(name, _) => ask_around(agenda, rows, core, name.run, name.task),
-        Event::Open => ask_opened(agenda, rows, core, next),
+        Event::End(name, _) => ask_around(agenda, rows, core, News::of_end(core, *name)),
+        Event::Open => ask_opened(agenda, rows, core, newest_run(core)),
         Event::Close { .. } => add_open(agenda, core),
         Event::Begin(_) | Event::Tick { .. } => {}
     }

@@ -1,6 +1,5 @@
 //! The steps that are due.
 ghost use Rattle.std.specs.Prelude.{◌≡◌, ◌<◌, ◌≤◌, ◌+◌, ℕ, ◌↔◌, [], length, IsTrue, OnOk, IfOk, true, false};
-ghost use Rattle.std.specs.List.{count_by};
 ghost use Rattle.bf_graph.specs.Ranks.{Ranking};
 ghost use Rattle.bf_check.specs.Plans.{shape_of};
 ghost use Rattle.bf_core.specs.Events.{next_run};
@@ -8,7 +7,7 @@ ghost use Rattle.bf_core.specs.Cores.{Backfill, IsReplay, IsThere, MayCome, move
 ghost use Rattle.bf_due.specs.declared.agenda.Step.{Step as StepTerm};
 ghost use Rattle.bf_due.specs.Steps.{IsNextStep};
 ghost use Rattle.bf_due.specs.Cursors.{AreReached};
-ghost use Rattle.bf_due.specs.Dues.{HasAdded, HasRoomFor, IsOfRunBelow, IsUpToDate, SpeaksOfTask, opens};
+ghost use Rattle.bf_due.specs.Dues.{HasAdded, HasRoomFor, IsOfRunBelow, IsUpToDate, SpeaksOfTask};
 
 use crate::agenda::Agenda;
 use crate::asking::{add_open, ask_after, ask_run, clean};
@@ -24,8 +23,6 @@ use std::marker::Model;
 pub struct Due {
     alloc: Global,
     agenda: Agenda,
-    /// The next run to open.
-    next: u32,
     /// How far each run has come. Nothing is noted of a run that isn't open.
     progress: Vec<Progress>,
 }
@@ -40,7 +37,7 @@ impl Model for Due {
 
     ghost coded = { Prim.hlevel (codes, t.the_row.coded, p.the_row.coded) };
 
-    ghost view = { λ d. record { steps = d.agenda.items; room = d.agenda.room; next = d.next; progress = d.progress.items } };
+    ghost view = { λ d. record { steps = d.agenda.items; room = d.agenda.room; progress = d.progress.items } };
 }
 
 fn is_there(core: &Core<'_>, run: u32, task: u32) -> bool
@@ -60,39 +57,6 @@ fn speaks_of_task(core: &Core<'_>, event: &Event) -> bool
     }
 }
 
-/// How many runs were opened by these events.
-fn opened(events: &[Event]) -> usize
-    ensures { result ≡ count_by opens events.now }
-{
-    let mut opened = 0;
-    for event in events {
-        if matches!(event, Event::Open) {
-            opened += 1;
-        }
-    }
-    opened
-}
-
-/// The next run to open.
-fn next_to_open(core: &Core<'_>) -> u32
-    ensures next { result ≡ next_run core.now.state }
-    ensures few { result ≤ 4_096 }
-{
-    let _few = core.runs();
-    opened(core.journal()) as u32
-}
-
-/// The next run to open after an event.
-fn next_after(core: &Core<'_>, event: &Event, next: u32) -> u32
-    ensures opens { opens event.now ≡ true → next < length core.now.state.runs → result ≡ next + 1 }
-    ensures other { opens event.now ≡ false → result ≡ next }
-{
-    match event {
-        Event::Open if next < core.runs() => next + 1,
-        _ => next,
-    }
-}
-
 /// A law: every task has a rank.
 fn ranking(core: &Core<'_>)
     ensures { Ranking (shape_of core.now.dag).upstreams }
@@ -101,12 +65,12 @@ fn ranking(core: &Core<'_>)
 }
 
 /// The steps of the runs that were opened.
-fn steps_of_runs(alloc: Global, core: &Core<'_>, opened: u32) -> Result<Agenda, OutOfMemory>
-    ensures { IfOk result (λ agenda. HasAdded core.now (IsOfRunBelow opened) [] agenda.items) }
+fn steps_of_runs(alloc: Global, core: &Core<'_>) -> Result<Agenda, OutOfMemory>
+    ensures { IfOk result (λ agenda. HasAdded core.now (IsOfRunBelow (next_run core.now.state)) [] agenda.items) }
 {
     let mut agenda = Agenda::new(alloc);
     let most = core.plan().dag().tasks.len() + 2;
-    for run in 0..opened {
+    for run in 0..core.opened_runs() {
         agenda.make_room(most)?;
         let mut row = Progress::unknown(alloc);
         ask_run(&mut agenda, &mut row, core, run);
@@ -135,10 +99,10 @@ fn make_rows(alloc: Global, rows: &mut Vec<Progress>, runs: u32) -> Result<(), O
     Ok(())
 }
 
-/// The run of which an event opens, decides or settles something.
-fn run_of(event: &Event, next: u32) -> Option<u32> {
+/// The run of which an event opens, decides or settles something once it comes.
+fn run_of(core: &Core<'_>, event: &Event) -> Option<u32> {
     match event {
-        Event::Open => Some(next),
+        Event::Open => Some(core.opened_runs()),
         Event::Settle { run, .. } | Event::Expand { run, .. } => Some(*run),
         Event::End(name, _) => Some(name.run),
         Event::Begin(_) | Event::Close { .. } | Event::Tick { .. } => None,
@@ -168,13 +132,12 @@ fn make_rows_for(
     rows: &mut Vec<Progress>,
     core: &Core<'_>,
     event: &Event,
-    next: u32,
 ) -> Result<(), OutOfMemory>
     ensures reached { (b : Backfill) → AreReached b rows.old.items → AreReached b rows.new.items }
     ensures rows { OnOk result (core.now.runs ≤ length rows.new.items) }
 {
     make_rows(alloc, rows, runs(core))?;
-    match run_of(event, next) {
+    match run_of(core, event) {
         Some(run) => prepare(alloc, rows, run, core.plan().dag().tasks.len()),
         None => Ok(()),
     }
@@ -198,15 +161,13 @@ impl Due {
     {
         let _replayed = core.journal();
         ranking(core);
-        let next = next_to_open(core);
-        let mut agenda = steps_of_runs(alloc, core, next)?;
+        let mut agenda = steps_of_runs(alloc, core)?;
         agenda.make_room(1)?;
         add_open(&mut agenda, core);
         clean(&mut agenda, core);
         Ok(Due {
             alloc,
             agenda,
-            next,
             progress: Vec::new(alloc),
         })
     }
@@ -216,7 +177,7 @@ impl Due {
         ensures kept { (b : Backfill) → IsUpToDate b self.old → IsUpToDate b self.new }
         ensures room { OnOk result (HasRoomFor core.now self.new) }
     {
-        make_rows_for(self.alloc, &mut self.progress, core, event, self.next)?;
+        make_rows_for(self.alloc, &mut self.progress, core, event)?;
         self.agenda.make_room(core.plan().dag().tasks.len() + 2)
     }
 
@@ -227,10 +188,9 @@ impl Due {
     {
         let _runs = runs(core);
         if speaks_of_task(core, event) {
-            ask_after(&mut self.agenda, &mut self.progress, core, event, self.next);
+            ask_after(&mut self.agenda, &mut self.progress, core, event);
             forget_closed(self.alloc, &mut self.progress, event);
             clean(&mut self.agenda, core);
-            self.next = next_after(core, event, self.next);
         }
     }
 

@@ -1,12 +1,12 @@
 //! How far a run has come, as far as it was looked at: cursors that pass what stays as it is, so that nothing is looked at twice.
 ghost use Rattle.std.specs.Prelude.{◌≡◌, ◌<◌, ◌≤◌, ◌↔◌, ℕ, false, is_some, length, slice_index, IsTrue, IfSome, IfOk};
 ghost use Rattle.bf_core.specs.Terms.{task_of};
-ghost use Rattle.bf_core.specs.Deciding.{lets_decide as lets};
-ghost use Rattle.bf_core.specs.Events.{IsDecidable, cell_at, seen_in, value_in};
+ghost use Rattle.bf_core.specs.Events.{IsDecidable, cell_at, value_in};
 ghost use Rattle.bf_core.specs.Cores.{Backfill, MayCome};
 ghost use Rattle.bf_core.specs.declared.event.Event.{Event as EventTerm};
 ghost use Rattle.bf_core.specs.declared.state.Cell.{Cell as CellTerm};
-ghost use Rattle.bf_due.specs.Cursors.{AreFinished, ArePassed, Awaits, IsFinished, IsReached};
+ghost use Rattle.bf_due.specs.Cursors.{AreFinished, ArePassed, Awaits, IsFinished, IsReached, is_early as early, lets};
+ghost use Rattle.bf_due.specs.Stirring.{all_settled};
 
 use bf_core::{Cell, Core, Instance, Phase};
 use bf_value::OutOfMemory;
@@ -17,6 +17,8 @@ use std::alloc::Global;
 pub struct Progress {
     /// For each task, how many of its upstreams let it be decided, from the first on.
     pub passed: Vec<u32>,
+    /// For each task, how many of its upstreams are settled, from the first on.
+    pub settled_upstreams: Vec<u32>,
     /// For each task, how many of its instances have finished, from the first on.
     pub finished: Vec<u32>,
     /// How many tasks are settled, from the first on.
@@ -72,6 +74,14 @@ fn upstreams_of<'a>(core: &Core<'a>, task: u32) -> &'a [u32]
     core.plan().dag().task(task).upstreams.as_slice()
 }
 
+/// Whether a task need not wait for all of its upstreams.
+fn is_early(core: &Core<'_>, task: u32) -> bool
+    requires { task < length core.now.dag.tasks }
+    ensures { result ≡ early core.now.dag task }
+{
+    !core.plan().dag().task(task).rule.waits()
+}
+
 impl Progress {
     /// Nothing is known, and nothing noted of a task. It takes no memory.
     pub fn unknown(alloc: Global) -> Progress
@@ -79,6 +89,7 @@ impl Progress {
     {
         Progress {
             passed: Vec::new(alloc),
+            settled_upstreams: Vec::new(alloc),
             finished: Vec::new(alloc),
             settled: 0,
         }
@@ -90,6 +101,7 @@ impl Progress {
     {
         Ok(Progress {
             passed: vec![in alloc; 0; tasks]?,
+            settled_upstreams: vec![in alloc; 0; tasks]?,
             finished: vec![in alloc; 0; tasks]?,
             settled: 0,
         })
@@ -107,10 +119,19 @@ impl Progress {
 
     /// Notes that so many upstreams of a task let it be decided.
     fn note_passed(&mut self, task: u32, passed: u32)
-        ensures { (b : Backfill) (k : ℕ) → IsReached b k self.old → ArePassed b.dag b.state k task passed → IsReached b k self.new }
+        ensures { (b : Backfill) (k : ℕ) → IsReached b k self.old → ArePassed (early b.dag task) b.dag b.state k task passed → IsReached b k self.new }
     {
         if (task as usize) < self.passed.len() {
             self.passed[task as usize] = passed;
+        }
+    }
+
+    /// Notes that so many upstreams of a task are settled.
+    fn note_settled(&mut self, task: u32, settled: u32)
+        ensures { (b : Backfill) (k : ℕ) → IsReached b k self.old → ArePassed false b.dag b.state k task settled → IsReached b k self.new }
+    {
+        if (task as usize) < self.settled_upstreams.len() {
+            self.settled_upstreams[task as usize] = settled;
         }
     }
 
@@ -128,7 +149,7 @@ impl Progress {
     }
 
     /// Whether a task is settled.
-    fn is_settled(&mut self, core: &Core<'_>, run: u32, task: u32) -> bool
+    pub fn is_settled(&mut self, core: &Core<'_>, run: u32, task: u32) -> bool
         ensures settled { IsReached core.now run self.old → result ≡ is_some (value_in (cell_at core.now.state run task)) }
         ensures reached { IsReached core.now run self.old → IsReached core.now run self.new }
         ensures same { self.new.settled ≡ self.old.settled }
@@ -139,28 +160,32 @@ impl Progress {
         }
     }
 
-    /// Whether a task can be decided as far as one of its upstreams goes.
-    fn lets_decide(&mut self, core: &Core<'_>, run: u32, task: u32, upstream: u32) -> bool
-        requires { task < length core.now.dag.tasks }
-        ensures lets { IsReached core.now run self.old → result ≡ lets core.now.dag (task_of core.now.dag task) (λ u. seen_in (cell_at core.now.state run u)) upstream }
+    /// Whether nothing more of an upstream is waited for: it is settled, or need not be for who looks early.
+    fn lets_decide(&mut self, core: &Core<'_>, run: u32, upstream: u32, early: bool) -> bool
+        ensures lets { IsReached core.now run self.old → result ≡ lets early core.now.dag core.now.state run upstream }
         ensures reached { IsReached core.now run self.old → IsReached core.now run self.new }
     {
-        let dag = core.plan().dag();
-        self.is_settled(core, run, upstream)
-            || (!dag.task(task).rule.waits() && !dag.is_branch(upstream))
+        self.is_settled(core, run, upstream) || (early && !core.plan().dag().is_branch(upstream))
     }
 
-    /// The place of the first upstream of a task, from a place on, that doesn't let it be decided, or how many there are.
-    fn first_awaited(&mut self, core: &Core<'_>, run: u32, task: u32, from: usize) -> usize
+    /// The place of the first upstream of a task, from a place on, that is waited for, or how many there are.
+    fn first_awaited(
+        &mut self,
+        core: &Core<'_>,
+        run: u32,
+        task: u32,
+        from: usize,
+        early: bool,
+    ) -> usize
         requires { task < length core.now.dag.tasks }
-        ensures passed { IsReached core.now run self.old → ArePassed core.now.dag core.now.state run task from → ArePassed core.now.dag core.now.state run task result }
-        ensures awaits { IsReached core.now run self.old → result < length (task_of core.now.dag task).upstreams → Awaits core.now.dag core.now.state run task result }
+        ensures passed { IsReached core.now run self.old → ArePassed early core.now.dag core.now.state run task from → ArePassed early core.now.dag core.now.state run task result }
+        ensures awaits { IsReached core.now run self.old → result < length (task_of core.now.dag task).upstreams → Awaits early core.now.dag core.now.state run task result }
         ensures reached { IsReached core.now run self.old → IsReached core.now run self.new }
         ensures within { result ≤ length (task_of core.now.dag task).upstreams }
     {
         let upstreams = upstreams_of(core, task);
         for place in from..upstreams.len() {
-            if !self.lets_decide(core, run, task, upstreams[place]) {
+            if !self.lets_decide(core, run, upstreams[place], early) {
                 return place;
             }
         }
@@ -175,9 +200,23 @@ impl Progress {
     {
         let upstreams = upstreams_of(core, task);
         let from = number_at(self.passed.as_slice(), task);
-        let passed = self.first_awaited(core, run, task, from as usize);
+        let early = is_early(core, task);
+        let passed = self.first_awaited(core, run, task, from as usize, early);
         self.note_passed(task, passed as u32);
         upstreams.len() <= passed
+    }
+
+    /// Whether each upstream of a task is settled.
+    pub fn are_settled(&mut self, core: &Core<'_>, run: u32, task: u32) -> bool
+        requires { task < length core.now.dag.tasks }
+        ensures unsettled { IsReached core.now run self.old → result ≡ false → all_settled core.now.dag core.now.state run task ≡ false }
+        ensures reached { IsReached core.now run self.old → IsReached core.now run self.new }
+    {
+        let upstreams = upstreams_of(core, task);
+        let from = number_at(self.settled_upstreams.as_slice(), task);
+        let settled = self.first_awaited(core, run, task, from as usize, false);
+        self.note_settled(task, settled as u32);
+        upstreams.len() <= settled
     }
 
     /// Whether each task is settled.

@@ -5,7 +5,7 @@ use Rattle.bf_due.proofs.due.Due.on_event.Goals as goal
 pub returns-then-speaks_of_task : goal.returns-then-speaks_of_task
 returns-then-speaks_of_task c = rw (← c.self.view_is) (λ b may same is.
     keeps b c.args.core.now c.args.event.now c.runs-runs.ensures.replayed may same _ is c.ask_after.new.rows.items c.forget_closed.new.rows.items c.ask_after.new.agenda.items c.clean.new.agenda.items c.ask_after.ensures
-    c.forget_closed.ensures c.clean.ensures c.clean.new.agenda.room c.next_after-self-inside.result c.next_after-self-inside.ensures.opens c.next_after-self-inside.ensures.other)
+    c.forget_closed.ensures c.clean.ensures c.clean.new.agenda.room)
 
 pub returns-else-speaks_of_task : goal.returns-else-speaks_of_task
 returns-else-speaks_of_task c = λ b may same is.

@@ -3,6 +3,6 @@ use Rattle.bf_due.proofs.progress.Progress.first_awaited.Given as goal
 
 abbrev pub invariant-loop-place : goal.invariant-loop-place
 invariant-loop-place l = record {
-  passed : IsReached l.core l.run l.initial.self → ArePassed l.core.dag l.core.state l.run l.task l.from → ArePassed l.core.dag l.core.state l.run l.task l.place;
+  passed : IsReached l.core l.run l.initial.self → ArePassed l.early l.core.dag l.core.state l.run l.task l.from → ArePassed l.early l.core.dag l.core.state l.run l.task l.place;
   reached : IsReached l.core l.run l.initial.self → IsReached l.core l.run l.self;
 }

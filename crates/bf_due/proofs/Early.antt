@@ -1,0 +1,373 @@
+-- Early rules: what has come of an upstream lets no task be decided whose rule doesn't look for it, until all are settled.
+use Rattle.std.proofs.Common.{◌≡◌, ◌⊎◌, ℕ, zero, suc, ◌+◌, ◌<◌, ◌==◌, nat_lt, Bool, true, false, not, ◌&&◌, ◌||◌, if◌then◌else◌, List, [], ◌∷◌, map, slice_get, Option, None, Some, is_some, refl, sym, ap, ap₂, ◌∙◌, subst, inl, inr, arith}
+use Rattle.std.proofs.lemmas.Bool.{and_cases, both_ways, cases_Bool, not-false, or_parts, or_right}
+use Rattle.std.proofs.lemmas.Bool.Decides.{nat_tests}
+use Rattle.std.specs.List.{list_all, list_any}
+use Rattle.bf_core.specs.Terms.{Dag, Limits, JobName, Rule, Counts, Verdict, verdict, TaskResult, TaskValue, Given, task_of, add, finished, fires, is_branch, is_waiting, none_counted}
+use Rattle.bf_core.specs.declared.state.State.{State}
+use Rattle.bf_core.specs.declared.state.Cell.{Cell}
+use Rattle.bf_core.specs.declared.state.Instance.{Instance}
+use Rattle.bf_core.specs.declared.state.Phase.{Phase}
+use Rattle.bf_core.specs.declared.event.Event.{Event}
+use Rattle.bf_core.specs.declared.deciding.Decision.{Decision}
+use Rattle.bf_core.specs.Deciding.{Seen, after_verdict, and_then_past, branch_is, branch_skips, counts_over, decision, gate, is_blocked, lets_decide, one_blocked, one_of, one_skipped, one_unfinished, one_upstream_failed, ruling}
+use Rattle.bf_core.specs.Events.{after, before_in, cell_at, cell_of, change_at, change_instance, cons_result, counts_of_cell, counts_of_instance, counts_of_instances, decision_in, ended, fresh, instance_of, place_in, put, results, seen_in, value_in, IsDecidable, IsEnabled}
+use Rattle.bf_core.proofs.Decisions.{and_left, and_right, both}
+use Rattle.bf_core.proofs.Instances.{instance-here}
+use Rattle.bf_core.proofs.Reading.{put-cases}
+use Rattle.bf_due.specs.declared.news.News.{News}
+use Rattle.bf_due.specs.Stirring.{all_settled, decided_at, ended_at, finished_in, heard_of_cell, heard_of_instance, is_settled, knows_past, looks_beyond, matters, stirs}
+use Rattle.bf_due.proofs.Locality.{RulesAlike, Touches, seen-kept, touches?}
+use Rattle.bf_due.proofs.Reached.{settled-stays}
+
+-- ---- what a rule looks for
+
+some-sum : (m n : ℕ) → nat_lt 0 (m + n) ≡ (nat_lt 0 m || nat_lt 0 n)
+some-sum zero n = let e : zero + n ≡ n = omega arith in ap (λ k. nat_lt 0 k) e
+some-sum (suc m) n =
+    let here : nat_lt 0 (suc m) ≡ true = grind (arith, nat_tests) in
+    let all : nat_lt 0 (suc m + n) ≡ true = grind (arith, nat_tests) in
+    rw (here, all)
+
+-- it is among the sum where it is in some part
+fires-add : (rule : Rule) (a b : Counts) → fires rule (add a b) ≡ (fires rule a || fires rule b)
+fires-add Rule.OneSuccess a b = some-sum a.success b.success
+fires-add Rule.OneFailed a b =
+    let e : (a.failed + b.failed) + (a.upstream_failed + b.upstream_failed) ≡ (a.failed + a.upstream_failed) + (b.failed + b.upstream_failed) = omega arith in
+    ap (λ n. nat_lt 0 n) e ∙ some-sum (a.failed + a.upstream_failed) (b.failed + b.upstream_failed)
+fires-add Rule.OneDone a b =
+    let e : (a.success + b.success) + (a.failed + b.failed) ≡ (a.success + a.failed) + (b.success + b.failed) = omega arith in
+    ap (λ n. nat_lt 0 n) e ∙ some-sum (a.success + a.failed) (b.success + b.failed)
+fires-add _ a b = refl
+
+-- what is unfinished is nothing to it
+quiet : (rule : Rule) → fires rule one_unfinished ≡ fires rule none_counted
+quiet Rule.Always = refl
+quiet _ = refl
+
+none-fires : (rule : Rule) (c : Counts) → fires rule none_counted ≡ true → fires rule c ≡ true
+none-fires Rule.Always c e = refl
+none-fires _ c e = cc
+
+-- counts that don't stir the rule are as nothing to it
+unheard : (rule : Rule) (c : Counts) → stirs rule c ≡ false → fires rule c ≡ fires rule none_counted
+unheard rule c h = go (fires rule c) (fires rule none_counted) (none-fires rule c) h
+  where
+    go : (x y : Bool) → (y ≡ true → x ≡ true) → (x && not y) ≡ false → x ≡ y
+    go true true n h = refl
+    go true false n h = h
+    go false true n h = n refl
+    go false false n h = refl
+
+-- while something is unfinished an early rule runs or waits
+early-verdict : (rule : Rule) (c : Counts) → 0 < c.unfinished → verdict rule c ≡ (if fires rule c then Verdict.Run else Verdict.Wait)
+unfolding verdict
+early-verdict rule c p =
+    let some : (finished c + c.blocked + c.unfinished == 0) ≡ false = grind (arith, nat_tests) in
+    let more : nat_lt 0 c.unfinished ≡ true = grind (arith, nat_tests) in
+    rw (some, more)
+
+same-verdict : (rule : Rule) (c d : Counts) → fires rule c ≡ fires rule d → 0 < c.unfinished → 0 < d.unfinished → verdict rule c ≡ verdict rule d
+same-verdict rule c d same p q = early-verdict rule c p ∙ (ap (λ (b : Bool). if b then Verdict.Run else Verdict.Wait) same ∙ sym (early-verdict rule d q))
+
+unfinished-fires : (rule : Rule) (c : Counts) → fires rule (record c { unfinished = 1 }) ≡ fires rule c
+unfinished-fires Rule.Always c = refl
+unfinished-fires _ c = refl
+
+-- with one more unfinished the verdict waits just where the rule doesn't find what it looks for
+pub fires-not : (rule : Rule) (c : Counts) → verdict rule (record c { unfinished = 1 }) ≡ Verdict.Wait → fires rule c ≡ false
+fires-not rule c e = go (fires rule c) (sym (early-verdict rule (record c { unfinished = 1 }) (omega arith) ∙ ap (λ (b : Bool). if b then Verdict.Run else Verdict.Wait) (unfinished-fires rule c)) ∙ e)
+  where
+    go : (b : Bool) → (if b then Verdict.Run else Verdict.Wait) ≡ Verdict.Wait → b ≡ false
+    go true h = cc
+    go false h = refl
+
+pub fires-so : (rule : Rule) (c : Counts) → (verdict rule (record c { unfinished = 1 }) ≡ Verdict.Wait → ⊥) → fires rule c ≡ true
+fires-so rule c n = go (fires rule c) (early-verdict rule (record c { unfinished = 1 }) (omega arith) ∙ ap (λ (b : Bool). if b then Verdict.Run else Verdict.Wait) (unfinished-fires rule c))
+  where
+    go : (b : Bool) → verdict rule (record c { unfinished = 1 }) ≡ (if b then Verdict.Run else Verdict.Wait) → b ≡ true
+    go true h = refl
+    go false h = absurd (n h)
+
+-- ---- a cell
+
+or-same : (a : Bool) → (a || a) ≡ a
+or-same true = refl
+or-same false = refl
+
+fresh-counts : (rule : Rule) (gs : List Given) → fires rule (counts_of_instances (map fresh gs)) ≡ fires rule none_counted
+fresh-counts rule [] = refl
+fresh-counts rule (g ∷ gs) = fires-add rule one_unfinished (counts_of_instances (map fresh gs)) ∙ (ap₂ (λ x y. x || y) (quiet rule) (fresh-counts rule gs) ∙ or-same (fires rule none_counted))
+
+decision-told : (rule : Rule) (d : Decision) → stirs rule (heard_of_cell (cell_of d)) ≡ false → fires rule (counts_of_cell (cell_of d)) ≡ fires rule one_unfinished
+decision-told rule Decision.Wait h = refl
+decision-told rule Decision.Blocked h = unheard rule one_blocked h ∙ sym (quiet rule)
+decision-told rule Decision.Skipped h = unheard rule one_skipped h ∙ sym (quiet rule)
+decision-told rule Decision.UpstreamFailed h = unheard rule one_upstream_failed h ∙ sym (quiet rule)
+decision-told rule (Decision.Instances gs) h = fresh-counts rule gs ∙ sym (quiet rule)
+
+phase-told : (rule : Rule) (p : Phase) → stirs rule (finished_in p) ≡ false → fires rule (counts_of_instance p) ≡ fires rule one_unfinished
+phase-told rule (Phase.Finished o) h = unheard rule (one_of o) h ∙ sym (quiet rule)
+phase-told rule Phase.Waiting h = refl
+phase-told rule Phase.Running h = refl
+
+one-told : (rule : Rule) (f : Instance → Instance) (xs : List Instance) (i : ℕ) (x : Instance) → slice_get xs i ≡ Some x →
+    fires rule (counts_of_instance (f x).phase) ≡ fires rule (counts_of_instance x.phase) → fires rule (counts_of_instances (change_at f xs i)) ≡ fires rule (counts_of_instances xs)
+one-told rule f [] i x e same = cc
+one-told rule f (y ∷ ys) zero x e same =
+    let is : x ≡ y = cc in
+    let here : fires rule (counts_of_instance (f y).phase) ≡ fires rule (counts_of_instance y.phase) = subst (λ (z : Instance). fires rule (counts_of_instance (f z).phase) ≡ fires rule (counts_of_instance z.phase)) is same in
+    fires-add rule (counts_of_instance (f y).phase) (counts_of_instances ys) ∙ (ap (λ (b : Bool). b || fires rule (counts_of_instances ys)) here ∙ sym (fires-add rule (counts_of_instance y.phase) (counts_of_instances ys)))
+one-told rule f (y ∷ ys) (suc i) x e same =
+    fires-add rule (counts_of_instance y.phase) (counts_of_instances (change_at f ys i)) ∙
+    (ap (λ (b : Bool). fires rule (counts_of_instance y.phase) || b) (one-told rule f ys i x e same) ∙ sym (fires-add rule (counts_of_instance y.phase) (counts_of_instances ys)))
+
+cell-told : (rule : Rule) (f : Instance → Instance) (c : Cell) (i : ℕ) (x : Instance) → instance_of c i ≡ Some x →
+    fires rule (counts_of_instance (f x).phase) ≡ fires rule (counts_of_instance x.phase) → fires rule (counts_of_cell (change_instance f c i)) ≡ fires rule (counts_of_cell c)
+cell-told rule f (Cell.Ran xs) i x e same = one-told rule f xs i x e same
+cell-told rule f Cell.Undecided i x e same = refl
+cell-told rule f Cell.Blocked i x e same = refl
+cell-told rule f Cell.Skipped i x e same = refl
+cell-told rule f Cell.UpstreamFailed i x e same = refl
+
+end-told : (rule : Rule) (f : Instance → Instance) (c : Cell) (i : ℕ) (x : Instance) → instance_of c i ≡ Some x → x.phase ≡ Phase.Running →
+    stirs rule (heard_of_instance (instance_of (change_instance f c i) i)) ≡ false → fires rule (counts_of_cell (change_instance f c i)) ≡ fires rule (counts_of_cell c)
+end-told rule f c i x e runs h =
+    let none : stirs rule (finished_in (f x).phase) ≡ false = subst (λ (o : Option Instance). stirs rule (heard_of_instance o) ≡ false) (instance-here f c i x e) h in
+    cell-told rule f c i x e (phase-told rule (f x).phase none ∙ sym (ap (λ (p : Phase). fires rule (counts_of_instance p)) runs))
+
+put-told : (heard : Cell → Counts) (rule : Rule) (s : State) (k t : ℕ) (c : Cell) → (stirs rule (heard c) ≡ false → fires rule (counts_of_cell c) ≡ fires rule (counts_of_cell (cell_at s k t))) →
+    stirs rule (heard (cell_at (put s k t c) k t)) ≡ false → fires rule (counts_of_cell (cell_at (put s k t c) k t)) ≡ fires rule (counts_of_cell (cell_at s k t))
+put-told heard rule s k t c told h = elim (put-cases s k t c k t) [
+  | inl p ↦ ap (λ (d : Cell). fires rule (counts_of_cell d)) p.2 ∙ told (subst (λ (d : Cell). stirs rule (heard d) ≡ false) p.2 h)
+  | inr e ↦ ap (λ (d : Cell). fires rule (counts_of_cell d)) e
+]
+
+-- ---- an event
+
+-- the event touches the task of the news alone, and the news tell what has finished of it
+pub record IsTold (dag : Dag) (s : State) (e : Event) (n : News) : Type 0 where
+  pub only : (a b : ℕ) → Touches e a b → (a ≡ n.run) × (b ≡ n.task)
+  pub told : (rule : Rule) → stirs rule n.counts ≡ false → fires rule (counts_of_cell (cell_at (after dag s e) n.run n.task)) ≡ fires rule (counts_of_cell (cell_at s n.run n.task))
+
+pub told-settle : (dag : Dag) (limits : Limits) (s : State) (k t : ℕ) → IsEnabled dag limits s (Event.Settle k t) → IsTold dag s (Event.Settle k t) (decided_at (after dag s (Event.Settle k t)) k t)
+unfolding after
+told-settle dag limits s k t able = record {
+  only = λ a b x. x;
+  told = λ rule h. put-told heard_of_cell rule s k t (cell_of (decision_in dag s k t))
+      (λ g. decision-told rule (decision_in dag s k t) g ∙ sym (ap (λ (c : Cell). fires rule (counts_of_cell c)) able.0.undecided)) h;
+}
+
+pub told-expand : (dag : Dag) (limits : Limits) (s : State) (k t : ℕ) → IsEnabled dag limits s (Event.Expand k t) → IsTold dag s (Event.Expand k t) (decided_at (after dag s (Event.Expand k t)) k t)
+unfolding after
+told-expand dag limits s k t able = record {
+  only = λ a b x. x;
+  told = λ rule h. put-told heard_of_cell rule s k t (cell_of (decision_in dag s k t))
+      (λ g. decision-told rule (decision_in dag s k t) g ∙ sym (ap (λ (c : Cell). fires rule (counts_of_cell c)) able.0.undecided)) h;
+}
+
+pub told-end : (dag : Dag) (limits : Limits) (s : State) (n : JobName) (o : _) → IsEnabled dag limits s (Event.End n o) → IsTold dag s (Event.End n o) (ended_at dag (after dag s (Event.End n o)) n)
+unfolding after
+told-end dag limits s n o able = record {
+  only = λ a b x. x;
+  told = λ rule h. put-told (λ c. heard_of_instance (instance_of c (place_in dag n))) rule s n.run n.task (change_instance (ended (task_of dag n.task).retries o) (cell_at s n.run n.task) (place_in dag n))
+      (λ g. end-told rule (ended (task_of dag n.task).retries o) (cell_at s n.run n.task) (place_in dag n) able.0.held able.0.is_held able.0.in_phase g) h;
+}
+
+-- ---- what is unfinished
+
+open-instances : (xs : List Instance) → is_some (value_in (Cell.Ran xs)) ≡ false → 0 < (counts_of_instances xs).unfinished
+open-instances [] h = cc
+open-instances (x ∷ xs) h = go x.phase (results xs) h (λ e. open-instances xs e)
+  where
+    go : (p : Phase) (rs : Option (List TaskResult)) → is_some (elim (cons_result x.attempt p rs) [ None ↦ None | Some r ↦ Some (TaskValue.Ran r) ]) ≡ false →
+        (is_some (elim rs [ None ↦ None | Some r ↦ Some (TaskValue.Ran r) ]) ≡ false → 0 < (counts_of_instances xs).unfinished) → 0 < (add (counts_of_instance p) (counts_of_instances xs)).unfinished
+    go Phase.Waiting rs e more = omega arith
+    go Phase.Running rs e more = omega arith
+    go (Phase.Finished o) None e more = let rest : 0 < (counts_of_instances xs).unfinished = more refl in omega (arith, rest)
+    go (Phase.Finished o) (Some rs) e more = cc
+
+-- a cell that isn't settled has something unfinished
+open-counts : (c : Cell) → is_some (value_in c) ≡ false → 0 < (counts_of_cell c).unfinished
+open-counts Cell.Undecided h = omega arith
+open-counts Cell.Blocked h = cc
+open-counts Cell.Skipped h = cc
+open-counts Cell.UpstreamFailed h = cc
+open-counts (Cell.Ran xs) h = open-instances xs h
+
+open-over : (s : State) (k : ℕ) (us : List ℕ) → list_all (is_settled s k) us ≡ false → 0 < (counts_over (λ u. seen_in (cell_at s k u)) us).unfinished
+open-over s k [] h = cc
+open-over s k (u ∷ us) h = elim (cases_Bool (is_settled s k u)) [
+  | inr none ↦ let here : 0 < (counts_of_cell (cell_at s k u)).unfinished = open-counts (cell_at s k u) none in omega (arith, here)
+  | inl here ↦ let rest : 0 < (counts_over (λ v. seen_in (cell_at s k v)) us).unfinished = open-over s k us (go (is_settled s k u) here h) in omega (arith, rest)
+]
+  where
+    go : (b : Bool) → b ≡ true → (b && list_all (is_settled s k) us) ≡ false → list_all (is_settled s k) us ≡ false
+    go true y h = h
+    go false y h = cc
+
+-- ---- a verdict that waits for the previous run
+
+-- a ruling: whether each upstream lets the task be decided, whether a branch skips or blocks it, and else the verdict
+abbrev lines : Bool → Bool → Bool → Verdict → Verdict
+lines all skips blocks v = if not all then Verdict.Wait else (if skips then Verdict.Skip else (if blocks then Verdict.Blocked else v))
+
+-- it is the same for both verdicts, or the verdict itself
+lines-or : (all skips blocks : Bool) (v w : Verdict) → (lines all skips blocks v ≡ lines all skips blocks w) ⊎ (lines all skips blocks v ≡ v)
+lines-or false skips blocks v w = inl refl
+lines-or true true blocks v w = inl refl
+lines-or true false true v w = inl refl
+lines-or true false false v w = inr refl
+
+early-or : (rule : Rule) (c : Counts) → 0 < c.unfinished → (verdict rule c ≡ Verdict.Run) ⊎ (verdict rule c ≡ Verdict.Wait)
+early-or rule c p = go (fires rule c) (early-verdict rule c p)
+  where
+    go : (b : Bool) → verdict rule c ≡ (if b then Verdict.Run else Verdict.Wait) → (verdict rule c ≡ Verdict.Run) ⊎ (verdict rule c ≡ Verdict.Wait)
+    go true e = inl e
+    go false e = inr e
+
+none-if : (o : Option TaskValue) → is_some o ≡ false → o ≡ None
+none-if None e = refl
+none-if (Some v) e = cc
+
+past-awaited : (dag : Dag) (s : State) (k t : ℕ) → knows_past dag s k t ≡ false → (v : Verdict) → (v ≡ Verdict.Run) ⊎ (v ≡ Verdict.Wait) → and_then_past dag k (before_in s k t) t v ≡ Verdict.Wait
+past-awaited dag s k t unaware v (inr e) = rw e
+past-awaited dag s k t unaware v (inl e) =
+    let depends : (task_of dag t).depends_on_past ≡ true = not-false _ (or_parts _ _ unaware).0 in
+    let later : (k == 0) ≡ false = (or_parts (k == 0) _ (or_parts (not (task_of dag t).depends_on_past) _ unaware).1).0 in
+    let none : before_in s k t ≡ None = none-if (before_in s k t) (or_parts (k == 0) _ (or_parts (not (task_of dag t).depends_on_past) _ unaware).1).1 in
+    rw (e, depends, later, none)
+
+-- ---- news that don't matter
+
+module _ (dag : Dag) (limits : Limits) (s : State) (e : Event) (able : IsEnabled dag limits s e) where
+  all-kept : (k : ℕ) (us : List ℕ) → list_all (is_settled s k) us ≡ true → list_all (is_settled (after dag s e) k) us ≡ true
+  all-kept k [] h = refl
+  all-kept k (u ∷ us) h = both _ _ (settled-stays dag limits s e able k u (and_left _ _ h)) (all-kept k us (and_right (is_settled s k u) _ h))
+
+  unsettled-before : (k : ℕ) (us : List ℕ) → list_all (is_settled (after dag s e) k) us ≡ false → list_all (is_settled s k) us ≡ false
+  unsettled-before k us h = elim (cases_Bool (list_all (is_settled s k) us)) [
+    | inr before ↦ before
+    | inl all ↦ absurd (both_ways _ h (all-kept k us all))
+  ]
+
+  module _ (n : News) (told : IsTold dag s e n) (t : ℕ) (unmoved : matters dag (after dag s e) n t ≡ false) where
+    now : ℕ → Seen
+    now v = seen_in (cell_at (after dag s e) n.run v)
+
+    was : ℕ → Seen
+    was v = seen_in (cell_at s n.run v)
+
+    beyond : looks_beyond dag n.task t ≡ false
+    beyond = (or_parts _ _ unmoved).0
+
+    quiet-or-unaware : (stirs (task_of dag t).rule n.counts ≡ false) ⊎ (knows_past dag (after dag s e) n.run t ≡ false)
+    quiet-or-unaware = and_cases (stirs (task_of dag t).rule n.counts) (knows_past dag (after dag s e) n.run t) (or_parts _ _ (or_parts (looks_beyond dag n.task t) _ unmoved).1).0
+
+    some-open : all_settled dag (after dag s e) n.run t ≡ false
+    some-open = (or_parts (stirs (task_of dag t).rule n.counts && knows_past dag (after dag s e) n.run t) _ (or_parts (looks_beyond dag n.task t) _ unmoved).1).1
+
+    early : is_waiting (task_of dag t).rule ≡ false
+    early = (or_parts _ _ beyond).0
+
+    single : is_some (task_of dag t).expand ≡ false
+    single = (or_parts _ _ (or_parts (is_waiting (task_of dag t).rule) _ beyond).1).0
+
+    plain : is_branch (task_of dag n.task) ≡ false
+    plain = (or_parts (is_some (task_of dag t).expand) _ (or_parts (is_waiting (task_of dag t).rule) _ beyond).1).1
+
+    differs : (v : ℕ) → (v ≡ n.task) ⊎ (now v ≡ was v)
+    unfolding now was
+    differs v = elim (touches? e n.run v) [ inl x ↦ inl (told.only n.run v x).1 | inr none ↦ inr (seen-kept dag limits s e able n.run v none) ]
+
+    one-lets : (v : ℕ) → lets_decide dag (task_of dag t) now v ≡ lets_decide dag (task_of dag t) was v
+    one-lets v = elim (differs v) [
+      | inr same ↦ ap (λ (x : Seen). is_some x.value || (not (is_waiting (task_of dag t).rule) && not (is_branch (task_of dag v)))) same
+      | inl is ↦
+          let free : (not (is_waiting (task_of dag t).rule) && not (is_branch (task_of dag v))) ≡ true = rw (early, is, plain) in
+          or_right (is_some (now v).value) _ free ∙ sym (or_right (is_some (was v).value) _ free)
+    ]
+
+    all-lets : (us : List ℕ) → list_all (lets_decide dag (task_of dag t) now) us ≡ list_all (lets_decide dag (task_of dag t) was) us
+    all-lets [] = refl
+    all-lets (u ∷ us) = ap₂ (λ x y. x && y) (one-lets u) (all-lets us)
+
+    no-branch : (p : TaskValue → Bool) (v : ℕ) → v ≡ n.task → (o : Option TaskValue) → branch_is dag p v o ≡ false
+    no-branch p v is None = refl
+    no-branch p v is (Some x) = rw (is, plain)
+
+    any-branch : (p : ℕ → TaskValue → Bool) (us : List ℕ) → list_any (λ u. branch_is dag (p u) u (now u).value) us ≡ list_any (λ u. branch_is dag (p u) u (was u).value) us
+    any-branch p [] = refl
+    any-branch p (u ∷ us) = ap₂ (λ x y. x || y) (elim (differs u) [
+      | inr same ↦ ap (λ (x : Seen). branch_is dag (p u) u x.value) same
+      | inl is ↦ no-branch (p u) u is (now u).value ∙ sym (no-branch (p u) u is (was u).value)
+    ]) (any-branch p us)
+
+    one-fires : stirs (task_of dag t).rule n.counts ≡ false → (v : ℕ) → fires (task_of dag t).rule (now v).counts ≡ fires (task_of dag t).rule (was v).counts
+    unfolding now was
+    one-fires calm v = elim (differs v) [
+      | inr same ↦ ap (λ (x : Seen). fires (task_of dag t).rule x.counts) same
+      | inl is ↦ subst (λ (u : ℕ). fires (task_of dag t).rule (now u).counts ≡ fires (task_of dag t).rule (was u).counts) (sym is) (told.told (task_of dag t).rule calm)
+    ]
+
+    all-fire : stirs (task_of dag t).rule n.counts ≡ false → (us : List ℕ) → fires (task_of dag t).rule (counts_over now us) ≡ fires (task_of dag t).rule (counts_over was us)
+    all-fire calm [] = refl
+    all-fire calm (u ∷ us) =
+        fires-add (task_of dag t).rule (now u).counts (counts_over now us) ∙
+        (ap₂ (λ x y. x || y) (one-fires calm u) (all-fire calm us) ∙ sym (fires-add (task_of dag t).rule (was u).counts (counts_over was us)))
+
+    -- something is unfinished now
+    now-open : 0 < (counts_over now (task_of dag t).upstreams).unfinished
+    unfolding now
+    now-open = open-over (after dag s e) n.run (task_of dag t).upstreams some-open
+
+    was-open : 0 < (counts_over was (task_of dag t).upstreams).unfinished
+    unfolding was
+    was-open = open-over s n.run (task_of dag t).upstreams (unsettled-before n.run (task_of dag t).upstreams some-open)
+
+    -- the ruling is as it was but for the verdict on the counts
+    ruling-but : (v : Verdict) → verdict (task_of dag t).rule (counts_over was (task_of dag t).upstreams) ≡ v →
+        lines (list_all (lets_decide dag (task_of dag t) now) (task_of dag t).upstreams) (list_any (λ u. branch_is dag (branch_skips dag t u) u (now u).value) (task_of dag t).upstreams)
+        (list_any (λ u. branch_is dag is_blocked u (now u).value) (task_of dag t).upstreams) v ≡ ruling dag was t
+    unfolding ruling
+    ruling-but v e = rw (
+      all-lets (task_of dag t).upstreams,
+      any-branch (λ u. branch_skips dag t u) (task_of dag t).upstreams,
+      any-branch (λ u. is_blocked) (task_of dag t).upstreams,
+      ← e,
+    )
+
+    same-ruling : stirs (task_of dag t).rule n.counts ≡ false → ruling dag now t ≡ ruling dag was t
+    unfolding ruling
+    same-ruling calm =
+        ruling-but (verdict (task_of dag t).rule (counts_over now (task_of dag t).upstreams))
+        (sym (same-verdict (task_of dag t).rule (counts_over now (task_of dag t).upstreams) (counts_over was (task_of dag t).upstreams) (all-fire calm (task_of dag t).upstreams) now-open was-open))
+
+    ruling-or : (ruling dag now t ≡ ruling dag was t) ⊎ (ruling dag now t ≡ verdict (task_of dag t).rule (counts_over now (task_of dag t).upstreams))
+    unfolding ruling
+    ruling-or = go (lines-or (list_all (lets_decide dag (task_of dag t) now) (task_of dag t).upstreams) (list_any (λ u. branch_is dag (branch_skips dag t u) u (now u).value) (task_of dag t).upstreams) (list_any (λ u. branch_is dag is_blocked u (now u).value) (task_of dag t).upstreams)
+        (verdict (task_of dag t).rule (counts_over now (task_of dag t).upstreams)) (verdict (task_of dag t).rule (counts_over was (task_of dag t).upstreams))) (ruling-but (verdict (task_of dag t).rule (counts_over was (task_of dag t).upstreams)) refl)
+      where
+        go : {v w : Verdict} → (ruling dag now t ≡ v) ⊎ (ruling dag now t ≡ w) → v ≡ ruling dag was t → (ruling dag now t ≡ ruling dag was t) ⊎ (ruling dag now t ≡ w)
+        go (inl same) e = inl (same ∙ e)
+        go (inr only) e = inr only
+
+    -- a task that waits for its previous run isn't decided by such a verdict
+    not-decided : knows_past dag (after dag s e) n.run t ≡ false → ruling dag now t ≡ verdict (task_of dag t).rule (counts_over now (task_of dag t).upstreams) → IsDecidable dag (after dag s e) n.run t → ⊥
+    unfolding decision_in decision gate now
+    not-decided unaware only due =
+        let waits : gate dag n.run now (before_in (after dag s e) n.run t) t ≡ Verdict.Wait =
+        ap (and_then_past dag n.run (before_in (after dag s e) n.run t) t) only ∙
+        past-awaited dag (after dag s e) n.run t unaware (verdict (task_of dag t).rule (counts_over now (task_of dag t).upstreams)) (early-or (task_of dag t).rule (counts_over now (task_of dag t).upstreams) now-open) in
+        due.decides (ap (after_verdict dag now t) waits)
+
+    rules-as : ruling dag now t ≡ ruling dag was t → RulesAlike dag (after dag s e) s n.run t
+    unfolding now was
+    rules-as same = record { ruling = same; source = λ u is. let f : true ≡ false = sym (ap is_some is) ∙ single in cc }
+
+    -- the ruling on a task to which the news don't matter is as it was, or it isn't decided now
+    pub unmoved-rules : IsDecidable dag (after dag s e) n.run t → RulesAlike dag (after dag s e) s n.run t
+    unmoved-rules due = elim quiet-or-unaware [
+      | inl calm ↦ rules-as (same-ruling calm)
+      | inr unaware ↦ elim ruling-or [ inl same ↦ rules-as same | inr only ↦ absurd (not-decided unaware only due) ]
+    ]

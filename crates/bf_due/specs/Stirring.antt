@@ -1,0 +1,71 @@
+-- What has come of a task by an event, and to which tasks below it that matters.
+use Rattle.std.specs.Prelude.{◌==◌, ℕ, Bool, not, ◌&&◌, ◌||◌, Option, None, Some, is_some}
+use Rattle.std.specs.List.{list_all}
+use Rattle.bf_value.specs.declared.name.JobName.{JobName}
+use Rattle.bf_rule.specs.declared.rule.Rule.{Rule}
+use Rattle.bf_rule.specs.declared.rule.Counts.{Counts}
+use Rattle.bf_rule.specs.Verdicts.{fires, is_waiting, none_counted}
+use Rattle.bf_check.specs.declared.plan.Dag.{Dag}
+use Rattle.bf_check.specs.Plans.{is_branch}
+use Rattle.bf_core.specs.Terms.{task_of}
+use Rattle.bf_core.specs.Deciding.{one_blocked, one_of, one_skipped, one_upstream_failed}
+use Rattle.bf_core.specs.declared.state.Cell.{Cell}
+use Rattle.bf_core.specs.declared.state.Instance.{Instance}
+use Rattle.bf_core.specs.declared.state.Phase.{Phase}
+use Rattle.bf_core.specs.declared.state.State.{State}
+use Rattle.bf_core.specs.Events.{before_in, cell_at, instance_of, place_in, value_in}
+use Rattle.bf_due.specs.declared.news.News.{News}
+
+-- ---- news
+
+-- an instance in this phase counts as what it has come to, and as nothing while it hasn't finished
+abbrev pub finished_in : Phase → Counts
+finished_in (Phase.Finished o) = one_of o
+finished_in Phase.Waiting = none_counted
+finished_in Phase.Running = none_counted
+
+-- of a task that was decided: its instances haven't finished
+abbrev pub heard_of_cell : Cell → Counts
+heard_of_cell Cell.Undecided = none_counted
+heard_of_cell Cell.Blocked = one_blocked
+heard_of_cell Cell.Skipped = one_skipped
+heard_of_cell Cell.UpstreamFailed = one_upstream_failed
+heard_of_cell (Cell.Ran xs) = none_counted
+
+-- of an instance of which a try has ended
+abbrev pub heard_of_instance : Option Instance → Counts
+heard_of_instance None = none_counted
+heard_of_instance (Some x) = finished_in x.phase
+
+-- the news of the task u in the run k, which was decided
+abbrev pub decided_at : State → ℕ → ℕ → News
+decided_at s k u = record { run = k; task = u; counts = heard_of_cell (cell_at s k u) }
+
+-- the news of a task of which this try has ended
+abbrev pub ended_at : Dag → State → JobName → News
+ended_at dag s n = record { run = n.run; task = n.task; counts = heard_of_instance (instance_of (cell_at s n.run n.task) (place_in dag n)) }
+
+-- ---- to whom they matter
+
+-- the rule looks for what is among these, and not for nothing
+abbrev pub stirs : Rule → Counts → Bool
+stirs rule counts = fires rule counts && not (fires rule none_counted)
+
+abbrev pub is_settled : State → ℕ → ℕ → Bool
+is_settled s k u = is_some (value_in (cell_at s k u))
+
+-- each upstream of the task t is settled in the run k
+abbrev pub all_settled : Dag → State → ℕ → ℕ → Bool
+all_settled dag s k t = list_all (is_settled s k) (task_of dag t).upstreams
+
+-- the task t, below the one of the news, looks at more of it than at counts: it waits for it, or is expanded, or follows a branch
+abbrev pub looks_beyond : Dag → ℕ → ℕ → Bool
+looks_beyond dag u t = is_waiting (task_of dag t).rule || (is_some (task_of dag t).expand || is_branch (task_of dag u))
+
+-- the task t doesn't wait for its previous run: it does not depend on it, or there is none, or it is settled there
+abbrev pub knows_past : Dag → State → ℕ → ℕ → Bool
+knows_past dag s k t = not (task_of dag t).depends_on_past || ((k == 0) || is_some (before_in s k t))
+
+-- the news may let the task t be decided, which is below theirs: nothing else came of the run
+abbrev pub matters : Dag → State → News → ℕ → Bool
+matters dag s n t = looks_beyond dag n.task t || ((stirs (task_of dag t).rule n.counts && knows_past dag s n.run t) || all_settled dag s n.run t)

@@ -1,0 +1,96 @@
+//! What has come of a task by an event, and which rules look for it.
+ghost use Rattle.std.specs.Prelude.{◌≡◌};
+ghost use Rattle.bf_rule.specs.Verdicts.{fires as fires_by};
+ghost use Rattle.bf_core.specs.Cores.{IsThere};
+ghost use Rattle.bf_due.specs.Stirring.{decided_at, ended_at, finished_in, heard_of_cell, stirs as stirs_by};
+
+use bf_core::{Cell, Core, Phase};
+use bf_rule::{Counts, Rule, Verdict, verdict};
+use bf_try::Outcome;
+use bf_value::JobName;
+
+/// What an event has made finish of a task in a run, counted by state.
+#[derive(Clone, Copy)]
+pub struct News {
+    pub run: u32,
+    pub task: u32,
+    pub counts: Counts,
+}
+
+/// What finishes by a decision: a task with instances has not.
+fn counts_of_cell(cell: &Cell) -> Counts
+    ensures { result ≡ heard_of_cell cell.now }
+{
+    let mut counts = Counts::NONE;
+    match cell {
+        Cell::Blocked => counts.blocked = 1,
+        Cell::Skipped => counts.skipped = 1,
+        Cell::UpstreamFailed => counts.upstream_failed = 1,
+        Cell::Undecided | Cell::Ran(_) => {}
+    }
+    counts
+}
+
+/// What finishes by the end of a try: an instance whose try is made again has not.
+fn counts_of_phase(phase: &Phase) -> Counts
+    ensures { result ≡ finished_in phase.now }
+{
+    let mut counts = Counts::NONE;
+    match phase {
+        Phase::Finished(Outcome::Success(_)) => counts.success = 1,
+        Phase::Finished(Outcome::Failed) => counts.failed = 1,
+        Phase::Finished(Outcome::Skipped) => counts.skipped = 1,
+        Phase::Waiting | Phase::Running => {}
+    }
+    counts
+}
+
+impl News {
+    /// Of a task that was decided.
+    pub fn of_decision(core: &Core<'_>, run: u32, task: u32) -> News
+        requires { IsThere core.now.dag core.now.state run task }
+        ensures { result ≡ decided_at core.now.state run task }
+    {
+        let counts = match core.cell(run, task) {
+            Some(cell) => counts_of_cell(cell),
+            None => Counts::NONE,
+        };
+        News { run, task, counts }
+    }
+
+    /// Of a task of which a try has ended.
+    pub fn of_end(core: &Core<'_>, name: JobName) -> News
+        ensures { result ≡ ended_at core.now.dag core.now.state name }
+    {
+        let counts = match core.instance(name) {
+            Some(instance) => counts_of_phase(&instance.phase),
+            None => Counts::NONE,
+        };
+        News {
+            run: name.run,
+            task: name.task,
+            counts,
+        }
+    }
+}
+
+/// Whether a rule finds what it looks for among these, whatever comes of others.
+fn fires(rule: Rule, counts: Counts) -> bool
+    ensures { result ≡ fires_by rule counts }
+{
+    let so_far = Counts {
+        unfinished: 1,
+        ..counts
+    };
+    match verdict(rule, &so_far) {
+        Verdict::Wait => false,
+        Verdict::Run | Verdict::Skip | Verdict::UpstreamFailed | Verdict::Blocked => true,
+    }
+}
+
+/// Whether a rule looks for what these have, and not for nothing.
+pub fn stirs(rule: Rule, counts: Counts) -> bool
+    ensures { result ≡ stirs_by rule counts }
+{
+    fires(rule, counts) && !fires(rule, Counts::NONE)
+}
