@@ -2,52 +2,64 @@
 use Rattle.std.specs.Prelude.{true, [], Some, codes, pos}
 use Rattle.clap.specs.declared.builder.action.ArgAction.TheVariants.{SetTrue}
 use Rattle.clap.specs.declared.builder.value_parser.ValueParser.TheVariants.{Signed}
-use Rattle.clap.specs.Words.{App, Rule, new_app, new_rule, with_rule, with_subcommand}
+use Rattle.clap.specs.Words.{App, Rule, Text, new_app, new_rule, with_rule, with_subcommand}
 use Rattle.clap.specs.Simple.{new_shape}
+
+-- an argument by its place, which has to be there
+abbrev pub positional_rule : Text → Rule
+positional_rule id = record (new_rule id) { value_names = 1; required = true }
+
+-- an option with a value
+abbrev pub option_rule : Text → Text → Rule
+option_rule id name = record (new_rule id) { long = Some name; value_names = 1 }
+
+-- an option with a value, which has to be there
+abbrev pub required_option_rule : Text → Rule
+required_option_rule id = record (option_rule id id) { required = true }
 
 -- `GRAPH`
 abbrev pub graph_rule : Rule
-graph_rule = record (new_rule (codes "graph")) { value_names = 1; required = true }
+graph_rule = positional_rule (codes "graph")
 
 -- `TABLE`
 abbrev pub table_rule : Rule
-table_rule = record (new_rule (codes "table")) { value_names = 1; required = true }
+table_rule = positional_rule (codes "table")
 
 -- `--table PATH`
 abbrev pub optional_table_rule : Rule
-optional_table_rule = record (new_rule (codes "table")) { long = Some (codes "table"); value_names = 1 }
+optional_table_rule = option_rule (codes "table") (codes "table")
 
 -- `REPORT`
 abbrev pub report_rule : Rule
-report_rule = record (new_rule (codes "report")) { value_names = 1; required = true }
+report_rule = positional_rule (codes "report")
 
 -- `--task ID`
 abbrev pub task_rule : Rule
-task_rule = record (new_rule (codes "task")) { long = Some (codes "task"); value_names = 1; required = true }
+task_rule = required_option_rule (codes "task")
 
 -- `--run T`, the option of a run's logical date
 abbrev pub run_rule : Rule
-run_rule = record (new_rule (codes "run")) { long = Some (codes "run"); value_names = 1; required = true }
+run_rule = required_option_rule (codes "run")
 
 -- `--zone-file PATH`
 abbrev pub zone_file_rule : Rule
-zone_file_rule = record (new_rule (codes "zone_file")) { long = Some (codes "zone-file"); value_names = 1 }
+zone_file_rule = option_rule (codes "zone_file") (codes "zone-file")
 
 -- `--at T`
 abbrev pub at_rule : Rule
-at_rule = record (new_rule (codes "at")) { long = Some (codes "at"); value_names = 1; required = true }
+at_rule = required_option_rule (codes "at")
 
 -- `--from T`
 abbrev pub from_rule : Rule
-from_rule = record (new_rule (codes "from")) { long = Some (codes "from"); value_names = 1; required = true }
+from_rule = required_option_rule (codes "from")
 
 -- `--to T`
 abbrev pub to_rule : Rule
-to_rule = record (new_rule (codes "to")) { long = Some (codes "to"); value_names = 1; required = true }
+to_rule = required_option_rule (codes "to")
 
 -- `--workers N`, a number from 1 to 64
 abbrev pub workers_rule : Rule
-workers_rule = record (new_rule (codes "workers")) { long = Some (codes "workers"); value_names = 1; parser = Some (Signed (pos 1) (pos 64)) }
+workers_rule = record (option_rule (codes "workers") (codes "workers")) { parser = Some (Signed (pos 1) (pos 64)) }
 
 -- `--progress`, a flag
 abbrev pub progress_rule : Rule
@@ -55,51 +67,51 @@ progress_rule = record (new_rule (codes "progress")) { long = Some (codes "progr
 
 -- `--launcher PATH`
 abbrev pub launcher_rule : Rule
-launcher_rule = record (new_rule (codes "launcher")) { long = Some (codes "launcher"); value_names = 1 }
+launcher_rule = option_rule (codes "launcher") (codes "launcher")
 
 -- `FORMAT`
 abbrev pub format_rule : Rule
-format_rule = record (new_rule (codes "format")) { value_names = 1; required = true }
+format_rule = positional_rule (codes "format")
 
 -- `SHELL`
 abbrev pub shell_rule : Rule
-shell_rule = record (new_rule (codes "shell")) { value_names = 1; required = true }
+shell_rule = positional_rule (codes "shell")
 
--- `check GRAPH [--zone-file PATH]`
-abbrev pub check_app : App
-check_app = with_rule (with_rule (new_app (codes "check")) graph_rule) zone_file_rule
-
--- `list GRAPH --from T --to T [--zone-file PATH]`
-abbrev pub list_app : App
-list_app = with_rule (with_rule (with_rule (with_rule (new_app (codes "list")) graph_rule) zone_file_rule) from_rule) to_rule
-
--- `single GRAPH TABLE --at T [--zone-file PATH]`
-abbrev pub single_app : App
-single_app = with_rule (with_rule (with_rule (with_rule (new_app (codes "single")) graph_rule) zone_file_rule) table_rule) at_rule
+-- `NAME GRAPH [--zone-file PATH]`
+abbrev pub over_graph_app : Text → App
+over_graph_app name = with_rule (with_rule (new_app name) graph_rule) zone_file_rule
 
 -- a command with `--from T --to T [--workers N] [--progress]` behind its other arguments
 abbrev pub ranged_app : App → App
 ranged_app app = with_rule (with_rule (with_rule (with_rule app from_rule) to_rule) workers_rule) progress_rule
 
--- a command with `--task ID --run T` behind its other arguments
-abbrev pub seeded_app : App → App
-seeded_app app = with_rule (with_rule app task_rule) run_rule
+-- `check GRAPH [--zone-file PATH]`
+abbrev pub check_app : App
+check_app = over_graph_app (codes "check")
+
+-- `list GRAPH --from T --to T [--zone-file PATH]`
+abbrev pub list_app : App
+list_app = with_rule (with_rule (over_graph_app (codes "list")) from_rule) to_rule
+
+-- `single GRAPH TABLE --at T [--zone-file PATH]`
+abbrev pub single_app : App
+single_app = with_rule (with_rule (over_graph_app (codes "single")) table_rule) at_rule
 
 -- `dry GRAPH TABLE --from T --to T [--workers N] [--progress] [--zone-file PATH]`
 abbrev pub dry_app : App
-dry_app = ranged_app (with_rule (with_rule (with_rule (new_app (codes "dry")) graph_rule) zone_file_rule) table_rule)
+dry_app = ranged_app (with_rule (over_graph_app (codes "dry")) table_rule)
 
 -- `run GRAPH --from T --to T [--workers N] [--progress] [--launcher PATH] [--zone-file PATH]`
 abbrev pub run_app : App
-run_app = with_rule (ranged_app (with_rule (with_rule (new_app (codes "run")) graph_rule) zone_file_rule)) launcher_rule
+run_app = with_rule (ranged_app (over_graph_app (codes "run"))) launcher_rule
 
--- `clear GRAPH REPORT --task ID --run T [--zone-file PATH]`, without a table and its range
+-- `clear GRAPH REPORT --task ID --run T [--table PATH] [--zone-file PATH]`, without its range
 abbrev pub clearing_app : App
-clearing_app = seeded_app (with_rule (with_rule (with_rule (new_app (codes "clear")) graph_rule) zone_file_rule) report_rule)
+clearing_app = with_rule (with_rule (with_rule (with_rule (over_graph_app (codes "clear")) report_rule) task_rule) run_rule) optional_table_rule
 
 -- `clear GRAPH REPORT --from T --to T --task ID --run T [--table PATH] [--workers N] [--progress] [--launcher PATH] [--zone-file PATH]`
 abbrev pub clear_app : App
-clear_app = with_rule (ranged_app (with_rule clearing_app optional_table_rule)) launcher_rule
+clear_app = with_rule (ranged_app clearing_app) launcher_rule
 
 -- `schema FORMAT`
 abbrev pub schema_app : App

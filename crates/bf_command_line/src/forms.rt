@@ -3,28 +3,28 @@
 use crate::workers::Workers;
 
 /// `GRAPH [--zone-file PATH]`: a graph file, and the zone file that its zone `file` means.
-#[derive(Debug, Drop)]
+#[derive(Drop)]
 pub struct GraphAsked {
     pub graph: String,
     pub zone_file: Option<String>,
 }
 
 /// `--from T --to T`: the first and the last moment at which a data interval may start.
-#[derive(Debug, Drop)]
+#[derive(Drop)]
 pub struct RangeAsked {
     pub from: String,
     pub to: String,
 }
 
 /// `list GRAPH --from T --to T`: the data intervals of a range.
-#[derive(Debug, Drop)]
+#[derive(Drop)]
 pub struct ListAsked {
     pub graph: GraphAsked,
     pub range: RangeAsked,
 }
 
 /// `single GRAPH TABLE --at T`: one run whose interval starts and ends at `T`, its tasks answered from a table.
-#[derive(Debug, Drop)]
+#[derive(Drop)]
 pub struct SingleAsked {
     pub graph: GraphAsked,
     pub table: String,
@@ -33,7 +33,7 @@ pub struct SingleAsked {
 
 /// `dry GRAPH TABLE --from T --to T [--workers N] [--progress]`: a run for each data interval of a range, its tasks
 /// answered from a table.
-#[derive(Debug, Drop)]
+#[derive(Drop)]
 pub struct DryAsked {
     pub graph: GraphAsked,
     pub table: String,
@@ -44,7 +44,7 @@ pub struct DryAsked {
 
 /// `run GRAPH --from T --to T [--workers N] [--progress] [--launcher PATH]`: a run for each data interval of a range, with
 /// the programs of its tasks. Where a launcher is named, the words of their commands are handed to it.
-#[derive(Debug, Drop)]
+#[derive(Drop)]
 pub struct RunAsked {
     pub graph: GraphAsked,
     pub range: RangeAsked,
@@ -54,7 +54,7 @@ pub struct RunAsked {
 }
 
 /// `--task ID --run T`: a task in the run of a logical date.
-#[derive(Debug, Drop)]
+#[derive(Drop)]
 pub struct SeedAsked {
     pub task: String,
     pub run: String,
@@ -64,7 +64,7 @@ pub struct SeedAsked {
 /// backfill that goes on from its report, where a task in a run and all that follows from it is cleared. Tries are answered
 /// from a table where one is named, else by the programs of the tasks, whose words are handed to a launcher where one is
 /// named.
-#[derive(Debug, Drop)]
+#[derive(Drop)]
 pub struct ClearAsked {
     pub graph: GraphAsked,
     pub report: String,
@@ -77,14 +77,14 @@ pub struct ClearAsked {
 }
 
 /// A format that a file of its own is written in, and that has a schema.
-#[derive(Clone, Copy, Debug, PartialEq, Eq)]
+#[derive(Clone, Copy, PartialEq, Eq)]
 pub enum Format {
     Graph,
     Table,
 }
 
 /// A shell that completes command lines.
-#[derive(Clone, Copy, Debug, PartialEq, Eq)]
+#[derive(Clone, Copy, PartialEq, Eq)]
 pub enum Shell {
     Bash,
     Zsh,
@@ -92,7 +92,7 @@ pub enum Shell {
 }
 
 /// A subcommand with its paths and options.
-#[derive(Debug, Drop)]
+#[derive(Drop)]
 pub enum Asked {
     /// `check GRAPH`: whether a graph file has a fault.
     Check(GraphAsked),

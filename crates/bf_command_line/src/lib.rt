@@ -2,6 +2,7 @@
 #![tactic(auto)]
 
 mod command;
+mod draft;
 mod forms;
 mod reading;
 mod workers;

@@ -3,7 +3,7 @@ ghost use Rattle.std.specs.Prelude.{◌≡◌, IfOk, map, option_map, string_byt
 ghost use Rattle.clap.specs.Words.{fault_of, FailsBy, subcommand_of, first_of, found_of, rows_of, subcommand_rows_of};
 ghost use Rattle.bf_command_line.specs.CommandLine.{backfill_app};
 ghost use Rattle.bf_command_line.specs.Wrongs.{format_words, found_wrongs, shell_words, value_wrongs, wrongs_of};
-ghost use Rattle.bf_command_line.specs.Asked.{IsAskedBy, IsFormatBy, IsGraphBy, IsLauncherBy, IsProgressBy, IsRangeBy, IsSeedBy, IsShellBy, IsWorkersBy};
+ghost use Rattle.bf_command_line.specs.Asked.{IsAskedBy, IsFormatBy, IsGraphBy, IsProgressBy, IsRangeBy, IsSeedBy, IsShellBy, IsWorkersBy};
 
 use crate::command::{backfill, no_format, no_shell};
 use crate::forms::{
@@ -40,15 +40,39 @@ fn subcommand_asked(alloc: Global, matches: &ArgMatches<'_>) -> Result<Asked, Er
     ensures err { FailsBy (found_wrongs (subcommand_rows_of matches.now)) result }
 {
     match matches.subcommand() {
-        Some(("check", inner)) => Ok(Asked::Check(graph_asked(alloc, inner)?)),
-        Some(("list", inner)) => Ok(Asked::List(list_asked(alloc, inner)?)),
-        Some(("single", inner)) => Ok(Asked::Single(single_asked(alloc, inner)?)),
-        Some(("dry", inner)) => Ok(Asked::Dry(dry_asked(alloc, inner)?)),
-        Some(("run", inner)) => Ok(Asked::Run(run_asked(alloc, inner)?)),
-        Some(("clear", inner)) => Ok(Asked::Clear(clear_asked(alloc, inner)?)),
-        Some(("schema", inner)) => Ok(Asked::Schema(format_asked(alloc, inner)?)),
-        Some(("completions", inner)) => Ok(Asked::Completions(shell_asked(alloc, inner)?)),
-        _ => Err(AllocError.into()),
+        Some((name, inner)) => named_asked(alloc, name, inner),
+        None => Err(AllocError.into()),
+    }
+}
+
+/// What the subcommand of this name asks for.
+fn named_asked(alloc: Global, name: &str, matches: &ArgMatches<'_>) -> Result<Asked, Error>
+    ensures ok { IfOk result (IsAskedBy (Some (name.now, rows_of (found_of matches.now)))) }
+    ensures err { FailsBy (found_wrongs (Some (name.now, rows_of (found_of matches.now)))) result }
+{
+    match name {
+        "schema" => Ok(Asked::Schema(format_asked(alloc, matches)?)),
+        "completions" => Ok(Asked::Completions(shell_asked(alloc, matches)?)),
+        _ => Ok(over_graph_asked(alloc, name, matches)?),
+    }
+}
+
+/// The same, of those over a graph.
+fn over_graph_asked(
+    alloc: Global,
+    name: &str,
+    matches: &ArgMatches<'_>,
+) -> Result<Asked, AllocError>
+    ensures { IfOk result (IsAskedBy (Some (name.now, rows_of (found_of matches.now)))) }
+{
+    match name {
+        "check" => check_asked(alloc, matches),
+        "list" => list_asked(alloc, matches),
+        "single" => single_asked(alloc, matches),
+        "dry" => dry_asked(alloc, matches),
+        "run" => run_asked(alloc, matches),
+        "clear" => clear_asked(alloc, matches),
+        _ => Err(AllocError),
     }
 }
 
@@ -102,74 +126,81 @@ fn progress_asked(matches: &ArgMatches<'_>) -> bool
     }
 }
 
-fn table_asked(alloc: Global, matches: &ArgMatches<'_>) -> Result<String, AllocError>
-    ensures { IfOk result (λ t. first_of (codes "table") (rows_of (found_of matches.now)) ≡ Some (string_bytes t)) }
+fn check_asked(alloc: Global, matches: &ArgMatches<'_>) -> Result<Asked, AllocError>
+    ensures { IfOk result (IsAskedBy (Some (codes "check", rows_of (found_of matches.now)))) }
 {
-    required(alloc, matches, "table")
+    Ok(Asked::Check(graph_asked(alloc, matches)?))
 }
 
-fn launcher_asked(alloc: Global, matches: &ArgMatches<'_>) -> Result<Option<String>, AllocError>
-    ensures { IfOk result (IsLauncherBy (rows_of (found_of matches.now))) }
+fn list_asked(alloc: Global, matches: &ArgMatches<'_>) -> Result<Asked, AllocError>
+    ensures { IfOk result (IsAskedBy (Some (codes "list", rows_of (found_of matches.now)))) }
 {
-    optional(alloc, matches, "launcher")
-}
-
-fn list_asked(alloc: Global, matches: &ArgMatches<'_>) -> Result<ListAsked, AllocError>
-    ensures { IfOk result (λ l. IsAskedBy (Some (codes "list", rows_of (found_of matches.now))) (Asked.List l)) }
-{
-    Ok(ListAsked {
+    Ok(Asked::List(ListAsked {
         graph: graph_asked(alloc, matches)?,
         range: range_asked(alloc, matches)?,
-    })
+    }))
 }
 
-fn single_asked(alloc: Global, matches: &ArgMatches<'_>) -> Result<SingleAsked, AllocError>
-    ensures { IfOk result (λ s. IsAskedBy (Some (codes "single", rows_of (found_of matches.now))) (Asked.Single s)) }
+fn single_asked(alloc: Global, matches: &ArgMatches<'_>) -> Result<Asked, AllocError>
+    ensures { IfOk result (IsAskedBy (Some (codes "single", rows_of (found_of matches.now)))) }
 {
-    Ok(SingleAsked {
+    Ok(Asked::Single(SingleAsked {
         graph: graph_asked(alloc, matches)?,
-        table: table_asked(alloc, matches)?,
+        table: required(alloc, matches, "table")?,
         at: required(alloc, matches, "at")?,
-    })
+    }))
 }
 
-fn dry_asked(alloc: Global, matches: &ArgMatches<'_>) -> Result<DryAsked, AllocError>
-    ensures { IfOk result (λ d. IsAskedBy (Some (codes "dry", rows_of (found_of matches.now))) (Asked.Dry d)) }
+fn dry_asked(alloc: Global, matches: &ArgMatches<'_>) -> Result<Asked, AllocError>
+    ensures { IfOk result (IsAskedBy (Some (codes "dry", rows_of (found_of matches.now)))) }
 {
-    Ok(DryAsked {
+    let workers = workers_asked(matches)?;
+    Ok(Asked::Dry(DryAsked {
         graph: graph_asked(alloc, matches)?,
-        table: table_asked(alloc, matches)?,
+        table: required(alloc, matches, "table")?,
         range: range_asked(alloc, matches)?,
-        workers: workers_asked(matches)?,
+        workers,
         progress: progress_asked(matches),
-    })
+    }))
 }
 
-fn run_asked(alloc: Global, matches: &ArgMatches<'_>) -> Result<RunAsked, AllocError>
+fn run_asked(alloc: Global, matches: &ArgMatches<'_>) -> Result<Asked, AllocError>
+    ensures { IfOk result (IsAskedBy (Some (codes "run", rows_of (found_of matches.now)))) }
+{
+    Ok(Asked::Run(programs_asked(alloc, matches)?))
+}
+
+/// What a command that starts programs asks for, in the form that `run` has.
+fn programs_asked(alloc: Global, matches: &ArgMatches<'_>) -> Result<RunAsked, AllocError>
     ensures { IfOk result (λ r. IsAskedBy (Some (codes "run", rows_of (found_of matches.now))) (Asked.Run r)) }
 {
+    let workers = workers_asked(matches)?;
     Ok(RunAsked {
         graph: graph_asked(alloc, matches)?,
         range: range_asked(alloc, matches)?,
-        workers: workers_asked(matches)?,
+        workers,
         progress: progress_asked(matches),
-        launcher: launcher_asked(alloc, matches)?,
+        launcher: optional(alloc, matches, "launcher")?,
     })
 }
 
-fn clear_asked(alloc: Global, matches: &ArgMatches<'_>) -> Result<ClearAsked, AllocError>
-    ensures { IfOk result (λ c. IsAskedBy (Some (codes "clear", rows_of (found_of matches.now))) (Asked.Clear c)) }
+fn clear_asked(alloc: Global, matches: &ArgMatches<'_>) -> Result<Asked, AllocError>
+    ensures { IfOk result (IsAskedBy (Some (codes "clear", rows_of (found_of matches.now)))) }
 {
-    Ok(ClearAsked {
-        graph: graph_asked(alloc, matches)?,
-        report: required(alloc, matches, "report")?,
-        range: range_asked(alloc, matches)?,
-        seed: seed_asked(alloc, matches)?,
-        table: optional(alloc, matches, "table")?,
-        workers: workers_asked(matches)?,
-        progress: progress_asked(matches),
-        launcher: launcher_asked(alloc, matches)?,
-    })
+    let run = programs_asked(alloc, matches)?;
+    let report = required(alloc, matches, "report")?;
+    let seed = seed_asked(alloc, matches)?;
+    let table = optional(alloc, matches, "table")?;
+    Ok(Asked::Clear(ClearAsked {
+        graph: run.graph,
+        report,
+        range: run.range,
+        seed,
+        table,
+        workers: run.workers,
+        progress: run.progress,
+        launcher: run.launcher,
+    }))
 }
 
 // `clap` is handed no list of possible values: a clause can't tell where such a list lies, and so not which line has it.

@@ -7,7 +7,7 @@ use std::marker::Model;
 const MOST: u32 = 64;
 
 /// A number of workers: 1 to 64.
-#[derive(Debug, Drop)]
+#[derive(Drop)]
 pub struct Workers {
     count: u32,
 }
