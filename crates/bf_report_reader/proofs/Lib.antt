@@ -1,6 +1,7 @@
 pub mod Splits
 pub mod Words
 pub mod Spelled
+pub mod IdFacts
 pub mod Growth
 pub mod HeldFacts
 pub mod Pieces

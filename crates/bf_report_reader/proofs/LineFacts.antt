@@ -158,10 +158,10 @@ pub reads_twice : (a b c : Option (List ℕ)) (x y z : List ℕ) → ReadsOn a b
 reads_twice a b c x y z (s, came, is) (t, next, then) = (s ++ t, consumes_more a b c s t came next, then ∙ ap (λ l. l ++ t) is ∙ append_assoc x s t)
 
 -- the bytes end behind a report
-pub ends_there : (a b c : Option (List ℕ)) (text : List ℕ) → ReadsOn a b [] text → Consumes b c [] → IsAtEnd c → IfSome a (λ bytes. bytes ≡ text)
-ends_there a b c text (read, came, is) none ends =
+pub ends_there : (a b : Option (List ℕ)) (text : List ℕ) → ReadsOn a b [] text → IsAtEnd b → IfSome a (λ bytes. bytes ≡ text)
+ends_there a b text (read, came, is) ends =
     let P : List ℕ → Type 0 = λ t. IfSome a (λ bytes. bytes ≡ t) in
-    subst P (append-nil read ∙ sym is) (ends_as a c (read ++ []) (consumes_more a b c read [] came none) ends)
+    subst P (sym is) (ends_as a b read came ends)
 
 -- a device that halts, or want of memory, says nothing of the bytes
 pub halts_stop : (a : Option (List ℕ)) (fault : ReportFault) (number : ℕ) → (fault ≡ ReportFault.Io) ⊎ (fault ≡ ReportFault.OutOfMemory) → IfSome a (StopsAt fault number)

@@ -1,7 +1,6 @@
 -- What comes of a line.
-use Rattle.std.proofs.Common.{◌≡◌, ℕ, List, [], ◌∷◌, ◌++◌, length, Option, Some, None, codes, sym, ap, ◌∙◌, append_assoc, append-nil, length-append, inl, inr}
-use Rattle.std.specs.Io.KnownBytes.{prepend_known, Consumes, IsAtEnd}
-use Rattle.std.specs.Prelude.{IfSome}
+use Rattle.std.proofs.Common.{◌≡◌, ℕ, List, [], ◌∷◌, ◌++◌, length, Option, Some, codes, sym, ap, ◌∙◌, append_assoc, append-nil, length-append, inl, inr}
+use Rattle.std.specs.Io.KnownBytes.{Consumes}
 use Rattle.bf_report.specs.declared.report.Version.{Version}
 use Rattle.bf_report.specs.declared.report.RunReport.{RunReport}
 use Rattle.bf_report.specs.Report.{run_line}
@@ -76,13 +75,6 @@ counted_runs b = length-append b.runs (last_run b.run)
 pub reads_more : (a b c : Option (List ℕ)) (before mid after line : List ℕ) → ReadsOn a b before mid → Consumes b c line → after ≡ mid ++ line → ReadsOn a c before after
 reads_more a b c before mid after line (text, came, is) next e =
     (text ++ line, consumes_more a b c text line came next, e ∙ ap (λ t. t ++ line) is ∙ append_assoc before text line)
-
--- all bytes of a device are the head and what came behind it
-pub whole : (left a b : Option (List ℕ)) (head text : List ℕ) → Consumes (prepend_known [] left) a head → Consumes a b text → IsAtEnd b → IfSome left (λ bytes. bytes ≡ head ++ text)
-whole None a b head text p q end = tt
-whole (Some xs) None b head text p q end = absurd p
-whole (Some xs) (Some xa) None head text p q end = absurd q
-whole (Some xs) (Some xa) (Some xb) head text p q end = p ∙ ap (λ l. head ++ l) (q ∙ ap (λ l. text ++ l) end ∙ append-nil text)
 
 pub head_opens : (b : Beginning) (head : Version × List ℕ) (text : List ℕ) → b ≡ start head → text ≡ head_words head → opening_text (so_far b) ≡ text ++ 10 ∷ []
 head_opens b head text is said = ap (λ (x : Beginning). opening_text (so_far x)) is ∙ append-nil (head_words head ++ 10 ∷ []) ∙ ap (λ l. l ++ 10 ∷ []) (sym said)

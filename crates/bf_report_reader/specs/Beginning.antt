@@ -160,6 +160,17 @@ goes_on_in tasks (Some o) id index = is_further_task o.task index && is_text (sl
 abbrev pub goes_on : Beginning → List ℕ → ℕ → Bool
 goes_on b id index = is_given b && goes_on_in b.tasks b.run id index
 
+-- a task without a try
+abbrev pub never_report : Untried → TaskReport
+never_report Untried.NoStatus = TaskReport.NoStatus
+never_report Untried.Skipped = TaskReport.Skipped
+never_report Untried.UpstreamFailed = TaskReport.UpstreamFailed
+
+-- a task by its first instance
+abbrev pub opened_by : Bool → TaskResult → OpenTask
+opened_by false r = record { before = None; instance = untold r }
+opened_by true r = record { before = Some []; instance = untold r }
+
 -- a part of what the instance that was read last was given
 abbrev pub takes_task : Version → Option OpenTask → GivenPart → Bool
 takes_task version None part = false
@@ -212,11 +223,9 @@ with_part b part = if takes_in b.version b.run part then Some (record b { run = 
 
 -- what a line says of a task
 unfoldable pub with_entry : Beginning → List ℕ → Entry → Option Beginning
-with_entry b id (Entry.Never Untried.NoStatus) = with_task b id TaskReport.NoStatus
-with_entry b id (Entry.Never Untried.Skipped) = with_task b id TaskReport.Skipped
-with_entry b id (Entry.Never Untried.UpstreamFailed) = with_task b id TaskReport.UpstreamFailed
-with_entry b id (Entry.Tried None r) = with_open b id (record { before = None; instance = untold r })
-with_entry b id (Entry.Tried (Some zero) r) = with_open b id (record { before = Some []; instance = untold r })
+with_entry b id (Entry.Never u) = with_task b id (never_report u)
+with_entry b id (Entry.Tried None r) = with_open b id (opened_by false r)
+with_entry b id (Entry.Tried (Some zero) r) = with_open b id (opened_by true r)
 with_entry b id (Entry.Tried (Some (suc n)) r) = with_further b id (suc n) r
 
 -- ---- what is known of a beginning

@@ -1,7 +1,7 @@
 -- The bytes of a device that were read and not used yet.
 use Rattle.std.specs.Prelude.{◌≡◌, ◌≤◌, ◌<◌, ◌+◌, ℕ, Bool, false, if◌then◌else◌, List, ◌∷◌, ◌++◌, length, take, drop, Option}
 use Rattle.std.specs.Io.KnownBytes.{prepend_known}
-use Rattle.bf_report.specs.Device.{WentOn, HasHalted}
+use Rattle.bf_device.specs.Device.{WentOn, HasHalted}
 use Rattle.bf_report_reader.specs.declared.held.Held.{Held}
 use Rattle.bf_report_reader.specs.Faults.{IsInLine, longest_line}
 

@@ -1,15 +1,14 @@
 //! A report as far as it was read.
-ghost use Rattle.std.specs.Prelude.{◌≡◌, ◌∷◌, ◌++◌, [], if◌then◌else◌, IfOk, OnOk, Some, None};
-ghost use Rattle.std.specs.List.{list_any};
-ghost use Rattle.std.specs.Str.{bytes_eq};
-ghost use Rattle.bf_report_reader.specs.Beginning.{so_far, run_count as counted_runs, is_given as is_given_by, is_whole_in, is_whole as is_whole_by, may_begin as begins, with_run, is_next as is_next_by, ids_with, with_task, with_open, goes_on as continues, with_further, takes_in, with_part, with_entry};
+ghost use Rattle.std.specs.Prelude.{◌≡◌, ◌∷◌, ◌++◌, [], if◌then◌else◌, true, IfOk, OnOk, Some, None};
+ghost use Rattle.bf_report_reader.specs.Beginning.{so_far, last_run, never_report, opened_by, run_count as counted_runs, is_given as is_given_by, is_whole_in, is_whole as is_whole_by, may_begin as begins, with_run, is_next as is_next_by, ids_with, with_task, with_open, goes_on as continues, with_further, takes_in, with_part, with_entry};
 
 use crate::entry::{Entry, Untried};
-use crate::open::{OpenRun, OpenTask};
+use crate::ids::TaskIds;
+use crate::open::OpenRun;
 use crate::part::GivenPart;
 use bf_interval::Interval;
 use bf_read::{MOST_TASKS, is_id};
-use bf_report::{Report, RunReport, TaskReport, Version};
+use bf_report::{Report, RunReport, Version};
 use bf_value::{OutOfMemory, Sequence, Text};
 use bf_xcom::TaskResult;
 use std::alloc::Global;
@@ -17,12 +16,22 @@ use std::alloc::Global;
 /// How many runs a report may have.
 const MOST_RUNS: usize = 4_096;
 
+/// Puts a run that has no more lines behind the others.
+fn close(runs: &mut Sequence<RunReport>, run: Option<OpenRun>) -> Result<(), OutOfMemory>
+    ensures { OnOk result (runs.new ≡ runs.old ++ last_run run) }
+{
+    if let Some(open) = run {
+        runs.push(open.into_run()?)?;
+    }
+    Ok(())
+}
+
 /// A report as far as it was read. The ids of its tasks come with its first run.
 #[derive(Drop)]
 pub(crate) struct Beginning {
     pub version: Version,
     pub dag_id: Text,
-    pub tasks: Sequence<Text>,
+    pub tasks: TaskIds,
     /// The runs before the one whose tasks are read.
     pub runs: Sequence<RunReport>,
     pub run: Option<OpenRun>,
@@ -36,7 +45,7 @@ impl Beginning {
         Beginning {
             version,
             dag_id,
-            tasks: Sequence::new(alloc),
+            tasks: TaskIds::new(alloc),
             runs: Sequence::new(alloc),
             run: None,
         }
@@ -100,9 +109,10 @@ impl Beginning {
         if !self.may_begin(run.interval) {
             return Ok(false);
         }
-        if let Some(open) = self.run.replace(OpenRun { run, task: None }) {
-            self.runs.push(open.into_run()?)?;
-        }
+        close(
+            &mut self.runs,
+            self.run.replace(OpenRun { run, task: None }),
+        )?;
         Ok(true)
     }
 
@@ -117,58 +127,56 @@ impl Beginning {
             return false;
         }
         if self.runs.is_empty() {
-            return is_id(id) && self.tasks.len() < MOST_TASKS && !self.has_task(id);
+            return is_id(id) && self.tasks.len() < MOST_TASKS && !self.tasks.contains(id);
         }
-        match self.tasks.get(open.count()) {
-            Some(task) => task.as_str() == id,
-            None => false,
-        }
-    }
-
-    fn has_task(&self, id: &str) -> bool
-        ensures { result ≡ list_any (λ task. bytes_eq task id.now) self.now.tasks }
-    {
-        self.tasks.as_slice().iter().any(|task| task.as_str() == id)
+        self.tasks.has_at(open.count(), id)
     }
 
     fn add_id(&mut self, alloc: Global, id: &str) -> Result<(), OutOfMemory>
+        requires { is_next_by self.old id.now ≡ true }
         ensures { OnOk result (self.new ≡ record self.old {
           tasks = ids_with self.old.runs self.old.tasks id.now;
         }) }
     {
         if self.runs.is_empty() {
-            self.tasks.push(Text::copied(alloc, id)?)?;
+            self.tasks.add(alloc, id)?;
         }
         Ok(())
     }
 
     /// Adds a task without a try, where it may stand next.
-    fn add_task(&mut self, alloc: Global, id: &str, task: TaskReport) -> Result<bool, OutOfMemory>
-        ensures { IfOk result (λ taken.
-            with_task self.old id.now task ≡ (if taken then Some self.new else None)) }
+    fn add_task(&mut self, alloc: Global, id: &str, untried: Untried) -> Result<bool, OutOfMemory>
+        ensures { IfOk result (λ taken. with_task self.old id.now (never_report untried)
+            ≡ (if taken then Some self.new else None)) }
     {
         if !self.is_next(id) {
             return Ok(false);
         }
         self.add_id(alloc, id)?;
         if let Some(open) = &mut self.run {
-            open.add_task(task)?;
+            open.add_task(untried)?;
         }
         Ok(true)
     }
 
     /// Adds a task by its first instance, where it may stand next.
     #[inline(always)]
-    fn add_open(&mut self, alloc: Global, id: &str, task: OpenTask) -> Result<bool, OutOfMemory>
-        ensures { IfOk result (λ taken.
-            with_open self.old id.now task ≡ (if taken then Some self.new else None)) }
+    fn add_open(
+        &mut self,
+        alloc: Global,
+        id: &str,
+        is_expanded: bool,
+        first: TaskResult,
+    ) -> Result<bool, OutOfMemory>
+        ensures { IfOk result (λ taken. with_open self.old id.now (opened_by is_expanded first)
+            ≡ (if taken then Some self.new else None)) }
     {
         if !self.is_next(id) {
             return Ok(false);
         }
         self.add_id(alloc, id)?;
         if let Some(open) = &mut self.run {
-            open.add_open(task)?;
+            open.add_open(alloc, is_expanded, first)?;
         }
         Ok(true)
     }
@@ -183,10 +191,7 @@ impl Beginning {
         if !open.goes_on(self.version, index) {
             return false;
         }
-        match self.tasks.get(open.run.tasks.len()) {
-            Some(task) => task.as_str() == id,
-            None => false,
-        }
+        self.tasks.has_at(open.run.tasks.len(), id)
     }
 
     /// Adds a further instance of an expanded task, where it may stand next.
@@ -216,17 +221,9 @@ impl Beginning {
             with_entry self.old id.now entry ≡ (if taken then Some self.new else None)) }
     {
         match entry {
-            Entry::Never(Untried::NoStatus) => self.add_task(alloc, id, TaskReport::NoStatus),
-            Entry::Never(Untried::Skipped) => self.add_task(alloc, id, TaskReport::Skipped),
-            Entry::Never(Untried::UpstreamFailed) => {
-                self.add_task(alloc, id, TaskReport::UpstreamFailed)
-            }
-            Entry::Tried(None, ended) => {
-                self.add_open(alloc, id, OpenTask::unmapped(alloc, ended))
-            }
-            Entry::Tried(Some(0), first) => {
-                self.add_open(alloc, id, OpenTask::expanded(alloc, first))
-            }
+            Entry::Never(untried) => self.add_task(alloc, id, untried),
+            Entry::Tried(None, ended) => self.add_open(alloc, id, false, ended),
+            Entry::Tried(Some(0), first) => self.add_open(alloc, id, true, first),
             Entry::Tried(Some(index), ended) => self.add_instance(alloc, id, index, ended),
         }
     }
@@ -256,7 +253,7 @@ impl Beginning {
     }
 
     /// The report, of which the end was read.
-    pub fn into_report(self) -> Result<Report, OutOfMemory>
+    pub fn into_report(self, alloc: Global) -> Result<Report, OutOfMemory>
         ensures { IfOk result (λ report. report ≡ so_far self) }
     {
         let Beginning {
@@ -266,13 +263,11 @@ impl Beginning {
             mut runs,
             run,
         } = self;
-        if let Some(open) = run {
-            runs.push(open.into_run()?)?;
-        }
+        close(&mut runs, run)?;
         Ok(Report {
             version,
             dag_id,
-            tasks,
+            tasks: tasks.into_texts(alloc)?,
             runs,
         })
     }

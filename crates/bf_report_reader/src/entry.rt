@@ -1,10 +1,12 @@
 //! What a line says of a task, behind the task's id.
 ghost use Rattle.std.specs.Prelude.{◌≡◌, ℕ, List, IfOk, IfSome, IfNone, decimal};
 ghost use Rattle.bf_report_reader.specs.Reads.{Spells, Finds, AreFields};
+ghost use Rattle.bf_report_reader.specs.Beginning.{never_report};
 ghost use Rattle.bf_report_reader.specs.Entries.{IsIndex, index_text, IsEntry, entry_text, never_word, SaysNever, IsTries, SaysResult};
 
 use crate::field::{number_in, split_field};
 use crate::value::outcome_in;
+use bf_report::TaskReport;
 use bf_value::OutOfMemory;
 use bf_xcom::TaskResult;
 use std::alloc::Global;
@@ -15,6 +17,19 @@ pub(crate) enum Untried {
     NoStatus,
     Skipped,
     UpstreamFailed,
+}
+
+impl Untried {
+    /// The task, in a report.
+    pub fn report(self) -> TaskReport
+        ensures { result ≡ never_report self }
+    {
+        match self {
+            Untried::NoStatus => TaskReport::NoStatus,
+            Untried::Skipped => TaskReport::Skipped,
+            Untried::UpstreamFailed => TaskReport::UpstreamFailed,
+        }
+    }
 }
 
 /// A task or an instance of one: without a try, or with the map index, which only instances of expanded tasks have,
@@ -66,11 +81,14 @@ fn untried_state_in(state: &[u8]) -> Option<Untried>
     ensures some { IfSome result (λ u. state.now ≡ never_word u) }
     ensures every { Finds (λ u. state.now ≡ never_word u) result }
 {
-    match state {
-        b"no_status" => Some(Untried::NoStatus),
-        b"skipped" => Some(Untried::Skipped),
-        b"upstream_failed" => Some(Untried::UpstreamFailed),
-        _ => None,
+    if state == b"no_status".as_slice() {
+        Some(Untried::NoStatus)
+    } else if state == b"skipped".as_slice() {
+        Some(Untried::Skipped)
+    } else if state == b"upstream_failed".as_slice() {
+        Some(Untried::UpstreamFailed)
+    } else {
+        None
     }
 }
 

@@ -3,12 +3,9 @@ ghost use Rattle.std.specs.Prelude.{◌≡◌, [], ◌≤◌, ◌<◌, ◌↔◌
 ghost use Rattle.std.specs.Io.KnownBytes.{Consumes, IsAtEnd};
 
 use crate::fault::Halted;
-use bf_report::{Halt, Read};
+use bf_device::{Halt, MOST_INTERRUPTIONS, Read};
 use bf_value::OutOfMemory;
 use std::alloc::Global;
-
-/// How often one call goes on after an interruption.
-const MOST_INTERRUPTIONS: u32 = 1_000;
 
 /// How many bytes one read may give.
 const ROOM: usize = 8_192;

@@ -38,10 +38,12 @@ fn run_state_in(text: &[u8]) -> Option<RunState>
     ensures some { IfSome result (λ state. text.now ≡ run_state_word state) }
     ensures every { Finds (λ state. text.now ≡ run_state_word state) result }
 {
-    match text {
-        b"success" => Some(RunState::Success),
-        b"failed" => Some(RunState::Failed),
-        _ => None,
+    if text == b"success".as_slice() {
+        Some(RunState::Success)
+    } else if text == b"failed".as_slice() {
+        Some(RunState::Failed)
+    } else {
+        None
     }
 }
 

@@ -6,6 +6,7 @@
 //! - `held` gives the bytes of a device, over a room that is filled by few reads;
 //! - `line` takes a line off them;
 //! - `field`, `value`, `entry`, `part` and `interval` read what a line says;
+//! - `ids` keeps the ids of the tasks, each found by its hash;
 //! - `open` keeps the run whose tasks are read, and its task that may have more lines;
 //! - `beginning` keeps the report as far as it was read, and says what may stand next.
 #![tactic(auto)]
@@ -15,6 +16,7 @@ mod entry;
 mod fault;
 mod field;
 mod held;
+mod ids;
 mod interval;
 mod laws;
 mod line;

@@ -5,7 +5,7 @@ ghost use Rattle.bf_report_reader.specs.Faults.{longest_line, Came, IsInLine, Is
 
 use crate::fault::ReportFault;
 use crate::held::Held;
-use bf_report::Read;
+use bf_device::Read;
 use bf_value::OutOfMemory;
 
 /// How many bytes a line may have, its line feed not counted.

@@ -4,8 +4,9 @@
 ghost use Rattle.std.specs.Prelude.{◌≡◌, ◌&&◌, ◌∷◌, ◌++◌, [], IfOk, OnOk, Some, None};
 ghost use Rattle.std.specs.List.{list_any};
 ghost use Rattle.std.specs.Str.{bytes_eq};
-ghost use Rattle.bf_report_reader.specs.Beginning.{task_with, count as counted, closed, most_told, lacks_no_item, takes, told, untold as untold_of, further, is_further, is_further_task, is_given_task, takes_task, put_task, put_open, put_further, put_part};
+ghost use Rattle.bf_report_reader.specs.Beginning.{task_with, open_task, never_report, opened_by, count as counted, closed, most_told, lacks_no_item, takes, told, untold as untold_of, further, is_further, is_further_task, is_given_task, takes_task, put_task, put_open, put_further, put_part};
 
+use crate::entry::Untried;
 use crate::part::GivenPart;
 use bf_read::MOST_PULLS;
 use bf_report::{InstanceReport, RunReport, TaskReport, Version};
@@ -43,22 +44,17 @@ pub(crate) struct OpenTask {
 }
 
 impl OpenTask {
-    /// A task of one instance.
-    pub fn unmapped(alloc: Global, ended: TaskResult) -> OpenTask
-        ensures { result ≡ record { before = None; instance = untold_of ended } }
+    /// A task by its first instance.
+    pub fn new(alloc: Global, is_expanded: bool, first: TaskResult) -> OpenTask
+        ensures { result ≡ opened_by is_expanded first }
     {
+        let before = if is_expanded {
+            Some(Sequence::new(alloc))
+        } else {
+            None
+        };
         OpenTask {
-            before: None,
-            instance: untold(alloc, ended),
-        }
-    }
-
-    /// An expanded task with its first instance.
-    pub fn expanded(alloc: Global, first: TaskResult) -> OpenTask
-        ensures { result ≡ record { before = Some []; instance = untold_of first } }
-    {
-        OpenTask {
-            before: Some(Sequence::new(alloc)),
+            before,
             instance: untold(alloc, first),
         }
     }
@@ -144,6 +140,26 @@ impl OpenTask {
     }
 }
 
+/// Puts a task behind the others of a run.
+#[inline(always)]
+fn push(run: &mut RunReport, task: TaskReport) -> Result<(), OutOfMemory>
+    ensures { OnOk result (run.new ≡ record run.old { tasks = run.old.tasks ++ task ∷ [] }) }
+{
+    run.tasks.push(task)?;
+    Ok(())
+}
+
+/// Puts a task that has no more lines behind the others of a run.
+#[inline(always)]
+fn close(run: &mut RunReport, task: Option<OpenTask>) -> Result<(), OutOfMemory>
+    ensures { OnOk result (run.new ≡ record run.old { tasks = run.old.tasks ++ open_task task }) }
+{
+    if let Some(task) = task {
+        push(run, task.into_report()?)?;
+    }
+    Ok(())
+}
+
 /// The run whose tasks are read.
 #[derive(Drop)]
 pub(crate) struct OpenRun {
@@ -163,42 +179,34 @@ impl OpenRun {
         }
     }
 
-    /// Puts a task behind the others.
-    fn push_task(&mut self, task: TaskReport) -> Result<(), OutOfMemory>
-        ensures { OnOk result (self.new ≡ record self.old {
-          run = record self.old.run { tasks = self.old.run.tasks ++ task ∷ [] };
-        }) }
-    {
-        self.run.tasks.push(task)?;
-        Ok(())
-    }
-
     /// Puts the task that may have had more lines behind the others.
     #[inline(always)]
     fn close_task(&mut self) -> Result<(), OutOfMemory>
         ensures { OnOk result (self.new ≡ record { run = closed self.old; task = None }) }
     {
-        match self.task.take() {
-            Some(task) => self.push_task(task.into_report()?),
-            None => Ok(()),
-        }
+        close(&mut self.run, self.task.take())
     }
 
     /// Puts a task without a try behind the others.
-    pub fn add_task(&mut self, task: TaskReport) -> Result<(), OutOfMemory>
-        ensures { OnOk result (put_task (Some self.old) task ≡ Some self.new) }
+    pub fn add_task(&mut self, untried: Untried) -> Result<(), OutOfMemory>
+        ensures { OnOk result (put_task (Some self.old) (never_report untried) ≡ Some self.new) }
     {
         self.close_task()?;
-        self.push_task(task)
+        push(&mut self.run, untried.report())
     }
 
     /// Puts a task behind the others that may have more lines.
     #[inline(always)]
-    pub fn add_open(&mut self, task: OpenTask) -> Result<(), OutOfMemory>
-        ensures { OnOk result (put_open (Some self.old) task ≡ Some self.new) }
+    pub fn add_open(
+        &mut self,
+        alloc: Global,
+        is_expanded: bool,
+        first: TaskResult,
+    ) -> Result<(), OutOfMemory>
+        ensures { OnOk result (put_open (Some self.old) (opened_by is_expanded first) ≡ Some self.new) }
     {
         self.close_task()?;
-        self.task = Some(task);
+        self.task = Some(OpenTask::new(alloc, is_expanded, first));
         Ok(())
     }
 
@@ -256,9 +264,8 @@ impl OpenRun {
     pub fn into_run(self) -> Result<RunReport, OutOfMemory>
         ensures { IfOk result (λ run. run ≡ closed self) }
     {
-        let mut open = self;
-        open.close_task()?;
-        let OpenRun { run, task: _ } = open;
+        let OpenRun { mut run, task } = self;
+        close(&mut run, task)?;
         Ok(run)
     }
 }

@@ -6,10 +6,10 @@ ghost use Rattle.bf_report_reader.specs.Reads.{Spells, Finds};
 ghost use Rattle.bf_report_reader.specs.Parts.{IsToldValue, IsToldItem, IsToldPulled, IsToldPull, pull_words};
 
 use crate::field::split_field;
-use crate::value::LONGEST_VALUE;
+use crate::value::{LONGEST_VALUE, if_spelled};
 use bf_read::is_id;
 use bf_report::Pull;
-use bf_value::{OutOfMemory, Text, Xval, read_text, text_of};
+use bf_value::{OutOfMemory, Text, Xval, read_text};
 use std::alloc::Global;
 
 /// A part of what the tries of an instance were given, which has a line of its own.
@@ -45,13 +45,9 @@ fn told_in(
     let Ok(json) = std::str::from_utf8(text) else {
         return Ok(None);
     };
-    let Some(value) = read_text(alloc, json, deepest)? else {
-        return Ok(None);
-    };
-    if text_of(alloc, &value)?.as_bytes() == text {
-        Ok(Some(value))
-    } else {
-        Ok(None)
+    match read_text(alloc, json, deepest)? {
+        Some(value) => if_spelled(alloc, text, value),
+        None => Ok(None),
     }
 }
 

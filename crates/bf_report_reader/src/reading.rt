@@ -1,7 +1,7 @@
 //! Reports from devices.
 ghost use Rattle.std.specs.Prelude.{◌≡◌, ◌≢◌, ◌<◌, ◌≤◌, ◌+◌, ◌++◌, ◌∷◌, [], List, ℕ, length, IfOk, OnOk, IfErr, IfSome, IfNone, codes, if◌then◌else◌};
-ghost use Rattle.std.specs.Io.KnownBytes.{Consumes};
-ghost use Rattle.bf_report.specs.Device.{HasHalted};
+ghost use Rattle.std.specs.Io.KnownBytes.{Consumes, IsAtEnd};
+ghost use Rattle.bf_device.specs.Device.{HasHalted};
 ghost use Rattle.bf_report.specs.Report.{version_word, report_text};
 ghost use Rattle.bf_report_reader.specs.Reads.{IsWord, Finds};
 ghost use Rattle.bf_report_reader.specs.Held.{held_bytes, ahead, Tallies, Breaks};
@@ -19,8 +19,9 @@ use crate::held::Held;
 use crate::interval::run_in;
 use crate::line::{LineEnd, next_line};
 use crate::part::{GivenPart, item_in, pull_in};
+use bf_device::Read;
 use bf_read::is_id;
-use bf_report::{Read, Report, RunReport, Version};
+use bf_report::{Report, RunReport, Version};
 use bf_value::{OutOfMemory, Sequence, Text};
 use std::alloc::Global;
 
@@ -267,6 +268,90 @@ fn read_lines<R: Read>(
     }
 }
 
+/// Reads the head, which is the first line.
+fn read_head<R: Read>(
+    alloc: Global,
+    lines: &mut Lines,
+    device: &mut R,
+) -> Result<Beginning, ReportFault>
+    requires nothing { held_bytes lines.old.held ≡ [] }
+    requires first { lines.old.number ≡ 0 }
+    ensures ok { IfOk result (λ beginning. ReadsOn (R.left device.old)
+        (ahead lines.new.held (R.left device.new)) [] (opening_text (so_far beginning))) }
+    ensures counted { IfOk result IsCounted }
+    ensures small { IfOk result IsSmall }
+    ensures ruled { IfOk result IsRuled }
+    ensures known { IfOk result IsKnown }
+    ensures place { IfOk result (λ beginning. lines_in (opening_text (so_far beginning)) ≡ 1) }
+    ensures number { OnOk result (lines.new.number ≡ 1) }
+    ensures tells { IfErr result (λ fault. IfSome (R.left device.old) (λ bytes. Tells bytes fault)) }
+    ensures tallied { OnOk result (Tallies
+        lines.old.held.interruptions (R.interruptions device.old) (R.failures device.old)
+        lines.new.held.interruptions (R.interruptions device.new) (R.failures device.new)) }
+    ensures halted { IfErr result (λ fault. fault ≡ ReportFault.Io
+        → Breaks lines.old.held.interruptions (R.interruptions device.old) (R.failures device.old)
+        (R.interruptions device.new) (R.failures device.new)) }
+{
+    lines.read(device)?;
+    match head_in(alloc, lines.line.as_slice())? {
+        Some((version, dag_id)) => Ok(Beginning::new(alloc, version, dag_id)),
+        None => Err(ReportFault::BadLine(1)),
+    }
+}
+
+/// Reads what stands behind the head, up to the last byte.
+fn read_rest<R: Read>(
+    alloc: Global,
+    lines: &mut Lines,
+    device: &mut R,
+    beginning: &mut Beginning,
+) -> Result<(), ReportFault>
+    requires counted { IsCounted beginning.old }
+    requires small { IsSmall beginning.old }
+    requires ruled { IsRuled beginning.old }
+    requires known { IsKnown beginning.old }
+    requires second { lines.old.number ≡ 1 }
+    requires place { lines_in (opening_text (so_far beginning.old)) ≡ 1 }
+    ensures ok { OnOk result (ReadsOn
+        (ahead lines.old.held (R.left device.old)) (ahead lines.new.held (R.left device.new))
+        (opening_text (so_far beginning.old)) (report_text (so_far beginning.new))) }
+    ensures end { OnOk result (IsAtEnd (ahead lines.new.held (R.left device.new))) }
+    ensures rules { OnOk result (IsShownReport (so_far beginning.new)) }
+    ensures tells { IfErr result (λ fault. IfSome (ahead lines.old.held (R.left device.old))
+        (λ bytes. Tells (opening_text (so_far beginning.old) ++ bytes) fault)) }
+    ensures halted { IfErr result (λ fault. fault ≡ ReportFault.Io
+        → Breaks lines.old.held.interruptions (R.interruptions device.old) (R.failures device.old)
+        (R.interruptions device.new) (R.failures device.new)) }
+{
+    read_lines(alloc, lines, device, beginning)?;
+    if lines.held.has_more(device)? {
+        return Err(ReportFault::BadLine(lines.number + 1));
+    }
+    Ok(())
+}
+
+/// Reads a report of which nothing was read yet, up to the last byte.
+fn read_all<R: Read>(
+    alloc: Global,
+    lines: &mut Lines,
+    device: &mut R,
+) -> Result<Beginning, ReportFault>
+    requires nothing { held_bytes lines.old.held ≡ [] }
+    requires first { lines.old.number ≡ 0 }
+    requires tallied { lines.old.held.interruptions ≡ 0 }
+    ensures ok { IfOk result (λ beginning.
+        IfSome (R.left device.old) (λ bytes. bytes ≡ report_text (so_far beginning))) }
+    ensures rules { IfOk result (λ beginning. IsShownReport (so_far beginning)) }
+    ensures err { IfErr result (λ fault. IfSome (R.left device.old) (λ bytes. Tells bytes fault)) }
+    ensures io { IfErr result (λ fault. fault ≡ ReportFault.Io → HasHalted
+        (R.failures device.old) (R.failures device.new)
+        (R.interruptions device.old) (R.interruptions device.new)) }
+{
+    let mut beginning = read_head(alloc, lines, device)?;
+    read_rest(alloc, lines, device, &mut beginning)?;
+    Ok(beginning)
+}
+
 /// Reads a report of either version from a device, up to its last byte. After a fault what was read is lost.
 pub fn read_report<R: Read>(alloc: Global, device: &mut R) -> Result<Report, ReportFault>
     ensures ok { IfOk result (λ report.
@@ -280,14 +365,6 @@ pub fn read_report<R: Read>(alloc: Global, device: &mut R) -> Result<Report, Rep
         (R.interruptions device.old) (R.interruptions device.new)) }
 {
     let mut lines = Lines::new(alloc)?;
-    lines.read(device)?;
-    let Some((version, dag_id)) = head_in(alloc, lines.line.as_slice())? else {
-        return Err(ReportFault::BadLine(1));
-    };
-    let mut beginning = Beginning::new(alloc, version, dag_id);
-    read_lines(alloc, &mut lines, device, &mut beginning)?;
-    if lines.held.has_more(device)? {
-        return Err(ReportFault::BadLine(lines.number + 1));
-    }
-    Ok(beginning.into_report()?)
+    let beginning = read_all(alloc, &mut lines, device)?;
+    Ok(beginning.into_report(alloc)?)
 }

@@ -1,5 +1,5 @@
 //! What a line says of how an instance ended.
-ghost use Rattle.std.specs.Prelude.{◌≡◌, ◌≢◌, IfOk, IfSome, codes};
+ghost use Rattle.std.specs.Prelude.{◌≡◌, ◌≢◌, IfOk, IfSome, IfNone, codes};
 ghost use Rattle.bf_value.specs.Json.{text_of as text_by};
 ghost use Rattle.bf_report_reader.specs.Reads.{Spells, Finds};
 ghost use Rattle.bf_report_reader.specs.Entries.{IsShownValue, SaysOutcome};
@@ -11,6 +11,23 @@ use std::alloc::Global;
 /// How many bytes the text of a value may have.
 pub(crate) const LONGEST_VALUE: usize = 65_536;
 
+/// A value, where a text is its own.
+pub(crate) fn if_spelled(
+    alloc: Global,
+    text: &[u8],
+    value: Xval,
+) -> Result<Option<Xval>, OutOfMemory>
+    ensures some { IfOk result (λ o.
+        IfSome o (λ same. (same ≡ value) × (text.now ≡ text_by value))) }
+    ensures none { IfOk result (λ o. IfNone o (text.now ≢ text_by value)) }
+{
+    if text_of(alloc, &value)?.as_bytes() == text {
+        Ok(Some(value))
+    } else {
+        Ok(None)
+    }
+}
+
 /// The value that has this compact JSON text.
 fn value_in(alloc: Global, text: &[u8]) -> Result<Option<Xval>, OutOfMemory>
     ensures some { IfOk result (λ o. IfSome o (Spells IsShownValue text_by text.now)) }
@@ -20,13 +37,7 @@ fn value_in(alloc: Global, text: &[u8]) -> Result<Option<Xval>, OutOfMemory>
         return Ok(None);
     }
     match read_line(alloc, text) {
-        Ok(Some(value)) => {
-            if text_of(alloc, &value)?.as_bytes() == text {
-                Ok(Some(value))
-            } else {
-                Ok(None)
-            }
-        }
+        Ok(Some(value)) => if_spelled(alloc, text, value),
         Ok(None) | Err(LineFault::NotUtf8) => Ok(None),
         Err(LineFault::OutOfMemory) => Err(OutOfMemory),
     }
@@ -37,11 +48,14 @@ fn bare_outcome_in(state: &[u8]) -> Option<Outcome>
     ensures some { IfSome result (SaysOutcome state.now (codes "-")) }
     ensures every { Finds (SaysOutcome state.now (codes "-")) result }
 {
-    match state {
-        b"success" => Some(Outcome::Success(None)),
-        b"failed" => Some(Outcome::Failed),
-        b"skipped" => Some(Outcome::Skipped),
-        _ => None,
+    if state == b"success".as_slice() {
+        Some(Outcome::Success(None))
+    } else if state == b"failed".as_slice() {
+        Some(Outcome::Failed)
+    } else if state == b"skipped".as_slice() {
+        Some(Outcome::Skipped)
+    } else {
+        None
     }
 }
 

@@ -1,0 +1,36 @@
+use Rattle.std.proofs.Common.{◌++◌, ◌∷◌, [], ap, sym, subst, ◌∙◌}
+use Rattle.std.proofs.lemmas.Result.{err_from_is_err_and}
+use Rattle.bf_report_reader.specs.Beginning.{so_far, opening_text}
+use Rattle.bf_report_reader.specs.Extensions.{SaysHead, IsKnown}
+use Rattle.bf_report_reader.specs.Faults.{lines_in}
+use Rattle.bf_report_reader.proofs.LineFacts.{one_line_more, first_read, first_stops, first_told}
+use Rattle.bf_report_reader.proofs.StepFacts.{head_opens}
+use Rattle.bf_report_reader.proofs.Reports.{known_start}
+use Rattle.bf_report_reader.proofs.reading.read_head.Goals as goal
+
+pub returns-in_err-read-clause-tells : goal.returns-in_err-read-clause-tells
+returns-in_err-read-clause-tells g c =
+    let p = err_from_is_err_and c.from_residual.result c.from_residual.ensures.1 in
+    rw (p.1, p.2) (first_stops (g.R.Read.left c.args.device.now) _ c.args.lines.now.number c.in_err-read.field-0.0 c.requires.nothing c.requires.first c.in_err-read.ensures.stops)
+
+pub returns-in-Some-clause-ok : goal.returns-in-Some-clause-ok
+returns-in-Some-clause-ok g c =
+    let said = rw c.in-Some.is at c.in_ok-version.ensures.some in
+    let opens = head_opens c.new.result (c.in-Some.version, c.in-Some.dag_id) c.as_slice.result.now c.new.ensures said.1 ∙ ap (λ l. l ++ 10 ∷ []) c.as_slice.ensures.value in
+    first_read (g.R.Read.left c.args.device.now) _ _ (c.read.new.self.line.items ++ 10 ∷ []) (opening_text (so_far c.new.result)) c.requires.nothing c.in_ok-read.ensures.line opens
+
+pub returns-in-Some-clause-known : goal.returns-in-Some-clause-known
+returns-in-Some-clause-known g c =
+    let said = rw c.in-Some.is at c.in_ok-version.ensures.some in
+    subst IsKnown (sym c.new.ensures) (known_start (c.in-Some.version, c.in-Some.dag_id) said.0)
+
+pub returns-in-Some-clause-place : goal.returns-in-Some-clause-place
+returns-in-Some-clause-place g c =
+    let said = rw c.in-Some.is at c.in_ok-version.ensures.some in
+    let opens = head_opens c.new.result (c.in-Some.version, c.in-Some.dag_id) c.as_slice.result.now c.new.ensures said.1 in
+    ap lines_in (opens ∙ ap (λ l. l ++ 10 ∷ []) c.as_slice.ensures.value) ∙ one_line_more [] c.read.new.self.line.items c.in_ok-read.ensures.in_line
+
+pub returns-in-None-clause-tells : goal.returns-in-None-clause-tells
+returns-in-None-clause-tells g c =
+    first_told (g.R.Read.left c.args.device.now) _ _ c.read.new.self.line.items c.requires.nothing c.in_ok-read.ensures.line c.in_ok-read.ensures.in_line c.in_ok-read.ensures.short
+    (λ head says. let none = c.in_ok-version.ensures.every head (subst (λ l. SaysHead l head) (sym c.as_slice.ensures.value) says) in absurd (cc none))

@@ -1,0 +1,77 @@
+//! The ids of the tasks of a report, each found by its hash: its first run tells them, and no id twice.
+ghost use Rattle.std.specs.Prelude.{◌≡◌, ◌++◌, ◌∷◌, [], false, length, slice_get, IfOk, OnOk};
+ghost use Rattle.std.specs.List.{list_any};
+ghost use Rattle.std.specs.Str.{bytes_eq};
+ghost use Rattle.bf_report_reader.specs.Beginning.{is_text};
+
+use bf_value::{OutOfMemory, Sequence, Text};
+use indexmap::IndexSet;
+use std::alloc::Global;
+use std::marker::Model;
+
+/// The ids of tasks, in order. Contracts see the list of them.
+#[derive(Drop)]
+pub(crate) struct TaskIds {
+    set: IndexSet<String>,
+}
+
+impl Model for TaskIds {
+    ghost use Rattle.std.specs.Prelude.{List, ℕ};
+    ghost use Rattle.bf_graph.specs.Shape.{texts};
+
+    ghost Value = { List (List ℕ) };
+
+    ghost view = { λ ids. texts ids.set.keys };
+}
+
+impl TaskIds {
+    /// No ids.
+    pub fn new(alloc: Global) -> TaskIds
+        ensures { result ≡ [] }
+    {
+        TaskIds {
+            set: IndexSet::new(alloc),
+        }
+    }
+
+    /// How many ids there are.
+    pub fn len(&self) -> usize
+        ensures { result ≡ length self.now }
+    {
+        self.set.len()
+    }
+
+    /// Whether an id is there.
+    pub fn contains(&self, id: &str) -> bool
+        ensures { result ≡ list_any (λ task. bytes_eq task id.now) self.now }
+    {
+        self.set.contains(id)
+    }
+
+    /// Whether the task of that number has an id.
+    pub fn has_at(&self, number: usize, id: &str) -> bool
+        ensures { result ≡ is_text (slice_get self.now number) id.now }
+    {
+        match self.set.get_index(number) {
+            Some(task) => task.as_str() == id,
+            None => false,
+        }
+    }
+
+    /// Adds an id that isn't there behind the others.
+    pub fn add(&mut self, alloc: Global, id: &str) -> Result<(), OutOfMemory>
+        requires { list_any (λ task. bytes_eq task id.now) self.old ≡ false }
+        ensures { OnOk result (self.new ≡ self.old ++ id.now ∷ []) }
+    {
+        self.set.insert(String::from_str(alloc, id)?)?;
+        Ok(())
+    }
+
+    /// The ids as texts.
+    pub fn into_texts(self, alloc: Global) -> Result<Sequence<Text>, OutOfMemory>
+        ensures { IfOk result (λ texts. texts ≡ self) }
+    {
+        let TaskIds { set } = self;
+        Ok(Sequence::from_vec(set.into_iter().map(Text::new).collect(alloc)?))
+    }
+}
