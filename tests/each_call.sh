@@ -7,82 +7,7 @@ set -euo pipefail
 
 source "$(dirname "$(readlink -f "${BASH_SOURCE[0]}")")/../bench/program.sh"
 
-cat > "$work/refuse.c" <<'C'
-#define _GNU_SOURCE
-#include <dlfcn.h>
-#include <errno.h>
-#include <stdarg.h>
-#include <stdio.h>
-#include <stdlib.h>
-#include <string.h>
-#include <sys/types.h>
-
-static long made;
-
-/* Whether this is the program itself, and none that it has started. */
-static int is_program(void) {
-    return strcmp(program_invocation_short_name, "backfill") == 0;
-}
-
-/* Says at the end how many calls there were. A program with threads ends by this call. */
-void _exit(int status) {
-    static void (*real)(int) __attribute__((noreturn));
-    long calls = made;
-    if (is_program()) {
-        FILE *file = fopen(getenv("CALL_COUNT"), "w");
-        if (file) { fprintf(file, "%ld\n", calls); fclose(file); }
-    }
-    real = dlsym(RTLD_NEXT, "_exit");
-    real(status);
-}
-
-/* Whether this call is the one to be refused. */
-static int is_refused(const char *call) {
-    const char *which = getenv("REFUSED_CALL");
-    const char *number = getenv("REFUSED_NUMBER");
-    return which && number && is_program() && strcmp(which, call) == 0 && __atomic_add_fetch(&made, 1, __ATOMIC_SEQ_CST) == atol(number);
-}
-
-void *malloc(size_t size) {
-    static void *(*real)(size_t);
-    if (!real) real = dlsym(RTLD_NEXT, "malloc");
-    if (is_refused("memory")) { errno = ENOMEM; return NULL; }
-    return real(size);
-}
-
-void *realloc(void *old, size_t size) {
-    static void *(*real)(void *, size_t);
-    if (!real) real = dlsym(RTLD_NEXT, "realloc");
-    if (is_refused("memory")) { errno = ENOMEM; return NULL; }
-    return real(old, size);
-}
-
-int open(const char *path, int flags, ...) {
-    static int (*real)(const char *, int, ...);
-    va_list rest;
-    va_start(rest, flags);
-    int mode = va_arg(rest, int);
-    va_end(rest);
-    if (!real) real = dlsym(RTLD_NEXT, "open");
-    if (is_refused("open")) { errno = EACCES; return -1; }
-    return real(path, flags, mode);
-}
-
-ssize_t read(int file, void *to, size_t size) {
-    static ssize_t (*real)(int, void *, size_t);
-    if (!real) real = dlsym(RTLD_NEXT, "read");
-    if (is_refused("read")) { errno = EIO; return -1; }
-    return real(file, to, size);
-}
-
-ssize_t write(int file, const void *from, size_t size) {
-    static ssize_t (*real)(int, const void *, size_t);
-    if (!real) real = dlsym(RTLD_NEXT, "write");
-    if (is_refused("write")) { errno = EIO; return -1; }
-    return real(file, from, size);
-}
-C
-cc -shared -fPIC -O1 -o "$work/refuse.so" "$work/refuse.c"
+cc -shared -fPIC -O1 -o "$work/refuse.so" "$root/tests/shared/refuse.c"
 
 passed=0
 failed=0
@@ -92,7 +17,7 @@ run() {
     local call=$1 number=$2
     shift 2
     status=0
-    REFUSED_CALL=$call REFUSED_NUMBER=$number CALL_COUNT=$work/count LD_PRELOAD=$work/refuse.so \
+    REFUSED_PROGRAM=backfill REFUSED_CALL=$call REFUSED_NUMBER=$number CALL_COUNT=$work/count LD_PRELOAD=$work/refuse.so \
         "$program" "$@" > "$work/out" 2> "$work/err" || status=$?
 }
 

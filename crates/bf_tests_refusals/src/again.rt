@@ -1,0 +1,146 @@
+//! Calls that are made again where memory was wanting.
+ghost use Rattle.std.specs.Prelude.{◌≡◌, ◌≤◌, length};
+
+use bf_check::Plan;
+use bf_core::{Core, Illegal};
+use bf_interval::Interval;
+use bf_sched::{Next, Scheduler};
+use bf_tests_graphs::plan_of;
+use bf_try::{Done, Raw};
+use bf_value::{JobName, OutOfMemory, Sequence};
+use std::alloc::Global;
+use thiserror::Error;
+
+/// Why a backfill didn't come to its end.
+#[derive(Clone, Copy, Debug, PartialEq, Eq, Error)]
+pub enum Fault {
+    #[error("a call found no memory twice")]
+    Twice,
+    #[error("a refused call has changed the backfill")]
+    Changed,
+    #[error("the backfill has stopped short of its end")]
+    Stopped,
+}
+
+/// What is seen of a backfill.
+#[derive(Clone, Copy, PartialEq, Eq)]
+struct Seen {
+    events: usize,
+    running: u32,
+    ended: bool,
+    pending: Option<i64>,
+}
+
+fn see(scheduler: &Scheduler<'_>) -> Seen {
+    Seen {
+        events: scheduler.journal().len(),
+        running: scheduler.running(),
+        ended: scheduler.core().is_ended(),
+        pending: scheduler.pending(),
+    }
+}
+
+/// Whether a backfill is as it was seen.
+fn is_still(scheduler: &Scheduler<'_>, before: Seen) -> Result<(), Fault> {
+    if see(scheduler) == before {
+        Ok(())
+    } else {
+        Err(Fault::Changed)
+    }
+}
+
+/// The plan of a graph that has no fault.
+pub fn plan_again(alloc: Global, graph: &str) -> Result<Plan, Fault> {
+    if let Ok(plan) = plan_of(alloc, graph) {
+        return Ok(plan);
+    }
+    plan_of(alloc, graph).map_err(|_| Fault::Twice)
+}
+
+/// The scheduler of a backfill by one worker.
+fn scheduler<'a>(
+    alloc: Global,
+    plan: &'a Plan,
+    intervals: &[Interval],
+) -> Result<Scheduler<'a>, OutOfMemory>
+    requires { length intervals.now ≤ 4_096 }
+{
+    let _sound = plan.dag();
+    let _fit = plan.limits();
+    let core = Core::new(alloc, plan, intervals)?;
+    Scheduler::new(alloc, core, 1)
+}
+
+pub fn scheduler_again<'a>(
+    alloc: Global,
+    plan: &'a Plan,
+    intervals: &[Interval],
+) -> Result<Scheduler<'a>, Fault>
+    requires { length intervals.now ≤ 4_096 }
+{
+    if let Ok(scheduler) = scheduler(alloc, plan, intervals) {
+        return Ok(scheduler);
+    }
+    scheduler(alloc, plan, intervals).map_err(|_| Fault::Twice)
+}
+
+/// What comes next.
+pub fn next_again(scheduler: &mut Scheduler<'_>) -> Result<Next, Fault> {
+    let before = see(scheduler);
+    if let Ok(next) = scheduler.next() {
+        return Ok(next);
+    }
+    is_still(scheduler, before)?;
+    scheduler.next().map_err(|_| Fault::Twice)
+}
+
+/// Lets the clock come to a moment.
+pub fn tick_again(scheduler: &mut Scheduler<'_>, moment: i64) -> Result<bool, Fault> {
+    let before = see(scheduler);
+    if let Ok(came) = scheduler.tick(moment) {
+        return Ok(came);
+    }
+    is_still(scheduler, before)?;
+    scheduler.tick(moment).map_err(|_| Fault::Twice)
+}
+
+/// Ends a try.
+pub fn finish_again(scheduler: &mut Scheduler<'_>, done: Done) -> Result<(), Fault> {
+    let before = see(scheduler);
+    match scheduler.finish(done) {
+        Ok(()) => Ok(()),
+        Err((done, Illegal::OutOfMemory)) => {
+            is_still(scheduler, before)?;
+            scheduler.finish(done).map_err(|_| Fault::Twice)
+        }
+        Err(_) => Err(Fault::Stopped),
+    }
+}
+
+/// The first try of the first task fails and its second gives a list of two; so does the second instance of the second task.
+fn raw(alloc: Global, name: JobName) -> Result<Raw, OutOfMemory> {
+    match name {
+        JobName {
+            task: 0,
+            attempt: 1,
+            ..
+        }
+        | JobName {
+            task: 1,
+            index: 1,
+            ..
+        } => { Ok(Raw::with_code(1, Sequence::new(alloc))) }
+        JobName { task: 0, .. } => {
+            Ok(Raw::with_code(0, Sequence::from_vec(b"[1,2]".to_vec(alloc)?)))
+        }
+        _ => Ok(Raw::with_code(0, Sequence::new(alloc))),
+    }
+}
+
+/// The answer of a try.
+pub fn raw_again(alloc: Global, name: JobName) -> Result<Raw, Fault> {
+    if let Ok(raw) = raw(alloc, name) {
+        return Ok(raw);
+    }
+    raw(alloc, name).map_err(|_| Fault::Twice)
+}

@@ -1,0 +1,84 @@
+/* Preloaded to a program: refuses one of its calls to the system, and counts how many there were. REFUSED_PROGRAM is the name of the
+   program, REFUSED_CALL the kind of call (memory, open, read, write), REFUSED_NUMBER which of these is refused, from 1 on, or 0 for
+   none, and CALL_COUNT the file that gets the count. */
+#define _GNU_SOURCE
+#include <dlfcn.h>
+#include <errno.h>
+#include <stdarg.h>
+#include <stdio.h>
+#include <stdlib.h>
+#include <string.h>
+#include <sys/types.h>
+
+static long made;
+
+/* Whether this is the program itself, and none that it has started. */
+static int is_program(void) {
+    const char *program = getenv("REFUSED_PROGRAM");
+    return program && strcmp(program_invocation_short_name, program) == 0;
+}
+
+/* Says how many calls there were. */
+static void tell(void) {
+    long calls = made;
+    if (is_program()) {
+        FILE *file = fopen(getenv("CALL_COUNT"), "w");
+        if (file) { fprintf(file, "%ld\n", calls); fclose(file); }
+    }
+}
+
+/* A program with threads ends by this call, and one without by its return. */
+void _exit(int status) {
+    static void (*real)(int) __attribute__((noreturn));
+    tell();
+    real = dlsym(RTLD_NEXT, "_exit");
+    real(status);
+}
+
+__attribute__((destructor)) static void at_return(void) { tell(); }
+
+/* Whether this call is the one to be refused. */
+static int is_refused(const char *call) {
+    const char *which = getenv("REFUSED_CALL");
+    const char *number = getenv("REFUSED_NUMBER");
+    return which && number && is_program() && strcmp(which, call) == 0 && __atomic_add_fetch(&made, 1, __ATOMIC_SEQ_CST) == atol(number);
+}
+
+void *malloc(size_t size) {
+    static void *(*real)(size_t);
+    if (!real) real = dlsym(RTLD_NEXT, "malloc");
+    if (is_refused("memory")) { errno = ENOMEM; return NULL; }
+    return real(size);
+}
+
+void *realloc(void *old, size_t size) {
+    static void *(*real)(void *, size_t);
+    if (!real) real = dlsym(RTLD_NEXT, "realloc");
+    if (is_refused("memory")) { errno = ENOMEM; return NULL; }
+    return real(old, size);
+}
+
+int open(const char *path, int flags, ...) {
+    static int (*real)(const char *, int, ...);
+    va_list rest;
+    va_start(rest, flags);
+    int mode = va_arg(rest, int);
+    va_end(rest);
+    if (!real) real = dlsym(RTLD_NEXT, "open");
+    if (is_refused("open")) { errno = EACCES; return -1; }
+    return real(path, flags, mode);
+}
+
+ssize_t read(int file, void *to, size_t size) {
+    static ssize_t (*real)(int, void *, size_t);
+    if (!real) real = dlsym(RTLD_NEXT, "read");
+    if (is_refused("read")) { errno = EIO; return -1; }
+    return real(file, to, size);
+}
+
+ssize_t write(int file, const void *from, size_t size) {
+    static ssize_t (*real)(int, const void *, size_t);
+    if (!real) real = dlsym(RTLD_NEXT, "write");
+    if (is_refused("write")) { errno = EIO; return -1; }
+    return real(file, from, size);
+}
