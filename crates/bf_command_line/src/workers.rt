@@ -4,7 +4,7 @@ ghost use Rattle.std.specs.Prelude.{◌≡◌, ◌≤◌, IfNone, IfSome};
 use std::marker::Model;
 
 /// The most workers that there may be.
-const MOST: u32 = 64;
+pub(crate) const MOST: u32 = 64;
 
 /// A number of workers: 1 to 64.
 #[derive(Drop)]

@@ -6,15 +6,12 @@ use crate::entry::{Entry, Untried};
 use crate::ids::TaskIds;
 use crate::open::OpenRun;
 use crate::part::GivenPart;
-use bf_interval::Interval;
+use bf_interval::{Interval, MOST_RUNS};
 use bf_read::{MOST_TASKS, is_id};
 use bf_report::{Report, RunReport, Version};
 use bf_value::{OutOfMemory, Sequence, Text};
 use bf_xcom::TaskResult;
 use std::alloc::Global;
-
-/// How many runs a report may have.
-const MOST_RUNS: usize = 4_096;
 
 /// Puts a run that has no more lines behind the others.
 fn close(runs: &mut Sequence<RunReport>, run: Option<OpenRun>) -> Result<(), OutOfMemory>

@@ -6,7 +6,9 @@ ghost use Rattle.bf_report_reader.specs.Entries.{IsIndex, index_text, IsEntry, e
 
 use crate::field::{number_in, split_field};
 use crate::value::outcome_in;
+use bf_read::MOST_RETRIES;
 use bf_report::TaskReport;
+use bf_try::MOST_ITEMS;
 use bf_value::OutOfMemory;
 use bf_xcom::TaskResult;
 use std::alloc::Global;
@@ -40,11 +42,8 @@ pub(crate) enum Entry {
     Tried(Option<u32>, TaskResult),
 }
 
-/// How many instances an expanded task may have.
-const MOST_INSTANCES: u32 = 1_024;
-
 /// How many tries an instance may have.
-const MOST_TRIES: u32 = 101;
+const MOST_TRIES: u32 = MOST_RETRIES + 1;
 
 /// Index, state, tries and value.
 type Fields<'a> = (&'a [u8], &'a [u8], &'a [u8], &'a [u8]);
@@ -70,7 +69,7 @@ fn index_in(text: &[u8]) -> Option<Option<u32>>
         return Some(None);
     }
     let index = number_in(text)?;
-    if index >= MOST_INSTANCES {
+    if index as usize >= MOST_ITEMS {
         return None;
     }
     Some(Some(index))

@@ -6,10 +6,11 @@ ghost use Rattle.bf_report_reader.specs.Reads.{Spells, Finds};
 ghost use Rattle.bf_report_reader.specs.Parts.{IsToldValue, IsToldItem, IsToldPulled, IsToldPull, pull_words};
 
 use crate::field::split_field;
-use crate::value::{LONGEST_VALUE, if_spelled};
+use crate::value::if_spelled;
 use bf_read::is_id;
 use bf_report::Pull;
-use bf_value::{OutOfMemory, Text, Xval, read_text};
+use bf_try::{LONGEST_VALUE, MOST_ITEMS};
+use bf_value::{DEEPEST, OutOfMemory, Text, Xval, read_text};
 use std::alloc::Global;
 
 /// A part of what the tries of an instance were given, which has a line of its own.
@@ -19,14 +20,12 @@ pub(crate) enum GivenPart {
     Pull(Pull),
 }
 
-/// How deep the lists of an item may nest, as those of a pushed value.
-const DEEPEST_ITEM: usize = 64;
-
 /// How deep the lists of a pulled value may nest: it may be the list of what an expanded task's instances pushed.
-const DEEPEST_PULLED: usize = 65;
+const DEEPEST_PULLED: usize = DEEPEST + 1;
 
-/// How many bytes the text of a pulled value may have: that of 1,024 pushed values, the commas and the brackets.
-const LONGEST_PULLED: usize = 67_109_889;
+/// How many bytes the text of a pulled value may have: that of a list of pushed values, each with a comma or a bracket
+/// behind it, and the bracket before them.
+const LONGEST_PULLED: usize = MOST_ITEMS * (LONGEST_VALUE + 1) + 1;
 
 /// The value that has this compact JSON text, of at most so many bytes and with lists at most so deep.
 fn told_in(
@@ -56,7 +55,7 @@ pub(crate) fn item_in(alloc: Global, text: &[u8]) -> Result<Option<Xval>, OutOfM
     ensures some { IfOk result (λ o. IfSome o (Spells IsToldItem text_by text.now)) }
     ensures every { IfOk result (Finds (Spells IsToldItem text_by text.now)) }
 {
-    told_in(alloc, text, DEEPEST_ITEM, LONGEST_VALUE)
+    told_in(alloc, text, DEEPEST, LONGEST_VALUE)
 }
 
 /// What was pulled, a value or nothing.

@@ -4,12 +4,10 @@ ghost use Rattle.bf_value.specs.Json.{text_of as text_by};
 ghost use Rattle.bf_report_reader.specs.Reads.{Spells, Finds};
 ghost use Rattle.bf_report_reader.specs.Entries.{IsShownValue, SaysOutcome};
 
+use bf_try::LONGEST_VALUE;
 use bf_value::{LineFault, OutOfMemory, Xval, read_line, text_of};
 use bf_xcom::Outcome;
 use std::alloc::Global;
-
-/// How many bytes the text of a value may have.
-pub(crate) const LONGEST_VALUE: usize = 65_536;
 
 /// A value, where a text is its own.
 pub(crate) fn if_spelled(

@@ -12,18 +12,15 @@ ghost use Rattle.bf_try.specs.Grades.{grade_of, grade_line as line_grade, fits a
 use crate::answers::{Exit, Line, Raw, copied};
 use bf_check::{Dag, Plan};
 use bf_rule::names_downstreams;
-use bf_value::{LineFault, OutOfMemory, Sequence, Xval, read_line, text_of};
+use bf_value::{DEEPEST, LineFault, OutOfMemory, Sequence, Xval, read_line, text_of};
 use bf_xcom::Outcome;
 use std::alloc::Global;
 
 /// How many bytes the compact JSON text of a pushed value may have.
-const LONGEST_TEXT: usize = 65_536;
+pub const LONGEST_VALUE: usize = 65_536;
 
 /// How many items a list may have that tasks are expanded over.
-const MOST_ITEMS: usize = 1_024;
-
-/// How deep the lists of a line's value may nest.
-const DEEPEST: usize = 64;
+pub const MOST_ITEMS: usize = 1_024;
 
 /// The status by which a try says that it is skipped. Airflow's `BashOperator` has the same.
 const SKIP_STATUS: i32 = 99;
@@ -32,7 +29,7 @@ fn is_short(value: &Option<Xval>) -> bool
     ensures { result ≡ short value.now }
 {
     match value {
-        Some(value) => value.has_text_within(LONGEST_TEXT),
+        Some(value) => value.has_text_within(LONGEST_VALUE),
         None => true,
     }
 }

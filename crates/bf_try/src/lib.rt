@@ -17,7 +17,9 @@ mod tickets;
 
 pub use answers::{Exit, Line, Raw};
 pub use bf_xcom::Outcome;
-pub use grading::{answer_for, each_fit_is_a_grade, fits, grade, grades_fit};
+pub use grading::{
+    LONGEST_VALUE, MOST_ITEMS, answer_for, each_fit_is_a_grade, fits, grade, grades_fit,
+};
 pub use ledger::{Entry, Ledger, NoteFault, alike};
 pub use runner::{RunnerFault, TaskRunner};
 pub use table::{Table, TableEntry, TableFault};

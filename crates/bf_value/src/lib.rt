@@ -17,7 +17,7 @@ mod xval;
 pub use line::last_line;
 pub use memory::OutOfMemory;
 pub use name::JobName;
-pub use reading::{LineFault, read_line, read_text, text_of, text_reads_back};
+pub use reading::{DEEPEST, LineFault, read_line, read_text, text_of, text_reads_back};
 pub use sequence::Sequence;
 pub use text::Text;
 pub use xval::{Values, Xval};
