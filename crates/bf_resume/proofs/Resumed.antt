@@ -3,7 +3,7 @@ use Rattle.std.proofs.Common.{◌≡◌, inl, inr, sym, ap, ◌∙◌, subst}
 use Rattle.bf_try.specs.declared.answers.Raw.{Raw}
 use Rattle.bf_try.specs.Grades.{grade_of}
 use Rattle.bf_core.specs.Terms.{Dag, Given, JobName, Ledger, AreAlike, outcome_of}
-use Rattle.bf_core.specs.Answered.{AreGraded}
+use Rattle.bf_core.specs.Answered.{AreGraded, MayFault}
 use Rattle.bf_core.specs.declared.fault.BackfillFault.{BackfillFault}
 use Rattle.bf_exec.specs.Faults.{MayFail}
 use Rattle.bf_kept.specs.Kept.{IsAnswer, IsKeptAnswer, AreFit, AreGradedAnew, MayGiveUpAnew}
@@ -43,3 +43,8 @@ pub may_fail_anew : (kept : Ledger) (may_give_up : JobName → Given → Type 0)
 may_fail_anew kept may_give_up BackfillFault.OutOfMemory may = may
 may_fail_anew kept may_give_up (BackfillFault.Runner name) (given, may) = (given, may.1)
 may_fail_anew kept may_give_up BackfillFault.Start may = may
+
+pub may_fault_anew : (kept : Ledger) (may_give_up : JobName → Given → Type 0) (fault : BackfillFault) → MayFault (MayGiveUpAnew kept may_give_up) fault → MayFault may_give_up fault
+may_fault_anew kept may_give_up BackfillFault.OutOfMemory may = may
+may_fault_anew kept may_give_up (BackfillFault.Runner name) (given, may) = (given, may.1)
+may_fault_anew kept may_give_up BackfillFault.Start may = may

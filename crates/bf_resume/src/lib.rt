@@ -3,4 +3,4 @@
 
 mod resuming;
 
-pub use resuming::resume;
+pub use resuming::{resume, resume_one_by_one};
