@@ -35,6 +35,11 @@ pub struct Crew<'m, RT> {
 }
 
 impl<'m, RT> Crew<'m, RT> {
+    /// Whether tries are made one after the other in this thread: one worker needs no threads, where no progress is told.
+    pub(crate) fn is_alone(&self) -> bool {
+        self.workers.count() == 1 && !self.progress
+    }
+
     /// The path of the launcher.
     pub(crate) fn launcher(&self) -> Option<&str>
         ensures { option_map (λ s. s.now) result ≡ option_map string_bytes self.now.launcher }

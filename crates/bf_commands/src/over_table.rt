@@ -84,8 +84,7 @@ fn ended_by<RT: Screen + Threads + Wait + Clock + Sync>(
     ensures wanting { IfErr result IsWantingWorkers }
     ensures nothing_sent { IfErr result IsUnsent }
 {
-    if crew.workers.count() == 1 && !crew.progress {
-        // One worker needs no threads, and no choice among tries.
+    if crew.is_alone() {
         return Ok(ended_over(crew.alloc, plan, runner, intervals)?);
     }
     match crew.backfill(plan, intervals, runner, Jump::new()) {

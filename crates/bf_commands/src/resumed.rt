@@ -1,5 +1,5 @@
 //! Backfills that go on from what is kept of a report, and their reports.
-ghost use Rattle.std.specs.Prelude.{◌≡◌, Bool, None, IfOk, IfErr, length};
+ghost use Rattle.std.specs.Prelude.{◌≡◌, ◌≤◌, Bool, None, IfOk, IfErr, length};
 ghost use Rattle.bf_kept.specs.Kept.{AreFit};
 ghost use Rattle.bf_core.specs.Cores.{IsJournal};
 ghost use Rattle.bf_clear.specs.Keeping.{kept_in};
@@ -27,12 +27,32 @@ use bf_kept::Keeping;
 use bf_lane::{Jump, MachineClock};
 use bf_process::{ProcessRunner, Starter};
 use bf_report::Report;
-use bf_try::Table;
+use bf_resume::resume_one_by_one;
+use bf_try::{Table, TableRunner};
+use bf_value::OutOfMemory;
 use std::sync::Wait;
 use std::thread::Threads;
 use std::time::Clock;
 
-/// The end of a backfill in which a table answers what isn't kept. No try is given up.
+/// The end of a backfill in which a table answers what isn't kept, one try after the other. No try is given up.
+fn resumed_alone(
+    plan: &Plan,
+    intervals: &[Interval],
+    keeping: &Keeping<'_, Cleared<'_>, TableRunner<'_>>,
+) -> Result<Ended, OutOfMemory>
+    requires few { length intervals.now ≤ 4_096 }
+    requires fit { AreFit plan.now.dag (kept_in keeping.now.kept.now) }
+    ensures ended { IfOk result (IsEndedFrom (kept_in keeping.now.kept.now) (λ n given raw. raw ≡ answer_of keeping.now.runner.now n) plan.now.dag intervals.now) }
+    ensures journal { IfOk result (λ ended. IsJournal plan.now.dag plan.now.limits (length intervals.now) ended.journal ended.state) }
+{
+    match resume_one_by_one(keeping.alloc, plan, intervals, keeping) {
+        Ok(ended) => Ok(ended),
+        Err(BackfillFault::OutOfMemory) => Err(OutOfMemory),
+        Err(BackfillFault::Runner(_) | BackfillFault::Start) => unreachable!(),
+    }
+}
+
+/// The same by as many workers as the crew has.
 fn resumed_over<RT: Screen + Threads + Wait + Clock + Sync>(
     crew: &Crew<'_, RT>,
     plan: &Plan,
@@ -53,6 +73,9 @@ fn resumed_over<RT: Screen + Threads + Wait + Clock + Sync>(
         kept,
         runner: &runner,
     };
+    if crew.is_alone() {
+        return Ok(resumed_alone(plan, intervals, &keeping)?);
+    }
     match crew.resumed(plan, intervals, &keeping, Jump::new()) {
         Ok(ended) => Ok(ended),
         Err(BackfillFault::OutOfMemory) => Err(CommandFault::OutOfMemory),
