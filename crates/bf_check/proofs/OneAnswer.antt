@@ -1,13 +1,12 @@
 -- A draft has one answer: either it is accepted, or of its faults one is told.
-use Rattle.std.proofs.Common.{◌≡◌, ◌≢◌, inl, inr, ℕ, ◌<◌, ◌≤◌, ◌==◌, List, [], map, slice_get, Option, Some, None, Ok, if◌then◌else◌, refl, sym, ap, ◌∙◌, subst, arith}
+use Rattle.std.proofs.Common.{◌≡◌, ◌≢◌, inl, inr, ℕ, ◌<◌, ◌≤◌, List, [], map, slice_get, Option, Some, None, Ok, refl, sym, ap, ◌∙◌, subst, arith}
 use Rattle.std.specs.List.{slice_index_or}
 use Rattle.std.proofs.lemmas.Bool.{cases_lt}
-use Rattle.jiff.specs.Types.{DateTime, TimeZone, Tzif}
+use Rattle.jiff.specs.Types.{TimeZone, Tzif}
 use Rattle.jiff.specs.ZoneView.{plain_zone}
 use Rattle.bf_graph.specs.Edges.{IsAcyclic}
-use Rattle.bf_graph.specs.Shape.{Shape}
 use Rattle.bf_graph.proofs.NamedLemmas.{one_named}
-use Rattle.bf_cron.specs.Cron.{Schedule, schedule_of, spec_matches, IsRead}
+use Rattle.bf_cron.specs.Cron.{Schedule, schedule_of, IsRead}
 use Rattle.bf_cron.specs.Minutes.{NeverFires}
 use Rattle.bf_cron.specs.declared.spec.CronSpec.{CronSpec}
 use Rattle.bf_cron.proofs.Rules.{matches_is}
@@ -23,33 +22,9 @@ use Rattle.bf_check.specs.declared.fault.TaskFault.TheVariants.{UnknownUpstream,
 use Rattle.bf_check.specs.Schedules.{Fires, IsScheduled, NeverFiresIn, IsNoZone}
 use Rattle.bf_check.specs.Refusals.{number, IsFirst, NameCycle, HasNoneBelow, IsAccepted, IsFaultOf}
 use Rattle.bf_check.specs.Checking.{shape_in}
+use Rattle.bf_check.proofs.FaultLemmas.{one_number}
 
--- ---- numbers tell faults apart
-
-numbered : ℕ → TaskFault
-numbered n =
-    if n == 6 then UnknownUpstream
-    else (if n == 8 then UnknownPool
-    else (if n == 9 then SlotsBeyondPool
-    else (if n == 10 then BadRule
-    else (if n == 14 then PullNotSettled
-    else (if n == 15 then ExpandSource
-    else (if n == 16 then ExpandRule
-    else BranchMisuse))))))
-
-numbered-number : (fault : TaskFault) → numbered (number fault) ≡ fault
-unfolding numbered
-numbered-number UnknownUpstream = refl
-numbered-number UnknownPool = refl
-numbered-number SlotsBeyondPool = refl
-numbered-number BadRule = refl
-numbered-number PullNotSettled = refl
-numbered-number ExpandSource = refl
-numbered-number ExpandRule = refl
-numbered-number BranchMisuse = refl
-
-same_number : (x y : TaskFault) → number x ≡ number y → x ≡ y
-same_number x y e = sym (numbered-number x) ∙ ap numbered e ∙ numbered-number y
+-- ---- numbers
 
 -- no task's fault has a number from 11 to 13, or that of a cycle
 late : (fault : TaskFault) → 11 ≤ number fault → 13 < number fault
@@ -136,7 +111,7 @@ module _ (draft : Draft) (file : Option (List ℕ)) where
   one_fault (Task x a) (Task y b) f g _ _ =
       let low = not_below x a (number y) f.0 g.1 in
       let high = not_below y b (number x) g.0 f.1 in
-      let same : x ≡ y = same_number x y (omega (arith, low, high)) in
+      let same : x ≡ y = one_number x y (omega (arith, low, high)) in
       let moved : IsFirst draft x b = subst (λ (z : TaskFault). IsFirst draft z b) (sym same) g.0 in
       λ i. Task (same i) (one_id x a b f.0 moved i)
   one_fault (Task x a) (Cycle b) f g _ _ = absurd (task_cycle x a b f.0 f.1 g.0 g.1)

@@ -4,3 +4,4 @@ pub mod Checked
 pub mod Checking
 pub mod Schedules
 pub mod Refusals
+pub mod Looks

@@ -1,5 +1,5 @@
 -- Why `check` refuses a draft.
-use Rattle.std.specs.Prelude.{◌≡◌, ℕ, ◌<◌, ◌&&◌, nat_lt, true, false, not, Bool, List, [], if◌then◌else◌, map, option_map, slice_get, Contains, Option, Some, None, unwrap_or, is_none, is_some, ◌++◌, codes}
+use Rattle.std.specs.Prelude.{◌≡◌, ℕ, ◌<◌, ◌&&◌, nat_lt, true, false, not, Bool, List, [], if◌then◌else◌, map, slice_get, Contains, Option, Some, None, unwrap_or, is_none, is_some, ◌++◌, codes}
 use Rattle.std.specs.List.{join_with_byte, list_any, slice_index_or}
 use Rattle.std.specs.Str.{bytes_eq}
 use Rattle.bf_graph.specs.Edges.{IsAcyclic}
@@ -164,20 +164,6 @@ IsFaultOf draft file BadZone = IsNoZone draft.zone file × (spec : CronSpec) × 
 IsFaultOf draft file OutOfMemory = Unit {0}
 
 -- ---- while a draft is looked through
-
--- a fault of a draft whatever its schedule and zone are
-abbrev pub IsEarlyFaultOf : Draft → CheckFault → Type 0
-IsEarlyFaultOf draft fault = (file : Option (List ℕ)) → IsFaultOf draft file fault
-
--- a fault of a draft whose schedule and zone are right
-abbrev pub IsLateFaultOf : Draft → CheckFault → Type 0
-IsLateFaultOf draft fault = (file : Option (List ℕ)) → IsScheduled draft file → IsFaultOf draft file fault
-
--- the fault is this one, of the task that was found; or memory is wanting
-abbrev pub Refuses : TaskFault → Option TaskDraft → CheckFault → Type 0
-Refuses expected found (Task fault id) = (fault ≡ expected) × (option_map (λ task. task.id) found ≡ Some id)
-Refuses expected found OutOfMemory = Unit {0}
-Refuses expected found _ = ⊥
 
 -- each task may pull from what it pulls from
 abbrev pub AllMayPull : Draft → Type 0

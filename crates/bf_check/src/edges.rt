@@ -1,13 +1,13 @@
 //! The tasks of a draft as a graph.
-ghost use Rattle.std.specs.Prelude.{◌≡◌, ◌<◌, ℕ, [], length, map, find, option_map, slice_index_or, Contains, IfOk, IfErr, OnOk};
+ghost use Rattle.std.specs.Prelude.{◌≡◌, ◌<◌, ℕ, [], length, map, option_map, slice_index_or, Contains, IfOk, IfErr, OnOk};
 ghost use Rattle.bf_graph.specs.Edges.{lists};
 ghost use Rattle.bf_graph.specs.Ranks.{Ranking};
 ghost use Rattle.bf_graph.specs.Shape.{texts};
 ghost use Rattle.bf_check.specs.Checking.{ids_of, number_or_0, shape_in};
-ghost use Rattle.bf_check.specs.Refusals.{has_unknown_upstream as unknown_upstream, HasNoneBelow, IsEarlyFaultOf};
+ghost use Rattle.bf_check.specs.Refusals.{has_unknown_upstream as unknown_upstream, HasNoneBelow, IsFaultOf};
 
-use crate::fault::{CheckFault, TaskFault};
-use crate::refusing::refuse;
+use crate::fault::CheckFault;
+use crate::refusing::Looks;
 use bf_graph::{Graph, GraphFault, Ids};
 use bf_read::{Draft, TaskDraft};
 use bf_value::{OutOfMemory, Sequence, Text};
@@ -43,33 +43,14 @@ pub(crate) fn numbers_of(alloc: Global, ids: &Ids, names: &[Text]) -> Result<Vec
     )
 }
 
-fn has_unknown_upstream(ids: &Ids, task: &TaskDraft) -> bool
+/// Whether an upstream of a task is the id of none.
+pub(crate) fn has_unknown_upstream(ids: &Ids, task: &TaskDraft) -> bool
     ensures { result ≡ unknown_upstream ids.now task.now }
 {
     task.upstreams
         .as_slice()
         .iter()
         .any(|id| ids.number_of(id.as_str()).is_none())
-}
-
-fn first_with_unknown_upstream<'a>(ids: &Ids, tasks: &'a [TaskDraft]) -> Option<&'a TaskDraft>
-    ensures { option_map (λ task. task.now) result ≡ find (unknown_upstream ids.now) tasks.entry.now }
-{
-    tasks.iter().find(|task| has_unknown_upstream(ids, task))
-}
-
-/// Refuses a draft in which an upstream is no task.
-pub(crate) fn refuse_unknown_upstreams(
-    alloc: Global,
-    ids: &Ids,
-    draft: &Draft,
-) -> Result<(), CheckFault>
-    requires { ids.now ≡ ids_of draft.now.tasks }
-    ensures ok { OnOk result (HasNoneBelow draft.now 7) }
-    ensures err { IfErr result (IsEarlyFaultOf draft.now) }
-{
-    let found = first_with_unknown_upstream(ids, draft.tasks.as_slice());
-    refuse(alloc, TaskFault::UnknownUpstream, found)
 }
 
 fn edges_of(alloc: Global, ids: &Ids, tasks: &[TaskDraft]) -> Result<Vec<Vec<u32>>, OutOfMemory>
@@ -94,26 +75,27 @@ fn names_of(alloc: Global, tasks: &[TaskDraft], numbers: &[u32]) -> Result<Vec<T
     Ok(names)
 }
 
-/// The graph of the tasks, or the cycle that is named.
-pub(crate) fn graph_of(alloc: Global, ids: &Ids, draft: &Draft) -> Result<Graph, CheckFault>
-    requires ids { ids.now ≡ ids_of draft.now.tasks }
-    requires known { HasNoneBelow draft.now 7 }
-    ensures graph { IfOk result (λ graph. graph ≡ shape_in draft.now.tasks) }
-    ensures ranking { OnOk result (Ranking (shape_in draft.now.tasks).upstreams) }
-    ensures ok { OnOk result (HasNoneBelow draft.now 8) }
-    ensures err { IfErr result (IsEarlyFaultOf draft.now) }
-{
-    let tasks = draft.tasks.as_slice();
-    let edges = edges_of(alloc, ids, tasks)?;
-    match Graph::build(alloc, texts_of(alloc, tasks)?, edges) {
-        Ok(graph) => {
-            graph.ranks();
-            Ok(graph)
+impl<'a> Looks<'a> {
+    /// The graph of the tasks, or the cycle that is named.
+    pub(crate) fn graph(&self, alloc: Global) -> Result<Graph, CheckFault>
+        requires { HasNoneBelow self.now.draft.now 7 }
+        ensures graph { IfOk result (λ graph. graph ≡ shape_in self.now.draft.now.tasks) }
+        ensures ranking { OnOk result (Ranking (shape_in self.now.draft.now.tasks).upstreams) }
+        ensures ok { OnOk result (HasNoneBelow self.now.draft.now 8) }
+        ensures err { IfErr result (IsFaultOf self.now.draft.now (option_map (λ s. s.now) self.now.zone_file)) }
+    {
+        let tasks = self.draft.tasks.as_slice();
+        let edges = edges_of(alloc, self.ids, tasks)?;
+        match Graph::build(alloc, texts_of(alloc, tasks)?, edges) {
+            Ok(graph) => {
+                graph.ranks();
+                Ok(graph)
+            }
+            Err(GraphFault::Cycle(cycle)) => {
+                let names = names_of(alloc, tasks, cycle.as_slice())?;
+                Err(CheckFault::Cycle(Sequence::from_vec(names)))
+            }
+            Err(GraphFault::OutOfMemory) => Err(CheckFault::OutOfMemory),
         }
-        Err(GraphFault::Cycle(cycle)) => {
-            let names = names_of(alloc, tasks, cycle.as_slice())?;
-            Err(CheckFault::Cycle(Sequence::from_vec(names)))
-        }
-        Err(GraphFault::OutOfMemory) => Err(CheckFault::OutOfMemory),
     }
 }

@@ -1,14 +1,14 @@
 //! Pulls: a task may pull only from what is settled whenever it is decided.
-ghost use Rattle.std.specs.Prelude.{◌≡◌, ◌↔◌, ◌<◌, ℕ, List, false, length, map, Contains, IsTrue, IfOk, IfErr, OnOk};
+ghost use Rattle.std.specs.Prelude.{◌≡◌, ◌↔◌, ◌<◌, ℕ, List, false, length, map, option_map, Contains, IsTrue, IfOk, IfErr, OnOk};
 ghost use Rattle.bf_graph.specs.Edges.{lists, AreInRange};
-ghost use Rattle.bf_check.specs.Checking.{ids_of};
-ghost use Rattle.bf_check.specs.Refusals.{settling_upstreams as settling_in, settling_edges as edges_in, AllMayPull, HasNoneBelow, HasTask, IsLateFaultOf, LeadsTo, MarksTask};
+ghost use Rattle.bf_check.specs.Refusals.{settling_upstreams as settling_in, settling_edges as edges_in, AllMayPull, HasNoneBelow, HasTask, IsFaultOf, LeadsTo, MarksTask};
+ghost use Rattle.bf_check.specs.Schedules.{IsScheduled};
 
 use crate::edges::numbers_of;
 use crate::fault::{CheckFault, TaskFault};
-use crate::refusing::rule_of;
+use crate::refusing::{Looks, rule_of};
 use bf_graph::{Ids, reaching};
-use bf_read::{Draft, TaskDraft, pulls_of};
+use bf_read::{TaskDraft, pulls_of};
 use bf_value::{OutOfMemory, Text};
 use std::alloc::Global;
 
@@ -100,42 +100,35 @@ fn may_pull_all(
     Ok(true)
 }
 
-/// Refuses a draft in which a task pulls from what needn't be settled when it is decided, by the edges that settle.
-fn refuse_pulls(
-    alloc: Global,
-    ids: &Ids,
-    settling: &[Vec<u32>],
-    draft: &Draft,
-) -> Result<(), CheckFault>
-    requires ids { ids.now ≡ ids_of draft.now.tasks }
-    requires settling { lists settling.now ≡ edges_in draft.now.tasks }
-    requires below { HasNoneBelow draft.now 14 }
-    ensures settled { OnOk result (AllMayPull draft.now) }
-    ensures ok { OnOk result (HasNoneBelow draft.now 15) }
-    ensures err { IfErr result (IsLateFaultOf draft.now) }
-{
-    for (t, task) in draft.tasks.as_slice().iter().enumerate() {
-        let pulled = pulls_of(alloc, task.command.as_slice())?;
-        let may = may_pull_all(alloc, ids, settling, t as u32, pulled.as_slice())?;
-        if !may {
-            return Err(CheckFault::Task(TaskFault::PullNotSettled, task.id.copy(alloc)?));
+impl<'a> Looks<'a> {
+    /// Refuses a draft in which a task pulls from what needn't be settled when it is decided, by the edges that settle.
+    fn refuse_pulls(&self, alloc: Global, settling: &[Vec<u32>]) -> Result<(), CheckFault>
+        requires settling { lists settling.now ≡ edges_in self.now.draft.now.tasks }
+        requires below { HasNoneBelow self.now.draft.now 14 }
+        requires scheduled { IsScheduled self.now.draft.now (option_map (λ s. s.now) self.now.zone_file) }
+        ensures settled { OnOk result (AllMayPull self.now.draft.now) }
+        ensures ok { OnOk result (HasNoneBelow self.now.draft.now 15) }
+        ensures err { IfErr result (IsFaultOf self.now.draft.now (option_map (λ s. s.now) self.now.zone_file)) }
+    {
+        for (t, task) in self.draft.tasks.as_slice().iter().enumerate() {
+            let pulled = pulls_of(alloc, task.command.as_slice())?;
+            let may = may_pull_all(alloc, self.ids, settling, t as u32, pulled.as_slice())?;
+            if !may {
+                return Err(CheckFault::Task(TaskFault::PullNotSettled, task.id.copy(alloc)?));
+            }
         }
+        Ok(())
     }
-    Ok(())
-}
 
-/// Refuses a draft in which a task pulls from what needn't be settled when it is decided.
-pub(crate) fn refuse_unsettled_pulls(
-    alloc: Global,
-    ids: &Ids,
-    draft: &Draft,
-) -> Result<(), CheckFault>
-    requires ids { ids.now ≡ ids_of draft.now.tasks }
-    requires below { HasNoneBelow draft.now 14 }
-    ensures settled { OnOk result (AllMayPull draft.now) }
-    ensures ok { OnOk result (HasNoneBelow draft.now 15) }
-    ensures err { IfErr result (IsLateFaultOf draft.now) }
-{
-    let settling = settling_edges(alloc, ids, draft.tasks.as_slice())?;
-    refuse_pulls(alloc, ids, settling.as_slice(), draft)
+    /// Refuses a draft in which a task pulls from what needn't be settled when it is decided.
+    pub(crate) fn refuse_unsettled_pulls(&self, alloc: Global) -> Result<(), CheckFault>
+        requires below { HasNoneBelow self.now.draft.now 14 }
+        requires scheduled { IsScheduled self.now.draft.now (option_map (λ s. s.now) self.now.zone_file) }
+        ensures settled { OnOk result (AllMayPull self.now.draft.now) }
+        ensures ok { OnOk result (HasNoneBelow self.now.draft.now 15) }
+        ensures err { IfErr result (IsFaultOf self.now.draft.now (option_map (λ s. s.now) self.now.zone_file)) }
+    {
+        let settling = settling_edges(alloc, self.ids, self.draft.tasks.as_slice())?;
+        self.refuse_pulls(alloc, settling.as_slice())
+    }
 }

@@ -1,29 +1,56 @@
 //! Faults of single tasks: of all that have one the first in the file is named.
-ghost use Rattle.std.specs.Prelude.{◌≡◌, None, find, IfErr, OnOk, option_map};
-ghost use Rattle.bf_check.specs.Refusals.{has_bad_rule as bad_rule, expands_no_upstream as no_upstream, expands_early as early, expands_branch as branch, HasNoneBelow, HasNoFault, IsEarlyFaultOf, IsLateFaultOf, Refuses};
+ghost use Rattle.std.specs.Prelude.{◌≡◌, ◌<◌, suc, find, option_map, IfErr, OnOk};
 ghost use Rattle.std.specs.List.{list_any};
 ghost use Rattle.std.specs.Str.{bytes_eq};
-ghost use Rattle.bf_check.specs.Checking.{rule_of as rule_in};
-ghost use Rattle.bf_rule.specs.Verdicts.{is_waiting};
+ghost use Rattle.bf_check.specs.Checking.{ids_of, rule_of as rule_in};
+ghost use Rattle.bf_check.specs.Refusals.{expands_no_upstream as no_upstream, number, HasNoneBelow, IsFaultOf};
+ghost use Rattle.bf_check.specs.Schedules.{IsScheduled};
 
+use crate::edges::has_unknown_upstream;
 use crate::fault::{CheckFault, TaskFault};
+use crate::pools::{has_unknown_pool, takes_too_much};
+use bf_graph::Ids;
 use bf_read::{Draft, TaskDraft, TaskKind};
 use bf_rule::Rule;
 use std::alloc::Global;
 
-/// Refuses a draft with this fault where a task was found that has it.
-pub(crate) fn refuse(
-    alloc: Global,
-    fault: TaskFault,
-    found: Option<&TaskDraft>,
-) -> Result<(), CheckFault>
-    ensures ok { OnOk result (option_map (λ task. task.now) found.entry ≡ None) }
-    ensures err { IfErr result (Refuses fault (option_map (λ task. task.now) found.entry)) }
-{
-    match found {
-        Some(task) => Err(CheckFault::Task(fault, task.id.copy(alloc)?)),
-        None => Ok(()),
+/// What is looked for in a task, beside its pulls: whether it has that is told without memory.
+#[derive(Clone, Copy)]
+pub(crate) enum Look {
+    UnknownUpstream,
+    UnknownPool,
+    SlotsBeyondPool,
+    BadRule,
+    ExpandSource,
+    ExpandRule,
+    BranchMisuse,
+}
+
+impl Look {
+    ghost use Rattle.bf_check.specs.Looks.{fault_of};
+
+    fn fault(self) -> TaskFault
+        ensures { result ≡ fault_of self }
+    {
+        match self {
+            Look::UnknownUpstream => TaskFault::UnknownUpstream,
+            Look::UnknownPool => TaskFault::UnknownPool,
+            Look::SlotsBeyondPool => TaskFault::SlotsBeyondPool,
+            Look::BadRule => TaskFault::BadRule,
+            Look::ExpandSource => TaskFault::ExpandSource,
+            Look::ExpandRule => TaskFault::ExpandRule,
+            Look::BranchMisuse => TaskFault::BranchMisuse,
+        }
     }
+}
+
+/// A draft that is looked through for faults, with the ids of its tasks and the bytes for the zone `file`.
+#[derive(Clone, Copy)]
+pub(crate) struct Looks<'a> {
+    pub(crate) ids: &'a Ids,
+    pub(crate) draft: &'a Draft,
+    pub(crate) zone_file: Option<&'a [u8]>,
+    ghost of_draft: { ids.now ≡ ids_of draft.now.tasks },
 }
 
 /// The rule of a task; `all_success` where its name is none.
@@ -31,12 +58,6 @@ pub(crate) fn rule_of(task: &TaskDraft) -> Rule
     ensures { result ≡ rule_in task.now }
 {
     Rule::named(task.rule.as_str()).unwrap_or(Rule::AllSuccess)
-}
-
-fn has_bad_rule(task: &TaskDraft) -> bool
-    ensures { result ≡ bad_rule task.now }
-{
-    Rule::named(task.rule.as_str()).is_none()
 }
 
 fn is_upstream(task: &TaskDraft, id: &str) -> bool
@@ -57,78 +78,47 @@ fn expands_no_upstream(task: &TaskDraft) -> bool
     }
 }
 
-fn expands_early(task: &TaskDraft) -> bool
-    ensures { result ≡ early task.now }
-{
-    task.expand.is_some() && !rule_of(task).waits()
-}
+impl<'a> Looks<'a> {
+    ghost use Rattle.bf_check.specs.Looks.{fault_of, has as has_in};
 
-fn expands_branch(task: &TaskDraft) -> bool
-    ensures { result ≡ branch task.now }
-{
-    task.expand.is_some() && task.kind == TaskKind::Branch
-}
+    /// Whether a task has this.
+    fn has(&self, look: Look, task: &TaskDraft) -> bool
+        ensures { result ≡ has_in self.now.draft.now look task.now }
+    {
+        let pools = self.draft.pools.as_slice();
+        match look {
+            Look::UnknownUpstream => has_unknown_upstream(self.ids, task),
+            Look::UnknownPool => has_unknown_pool(pools, task),
+            Look::SlotsBeyondPool => takes_too_much(pools, task),
+            Look::BadRule => Rule::named(task.rule.as_str()).is_none(),
+            Look::ExpandSource => expands_no_upstream(task),
+            Look::ExpandRule => task.expand.is_some() && !rule_of(task).waits(),
+            Look::BranchMisuse => task.expand.is_some() && task.kind == TaskKind::Branch,
+        }
+    }
 
-fn first_bad_rule<'a>(tasks: &'a [TaskDraft]) -> Option<&'a TaskDraft>
-    ensures { option_map (λ task. task.now) result ≡ find bad_rule tasks.entry.now }
-{
-    tasks.iter().find(|task| has_bad_rule(task))
-}
+    /// The first task in the file that has this.
+    fn first_with(&self, look: Look) -> Option<&TaskDraft>
+        ensures { option_map (λ task. task.now) result ≡ find (has_in self.now.draft.now look) self.now.draft.now.tasks }
+    {
+        self.draft
+            .tasks
+            .as_slice()
+            .iter()
+            .find(|task| self.has(look, task))
+    }
 
-/// Refuses a draft in which the rule of a task is none.
-pub(crate) fn refuse_bad_rules(alloc: Global, draft: &Draft) -> Result<(), CheckFault>
-    requires { HasNoneBelow draft.now 10 }
-    ensures ok { OnOk result (HasNoneBelow draft.now 14) }
-    ensures err { IfErr result (IsEarlyFaultOf draft.now) }
-{
-    let found = first_bad_rule(draft.tasks.as_slice());
-    refuse(alloc, TaskFault::BadRule, found)
-}
-
-fn first_without_source<'a>(tasks: &'a [TaskDraft]) -> Option<&'a TaskDraft>
-    ensures { option_map (λ task. task.now) result ≡ find no_upstream tasks.entry.now }
-{
-    tasks.iter().find(|task| expands_no_upstream(task))
-}
-
-/// Refuses a draft in which a task is expanded over what isn't a direct upstream.
-pub(crate) fn refuse_sources(alloc: Global, draft: &Draft) -> Result<(), CheckFault>
-    requires { HasNoneBelow draft.now 15 }
-    ensures ok { OnOk result (HasNoneBelow draft.now 16) }
-    ensures err { IfErr result (IsLateFaultOf draft.now) }
-{
-    let found = first_without_source(draft.tasks.as_slice());
-    refuse(alloc, TaskFault::ExpandSource, found)
-}
-
-fn first_early_expansion<'a>(tasks: &'a [TaskDraft]) -> Option<&'a TaskDraft>
-    ensures { option_map (λ task. task.now) result ≡ find early tasks.entry.now }
-{
-    tasks.iter().find(|task| expands_early(task))
-}
-
-/// Refuses a draft in which a task is expanded under a rule that doesn't wait.
-pub(crate) fn refuse_early_expansions(alloc: Global, draft: &Draft) -> Result<(), CheckFault>
-    requires { HasNoneBelow draft.now 16 }
-    ensures ok { OnOk result (HasNoneBelow draft.now 17) }
-    ensures err { IfErr result (IsLateFaultOf draft.now) }
-{
-    let found = first_early_expansion(draft.tasks.as_slice());
-    refuse(alloc, TaskFault::ExpandRule, found)
-}
-
-fn first_expanded_branch<'a>(tasks: &'a [TaskDraft]) -> Option<&'a TaskDraft>
-    ensures { option_map (λ task. task.now) result ≡ find branch tasks.entry.now }
-{
-    tasks.iter().find(|task| expands_branch(task))
-}
-
-/// Refuses a draft in which a branch is expanded.
-pub(crate) fn refuse_expanded_branches(alloc: Global, draft: &Draft) -> Result<(), CheckFault>
-    requires { HasNoneBelow draft.now 17 }
-    ensures ok { OnOk result (HasNoFault draft.now) }
-    ensures err { IfErr result (IsLateFaultOf draft.now) }
-{
-    let found = first_expanded_branch(draft.tasks.as_slice());
-    refuse(alloc, TaskFault::BranchMisuse, found)
+    /// Refuses a draft in which a task has this.
+    pub(crate) fn refuse(&self, alloc: Global, look: Look) -> Result<(), CheckFault>
+        requires below { HasNoneBelow self.now.draft.now (number (fault_of look)) }
+        requires scheduled { 13 < number (fault_of look)
+            → IsScheduled self.now.draft.now (option_map (λ s. s.now) self.now.zone_file) }
+        ensures ok { OnOk result (HasNoneBelow self.now.draft.now (suc (number (fault_of look)))) }
+        ensures err { IfErr result (IsFaultOf self.now.draft.now (option_map (λ s. s.now) self.now.zone_file)) }
+    {
+        match self.first_with(look) {
+            Some(task) => Err(CheckFault::Task(look.fault(), task.id.copy(alloc)?)),
+            None => Ok(()),
+        }
+    }
 }

@@ -1,54 +1,55 @@
 //! The schedule of a graph file, and its zone.
-ghost use Rattle.std.specs.Prelude.{◌≡◌, ℕ, ◌<◌, ◌≤◌, List, Option, option_map, IfOk, IfErr};
-ghost use Rattle.bf_check.specs.Refusals.{HasNoneBelow, IsEarlyFaultOf, IsFaultOf};
-ghost use Rattle.bf_check.specs.Schedules.{Fires, IsScheduleOf, IsZoneFor};
+ghost use Rattle.std.specs.Prelude.{option_map, IfOk, IfErr, OnOk};
+ghost use Rattle.bf_check.specs.Refusals.{HasNoneBelow, IsFaultOf};
+ghost use Rattle.bf_check.specs.Schedules.{Fires, IsScheduled, IsScheduleOf, IsZoneFor};
 ghost use Rattle.bf_cron.specs.declared.spec.CronSpec.{CronSpec as Spec};
 
 use crate::fault::CheckFault;
+use crate::refusing::Looks;
 use bf_cron::{CronFault, CronSpec};
-use bf_read::Draft;
 use bf_zone::{Zone, ZoneFault};
 use std::alloc::Global;
 
-fn schedule_said(alloc: Global, draft: &Draft) -> Result<CronSpec, CheckFault>
-    requires { HasNoneBelow draft.now 14 }
-    ensures ok { IfOk result (IsScheduleOf draft.now.schedule) }
-    ensures err { IfErr result (IsEarlyFaultOf draft.now) }
-{
-    match CronSpec::read(alloc, draft.schedule.as_str()) {
-        Ok(schedule) => Ok(schedule),
-        Err(CronFault::Bad) => Err(CheckFault::BadCron),
-        Err(CronFault::OutOfMemory) => Err(CheckFault::OutOfMemory),
+impl<'a> Looks<'a> {
+    fn schedule_said(&self, alloc: Global) -> Result<CronSpec, CheckFault>
+        requires { HasNoneBelow self.now.draft.now 11 }
+        ensures ok { IfOk result (IsScheduleOf self.now.draft.now.schedule) }
+        ensures err { IfErr result (IsFaultOf self.now.draft.now (option_map (λ s. s.now) self.now.zone_file)) }
+    {
+        match CronSpec::read(alloc, self.draft.schedule.as_str()) {
+            Ok(schedule) => Ok(schedule),
+            Err(CronFault::Bad) => Err(CheckFault::BadCron),
+            Err(CronFault::OutOfMemory) => Err(CheckFault::OutOfMemory),
+        }
     }
-}
 
-/// The schedule of a draft, which some civil minute matches.
-pub(crate) fn schedule_of(alloc: Global, draft: &Draft) -> Result<CronSpec, CheckFault>
-    requires { HasNoneBelow draft.now 14 }
-    ensures ok { IfOk result (Fires draft.now.schedule) }
-    ensures err { IfErr result (IsEarlyFaultOf draft.now) }
-{
-    let schedule = schedule_said(alloc, draft)?;
-    if schedule.never_fires() {
-        return Err(CheckFault::NeverFires);
+    /// The schedule, which some civil minute matches.
+    pub(crate) fn schedule(&self, alloc: Global) -> Result<CronSpec, CheckFault>
+        requires { HasNoneBelow self.now.draft.now 11 }
+        ensures ok { IfOk result (Fires self.now.draft.now.schedule) }
+        ensures below { OnOk result (HasNoneBelow self.now.draft.now 13) }
+        ensures err { IfErr result (IsFaultOf self.now.draft.now (option_map (λ s. s.now) self.now.zone_file)) }
+    {
+        let schedule = self.schedule_said(alloc)?;
+        if schedule.never_fires() {
+            return Err(CheckFault::NeverFires);
+        }
+        Ok(schedule)
     }
-    Ok(schedule)
-}
 
-/// The zone of a draft whose schedule is right.
-pub(crate) fn zone_of(
-    alloc: Global,
-    draft: &Draft,
-    zone_file: Option<&[u8]>,
-) -> Result<Zone, CheckFault>
-    requires below { HasNoneBelow draft.now 14 }
-    requires fires { (spec : Spec) × Fires draft.now.schedule spec }
-    ensures ok { IfOk result (IsZoneFor draft.now.zone (option_map (λ s. s.now) zone_file.entry)) }
-    ensures err { IfErr result (IsFaultOf draft.now (option_map (λ s. s.now) zone_file.entry)) }
-{
-    match Zone::read(alloc, draft.zone.as_str(), zone_file) {
-        Ok(zone) => Ok(zone),
-        Err(ZoneFault::Bad) => Err(CheckFault::BadZone),
-        Err(ZoneFault::OutOfMemory) => Err(CheckFault::OutOfMemory),
+    /// The zone of a schedule that is right.
+    pub(crate) fn zone(&self, alloc: Global) -> Result<Zone, CheckFault>
+        requires below { HasNoneBelow self.now.draft.now 13 }
+        requires fires { (spec : Spec) × Fires self.now.draft.now.schedule spec }
+        ensures ok { IfOk result (IsZoneFor self.now.draft.now.zone (option_map (λ s. s.now) self.now.zone_file)) }
+        ensures below { OnOk result (HasNoneBelow self.now.draft.now 14) }
+        ensures scheduled { OnOk result (IsScheduled self.now.draft.now (option_map (λ s. s.now) self.now.zone_file)) }
+        ensures err { IfErr result (IsFaultOf self.now.draft.now (option_map (λ s. s.now) self.now.zone_file)) }
+    {
+        match Zone::read(alloc, self.draft.zone.as_str(), self.zone_file) {
+            Ok(zone) => Ok(zone),
+            Err(ZoneFault::Bad) => Err(CheckFault::BadZone),
+            Err(ZoneFault::OutOfMemory) => Err(CheckFault::OutOfMemory),
+        }
     }
 }

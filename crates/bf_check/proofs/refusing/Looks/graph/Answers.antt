@@ -8,35 +8,35 @@ use Rattle.bf_check.specs.declared.fault.TaskFault.TheVariants.{UnknownUpstream}
 use Rattle.bf_check.specs.Checking.{ids_of, number_or_0}
 use Rattle.bf_check.proofs.FaultLemmas.{with_edges}
 use Rattle.bf_check.proofs.PlanLemmas.{in_range, edges_made}
-use Rattle.bf_check.proofs.edges.graph_of.Goals as goal
+use Rattle.bf_check.proofs.refusing.Looks.graph.Goals as goal
 
 pub build-requires-clause-in_range : goal.build-requires-clause-in_range
 build-requires-clause-in_range c =
-    let draft = c.args.draft.now in
-    let whole = edges_made draft _ _ _ c.in_ok-edges.ensures c.requires.ids c.as_slice-tasks.ensures in
-    subst AreInRange (sym whole) (in_range draft (c.requires.known.tasks UnknownUpstream (omega arith)))
+    let draft = c.args.self.now.draft.now in
+    let whole = edges_made draft _ _ _ c.in_ok-edges.ensures c.args.self.now.of_draft c.as_slice-tasks.ensures in
+    subst AreInRange (sym whole) (in_range draft (c.requires.tasks UnknownUpstream (omega arith)))
 
 pub names_of-requires : goal.names_of-requires
 names_of-requires c = λ t one.
-    let draft = c.args.draft.now in
+    let draft = c.args.self.now.draft.now in
     let edges = lists c.in_ok-edges.edges.items in
-    let whole = edges_made draft _ _ _ c.in_ok-edges.ensures c.requires.ids c.as_slice-tasks.ensures in
-    let inside = subst AreInRange (sym whole) (in_range draft (c.requires.known.tasks UnknownUpstream (omega arith))) in
+    let whole = edges_made draft _ _ _ c.in_ok-edges.ensures c.args.self.now.of_draft c.as_slice-tasks.ensures in
+    let inside = subst AreInRange (sym whole) (in_range draft (c.requires.tasks UnknownUpstream (omega arith))) in
     let named : IsNamedCycle edges c.in-Err-Cycle.cycle = rw c.in-Err-Cycle.field-0-is at c.in-Err-Cycle.ensures.cycle in
     let within = cycle_within edges _ t inside named.cycle (subst (λ (ts : List ℕ). Contains ts t) c.as_slice.ensures one) in
-    omega (arith, within, ap length c.in_ok-edges.ensures, length-map c.as_slice-tasks.result.now (λ (task : TaskDraft). map (number_or_0 c.args.ids.now) task.upstreams))
+    omega (arith, within, ap length c.in_ok-edges.ensures, length-map c.as_slice-tasks.result.now (λ (task : TaskDraft). map (number_or_0 c.args.self.now.ids.now) task.upstreams))
 
 pub returns-in-Ok-clause-ok : goal.returns-in-Ok-clause-ok
 returns-in-Ok-clause-ok c =
-    let draft = c.args.draft.now in
-    let whole = edges_made draft _ _ _ c.in_ok-edges.ensures c.requires.ids c.as_slice-tasks.ensures in
-    with_edges draft c.requires.known (subst IsAcyclic whole c.in-Ok.ensures.acyclic)
+    let draft = c.args.self.now.draft.now in
+    let whole = edges_made draft _ _ _ c.in_ok-edges.ensures c.args.self.now.of_draft c.as_slice-tasks.ensures in
+    with_edges draft c.requires (subst IsAcyclic whole c.in-Ok.ensures.acyclic)
 
 pub returns-in_ok-names-in-Err-Cycle-clause-err : goal.returns-in_ok-names-in-Err-Cycle-clause-err
 returns-in_ok-names-in-Err-Cycle-clause-err c =
-    let draft = c.args.draft.now in
+    let draft = c.args.self.now.draft.now in
     let edges = lists c.in_ok-edges.edges.items in
-    let whole = edges_made draft _ _ _ c.in_ok-edges.ensures c.requires.ids c.as_slice-tasks.ensures in
+    let whole = edges_made draft _ _ _ c.in_ok-edges.ensures c.args.self.now.of_draft c.as_slice-tasks.ensures in
     let named : IsNamedCycle edges c.in-Err-Cycle.cycle = rw c.in-Err-Cycle.field-0-is at c.in-Err-Cycle.ensures.cycle in
     let names = c.from_vec.ensures ∙ c.in_ok-names-in-Err-Cycle.ensures ∙ ap (map (λ t. slice_index_or (ids_of c.as_slice-tasks.result.now) t [])) c.as_slice.ensures ∙ ap (λ (tasks : List TaskDraft). map (λ t. slice_index_or (ids_of tasks) t []) c.in-Err-Cycle.cycle) c.as_slice-tasks.ensures in
-    λ file. ((c.in-Err-Cycle.cycle, subst (λ (ups : List (List ℕ)). IsNamedCycle ups c.in-Err-Cycle.cycle) whole named, names), c.requires.known)
+    ((c.in-Err-Cycle.cycle, subst (λ (ups : List (List ℕ)). IsNamedCycle ups c.in-Err-Cycle.cycle) whole named, names), c.requires)
