@@ -1,25 +1,16 @@
 -- The faults of a backfill that goes on from a report.
-use Rattle.std.proofs.Common.{◌≡◌, ℕ, ℤ, Bool, List, [], ◌∷◌, Option, Some, None, Result, Ok, Err, IfErr, option_map, ◌∙◌, ap}
+use Rattle.std.proofs.Common.{ℕ, ℤ, List, Option, Some, None, Ok, option_map, ◌∙◌, ap}
 use Rattle.bf_check.specs.Checked.{Checked}
 use Rattle.bf_check.specs.declared.plan.Dag.{Dag}
 use Rattle.bf_interval.specs.declared.interval.Interval.{Interval}
 use Rattle.bf_try.specs.declared.table.TableEntry.{TableEntry}
 use Rattle.bf_try.specs.Tables.{table_of}
-use Rattle.bf_report.specs.declared.report.Report.{Report as Reported}
-use Rattle.bf_dependents.specs.declared.fault.ClearFault.{ClearFault}
-use Rattle.bf_dependents.specs.declared.fault.ClearFault.TheVariants as clearing
-use Rattle.bf_dependents.specs.declared.seeds.Seed.{Seed}
-use Rattle.bf_clear.specs.Matching.{clear_fault, refusal}
-use Rattle.bf_command_fault.specs.Refusal.{of_clear}
 use Rattle.bf_command_fault.specs.declared.fault.CommandFault.{CommandFault}
 use Rattle.bf_command_fault.specs.declared.fault.CommandFault.TheVariants.{Read, Check, Table, Range, Report, Clear, BadMoment, OutOfMemory, CannotRead, CannotWrite, Stopped}
-use Rattle.bf_commands.specs.Cleared.{AreAnswersIn, IsFaultAgain, IsFaultBefore, IsFaultOfNamed, IsPrepared, IsStopOrWantingBy}
+use Rattle.bf_commands.specs.Cleared.{AreAnswersIn, IsFaultBefore, IsFaultOfNamed, IsPrepared, IsStopOrWantingBy}
 use Rattle.bf_commands.specs.Graphs.{IsFaultIn, IsPlanOf}
 use Rattle.bf_commands.specs.Lists.{HasListing, IsRangeFault}
-use Rattle.bf_commands.specs.OverTable.{IsWanting}
 use Rattle.bf_commands.specs.Programs.{Losing}
-use Rattle.bf_commands.proofs.Faults.{wanting_stop}
-use Rattle.bf_commands.proofs.Over.{wanting_workers_in}
 
 -- ---- the faults of parts are those of what comes before the report
 
@@ -100,34 +91,3 @@ module _ (may_lose : Losing) (dag : Dag) (intervals : List Interval) where
   may_stop (Some entries) (CannotRead path) is = is
   may_stop (Some entries) (CannotWrite n) is = tt
   may_stop (Some entries) (Stopped stop) is = tt
-
-module _ (may_lose : Losing) (answers : Option (List TableEntry)) (dag : Dag) (intervals : List Interval) (was : Reported) (seed : Seed) where
-  -- why nothing is cleared
-  pub seed_again : (fault : ClearFault) → clear_fault dag intervals was (seed ∷ []) ≡ refusal fault → IsFaultAgain may_lose answers dag intervals was seed (of_clear fault)
-  seed_again clearing.UnknownTask is = is
-  seed_again clearing.UnknownRun is = is
-  seed_again clearing.ReportMismatch is = is
-  seed_again clearing.OutOfMemory is = memory answers
-    where
-      memory : (a : Option (List TableEntry)) → IsStopOrWantingBy may_lose a dag intervals OutOfMemory
-      memory None = tt
-      memory (Some entries) = tt
-
-  pub stops_again : (r : Result Bool CommandFault) → IfErr r (IsStopOrWantingBy may_lose answers dag intervals) → IfErr r (IsFaultAgain may_lose answers dag intervals was seed)
-  stops_again (Ok success) is = tt
-  stops_again (Err (Read fault)) is = is
-  stops_again (Err (Check fault)) is = is
-  stops_again (Err (Table fault)) is = is
-  stops_again (Err (Range fault)) is = is
-  stops_again (Err (Report fault)) is = is
-  stops_again (Err (Clear fault)) is = absurd (may_stop may_lose dag intervals answers (Clear fault) is)
-  stops_again (Err BadMoment) is = is
-  stops_again (Err OutOfMemory) is = is
-  stops_again (Err (CannotRead path)) is = is
-  stops_again (Err (CannotWrite n)) is = is
-  stops_again (Err (Stopped stop)) is = is
-
--- what is wanting stops a backfill of either kind
-pub wanting_by : (may_lose : Losing) (answers : Option (List TableEntry)) (dag : Dag) (intervals : List Interval) (r : Result Bool CommandFault) → IfErr r IsWanting → IfErr r (IsStopOrWantingBy may_lose answers dag intervals)
-wanting_by may_lose None dag intervals r is = wanting_stop may_lose dag intervals r is
-wanting_by may_lose (Some entries) dag intervals r is = wanting_workers_in r is
