@@ -1,20 +1,10 @@
-//! Tests of graph files and of what is read off graphs: their faults and limits, cycles, trigger rules and weights. The plans of
-//! graph files are lent to the tests of the crates above.
+//! Tests of what is read off graphs: trigger rules and weights. The plans of graph files are lent to the tests of the crates
+//! above; what is told of the files themselves is compared by tests/graph_files.sh.
 #![tactic(auto)]
 
-#[cfg(test)]
-mod cycles;
-#[cfg(test)]
-mod graph_files;
-#[cfg(test)]
-mod limits;
 mod plans;
 #[cfg(test)]
 mod pools;
-#[cfg(test)]
-mod tasks;
-#[cfg(test)]
-mod telling;
 #[cfg(test)]
 mod trigger_rules;
 

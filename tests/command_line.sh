@@ -1,0 +1,282 @@
+#!/usr/bin/env bash
+# Hands the built program lines that ask for help, lines that are wrong, and lines with several faults at once, and compares its
+# exit status and what it prints with what stands here: by docs/FORMATS.md, and for the words of the line by clap. The last line
+# is the sum, and the status is 1 where a row differs.
+set -euo pipefail
+
+source "$(dirname "$(readlink -f "${BASH_SOURCE[0]}")")/shared/compare.sh"
+cd "$work"
+
+# Help stands on standard output where it is asked for, and on standard error where a word is wanting.
+
+cat > help <<'HELP'
+Runs a graph of tasks once for each data interval of a range of dates
+
+Usage: backfill <COMMAND>
+
+Commands:
+  check        Checks the graph, and tells how many tasks and edges it has
+  list         Lists the data intervals of the graph's schedule that start in a range
+  single       Runs the graph once, answering each task from a table
+  dry          Runs the graph for each data interval that starts in a range, answering each task from a table
+  run          Runs the graph for each data interval that starts in a range, with the programs of its tasks
+  clear        Runs a task of a run again, with all that follows from it, and keeps the rest of a report
+  schema       Prints the JSON Schema of graph files or tables, for editors
+  completions  Prints what a shell completes of a command line
+  help         Print this message or the help of the given subcommand(s)
+
+Options:
+  -h, --help     Print help
+  -V, --version  Print version
+HELP
+for asked in --help -h help; do
+    answers 0 "$asked" < help
+done
+: > wanted_out
+cp help wanted_err
+ends 2
+answers 0 check --help <<'HELP'
+Checks the graph, and tells how many tasks and edges it has
+
+Usage: backfill check [OPTIONS] <GRAPH>
+
+Arguments:
+  <GRAPH>  The task graph, a JSON file
+
+Options:
+      --zone-file <PATH>  The zone file that the graph's zone `file` means, as of the tz database
+  -h, --help              Print help
+
+Example:
+  backfill check examples/every_key/graph.json
+HELP
+answers 0 list --help <<'HELP'
+Lists the data intervals of the graph's schedule that start in a range
+
+Usage: backfill list [OPTIONS] --from <T> --to <T> <GRAPH>
+
+Arguments:
+  <GRAPH>  The task graph, a JSON file
+
+Options:
+      --zone-file <PATH>  The zone file that the graph's zone `file` means, as of the tz database
+      --from <T>          The first moment at which an interval may start, in UTC, as 2024-01-31 or 2024-01-31T06:00:00Z
+      --to <T>            The last moment at which an interval may start, in UTC, as 2024-01-31 or 2024-01-31T06:00:00Z
+  -h, --help              Print help
+
+Example:
+  backfill list --from 2024-03-30 --to 2024-04-01 examples/clock_change/graph.json
+HELP
+answers 0 run --help <<'HELP'
+Runs the graph for each data interval that starts in a range, with the programs of its tasks
+
+Usage: backfill run [OPTIONS] --from <T> --to <T> <GRAPH>
+
+Arguments:
+  <GRAPH>  The task graph, a JSON file
+
+Options:
+      --zone-file <PATH>  The zone file that the graph's zone `file` means, as of the tz database
+      --from <T>          The first moment at which an interval may start, in UTC, as 2024-01-31 or 2024-01-31T06:00:00Z
+      --to <T>            The last moment at which an interval may start, in UTC, as 2024-01-31 or 2024-01-31T06:00:00Z
+      --workers <N>       How many tries may run at once, 1 to 64; 1 where this isn't given
+      --progress          Tells on standard error how far the runs are, at most once a second
+      --launcher <PATH>   Hands the words of each task's command to this program; without it the first word is the program
+  -h, --help              Print help
+
+Examples:
+  backfill run --from 2024-01-01 --to 2024-01-07 --workers 2 examples/extract_transform_load/graph.json
+  backfill run --from 2024-01-01 --to 2024-01-07 --launcher /usr/bin/env examples/extract_transform_load/graph.json
+HELP
+answers 0 clear --help <<'HELP'
+Runs a task of a run again, with all that follows from it, and keeps the rest of a report
+
+Usage: backfill clear [OPTIONS] --task <ID> --run <T> --from <T> --to <T> <GRAPH> <REPORT>
+
+Arguments:
+  <GRAPH>   The task graph, a JSON file
+  <REPORT>  The report of the backfill to go on from
+
+Options:
+      --zone-file <PATH>  The zone file that the graph's zone `file` means, as of the tz database
+      --task <ID>         The task to clear
+      --run <T>           The logical date of the run in which it is cleared, in UTC, as 2024-01-31 or 2024-01-31T06:00:00Z
+      --table <PATH>      The answers of the tasks' tries, a JSON file, in place of their programs
+      --from <T>          The first moment at which an interval may start, in UTC, as 2024-01-31 or 2024-01-31T06:00:00Z
+      --to <T>            The last moment at which an interval may start, in UTC, as 2024-01-31 or 2024-01-31T06:00:00Z
+      --workers <N>       How many tries may run at once, 1 to 64; 1 where this isn't given
+      --progress          Tells on standard error how far the runs are, at most once a second
+      --launcher <PATH>   Hands the words of each task's command to this program; without it the first word is the program
+  -h, --help              Print help
+
+Examples, the first of which makes the report of the second:
+  backfill run --from 2024-01-01 --to 2024-01-07 examples/extract_transform_load/graph.json > report
+  backfill clear --from 2024-01-01 --to 2024-01-07 --task load --run 2024-01-03 examples/extract_transform_load/graph.json report
+HELP
+answers 0 schema --help <<'HELP'
+Prints the JSON Schema of graph files or tables, for editors
+
+Usage: backfill schema <FORMAT>
+
+Arguments:
+  <FORMAT>  The format of the files, graph or table
+
+Options:
+  -h, --help  Print help
+
+Example:
+  backfill schema graph > graph.schema.json
+HELP
+answers 0 completions --help <<'HELP'
+Prints what a shell completes of a command line
+
+Usage: backfill completions <SHELL>
+
+Arguments:
+  <SHELL>  The shell, bash, zsh or fish
+
+Options:
+  -h, --help  Print help
+
+Example, of a file for bash to source:
+  backfill completions bash > backfill.bash
+HELP
+cat > help <<'HELP'
+Runs the graph once, answering each task from a table
+
+Usage: backfill single [OPTIONS] --at <T> <GRAPH> <TABLE>
+
+Arguments:
+  <GRAPH>  The task graph, a JSON file
+  <TABLE>  The answers of the tasks' tries, a JSON file
+
+Options:
+      --zone-file <PATH>  The zone file that the graph's zone `file` means, as of the tz database
+      --at <T>            The run's moment in UTC, as 2024-01-31 or 2024-01-31T06:00:00Z
+  -h, --help              Print help
+
+Example:
+  backfill single --at 2024-01-01 examples/skip/graph.json examples/skip/table.json
+HELP
+answers 0 single --help < help
+answers 0 single g -h < help
+answers 0 help single < help
+
+# A wrong line: behind the arrow stand the lines by which clap begins its answer on standard error, each ended by a bar.
+
+is_wrong() {
+    local begins=${2%|} status=0 words
+    begins=${begins//|/$'\n'}
+    read -ra words <<< "$1"
+    "$program" "${words[@]}" > out 2> err || status=$?
+    is_same "of the wrong line $1" "2 |$begins" "$status $(< out)|$(head -c "${#begins}" err)"
+}
+while IFS= read -r row; do
+    is_wrong "${row%% => *}" "${row##* => }"
+done <<'ROWS'
+check => error: the following required arguments were not provided:|  <GRAPH>|
+check g h => error: unexpected argument 'h' found|
+list g => error: the following required arguments were not provided:|  --from <T>|  --to <T>|
+check g --zone-file => error: a value is required for '--zone-file <PATH>' but none was supplied|
+clear => error: the following required arguments were not provided:|  --task <ID>|  --run <T>|  --from <T>|  --to <T>|  <GRAPH>|  <REPORT>|
+run g --from 2024-01-01 --to 2024-01-01 --launcher => error: a value is required for '--launcher <PATH>' but none was supplied|
+single g t --at 2024-01-01 --launcher on => error: unexpected argument '--launcher' found|
+schema => error: the following required arguments were not provided:|  <FORMAT>|
+schema report => error: invalid value for '<FORMAT>'|  [possible values: graph, table]|
+schema graph table => error: unexpected argument 'table' found|
+completions => error: the following required arguments were not provided:|  <SHELL>|
+completions ksh => error: invalid value for '<SHELL>'|  [possible values: bash, zsh, fish]|
+resume => error: unrecognized subcommand 'resume'|
+run g --from 2024-01-01 => error: the following required arguments were not provided:|  --to <T>|
+--at 2024-01-01 => error: unexpected argument '--at' found|
+single => error: the following required arguments were not provided:|  --at <T>|  <GRAPH>|  <TABLE>|
+single g t => error: the following required arguments were not provided:|  --at <T>|
+single --at 2024-01-01 => error: the following required arguments were not provided:|  <GRAPH>|  <TABLE>|
+single g --at 2024-01-01 => error: the following required arguments were not provided:|  <TABLE>|
+single g t u --at 2024-01-01 => error: unexpected argument 'u' found|
+single g t --at 2024-01-01 --workers 2 => error: unexpected argument '--workers' found|
+run --workers 0 => error: invalid value '0' for '--workers <N>': 0 is not in 1..=64|
+dry --workers 65 => error: invalid value '65' for '--workers <N>': 65 is not in 1..=64|
+single g t -x => error: unexpected argument '-x' found|
+single g t --at => error: a value is required for '--at <T>' but none was supplied|
+single g t --at 2024-01-01 --at 2024-01-02 => error: the argument '--at <T>' cannot be used multiple times|
+run -V => error: unexpected argument '-V' found|
+ROWS
+
+# Which files a command reads, and which of several faults it tells.
+
+echo '{"dag_id":"d","schedule":"@daily","tasks":[{"id":"a"}]}' > one
+echo '{"dag_id":"d","schedule":"@daily","zone":"file","tasks":[{"id":"a"}]}' > zoned
+echo '{' > broken
+echo '{}' > shapeless
+echo '{"dag_id":"d","schedule":"@daily","tasks":[{"id":"b","kind":"branch"},{"id":"t","kind":"branch","upstream":["b"],"expand":"b"}]}' > misused
+echo '{"dag_id":"d","schedule":"@daily","tasks":[{"id":"a","upstream":["a"]}]}' > cycle
+echo '{"dag_id":"d","schedule":"0 0 30 2 *","zone":"utc","tasks":[]}' > never
+# As a report, this breaks off: it has no end of a line.
+printf '[]' > table
+echo '[{},2]' > bad_table
+# A zone file as of the tz database (RFC 8536, version 2): an hour ahead of UTC, called CET.
+for block in 1 2; do
+    printf TZif2
+    head -c 34 /dev/zero
+    printf '\x01\0\0\0\x04\0\0\x0e\x10\0\0CET\0'
+done > cet
+printf '\nCET-1\n' >> cet
+printf TZif > no_zone
+while IFS= read -r row; do
+    [[ $row != '#'* ]] || continue
+    read -ra words <<< "${row%% => *}"
+    read -r status line <<< "${row##* => }"
+    if [[ $status == 0 ]]; then
+        answers 0 "${words[@]}" <<< "$line"
+    else
+        tells "$status" "$line" "${words[@]}"
+    fi
+done <<'ROWS'
+# Moments come first.
+single none table --at 2024-02-30 => 2 refused 28 bad moment
+single broken bad_table --at 2024-02-30 => 2 refused 28 bad moment
+list none --from 2024-02-30 --to 2024-01-01 => 2 refused 28 bad moment
+run none --from 2024-01-01 --to 2024-02-30 => 2 refused 28 bad moment
+clear none none --task a --run 2024-02-30 --from 2024-01-01 --to 2024-01-01 => 2 refused 28 bad moment
+# Then the files are read: the graph, the zone file, and the table.
+check none => 3 fault: cannot read none
+single none none --at 2024-01-01 => 3 fault: cannot read none
+single none table --at 2200-01-01 => 3 fault: cannot read none
+single broken none --at 2200-01-01 => 3 fault: cannot read none
+check none --zone-file absent => 3 fault: cannot read none
+check one --zone-file absent => 3 fault: cannot read absent
+single broken none --at 2024-01-01 --zone-file absent => 3 fault: cannot read absent
+clear broken none --task a --run 2024-01-01 --from 2024-01-01 --to 2024-01-01 --table none => 3 fault: cannot read none
+# Then what they hold: the graph file, its graph, the table, and last the range.
+single broken bad_table --at 2200-01-01 => 2 refused 1 not json
+single shapeless bad_table --at 2200-01-01 => 2 refused 2 shape: dag_id
+single cycle bad_table --at 2200-01-01 => 2 refused 7 cycle: a
+single never bad_table --at 2200-01-01 => 2 refused 12 never fires
+single misused bad_table --at 2200-01-01 => 2 refused 17 branch misuse: t
+single one bad_table --at 2200-01-01 => 2 refused 19 bad table: 1
+dry one bad_table --from 2024-01-02 --to 2024-01-01 => 2 refused 19 bad table: 1
+single one table --at 2200-01-01 => 2 refused 25 outside years
+list one --from 2200-01-01 --to 2024-01-01 => 2 refused 25 outside years
+list one --from 2024-01-02 --to 2024-01-01 => 2 refused 26 range reversed
+dry one table --from 2024-01-02 --to 2024-01-01 => 2 refused 26 range reversed
+run one --from 2024-01-02 --to 2024-01-01 => 2 refused 26 range reversed
+clear one none --task q --run 2024-01-01 --from 2024-01-02 --to 2024-01-01 --table table => 2 refused 26 range reversed
+# The report of clear comes last, and then the seed.
+clear one none --task q --run 2024-01-01 --from 2024-01-01 --to 2024-01-01 => 3 fault: cannot read none
+clear one table --task q --run 2024-01-01 --from 2024-01-01 --to 2024-01-01 => 2 refused 32 truncated
+# A zone file is looked at for the zone of the file alone.
+check zoned => 2 refused 13 bad zone
+check zoned --zone-file no_zone => 2 refused 13 bad zone
+check zoned --zone-file cet => 0 ok 1 tasks, 0 edges
+check one --zone-file no_zone => 0 ok 1 tasks, 0 edges
+single zoned table --at 2024-01-01 => 2 refused 13 bad zone
+list zoned --zone-file cet --from 2024-01-01 --to 2024-01-01T23:59:59Z => 0 2024-01-01T23:00:00Z 2024-01-02T23:00:00Z
+# An empty file, one without an end, none, and a folder.
+single /dev/null /dev/null --at 2024-01-01 => 2 refused 1 not json
+single /dev/zero /dev/null --at 2024-01-01 => 2 refused 5 limit passed: bytes
+single /no/gräph.json /dev/null --at 2024-01-01 => 3 fault: cannot read /no/gräph.json
+single /dev/null /dev --at 2024-01-01 => 3 fault: cannot read /dev
+ROWS
+
+sum
