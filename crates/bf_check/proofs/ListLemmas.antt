@@ -1,31 +1,20 @@
 -- Lists, looked at one after another.
-use Rattle.std.proofs.Common.{◌≡◌, inl, inr, ℕ, zero, suc, ◌<◌, ◌+◌, List, [], ◌∷◌, ◌++◌, length, get_or, slice_get, map, take, All, Contains, length-append, subst, Bool, true, false, cond, Option, Some, None, refl, sym, ap, ◌∙◌, arith, add-one}
+use Rattle.std.proofs.Common.{◌≡◌, inl, inr, ℕ, zero, suc, ◌<◌, ◌+◌, List, [], ◌∷◌, ◌++◌, length, get_or, slice_get, map, take, Contains, subst, Bool, true, false, cond, Option, Some, None, refl, sym, ap, ◌∙◌, arith, add-one}
 use Rattle.std.specs.List.{find, join_with_byte}
 use Rattle.std.proofs.lemmas.Bool.{cases_lt}
 use Rattle.std.proofs.lemmas.List.{append_assoc, map_push}
-use Rattle.std.proofs.lemmas.List.Elements.{All-get_or}
 use Rattle.std.proofs.lemmas.Option.{slice_get_read}
-use Rattle.std.proofs.Math.Seq.{take-suc, get_or-append_seam}
+use Rattle.std.proofs.Math.Seq.{take-suc}
 
 pub map-then : {X Y Z : Type 0} (f : X → Y) (g : Y → Z) (xs : List X) → map g (map f xs) ≡ map (λ x. g (f x)) xs
 map-then f g [] = refl
 map-then f g (x ∷ xs) = ap (λ zs. g (f x) ∷ zs) (map-then f g xs)
-
--- what holds of each element holds of one between others
-pub all_between : {X : Type 0} (P : X → Type 0) (xs : List X) (x : X) (ys all : List X) → xs ++ x ∷ ys ≡ all → All P all → P x
-all_between P xs x ys all is each =
-    let within : length xs < length (xs ++ x ∷ ys) = omega (arith, length-append xs (x ∷ ys)) in
-    subst P (get_or-append_seam xs x ys x) (All-get_or P (xs ++ x ∷ ys) (length xs) x within (subst (All P) (sym is) each))
 
 -- a list that is mapped as far as i, and one more
 pub map_more : {X Y : Type 0} (f : X → Y) (xs : List X) (i : ℕ) (d : X) (ys : List Y) (y : Y) → i < length xs → ys ≡ map f (take i xs) → y ≡ f (get_or xs i d) → ys ++ y ∷ [] ≡ map f (take (i + 1) xs)
 map_more f xs i d ys y h so_far is =
     ap (λ zs. zs ++ y ∷ []) so_far ∙ ap (λ z. map f (take i xs) ++ z ∷ []) is ∙ sym (map_push f (take i xs) (get_or xs i d))
     ∙ ap (map f) (sym (take-suc xs i d h)) ∙ ap (λ n. map f (take n xs)) (sym (add-one i))
-
--- a list that is taken as far as i, and one more
-pub taken_more : {X : Type 0} (xs : List X) (i : ℕ) (d : X) (ys : List X) (y : X) → i < length xs → ys ≡ take i xs → y ≡ get_or xs i d → ys ++ y ∷ [] ≡ take (i + 1) xs
-taken_more xs i d ys y h so_far is = ap (λ zs. zs ++ y ∷ []) so_far ∙ ap (λ z. take i xs ++ z ∷ []) is ∙ sym (take-suc xs i d h) ∙ ap (λ n. take n xs) (sym (add-one i))
 
 -- what holds of each as far as i, and of one more
 pub each_so_far : {X : Type 0} (P : ℕ → X → Type 0) (xs : List X) (i : ℕ) (x : X) → i < length xs → x ≡ get_or xs i x → ((k : ℕ) (y : X) → k < i → slice_get xs k ≡ Some y → P k y) → P i x → (k : ℕ) (y : X) → k < i + 1 → slice_get xs k ≡ Some y → P k y

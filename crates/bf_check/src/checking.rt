@@ -26,8 +26,9 @@ struct Parts {
     zone: Zone,
 }
 
-impl<'a> Looks<'a> {
-    /// All looks, in the order of the numbers of their refusals.
+impl Looks<'_> {
+    /// All looks in the order of their numbers: 6, 7 the cycle, 8 to 10, 11 and 12 the schedule, 13 the zone, 14 the pulls, and
+    /// 15 to 17.
     fn parts(&self, alloc: Global) -> Result<Parts, CheckFault>
         ensures graph { IfOk result (λ parts. parts.graph ≡ shape_in self.now.draft.now.tasks) }
         ensures schedule { IfOk result (λ parts. Fires self.now.draft.now.schedule parts.schedule) }

@@ -75,7 +75,7 @@ fn names_of(alloc: Global, tasks: &[TaskDraft], numbers: &[u32]) -> Result<Vec<T
     Ok(names)
 }
 
-impl<'a> Looks<'a> {
+impl Looks<'_> {
     /// The graph of the tasks, or the cycle that is named.
     pub(crate) fn graph(&self, alloc: Global) -> Result<Graph, CheckFault>
         requires { HasNoneBelow self.now.draft.now 7 }

@@ -100,7 +100,7 @@ fn may_pull_all(
     Ok(true)
 }
 
-impl<'a> Looks<'a> {
+impl Looks<'_> {
     /// Refuses a draft in which a task pulls from what needn't be settled when it is decided, by the edges that settle.
     fn refuse_pulls(&self, alloc: Global, settling: &[Vec<u32>]) -> Result<(), CheckFault>
         requires settling { lists settling.now ≡ edges_in self.now.draft.now.tasks }

@@ -8,7 +8,7 @@ ghost use Rattle.bf_check.specs.Schedules.{IsScheduled};
 
 use crate::edges::has_unknown_upstream;
 use crate::fault::{CheckFault, TaskFault};
-use crate::pools::{has_unknown_pool, takes_too_much};
+use crate::pools::{pool_number, slots_for};
 use bf_graph::Ids;
 use bf_read::{Draft, TaskDraft, TaskKind};
 use bf_rule::Rule;
@@ -78,7 +78,7 @@ fn expands_no_upstream(task: &TaskDraft) -> bool
     }
 }
 
-impl<'a> Looks<'a> {
+impl Looks<'_> {
     ghost use Rattle.bf_check.specs.Looks.{fault_of, has as has_in};
 
     /// Whether a task has this.
@@ -88,8 +88,8 @@ impl<'a> Looks<'a> {
         let pools = self.draft.pools.as_slice();
         match look {
             Look::UnknownUpstream => has_unknown_upstream(self.ids, task),
-            Look::UnknownPool => has_unknown_pool(pools, task),
-            Look::SlotsBeyondPool => takes_too_much(pools, task),
+            Look::UnknownPool => pool_number(pools, task.pool.as_str()).is_none(),
+            Look::SlotsBeyondPool => slots_for(pools, task) < task.pool_slots,
             Look::BadRule => Rule::named(task.rule.as_str()).is_none(),
             Look::ExpandSource => expands_no_upstream(task),
             Look::ExpandRule => task.expand.is_some() && !rule_of(task).waits(),

@@ -10,7 +10,7 @@ use bf_cron::{CronFault, CronSpec};
 use bf_zone::{Zone, ZoneFault};
 use std::alloc::Global;
 
-impl<'a> Looks<'a> {
+impl Looks<'_> {
     fn schedule_said(&self, alloc: Global) -> Result<CronSpec, CheckFault>
         requires { HasNoneBelow self.now.draft.now 11 }
         ensures ok { IfOk result (IsScheduleOf self.now.draft.now.schedule) }
