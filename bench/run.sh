@@ -1,5 +1,5 @@
 #!/usr/bin/env bash
-# Times `backfill run` over graphs of `true`s beside a bare loop in C that starts as many (bench/bare.c), by 1, 4 and 8 workers, and
+# Times `backfill run` over graphs of `true`s beside a bare loop in C that starts as many (bench/bare.c), by 1, 4, 8 and 64 workers, and
 # measures what it takes itself while its programs sleep. Needs a C compiler.
 set -euo pipefail
 
@@ -54,7 +54,7 @@ for name, layers, width, runs in (
     ("50 runs of 40 side by side", 1, 40, 50),
     ("a chain of 500", 500, 1, 1),
 ):
-    for workers in (1, 4, 8):
+    for workers in (1, 4, 8, 64):
         wall, cpu = measured(run_of(graph_of(layers, width, ["true"]), runs, workers))
         bare_wall, bare_cpu = measured([f"{work}/bare", f"{workers}", f"{layers * runs}", f"{width}"])
         print(f"{name}, {workers} workers: {wall:.2f} s of wall and {cpu:.2f} s of processor, bare {bare_wall:.2f} and {bare_cpu:.2f}")
