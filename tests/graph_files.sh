@@ -1,7 +1,8 @@
 #!/usr/bin/env bash
 # Hands the built program graph files, whole ones and such with one or more faults, and compares what `check` tells of them with what
-# stands here, which was worked out by hand from docs/FORMATS.md: how many tasks and edges, or the first fault. The last line is the
-# sum, and the status is 1 where a row differs.
+# stands here, which was worked out by hand from docs/FORMATS.md: how many tasks and edges, or the first fault. Those that every
+# command has to refuse alike stand in rows.sh, and numbers at their limits in limits.sh. The last line is the sum, and the status is
+# 1 where a row differs.
 set -euo pipefail
 
 source "$(dirname "$(readlink -f "${BASH_SOURCE[0]}")")/shared/compare.sh"
@@ -56,26 +57,20 @@ files_are_told <<'ROWS'
 # Each number at its least and at its greatest.
 {"dag_id":"d","schedule":"@daily","max_active_runs":1,"pools":{"p":1},"tasks":[{"id":"a","retries":0,"pool_slots":1,"priority_weight":0}]} => 1 tasks, 0 edges
 {"dag_id":"d","schedule":"@daily","max_active_runs":4096,"pools":{"p":1000000},"tasks":[{"id":"a","pool":"p","retries":100,"pool_slots":1000000,"priority_weight":1000000}]} => 1 tasks, 0 edges
-[] => 2 shape: top
 null => 2 shape: top
 {} => 2 shape: dag_id
 {"dag_id":"d","schedule":"@daily","tasks":[],"catchup":false} => 2 shape: top
 {"Dag_id":"d"} => 2 shape: top
 {"dag_id":null} => 2 shape: dag_id
-{"dag_id":"d","tasks":[]} => 2 shape: schedule
 {"dag_id":"d","schedule":1,"tasks":[]} => 2 shape: schedule
 {"dag_id":"d","schedule":"@daily"} => 2 shape: tasks
 {"dag_id":"d","schedule":"@daily","tasks":{}} => 2 shape: tasks
-{"dag_id":"","schedule":"@daily","tasks":[]} => 3 bad name: dag_id
 {"dag_id":"d\n","schedule":"@daily","tasks":[]} => 3 bad name: dag_id
 {"dag_id":" ","schedule":"@daily","tasks":[]} => 3 bad name: dag_id
 {"dag_id":"d","schedule":"@daily","zone":1,"tasks":[]} => 2 shape: zone
 {"dag_id":"d","schedule":"@daily","max_active_runs":0,"tasks":[]} => 5 limit passed: max_active_runs
-{"dag_id":"d","schedule":"@daily","max_active_runs":4097,"tasks":[]} => 5 limit passed: max_active_runs
 {"dag_id":"d","schedule":"@daily","pools":[],"tasks":[]} => 2 shape: pools
-{"dag_id":"d","schedule":"@daily","pools":{"p":"2"},"tasks":[]} => 2 shape: pools
 {"dag_id":"d","schedule":"@daily","pools":{"p q":2},"tasks":[]} => 3 bad name: pools
-{"dag_id":"d","schedule":"@daily","pools":{"p":0},"tasks":[]} => 5 limit passed: pools
 {"dag_id":"d","schedule":"@daily","pools":{"p":1000001},"tasks":[]} => 5 limit passed: pools
 # Of one pool a wrong type comes first, then a bad name, then a limit; and each pool has its faults before the next by name.
 {"dag_id":"d","schedule":"@daily","pools":{"p q":"2"},"tasks":[]} => 2 shape: pools
@@ -118,10 +113,8 @@ tasks_are_told <<'ROWS'
 {"id":"s"},{"id":"t","command":"echo"} => 2 shape: tasks[1].command
 {"id":"s"},{"id":"t","command":[1]} => 2 shape: tasks[1].command
 {"id":"s"},{"id":"t","command":[{}]} => 2 shape: tasks[1].command
-{"id":"s"},{"id":"t","command":[{"context":"ds"}]} => 2 shape: tasks[1].command
 {"id":"s"},{"id":"t","command":[{"context":1}]} => 2 shape: tasks[1].command
 {"id":"s"},{"id":"t","command":[{"pull":1}]} => 2 shape: tasks[1].command
-{"id":"s"},{"id":"t","command":[{"item":true}]} => 2 shape: tasks[1].command
 {"id":"s"},{"id":"t","expand":"s","command":[{"item":false}]} => 2 shape: tasks[1].command
 {"id":"s"},{"id":"t","expand":"s","command":[{"item":true,"pull":"s"}]} => 2 shape: tasks[1].command
 {"id":"s"},{"id":"t","command":[{"word":"s"}]} => 2 shape: tasks[1].command
@@ -132,20 +125,10 @@ tasks_are_told <<'ROWS'
 {"id":"s"},{"id":"t","retries":1.0} => 2 shape: tasks[1].retries
 {"id":"s"},{"id":"t","retries":-0} => 2 shape: tasks[1].retries
 {"id":"s"},{"id":"t","retries":"1"} => 2 shape: tasks[1].retries
-{"id":"s"},{"id":"t","retries":9223372036854775808} => 2 shape: tasks[1].retries
-{"id":"s"},{"id":"t","retries":9223372036854775807} => 5 limit passed: tasks[1].retries
-{"id":"s"},{"id":"t","retries":101} => 5 limit passed: tasks[1].retries
-{"id":"s"},{"id":"t","retries":-1} => 5 limit passed: tasks[1].retries
 {"id":"s"},{"id":"t","pool":["p"]} => 2 shape: tasks[1].pool
-{"id":"s"},{"id":"t","pool_slots":0} => 5 limit passed: tasks[1].pool_slots
-{"id":"s"},{"id":"t","pool_slots":1000001} => 5 limit passed: tasks[1].pool_slots
-{"id":"s"},{"id":"t","priority_weight":-1} => 5 limit passed: tasks[1].priority_weight
-{"id":"s"},{"id":"t","priority_weight":1000001} => 5 limit passed: tasks[1].priority_weight
 {"id":"s"},{"id":"t","weight_rule":"none"} => 2 shape: tasks[1].weight_rule
-{"id":"s"},{"id":"t","sla":1} => 2 shape: tasks[1]
 {"id":"s"},{"id":"t","pool":"q"} => 8 unknown pool: t
 {"id":"s"},{"id":"t","pool":"p","pool_slots":3} => 9 slots beyond pool: t
-{"id":"s"},{"id":"t","pool_slots":129} => 9 slots beyond pool: t
 {"id":"s"},{"id":"t","rule":"all_good"} => 10 bad rule: t
 {"id":"s"},{"id":"t","rule":"ALL_SUCCESS"} => 10 bad rule: t
 # s isn't upstream, z isn't there, and no task is settled when it is decided itself.
@@ -169,7 +152,6 @@ tasks_are_told <<'ROWS'
 {"id":"a"},{"id":"a b"} => 3 bad name: tasks[1].id
 {"id":"é"} => 3 bad name: tasks[0].id
 {"id":"a"},{"id":"A"},{"id":"a"} => 4 duplicate task: a
-{"id":"a"},{"id":"b","upstream":["a","c"]} => 6 unknown upstream: b
 {"id":"a","upstream":["no id"]},{"id":"b","upstream":["c"]} => 6 unknown upstream: a
 {"id":"a","upstream":["A"]} => 6 unknown upstream: a
 {"id":"a"},{"id":"a"} => 4 duplicate task: a

@@ -1,4 +1,4 @@
--- What is looked for in a task, beside its pulls.
+-- What is looked for in a task, beside its pulls: for private clauses alone.
 use Rattle.std.specs.Prelude.{Bool}
 use Rattle.bf_read.specs.declared.draft.Draft.{Draft}
 use Rattle.bf_read.specs.declared.draft.TaskDraft.{TaskDraft}

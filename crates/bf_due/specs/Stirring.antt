@@ -1,4 +1,4 @@
--- What has come of a task by an event, and to which tasks below it that matters.
+-- What has come of a task by an event, and to which tasks below it that matters: for private clauses alone.
 use Rattle.std.specs.Prelude.{◌==◌, ℕ, Bool, not, ◌&&◌, ◌||◌, Option, None, Some, is_some}
 use Rattle.std.specs.List.{list_all}
 use Rattle.bf_value.specs.declared.name.JobName.{JobName}
