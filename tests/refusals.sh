@@ -1,7 +1,7 @@
 #!/usr/bin/env bash
-# Refuses each request for memory of bf_tests_refusals in turn, a backfill of which each call is made again where memory was wanting.
-# Whichever is refused, it has to come to the same events, and no refused call may have changed it. Needs a C compiler. The last line is
-# the sum, and the status is 1 where a run ended otherwise.
+# Refuses each request for memory of bf_tests_refusals in turn, two backfills of which each call is made again where memory was wanting,
+# and their journals, let come again to cores. Whichever is refused, they have to come to the same events, and no refused call may have
+# changed them. Needs a C compiler. The last line is the sum, and the status is 1 where a run ended otherwise.
 set -euo pipefail
 
 root=$(dirname "$(dirname "$(readlink -f "${BASH_SOURCE[0]}")")")

@@ -1,13 +1,14 @@
 //! Calls that are made again where memory was wanting.
 ghost use Rattle.std.specs.Prelude.{◌≡◌, ◌≤◌, length};
 
+use crate::graphs::Graph;
 use bf_check::Plan;
 use bf_core::{Core, Illegal};
 use bf_interval::Interval;
 use bf_sched::{Next, Scheduler};
 use bf_tests_graphs::plan_of;
 use bf_try::{Done, Raw};
-use bf_value::{JobName, OutOfMemory, Sequence};
+use bf_value::{JobName, OutOfMemory};
 use std::alloc::Global;
 use thiserror::Error;
 
@@ -18,6 +19,8 @@ pub enum Fault {
     Twice,
     #[error("a refused call has changed the backfill")]
     Changed,
+    #[error("an event has changed nothing that is seen")]
+    Unseen,
     #[error("the backfill has stopped short of its end")]
     Stopped,
 }
@@ -50,11 +53,11 @@ fn is_still(scheduler: &Scheduler<'_>, before: Seen) -> Result<(), Fault> {
 }
 
 /// The plan of a graph that has no fault.
-pub fn plan_again(alloc: Global, graph: &str) -> Result<Plan, Fault> {
-    if let Ok(plan) = plan_of(alloc, graph) {
+pub fn plan_again(alloc: Global, graph: Graph) -> Result<Plan, Fault> {
+    if let Ok(plan) = plan_of(alloc, graph.file()) {
         return Ok(plan);
     }
-    plan_of(alloc, graph).map_err(|_| Fault::Twice)
+    plan_of(alloc, graph.file()).map_err(|_| Fault::Twice)
 }
 
 /// The scheduler of a backfill by one worker.
@@ -117,30 +120,10 @@ pub fn finish_again(scheduler: &mut Scheduler<'_>, done: Done) -> Result<(), Fau
     }
 }
 
-/// The first try of the first task fails and its second gives a list of two; so does the second instance of the second task.
-fn raw(alloc: Global, name: JobName) -> Result<Raw, OutOfMemory> {
-    match name {
-        JobName {
-            task: 0,
-            attempt: 1,
-            ..
-        }
-        | JobName {
-            task: 1,
-            index: 1,
-            ..
-        } => { Ok(Raw::with_code(1, Sequence::new(alloc))) }
-        JobName { task: 0, .. } => {
-            Ok(Raw::with_code(0, Sequence::from_vec(b"[1,2]".to_vec(alloc)?)))
-        }
-        _ => Ok(Raw::with_code(0, Sequence::new(alloc))),
-    }
-}
-
 /// The answer of a try.
-pub fn raw_again(alloc: Global, name: JobName) -> Result<Raw, Fault> {
-    if let Ok(raw) = raw(alloc, name) {
+pub fn raw_again(alloc: Global, graph: Graph, name: JobName) -> Result<Raw, Fault> {
+    if let Ok(raw) = graph.raw(alloc, name) {
         return Ok(raw);
     }
-    raw(alloc, name).map_err(|_| Fault::Twice)
+    graph.raw(alloc, name).map_err(|_| Fault::Twice)
 }

@@ -1,0 +1,55 @@
+//! The graphs that are backfilled, and what their tries answer.
+use bf_try::Raw;
+use bf_value::{JobName, OutOfMemory, Sequence};
+use std::alloc::Global;
+
+/// A graph, with what each of its tries answers.
+#[derive(Clone, Copy, Debug, PartialEq, Eq)]
+pub enum Graph {
+    /// A retry that waits, a past, an expansion, a pool and an early rule.
+    Delayed,
+    /// A task that is expanded over a list, and one over what its instances pushed, of which one fails.
+    Expanded,
+}
+
+const DELAYED: &str =
+    r#"{"dag_id":"d","schedule":"@daily","max_active_runs":2,"pools":{"narrow":1},"tasks":[
+    {"id":"list","retries":1,"retry_delay":60,"depends_on_past":true},
+    {"id":"each","upstream":["list"],"expand":"list","pool":"narrow"},
+    {"id":"first","upstream":["each"],"rule":"one_success"},
+    {"id":"sum","upstream":["each"],"command":["echo",{"pull":"each"}]}]}"#;
+
+const EXPANDED: &str = r#"{"dag_id":"d","schedule":"@daily","tasks":[
+    {"id":"src"},
+    {"id":"m","upstream":["src"],"expand":"src"},
+    {"id":"n","upstream":["m"],"expand":"m","rule":"all_done"}]}"#;
+
+impl Graph {
+    /// Its file.
+    pub fn file(self) -> &'static str {
+        match self {
+            Graph::Delayed => DELAYED,
+            Graph::Expanded => EXPANDED,
+        }
+    }
+
+    /// The exit status of a try, and the last line that it prints.
+    fn answer(self, name: JobName) -> (i32, &'static str) {
+        match (self, name.task, name.index, name.attempt) {
+            (Graph::Delayed, 0, _, 1) | (Graph::Delayed, 1, 1, _) => (1, ""),
+            (Graph::Delayed, 0, _, _) => (0, "[1,2]"),
+            (Graph::Expanded, 0, _, _) => (0, "[1,2,3]"),
+            (Graph::Expanded, 1, 0, _) => (0, "1"),
+            (Graph::Expanded, 1, 1, _) => (1, ""),
+            (Graph::Expanded, 1, 2, _) => (0, "3"),
+            _ => (0, ""),
+        }
+    }
+
+    /// What a try answers.
+    pub fn raw(self, alloc: Global, name: JobName) -> Result<Raw, OutOfMemory> {
+        let (status, line) = self.answer(name);
+        let line = line.as_bytes().to_vec(alloc)?;
+        Ok(Raw::with_code(status, Sequence::from_vec(line)))
+    }
+}

@@ -1,0 +1,104 @@
+//! The events of a journal, let come again to two cores, of which one shows how the other was.
+ghost use Rattle.std.specs.Prelude.{◌≡◌, ◌≤◌, length};
+
+use crate::again::Fault;
+use crate::sameness::is_same_core;
+use bf_check::Plan;
+use bf_core::{Core, Event, Illegal};
+use bf_interval::Interval;
+use std::alloc::Global;
+
+fn core_again<'a>(alloc: Global, plan: &'a Plan, intervals: &[Interval]) -> Result<Core<'a>, Fault>
+    requires { length intervals.now ≤ 4_096 }
+{
+    if let Ok(core) = Core::new(alloc, plan, intervals) {
+        return Ok(core);
+    }
+    Core::new(alloc, plan, intervals).map_err(|_| Fault::Twice)
+}
+
+fn copy_again(alloc: Global, event: &Event) -> Result<Event, Fault> {
+    if let Ok(event) = event.copy(alloc) {
+        return Ok(event);
+    }
+    event.copy(alloc).map_err(|_| Fault::Twice)
+}
+
+/// A journal, and two cores on its way.
+#[derive(Drop)]
+struct Cores<'a, 'b> {
+    journal: &'b [Event],
+    core: Core<'a>,
+    /// It is an event behind while the core takes one.
+    behind: Core<'a>,
+}
+
+impl<'a, 'b> Cores<'a, 'b> {
+    fn are_level(&self) -> bool {
+        is_same_core(&self.core, &self.behind, self.journal)
+    }
+
+    /// Lets an event come to the core. Where memory is wanting, nothing of it has changed, and it takes the event when that
+    /// comes again.
+    fn apply(&mut self, alloc: Global, event: &Event) -> Result<(), Fault> {
+        match self.core.apply(copy_again(alloc, event)?) {
+            Ok(()) => Ok(()),
+            Err(Illegal::OutOfMemory) => {
+                if !self.are_level() {
+                    return Err(Fault::Changed);
+                }
+                self.core
+                    .apply(copy_again(alloc, event)?)
+                    .map_err(|_| Fault::Twice)
+            }
+            Err(_) => Err(Fault::Stopped),
+        }
+    }
+
+    fn catch_up(&mut self, alloc: Global, event: &Event) -> Result<(), Fault> {
+        if self.behind.apply(copy_again(alloc, event)?).is_ok() {
+            return Ok(());
+        }
+        self.behind
+            .apply(copy_again(alloc, event)?)
+            .map_err(|_| Fault::Twice)
+    }
+
+    /// Lets an event come to both. Between them it is seen.
+    fn step(&mut self, alloc: Global, event: &Event) -> Result<(), Fault> {
+        self.apply(alloc, event)?;
+        if self.are_level() {
+            return Err(Fault::Unseen);
+        }
+        self.catch_up(alloc, event)?;
+        if self.are_level() {
+            Ok(())
+        } else {
+            Err(Fault::Changed)
+        }
+    }
+}
+
+/// Lets each event of a journal come, up to the end of the backfill.
+pub fn replay(
+    alloc: Global,
+    plan: &Plan,
+    intervals: &[Interval],
+    journal: &[Event],
+) -> Result<(), Fault>
+    requires { length intervals.now ≤ 4_096 }
+{
+    let mut cores = Cores {
+        journal,
+        core: core_again(alloc, plan, intervals)?,
+        behind: core_again(alloc, plan, intervals)?,
+    };
+    for event in journal {
+        cores.step(alloc, event)?;
+    }
+    if cores.core.is_ended() {
+        Ok(())
+    } else {
+        Err(Fault::Stopped)
+    }
+}
