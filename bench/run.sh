@@ -1,6 +1,6 @@
 #!/usr/bin/env bash
-# Times `backfill run` over graphs of `true`s beside a bare loop in C that starts as many (bench/bare.c), by 1, 4, 8 and 64 workers, and
-# measures what it takes itself while its programs sleep. Needs a C compiler.
+# Times `backfill run` over graphs of `true`s, by 1, 4, 8 and 64 workers, beside a bare loop in C that starts as many (bench/bare.c), and
+# beside one whose threads are handed each program, and measures what it takes itself while its programs sleep. Needs a C compiler.
 set -euo pipefail
 
 source "$(dirname "$(readlink -f "${BASH_SOURCE[0]}")")/program.sh"
@@ -56,8 +56,11 @@ for name, layers, width, runs in (
 ):
     for workers in (1, 4, 8, 64):
         wall, cpu = measured(run_of(graph_of(layers, width, ["true"]), runs, workers))
-        bare_wall, bare_cpu = measured([f"{work}/bare", f"{workers}", f"{layers * runs}", f"{width}"])
-        print(f"{name}, {workers} workers: {wall:.2f} s of wall and {cpu:.2f} s of processor, bare {bare_wall:.2f} and {bare_cpu:.2f}")
+        loop = [f"{work}/bare", f"{workers}", f"{layers * runs}", f"{width}"]
+        bare_wall, bare_cpu = measured(loop)
+        handed_wall, handed_cpu = measured([*loop, "handed"])
+        print(f"{name}, {workers} workers: {wall:.2f} s of wall and {cpu:.2f} s of processor, bare {bare_wall:.2f} and {bare_cpu:.2f}, "
+              f"handed {handed_wall:.2f} and {handed_cpu:.2f}")
 
 wall, cpu = measured(run_of(graph_of(1, 8, ["sleep", "10"]), 1, 8))
 print(f"8 programs that sleep 10 s, 8 workers: {wall:.2f} s of wall and {cpu:.3f} s of processor, the programs' included")
