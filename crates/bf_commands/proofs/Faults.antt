@@ -1,5 +1,5 @@
 -- The faults of commands over bytes, and what they leave.
-use Rattle.std.proofs.Common.{◌≡◌, ◌≢◌, ℕ, ℤ, List, Bool, Option, Result, Ok, Err, IfErr, refl}
+use Rattle.std.proofs.Common.{◌≡◌, ◌≢◌, inl, inr, ℕ, ℤ, List, Bool, Option, Result, Ok, Err, IfErr, refl}
 use Rattle.jiff.specs.declared.timestamp.Timestamp.{Timestamp}
 use Rattle.bf_read.specs.declared.draft.Draft.{Draft}
 use Rattle.bf_read.specs.declared.fault.ReadFault.{ReadFault}
@@ -28,7 +28,7 @@ use Rattle.bf_command_fault.specs.declared.fault.CommandFault.TheVariants.{Read,
 use Rattle.bf_command_fault.specs.declared.stop.StopFault.{StopFault}
 use Rattle.bf_commands.specs.DatedRuns.{IsFaultOfDry, IsReportIn}
 use Rattle.bf_commands.specs.Graphs.{IsFaultIn, IsFileOf, IsPlanOf}
-use Rattle.bf_commands.specs.Lists.{HasListing, IsFaultOfList, IsRangeFault}
+use Rattle.bf_commands.specs.Lists.{HasListing, IsDatedFault, IsFaultOfList, IsRangeFault}
 use Rattle.bf_commands.specs.OneRun.{IsFaultOfSingle, IsReportAt, intervals_at}
 use Rattle.bf_commands.specs.OverTable.{IsReportOver, IsTableFault, IsUnsent, IsWanting, IsWantingWorkers}
 use Rattle.bf_commands.specs.Programs.{Hearing, Losing, IsFaultOfRun, IsReportBy, IsRunReport, IsStopOrWanting}
@@ -85,7 +85,7 @@ write_wanting fault = wanting_by fault.cause fault.sent
 -- ---- the faults of parts are those of commands
 
 module _ (graph : List ℕ) (file : Option (List ℕ)) (from to : ℤ) where
-  pub list_graph : (fault : CommandFault) → IsFaultIn graph file fault → IsFaultOfList graph file from to fault
+  list_graph : (fault : CommandFault) → IsFaultIn graph file fault → IsFaultOfList graph file from to fault
   list_graph (Read fault) is = is
   list_graph (Check fault) is = is
   list_graph (Table fault) is = absurd is
@@ -98,7 +98,7 @@ module _ (graph : List ℕ) (file : Option (List ℕ)) (from to : ℤ) where
   list_graph (CannotWrite n) is = tt
   list_graph (Stopped stop) is = absurd is
 
-  pub list_range : (fault : CommandFault) → IsRangeFault graph file from to fault → IsFaultOfList graph file from to fault
+  list_range : (fault : CommandFault) → IsRangeFault graph file from to fault → IsFaultOfList graph file from to fault
   list_range (Read fault) is = absurd is
   list_range (Check fault) is = absurd is
   list_range (Table fault) is = absurd is
@@ -110,6 +110,12 @@ module _ (graph : List ℕ) (file : Option (List ℕ)) (from to : ℤ) where
   list_range (CannotRead path) is = absurd is
   list_range (CannotWrite n) is = tt
   list_range (Stopped stop) is = absurd is
+
+  pub list_dated : (fault : CommandFault) → IsDatedFault graph file from to fault → IsFaultOfList graph file from to fault
+  list_dated fault is = elim is [
+    | inl early ↦ list_graph fault early
+    | inr late ↦ list_range fault late
+  ]
 
   pub list_wanting : (fault : CommandFault) → IsWanting fault → IsFaultOfList graph file from to fault
   list_wanting (Read fault) is = absurd is
@@ -231,7 +237,7 @@ module _ (graph : List ℕ) (file : Option (List ℕ)) (table : List ℕ) (from 
   dry_wanting_in (Err fault) is = dry_wanting fault is
 
 module _ (may_lose : Losing) (graph : List ℕ) (file : Option (List ℕ)) (from to : ℤ) where
-  pub run_graph : (fault : CommandFault) → IsFaultIn graph file fault → IsFaultOfRun may_lose graph file from to fault
+  run_graph : (fault : CommandFault) → IsFaultIn graph file fault → IsFaultOfRun may_lose graph file from to fault
   run_graph (Read fault) is = is
   run_graph (Check fault) is = is
   run_graph (Table fault) is = absurd is
@@ -244,7 +250,7 @@ module _ (may_lose : Losing) (graph : List ℕ) (file : Option (List ℕ)) (from
   run_graph (CannotWrite n) is = tt
   run_graph (Stopped stop) is = absurd is
 
-  pub run_range : (fault : CommandFault) → IsRangeFault graph file from to fault → IsFaultOfRun may_lose graph file from to fault
+  run_range : (fault : CommandFault) → IsRangeFault graph file from to fault → IsFaultOfRun may_lose graph file from to fault
   run_range (Read fault) is = absurd is
   run_range (Check fault) is = absurd is
   run_range (Table fault) is = absurd is
@@ -256,6 +262,12 @@ module _ (may_lose : Losing) (graph : List ℕ) (file : Option (List ℕ)) (from
   run_range (CannotRead path) is = absurd is
   run_range (CannotWrite n) is = tt
   run_range (Stopped stop) is = absurd is
+
+  pub run_dated : (fault : CommandFault) → IsDatedFault graph file from to fault → IsFaultOfRun may_lose graph file from to fault
+  run_dated fault is = elim is [
+    | inl early ↦ run_graph fault early
+    | inr late ↦ run_range fault late
+  ]
 
   module _ (plan : Checked) (said : IsPlanOf graph file plan) (found : List Interval) (listing : HasListing graph file from to (Ok found)) where
     run_stop : (fault : CommandFault) → IsStopOrWanting may_lose plan.dag found fault → IsFaultOfRun may_lose graph file from to fault
@@ -337,6 +349,12 @@ module _ (Halted : Type 0) (IsDue : List ℕ → Type 0) (before : Option (List 
   range_leaves graph file from to (CannotRead path) is = refl
   range_leaves graph file from to (CannotWrite n) is = absurd is
   range_leaves graph file from to (Stopped stop) is = refl
+
+  pub dated_leaves : (graph : List ℕ) (file : Option (List ℕ)) (from to : ℤ) (fault : CommandFault) → IsDatedFault graph file from to fault → Leaves Halted IsDue before before fault
+  dated_leaves graph file from to fault is = elim is [
+    | inl early ↦ graph_leaves graph file fault early
+    | inr late ↦ range_leaves graph file from to fault late
+  ]
 
 -- a fault before any device was called leaves all as it was
 pub unsent_leaves : (Halted : Type 0) (IsDue : List ℕ → Type 0) (before : Option (List ℕ)) (fault : CommandFault) → IsUnsent fault → Leaves Halted IsDue before before fault

@@ -1,5 +1,5 @@
 -- What the command `list` prints: the data intervals of a graph's schedule that start in a range.
-use Rattle.std.specs.Prelude.{◌≡◌, ℕ, ℤ, pos, ◌≤ℤ◌, List, [], ◌∷◌, ◌++◌, Option, Result, Ok, Err}
+use Rattle.std.specs.Prelude.{◌≡◌, ◌⊎◌, ℕ, ℤ, pos, ◌≤ℤ◌, List, [], ◌∷◌, ◌++◌, Option, Result, Ok, Err}
 use Rattle.std.specs.List.{flat_map}
 use Rattle.jiff.specs.Types.{TimeZone}
 use Rattle.bf_cron.specs.declared.spec.CronSpec.{CronSpec}
@@ -42,6 +42,10 @@ abbrev pub IsRangeFault : List ℕ → Option (List ℕ) → ℤ → ℤ → Com
 IsRangeFault graph file from to (Range fault) = HasListing graph file from to (Err fault)
 IsRangeFault graph file from to OutOfMemory = Unit {0}
 IsRangeFault graph file from to _ = ⊥
+
+-- the fault is one of the graph, or else of the range; or memory is wanting
+abbrev pub IsDatedFault : List ℕ → Option (List ℕ) → ℤ → ℤ → CommandFault → Type 0
+IsDatedFault graph file from to fault = IsFaultIn graph file fault ⊎ IsRangeFault graph file from to fault
 
 -- the fault is the first: those of the graph go before those of the range; or memory or the device is wanting
 abbrev pub IsFaultOfList : List ℕ → Option (List ℕ) → ℤ → ℤ → CommandFault → Type 0

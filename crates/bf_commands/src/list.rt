@@ -4,7 +4,7 @@ ghost use Rattle.bf_device.specs.Device.{HasHalted};
 ghost use Rattle.bf_command_fault.specs.Refusal.{Leaves, Sends};
 ghost use Rattle.bf_commands.specs.Lists.{IsFaultOfList, IsListIn, IsSince1970, interval_line, intervals_text};
 
-use crate::plan::timed_plan_in;
+use crate::plan::dated_plan_in;
 use crate::range::MomentRange;
 use bf_command_fault::CommandFault;
 use bf_device::{Write, send};
@@ -50,8 +50,7 @@ pub fn run_list<W: Write>(
         (IsListIn graph.now (option_map (λ s. s.now) zone_file.entry) range.from.nanosecond range.to.nanosecond)
         (W.written out.old) (W.written out.new)) }
 {
-    let timed = timed_plan_in(alloc, graph, zone_file)?;
-    let found = timed.intervals(alloc, range)?;
+    let found = dated_plan_in(alloc, graph, zone_file, range)?.intervals;
     let text = text_of(alloc, &found)?;
     send(out, text.as_bytes())?;
     Ok(())

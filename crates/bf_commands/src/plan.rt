@@ -1,7 +1,7 @@
 //! The plans of graph files.
 ghost use Rattle.std.specs.Prelude.{◌≡◌, ℕ, List, Option, option_map, IfOk, IfErr, Ok};
 ghost use Rattle.bf_commands.specs.Graphs.{IsFileOf, IsFaultIn, IsPlanOf, IsTimed};
-ghost use Rattle.bf_commands.specs.Lists.{HasListing, IsRangeFault};
+ghost use Rattle.bf_commands.specs.Lists.{HasListing, IsDatedFault, IsRangeFault};
 
 use crate::range::MomentRange;
 use bf_check::{Plan, Zone, check};
@@ -57,4 +57,31 @@ pub(crate) fn timed_plan_in(
     let draft = draft_in(alloc, graph)?;
     let (plan, zone) = check(alloc, draft, zone_file)?;
     Ok(TimedPlan { plan, zone })
+}
+
+/// The plan of a graph file, and the data intervals of its runs.
+#[derive(Drop)]
+pub(crate) struct DatedPlan {
+    pub(crate) plan: Plan,
+    pub(crate) intervals: Vec<Interval>,
+}
+
+/// The plan of a graph file, and the data intervals of its schedule that start in the range, its ends included, in order.
+pub(crate) fn dated_plan_in(
+    alloc: Global,
+    graph: &[u8],
+    zone_file: Option<&[u8]>,
+    range: MomentRange,
+) -> Result<DatedPlan, CommandFault>
+    ensures plan { IfOk result (λ dated. IsPlanOf graph.now (option_map (λ s. s.now) zone_file.entry) dated.plan) }
+    ensures intervals { IfOk result (λ dated. HasListing graph.now (option_map (λ s. s.now) zone_file.entry)
+        range.from.nanosecond range.to.nanosecond (Ok dated.intervals.items)) }
+    ensures fault { IfErr result (IsDatedFault graph.now (option_map (λ s. s.now) zone_file.entry) range.from.nanosecond range.to.nanosecond) }
+{
+    let timed = timed_plan_in(alloc, graph, zone_file)?;
+    let intervals = timed.intervals(alloc, range)?;
+    Ok(DatedPlan {
+        plan: timed.plan,
+        intervals,
+    })
 }

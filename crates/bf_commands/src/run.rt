@@ -10,7 +10,7 @@ ghost use Rattle.bf_commands.specs.OverTable.{IsUnsent};
 ghost use Rattle.bf_commands.specs.Programs.{IsEndedBy, IsFaultOfRun, IsReportBy, IsRunReport, IsStopOrWanting, launched, launched_lost};
 
 use crate::crew::Crew;
-use crate::plan::timed_plan_in;
+use crate::plan::dated_plan_in;
 use crate::range::MomentRange;
 use crate::reported::write_ended;
 use crate::screen::Screen;
@@ -108,7 +108,6 @@ pub fn run_programs<RT: Starter + Screen + Threads + Wait + Clock + Sync, W: Wri
         × IsRunReport (launched crew.now.launcher (RT.may_hear crew.now.rt.now)) graph.now (option_map (λ s. s.now) zone_file.entry) range.from.nanosecond range.to.nanosecond text success)
         (W.written out.old) (W.written out.new)) }
 {
-    let timed = timed_plan_in(crew.alloc, graph, zone_file)?;
-    let found = timed.intervals(crew.alloc, range)?;
-    run_with_programs(crew, &timed.plan, &found, out)
+    let dated = dated_plan_in(crew.alloc, graph, zone_file, range)?;
+    run_with_programs(crew, &dated.plan, &dated.intervals, out)
 }
