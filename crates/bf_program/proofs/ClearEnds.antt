@@ -10,6 +10,7 @@ use Rattle.bf_report_reader.specs.declared.fault.ReportFault.TheVariants as repo
 use Rattle.bf_report_reader.specs.Faults.{Tells}
 use Rattle.bf_dependents.specs.declared.seeds.Seed.{Seed}
 use Rattle.bf_command_line.specs.declared.forms.ClearAsked.{ClearAsked}
+use Rattle.bf_command_line.specs.declared.forms.GraphAsked.{GraphAsked}
 use Rattle.bf_command_fault.specs.Refusal.{Leaves, of_report}
 use Rattle.bf_command_fault.specs.Status.{of_runs}
 use Rattle.bf_command_fault.specs.declared.fault.CommandFault.{CommandFault}
@@ -19,7 +20,7 @@ use Rattle.bf_commands.specs.Cleared.{IsFaultAgain, IsFaultBefore, IsPrepared, I
 use Rattle.bf_commands.specs.Programs.{Hearing, Losing, launched, launched_lost}
 use Rattle.bf_commands.proofs.ClearFaults.{may_stop}
 use Rattle.bf_program.specs.Commands.{AreReadable, Files, IsClearAnswer, IsClearFault, IsHeld, IsHeldIfNamed, IsNoLonger, IsNoMoment, IsReadable, MeansRange, MeansSeed, OfFilesAndNamedTable, clear_paths, table_named}
-use Rattle.bf_program.specs.Files.{AreAlike, IsReadingFault, IsReportFault}
+use Rattle.bf_program.specs.Files.{AreAlike, IsFaultAfterFile, IsPreparingFault, IsReadingFault, IsReportAfterFile, IsReportFault}
 use Rattle.bf_program.proofs.Alike.{fault_in, graph_of, listing_of}
 
 -- why a report isn't read
@@ -44,6 +45,22 @@ report_leaves Halted IsDue before path file OutOfMemory is = refl
 report_leaves Halted IsDue before path file (CannotRead p) is = refl
 report_leaves Halted IsDue before path file (CannotWrite n) is = absurd is
 report_leaves Halted IsDue before path file (Stopped stop) is = absurd is
+
+-- nothing went out before the report is read
+pub preparing_leaves : (Halted : Type 0) (IsDue : List ℕ → Type 0) (before : Option (List ℕ)) (files : Files) (asked : GraphAsked) (path : Option (List ℕ)) (range : MomentRange) (fault : CommandFault)
+    → IsPreparingFault files asked path range fault → Leaves Halted IsDue before before fault
+preparing_leaves Halted IsDue before files asked path range (Read fault) is = refl
+preparing_leaves Halted IsDue before files asked path range (Check fault) is = refl
+preparing_leaves Halted IsDue before files asked path range (Table fault) is = refl
+preparing_leaves Halted IsDue before files asked path range (Range fault) is = refl
+preparing_leaves Halted IsDue before files asked path range (Report fault) is = refl
+preparing_leaves Halted IsDue before files asked path range (Clear fault) is = refl
+preparing_leaves Halted IsDue before files asked path range BadMoment is = refl
+preparing_leaves Halted IsDue before files asked path range OutOfMemory is = refl
+preparing_leaves Halted IsDue before files asked path range (CannotRead p) is = refl
+preparing_leaves Halted IsDue before files asked path range (CannotWrite n) (inl reading) = absurd reading
+preparing_leaves Halted IsDue before files asked path range (CannotWrite n) (inr said) = absurd said.1.holds
+preparing_leaves Halted IsDue before files asked path range (Stopped stop) is = refl
 
 -- ---- by what the files are told to hold
 
@@ -90,7 +107,7 @@ clear_seed may_lose files asked fault bad = subst (IsClearFault may_lose files a
 -- ---- the files
 
 module _ (may_hear : Hearing) (may_lose : Losing) (files : Files) (asked : ClearAsked) (range : MomentRange) (means : MeansRange asked.range range) (seed : Seed) (means_seed : MeansSeed asked.seed seed) where
-  pub clear_reading : (fault : CommandFault) → IsReadingFault files (clear_paths asked.graph (table_named asked)) fault → IsClearFault may_lose files asked fault
+  clear_reading : (fault : CommandFault) → IsReadingFault files (clear_paths asked.graph (table_named asked)) fault → IsClearFault may_lose files asked fault
   clear_reading (Read fault) is = absurd is
   clear_reading (Check fault) is = absurd is
   clear_reading (Table fault) is = absurd is
@@ -113,7 +130,7 @@ module _ (may_hear : Hearing) (may_lose : Losing) (files : Files) (asked : Clear
         let same = alike graph held other are holds in
         before_alike read graph zone held same.0 table other same.1 range.from.nanosecond range.to.nanosecond fault is
 
-    pub clear_before : (fault : CommandFault) → IsFaultBefore read zone table range.from.nanosecond range.to.nanosecond fault → IsClearFault may_lose files asked fault
+    clear_before : (fault : CommandFault) → IsFaultBefore read zone table range.from.nanosecond range.to.nanosecond fault → IsClearFault may_lose files asked fault
     clear_before (Read fault) is = (range, means, seed, means_seed, (readable, before_held (Read fault) is))
     clear_before (Check fault) is = (range, means, seed, means_seed, (readable, before_held (Check fault) is))
     clear_before (Table fault) is = (range, means, seed, means_seed, (readable, before_held (Table fault) is))
@@ -135,7 +152,7 @@ module _ (may_hear : Hearing) (may_lose : Losing) (files : Files) (asked : Clear
       abbrev is_ready : (graph : List ℕ) (held other : Option (List ℕ)) → IsPrepared graph held other range.from.nanosecond range.to.nanosecond dag found answers → IsReady graph held other range.from.nanosecond range.to.nanosecond
       is_ready graph held other is = record { dag = dag; found = found; answers = answers; prepared = is }
 
-      pub clear_report : (fault : CommandFault) → IsReportFault (string_bytes asked.report) (files (string_bytes asked.report)) fault → IsClearFault may_lose files asked fault
+      clear_report : (fault : CommandFault) → IsReportFault (string_bytes asked.report) (files (string_bytes asked.report)) fault → IsClearFault may_lose files asked fault
       clear_report (Read fault) is = absurd is
       clear_report (Check fault) is = absurd is
       clear_report (Table fault) is = absurd is
@@ -171,7 +188,7 @@ module _ (may_hear : Hearing) (may_lose : Losing) (files : Files) (asked : Clear
       clear_report (Stopped stop) is = absurd is
 
       module _ (report_readable : IsReadable (files (string_bytes asked.report))) (was : Reported) (says : (held : List ℕ) → IsHeld (files (string_bytes asked.report)) held → IsNoLonger held → IsReadAs held was) where
-        pub clear_again : (fault : CommandFault) → IsFaultAgain (launched_lost asked.launcher may_lose) answers dag found was seed fault → IsClearFault may_lose files asked fault
+        clear_again : (fault : CommandFault) → IsFaultAgain (launched_lost asked.launcher may_lose) answers dag found was seed fault → IsClearFault may_lose files asked fault
         clear_again (Read fault) is = absurd (may_stop (launched_lost asked.launcher may_lose) dag found answers (Read fault) is)
         clear_again (Check fault) is = absurd (may_stop (launched_lost asked.launcher may_lose) dag found answers (Check fault) is)
         clear_again (Table fault) is = absurd (may_stop (launched_lost asked.launcher may_lose) dag found answers (Table fault) is)
@@ -212,7 +229,7 @@ module _ (may_hear : Hearing) (may_lose : Losing) (files : Files) (asked : Clear
           ),
         )
 
-        pub clear_answer : (text : List ℕ) (success : Bool) → IsReportAfter (launched asked.launcher may_hear) answers dag found was seed text success → IsClearAnswer may_hear files asked text (of_runs success)
+        clear_answer : (text : List ℕ) (success : Bool) → IsReportAfter (launched asked.launcher may_hear) answers dag found was seed text success → IsClearAnswer may_hear files asked text (of_runs success)
         clear_answer text success is = record {
           range = range;
           means = means;
@@ -234,3 +251,31 @@ module _ (may_hear : Hearing) (may_lose : Losing) (files : Files) (asked : Clear
             reported = subst (λ (d : Dag). IsReportAfter (launched asked.launcher may_hear) answers d found was seed text success) p.dag_is is;
           });
         }
+
+-- ---- the files and what they say
+
+-- a fault before the report is read is the command's
+pub clear_preparing : (may_hear : Hearing) (may_lose : Losing) (files : Files) (asked : ClearAsked) (range : MomentRange) (means : MeansRange asked.range range) (seed : Seed) (means_seed : MeansSeed asked.seed seed)
+    (fault : CommandFault) → IsPreparingFault files asked.graph (table_named asked) range fault → IsClearFault may_lose files asked fault
+clear_preparing may_hear may_lose files asked range means seed means_seed fault (inl reading) = clear_reading may_hear may_lose files asked range means seed means_seed fault reading
+clear_preparing may_hear may_lose files asked range means seed means_seed fault (inr (readable, said)) =
+    clear_before may_hear may_lose files asked range means seed means_seed said.graph said.zone said.table readable said.alike fault said.holds
+
+-- the report is read in a file that nothing has changed
+module _ (may_hear : Hearing) (may_lose : Losing) (files : Files) (asked : ClearAsked) (range : MomentRange) (means : MeansRange asked.range range) (seed : Seed) (means_seed : MeansSeed asked.seed seed)
+    (read : List ℕ) (zone table : Option (List ℕ)) (readable : AreReadable files (clear_paths asked.graph (table_named asked)))
+    (alike : OfFilesAndNamedTable files asked.graph (table_named asked) (λ graph held other. AreAlike read graph zone held × (option_map table_of table ≡ option_map table_of other)))
+    (dag : Dag) (found : List Interval) (answers : Option (List TableEntry)) (is_prepared : IsPrepared read zone table range.from.nanosecond range.to.nanosecond dag found answers)
+    (file : Option (Option (List ℕ))) (stays : file ≡ files (string_bytes asked.report)) where
+  pub clear_going_on : (fault : CommandFault) → IsFaultAfterFile (launched_lost asked.launcher may_lose) answers dag found (string_bytes asked.report) file seed fault → IsClearFault may_lose files asked fault
+  clear_going_on fault (inl report) =
+      clear_report may_hear may_lose files asked range means seed means_seed read zone table readable alike dag found answers is_prepared fault
+      (subst (λ (f : Option (Option (List ℕ))). IsReportFault (string_bytes asked.report) f fault) stays report)
+  clear_going_on fault (inr (was, is, again)) =
+      clear_again may_hear may_lose files asked range means seed means_seed read zone table readable alike dag found answers is_prepared
+      (subst IsReadable stays is.readable) was (λ held told short. is.says held (stays ∙ told) short) fault again
+
+  pub clear_gone_on : (text : List ℕ) (success : Bool) → IsReportAfterFile (launched asked.launcher may_hear) answers dag found file seed text success → IsClearAnswer may_hear files asked text (of_runs success)
+  clear_gone_on text success is =
+      clear_answer may_hear may_lose files asked range means seed means_seed read zone table readable alike dag found answers is_prepared
+      (subst IsReadable stays is.read.readable) is.was (λ held told short. is.read.says held (stays ∙ told) short) text success is.reported

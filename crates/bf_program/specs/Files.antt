@@ -1,13 +1,23 @@
 -- What is read of files, for private clauses.
-use Rattle.std.specs.Prelude.{◌≡◌, ◌≢◌, ◌≤◌, ℕ, List, length, Option, Some, None, option_map, Vec}
+use Rattle.std.specs.Prelude.{◌≡◌, ◌≢◌, ◌≤◌, ◌⊎◌, ℕ, Bool, List, length, Option, Some, None, option_map, Vec}
 use Rattle.std.specs.Global.{Global}
 use Rattle.jiff.specs.Types.{TimeZone}
 use Rattle.bf_read.specs.Reading.{graph_in}
 use Rattle.bf_zone.specs.Zones.{Asked, IsZone}
 use Rattle.bf_report_reader.specs.Faults.{Tells}
+use Rattle.bf_check.specs.declared.plan.Dag.{Dag}
+use Rattle.bf_dependents.specs.declared.seeds.Seed.{Seed}
+use Rattle.bf_interval.specs.declared.interval.Interval.{Interval}
+use Rattle.bf_report.specs.declared.report.Report.{Report}
+use Rattle.bf_try.specs.declared.table.TableEntry.{TableEntry}
+use Rattle.bf_try.specs.Tables.{table_of}
+use Rattle.bf_command_line.specs.declared.forms.GraphAsked.{GraphAsked}
 use Rattle.bf_command_fault.specs.declared.fault.CommandFault.{CommandFault}
 use Rattle.bf_command_fault.specs.declared.fault.CommandFault.TheVariants.{OutOfMemory, CannotRead, Report as BadReport}
-use Rattle.bf_program.specs.Commands.{Files, IsFirstUntold}
+use Rattle.bf_commands.specs.declared.range.MomentRange.{MomentRange}
+use Rattle.bf_commands.specs.Cleared.{IsFaultAgain, IsFaultBefore, IsReadAs, IsReportAfter}
+use Rattle.bf_commands.specs.Programs.{Hearing, Losing}
+use Rattle.bf_program.specs.Commands.{AreReadable, Files, IsFirstUntold, IsHeld, IsNoLonger, IsReadable, OfFilesAndNamedTable, clear_paths}
 
 -- the bytes of a zone file, where one was read
 abbrev pub bytes_of : Option (Vec ℕ Global) → Option (List ℕ)
@@ -29,9 +39,39 @@ IsReadingFault files paths (CannotRead path) = IsFirstUntold files paths path
 IsReadingFault files paths OutOfMemory = Unit {0}
 IsReadingFault files paths _ = ⊥
 
+-- this holds of bytes that say what the graph file and the table are told to hold, where one is named
+pub record IsOfBytes (files : Files) (asked : GraphAsked) (path : Option (List ℕ)) (P : List ℕ → Option (List ℕ) → Option (List ℕ) → Type 0) : Type 0 where
+  pub graph : List ℕ
+  pub zone : Option (List ℕ)
+  pub table : Option (List ℕ)
+  pub alike : OfFilesAndNamedTable files asked path (λ held zone_held other. AreAlike graph held zone zone_held × (option_map table_of table ≡ option_map table_of other))
+  pub holds : P graph zone table
+
+-- the first fault of the files, the graph, the table and the range
+abbrev pub IsPreparingFault : Files → GraphAsked → Option (List ℕ) → MomentRange → CommandFault → Type 0
+IsPreparingFault files asked path range fault =
+    IsReadingFault files (clear_paths asked path) fault
+    ⊎ (AreReadable files (clear_paths asked path) × IsOfBytes files asked path (λ graph zone table. IsFaultBefore graph zone table range.from.nanosecond range.to.nanosecond fault))
+
 -- the report's file can't be read, or it holds no report; or memory is wanting
 abbrev pub IsReportFault : List ℕ → Option (Option (List ℕ)) → CommandFault → Type 0
 IsReportFault path file (CannotRead p) = (p ≡ path) × ((held : List ℕ) → file ≢ Some (Some held))
 IsReportFault path file (BadReport fault) = (file ≢ Some None) × ((held : List ℕ) → file ≡ Some (Some held) → length held ≤ 9_223_372_036_854_775_806 → Tells held fault)
 IsReportFault path file OutOfMemory = Unit {0}
 IsReportFault path file _ = ⊥
+
+-- this report is read of the file, if a vector can hold all its bytes
+pub record IsReadOf (file : Option (Option (List ℕ))) (report : Report) : Type 0 where
+  pub readable : IsReadable file
+  pub says : (held : List ℕ) → IsHeld file held → IsNoLonger held → IsReadAs held report
+
+-- the report of the backfill that goes on from that of a file, and whether each run of it is a success
+pub record IsReportAfterFile (may_hear : Hearing) (answers : Option (List TableEntry)) (dag : Dag) (found : List Interval) (file : Option (Option (List ℕ))) (seed : Seed) (text : List ℕ) (success : Bool) : Type 0 where
+  pub was : Report
+  pub read : IsReadOf file was
+  pub reported : IsReportAfter may_hear answers dag found was seed text success
+
+-- the fault of a report's file, or else of the backfill that goes on from its report
+abbrev pub IsFaultAfterFile : Losing → Option (List TableEntry) → Dag → List Interval → List ℕ → Option (Option (List ℕ)) → Seed → CommandFault → Type 0
+IsFaultAfterFile may_lose answers dag found path file seed fault =
+    IsReportFault path file fault ⊎ ((was : Report) × IsReadOf file was × IsFaultAgain may_lose answers dag found was seed fault)

@@ -1,17 +1,20 @@
 //! The command `clear`: a backfill that goes on from its report, where a task in a run is cleared with all that follows from it.
-ghost use Rattle.std.specs.Prelude.{◌≡◌, ℕ, List, IfOk, IfErr, OnOk, option_map, string_bytes};
+ghost use Rattle.std.specs.Prelude.{◌≡◌, ℕ, Bool, List, IfOk, IfErr, OnOk, option_map, string_bytes};
 ghost use Rattle.bf_device.specs.Device.{HasHalted};
 ghost use Rattle.bf_try.specs.Tables.{table_of};
+ghost use Rattle.bf_report_reader.specs.Written.{AreOfRuns};
+ghost use Rattle.bf_commands.specs.Cleared.{IsPrepared};
+ghost use Rattle.bf_commands.specs.Programs.{launched, launched_lost};
 ghost use Rattle.bf_command_fault.specs.Refusal.{Leaves, Sends};
 ghost use Rattle.bf_command_fault.specs.declared.status.Status.{Status as StatusTerm};
 ghost use Rattle.bf_program.specs.Commands.{AreReadable, IsClearAnswer, IsClearFault, IsNoMoment, MeansSeed, OfFilesAndNamedTable, clear_paths};
-ghost use Rattle.bf_program.specs.Files.{AreAlike, IsReadingFault, bytes_of};
+ghost use Rattle.bf_program.specs.Files.{AreAlike, IsFaultAfterFile, IsOfBytes, IsPreparingFault, IsReadingFault, IsReportAfterFile, bytes_of};
 
 use crate::input::{GraphFiles, graph_files, moment_of, named_table_bytes, range_of, report_in};
 use crate::source::Source;
 use bf_command_fault::{CommandFault, Status};
 use bf_command_line::{ClearAsked, GraphAsked, SeedAsked};
-use bf_commands::{Crew, Prepared, Screen, prepare, run_again};
+use bf_commands::{Crew, MomentRange, Prepared, Screen, prepare, run_again};
 use bf_dependents::Seed;
 use bf_device::Write;
 use bf_process::Starter;
@@ -70,6 +73,61 @@ fn clear_files<S: Source>(
     Ok(ClearFiles { graph, table })
 }
 
+/// What the files say but for the report.
+fn prepared_in<S: Source>(
+    alloc: Global,
+    graph: GraphAsked,
+    table: Option<String>,
+    range: MomentRange,
+    files: &mut S,
+) -> Result<Prepared, CommandFault>
+    ensures said { IfOk result (λ p. IsOfBytes (S.file files.old) graph (option_map string_bytes table) (λ bytes zone entries.
+        IsPrepared bytes zone entries range.from.nanosecond range.to.nanosecond p.plan.dag p.intervals.items p.answers)) }
+    ensures of_runs { IfOk result (λ p. AreOfRuns p.intervals.items) }
+    ensures readable { OnOk result (AreReadable (S.file files.old) (clear_paths graph (option_map string_bytes table))) }
+    ensures fault { IfErr result (IsPreparingFault (S.file files.old) graph (option_map string_bytes table) range) }
+    ensures stays { (p : List ℕ) → S.file files.new p ≡ S.file files.old p }
+{
+    let read = clear_files(alloc, graph, table, files)?;
+    prepare(
+        alloc,
+        &read.graph.graph,
+        read.graph.zone_file(),
+        read.table(),
+        range,
+    )
+}
+
+/// Reads the report, and goes on from it where the seed is cleared. Says whether every run is a success.
+fn go_on<RT: Starter + Screen + Threads + Wait + Clock + Sync, S: Source, W: Write>(
+    crew: &Crew<'_, RT>,
+    prepared: Prepared,
+    report: String,
+    seed: Seed,
+    files: &mut S,
+    out: &mut W,
+) -> Result<bool, CommandFault>
+    requires { AreOfRuns prepared.intervals.items }
+    ensures ok { IfOk result (λ success. Sends (λ text. IsReportAfterFile (launched crew.now.launcher (RT.may_hear crew.now.rt.now))
+        prepared.answers prepared.plan.dag prepared.intervals.items (S.file files.old (string_bytes report)) seed text success)
+        (W.written out.old) (W.written out.new)) }
+    ensures fault { IfErr result (IsFaultAfterFile (launched_lost crew.now.launcher (RT.may_lose crew.now.rt.now))
+        prepared.answers prepared.plan.dag prepared.intervals.items (string_bytes report) (S.file files.old (string_bytes report)) seed) }
+    ensures left { IfErr result (Leaves (HasHalted (W.failures out.old) (W.failures out.new)
+        (W.interruptions out.old) (W.interruptions out.new))
+        (λ text. (success : Bool) × IsReportAfterFile (launched crew.now.launcher (RT.may_hear crew.now.rt.now))
+        prepared.answers prepared.plan.dag prepared.intervals.items (S.file files.old (string_bytes report)) seed text success)
+        (W.written out.old) (W.written out.new)) }
+{
+    let Prepared {
+        plan,
+        intervals,
+        answers,
+    } = prepared;
+    let report = report_in(crew.alloc, report, files)?;
+    run_again(crew, &plan, &intervals, &report, seed, answers, out)
+}
+
 /// The moments are looked at first. Then the files are read but for the report, and what they hold is looked at; then the
 /// report is read, and the seed is looked for.
 pub fn clear_answered<RT: Starter + Screen + Threads + Wait + Clock + Sync, S: Source, W: Write>(
@@ -89,19 +147,7 @@ pub fn clear_answered<RT: Starter + Screen + Threads + Wait + Clock + Sync, S: S
 {
     let range = range_of(&asked.range)?;
     let seed = seed_of(asked.seed)?;
-    let read = clear_files(alloc, asked.graph, asked.table, files)?;
-    let Prepared {
-        plan,
-        intervals,
-        answers,
-    } = prepare(
-        alloc,
-        &read.graph.graph,
-        read.graph.zone_file(),
-        read.table(),
-        range,
-    )?;
-    let report = report_in(alloc, asked.report, files)?;
+    let prepared = prepared_in(alloc, asked.graph, asked.table, range, files)?;
     let crew = Crew {
         rt,
         alloc,
@@ -109,6 +155,6 @@ pub fn clear_answered<RT: Starter + Screen + Threads + Wait + Clock + Sync, S: S
         progress: asked.progress,
         launcher: asked.launcher,
     };
-    let succeeded = run_again(&crew, &plan, &intervals, &report, seed, answers, out)?;
+    let succeeded = go_on(&crew, prepared, asked.report, seed, files, out)?;
     Ok(Status::of_runs(succeeded))
 }

@@ -1,0 +1,33 @@
+use Rattle.std.proofs.Common.{inl, inr}
+use Rattle.std.proofs.lemmas.Result.{err_from_is_err_and, IfErr-weaker, IfOk-weaker}
+use Rattle.bf_command_fault.proofs.Leaving.{leaves_due_in}
+use Rattle.bf_program.proofs.ClearEnds.{report_leaves}
+use Rattle.bf_program.proofs.clear.go_on.Goals as goal
+
+pub returns-in_err-report-clause-fault : goal.returns-in_err-report-clause-fault
+returns-in_err-report-clause-fault g c =
+    let p = err_from_is_err_and c.from_residual.result c.from_residual.ensures.1 in
+    rw (p.1, p.2) (inl c.in_err-report.ensures.fault)
+
+pub returns-in_err-report-clause-left : goal.returns-in_err-report-clause-left
+returns-in_err-report-clause-left g c =
+    let p = err_from_is_err_and c.from_residual.result c.from_residual.ensures.1 in
+    rw (p.1, p.2) (report_leaves _ _ _ _ _ _ c.in_err-report.ensures.fault)
+
+pub returns-clause-fault : goal.returns-clause-fault
+returns-clause-fault g c =
+    let read = c.in_ok-report.ensures in
+    let fault : _ = rw c.deref.ensures.value at c.run_again.ensures.fault in
+    IfErr-weaker c.run_again.result _ _ (λ f is. inr (c.in_ok-report.report, record { readable = read.readable; says = read.says }, is)) fault
+
+pub returns-clause-left : goal.returns-clause-left
+returns-clause-left g c =
+    let read = c.in_ok-report.ensures in
+    let left : _ = rw c.deref.ensures.value at c.run_again.ensures.left in
+    leaves_due_in _ _ _ (λ text due. (due.0, record { was = c.in_ok-report.report; read = record { readable = read.readable; says = read.says }; reported = due.1 })) _ _ c.run_again.result left
+
+pub returns-clause-ok : goal.returns-clause-ok
+returns-clause-ok g c =
+    let read = c.in_ok-report.ensures in
+    let ok : _ = rw c.deref.ensures.value at c.run_again.ensures.ok in
+    IfOk-weaker c.run_again.result _ _ (λ success sends. (sends.0, record { was = c.in_ok-report.report; read = record { readable = read.readable; says = read.says }; reported = sends.1 }, sends.2)) ok
