@@ -1,5 +1,6 @@
 //! Orders of events: the report doesn't rest on them.
-use crate::steps::{Answered, EPOCH, End, Step, take};
+use crate::steps::{Answered, EPOCH, End, Step, core_after};
+use bf_check::Plan;
 use bf_core::{Core, Illegal};
 use bf_device::Memory;
 use bf_report::{report_of, write_report};
@@ -32,12 +33,19 @@ fn written(alloc: Global, core: Core<'_>) -> Result<Vec<u8>, Fail> {
     Ok(out.into_vec())
 }
 
+fn reported_over(
+    rt: &impl Abort,
+    alloc: Global,
+    plan: &Plan,
+    steps: &[Answered],
+) -> Result<Vec<u8>, Fail> {
+    written(alloc, core_after(rt, alloc, plan, steps)?)
+}
+
 /// The report after these steps. It tells the whole ledger, by law `reports_tell_ledgers`.
 fn reported(rt: &impl Abort, alloc: Global, steps: &[Answered]) -> Result<Vec<u8>, Fail> {
     let plan = plan_of(alloc, JOIN)?;
-    let mut core = Core::new(alloc, &plan, &[EPOCH])?;
-    take(rt, alloc, &mut core, steps)?;
-    written(alloc, core)
+    reported_over(rt, alloc, &plan, steps)
 }
 
 #[test]

@@ -1,5 +1,6 @@
 //! What a try is given of what other tasks pushed.
-use crate::steps::{Answered, EPOCH, End, Step, list_of, take};
+use crate::steps::{Answered, End, Step, core_after, list_of};
+use bf_check::Plan;
 use bf_core::Core;
 use bf_tests_graphs::{job, plan_of};
 use bf_value::{JobName, Xval};
@@ -24,6 +25,19 @@ fn is_noted(rt: &impl Abort, core: &Core<'_>, name: JobName, pulled: &[Option<Xv
     }
 }
 
+fn is_given_over(
+    rt: &impl Abort,
+    alloc: Global,
+    plan: &Plan,
+    steps: &[Answered],
+    name: JobName,
+    pulled: &[Option<Xval>],
+) -> Result<(), Fail> {
+    let core = core_after(rt, alloc, plan, steps)?;
+    is_noted(rt, &core, name, pulled);
+    Ok(())
+}
+
 /// Requires what a try was given of its task's pulls by these steps, of which the last ends it.
 fn is_given(
     rt: &impl Abort,
@@ -34,10 +48,7 @@ fn is_given(
     pulled: &[Option<Xval>],
 ) -> Result<(), Fail> {
     let plan = plan_of(alloc, graph)?;
-    let mut core = Core::new(alloc, &plan, &[EPOCH])?;
-    take(rt, alloc, &mut core, steps)?;
-    is_noted(rt, &core, name, pulled);
-    Ok(())
+    is_given_over(rt, alloc, &plan, steps, name, pulled)
 }
 
 /// The steps of the graph of two, whose first tasks end so.

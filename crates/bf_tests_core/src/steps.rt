@@ -1,4 +1,5 @@
 //! Cores, driven by hand over one run.
+use bf_check::Plan;
 use bf_core::{Core, Event, Illegal};
 use bf_interval::Interval;
 use bf_tests_graphs::plan_of;
@@ -86,9 +87,21 @@ pub fn take(
     Ok(())
 }
 
+/// The core of a backfill of one run, after these steps.
+pub fn core_after<'a>(
+    rt: &impl Abort,
+    alloc: Global,
+    plan: &'a Plan,
+    steps: &[Answered],
+) -> Result<Core<'a>, Fail> {
+    let mut core = Core::new(alloc, plan, &[EPOCH])?;
+    take(rt, alloc, &mut core, steps)?;
+    Ok(core)
+}
+
 /// Takes the steps from the start of a run of a graph.
 pub fn walk(rt: &impl Abort, alloc: Global, graph: &str, steps: &[Answered]) -> Result<(), Fail> {
     let plan = plan_of(alloc, graph)?;
-    let mut core = Core::new(alloc, &plan, &[EPOCH])?;
-    take(rt, alloc, &mut core, steps)
+    let _core = core_after(rt, alloc, &plan, steps)?;
+    Ok(())
 }

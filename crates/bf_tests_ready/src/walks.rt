@@ -2,6 +2,7 @@
 use crate::chance::Chance;
 use crate::graphs::{TASKS, graph_of};
 use crate::looks::compare;
+use bf_check::Plan;
 use bf_core::{Core, Event};
 use bf_interval::Interval;
 use bf_ready::Ready;
@@ -170,10 +171,20 @@ fn drive(
     Ok(())
 }
 
+fn walk_over(
+    rt: &impl Abort,
+    alloc: Global,
+    plan: &Plan,
+    chance: &mut Chance,
+) -> Result<(), Fail> {
+    let core = Core::new(alloc, plan, &[EPOCH, EPOCH, EPOCH])?;
+    let mut ready = Ready::of(alloc, core)?;
+    drive(rt, alloc, chance, &mut ready)
+}
+
 fn walk(rt: &impl Abort, alloc: Global, graph: &str, chance: &mut Chance) -> Result<(), Fail> {
     let plan = plan_of(alloc, graph)?;
-    let mut ready = Ready::of(alloc, Core::new(alloc, &plan, &[EPOCH, EPOCH, EPOCH])?)?;
-    drive(rt, alloc, chance, &mut ready)
+    walk_over(rt, alloc, &plan, chance)
 }
 
 #[test]

@@ -6,6 +6,7 @@ use crate::again::{
 };
 use crate::graphs::Graph;
 use crate::replay::replay;
+use bf_check::Plan;
 use bf_core::Ended;
 use bf_interval::Interval;
 use bf_sched::{Next, Scheduler};
@@ -49,14 +50,38 @@ fn all_turns(alloc: Global, graph: Graph, scheduler: &mut Scheduler<'_>) -> Resu
     Err(Fault::Stopped)
 }
 
+/// The end of the backfill of a plan.
+fn ended_of(
+    alloc: Global,
+    graph: Graph,
+    plan: &Plan,
+    intervals: &[Interval],
+) -> Result<Ended, Fault>
+    requires { length intervals.now ≤ 4_096 }
+{
+    let mut scheduler = scheduler_again(alloc, plan, intervals)?;
+    all_turns(alloc, graph, &mut scheduler)?;
+    scheduler.into_ended().map_err(|_| Fault::Stopped)
+}
+
+/// The same, where its journal comes again.
+fn replayed(
+    alloc: Global,
+    graph: Graph,
+    plan: &Plan,
+    intervals: &[Interval],
+) -> Result<Ended, Fault>
+    requires { length intervals.now ≤ 4_096 }
+{
+    let ended = ended_of(alloc, graph, plan, intervals)?;
+    replay(alloc, plan, intervals, ended.journal.as_slice())?;
+    Ok(ended)
+}
+
 /// What the backfill of a graph over these data intervals comes to.
 pub fn backfill(alloc: Global, graph: Graph, intervals: &[Interval]) -> Result<Ended, Fault>
     requires { length intervals.now ≤ 4_096 }
 {
     let plan = plan_again(alloc, graph)?;
-    let mut scheduler = scheduler_again(alloc, &plan, intervals)?;
-    all_turns(alloc, graph, &mut scheduler)?;
-    let ended = scheduler.into_ended().map_err(|_| Fault::Stopped)?;
-    replay(alloc, &plan, intervals, ended.journal.as_slice())?;
-    Ok(ended)
+    replayed(alloc, graph, &plan, intervals)
 }

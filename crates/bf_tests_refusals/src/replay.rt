@@ -77,6 +77,36 @@ impl<'a, 'b> Cores<'a, 'b> {
             Err(Fault::Changed)
         }
     }
+
+    /// Lets each event of the journal come, up to the end of the backfill.
+    fn replay(&mut self, alloc: Global) -> Result<(), Fault> {
+        for event in self.journal {
+            self.step(alloc, event)?;
+        }
+        if self.core.is_ended() {
+            Ok(())
+        } else {
+            Err(Fault::Stopped)
+        }
+    }
+}
+
+/// Both cores, before the first event of a journal.
+fn both<'a, 'b>(
+    alloc: Global,
+    plan: &'a Plan,
+    intervals: &[Interval],
+    journal: &'b [Event],
+) -> Result<Cores<'a, 'b>, Fault>
+    requires { length intervals.now ≤ 4_096 }
+{
+    let core = core_again(alloc, plan, intervals)?;
+    let behind = core_again(alloc, plan, intervals)?;
+    Ok(Cores {
+        journal,
+        core,
+        behind,
+    })
 }
 
 /// Lets each event of a journal come, up to the end of the backfill.
@@ -88,17 +118,5 @@ pub fn replay(
 ) -> Result<(), Fault>
     requires { length intervals.now ≤ 4_096 }
 {
-    let mut cores = Cores {
-        journal,
-        core: core_again(alloc, plan, intervals)?,
-        behind: core_again(alloc, plan, intervals)?,
-    };
-    for event in journal {
-        cores.step(alloc, event)?;
-    }
-    if cores.core.is_ended() {
-        Ok(())
-    } else {
-        Err(Fault::Stopped)
-    }
+    both(alloc, plan, intervals, journal)?.replay(alloc)
 }
