@@ -171,12 +171,7 @@ fn drive(
     Ok(())
 }
 
-fn walk_over(
-    rt: &impl Abort,
-    alloc: Global,
-    plan: &Plan,
-    chance: &mut Chance,
-) -> Result<(), Fail> {
+fn walk_over(rt: &impl Abort, alloc: Global, plan: &Plan, chance: &mut Chance) -> Result<(), Fail> {
     let core = Core::new(alloc, plan, &[EPOCH, EPOCH, EPOCH])?;
     let mut ready = Ready::of(alloc, core)?;
     drive(rt, alloc, chance, &mut ready)
