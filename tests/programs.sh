@@ -66,6 +66,14 @@ LINES
 tasks '{"id":"a","command":["echo",{"context":"dag_id"},{"context":"task_id"},{"context":"data_interval_start"},{"context":"data_interval_end"},{"context":"map_index"},{"context":"try_number"}]}'
 runs success <<< 'a -1 success 1 "d a 2024-01-01T00:00:00Z 2024-01-02T00:00:00Z -1 1"'
 
+# A program has the environment and the folder of the runner.
+
+tasks '{"id":"a","command":["sh","-c","echo \"$GREETING from ${PWD##*/}\""]}'
+mkdir "$work/here"
+cd "$work/here"
+GREETING=hello runs success <<< 'a -1 success 1 "hello from here"'
+cd - > /dev/null
+
 # How programs end. A try that failed is made again where its task has retries.
 
 while IFS= read -r row; do

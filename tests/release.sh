@@ -42,7 +42,8 @@ mkdir "$work/unpacked"
 tar -x -f "dist/$name.tar.gz" -C "$work/unpacked"
 (cd "$work/unpacked" && find . -type f | sort) > "$work/found"
 {
-    printf '%s\n' backfill PROVED LICENSE README.md docs/{backfill.1,FORMATS.md,FROM_AIRFLOW.md,SPECIFICATION.md}
+    printf '%s\n' backfill PROVED LICENSE README.md CONTRIBUTING.md \
+        docs/{backfill.1,ARCHITECTURE.md,DECISIONS.md,FORMATS.md,FROM_AIRFLOW.md,PROOFS.md,SPECIFICATION.md,SPEED.md}
     printf '%s\n' completions/backfill.{bash,fish,zsh} schemas/{graph,table}.schema.json
     git ls-files examples
 } | sed "s#^#./$name/#" | sort > "$work/wanted"

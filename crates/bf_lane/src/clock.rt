@@ -44,7 +44,8 @@ impl<'c, C: std::time::Clock> Clock for MachineClock<'c, C> {
 
     fn pause<W: Wait>(&mut self, rt: &W, sleep: &Parker, until: i64) {
         let until = Duration::from_secs(u64::try_from(until).unwrap_or(0));
-        let passed = self.clock.since_1970().unwrap_or(Duration::ZERO);
+        let told = Duration::from_secs(u64::try_from(self.told).unwrap_or(0));
+        let passed = self.clock.since_1970().unwrap_or(told);
         sleep.park_timeout(rt, until.saturating_sub(passed));
     }
 }

@@ -52,6 +52,7 @@ impl Beginning {
     pub fn run_count(&self) -> usize
         ensures { result ≡ counted_runs self.now }
     {
+        // a slice has so few items that one more can be counted
         match self.run {
             Some(_) => self.runs.as_slice().len() + 1,
             None => self.runs.len(),

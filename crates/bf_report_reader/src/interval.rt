@@ -5,13 +5,13 @@ ghost use Rattle.bf_report_reader.specs.Reads.{Spells, Finds};
 ghost use Rattle.bf_report_reader.specs.Runs.{IsReportMoment, spelled_moment, IsRunWords, run_words};
 
 use crate::field::split_field;
-use bf_interval::{Interval, is_in_years};
+use bf_interval::{FIRST_NANOSECOND, Interval, is_in_years};
 use bf_moment::moment_in;
 use bf_xcom::RunState;
 use jiff::Timestamp;
 
 /// The last moment of a report: the end of the year 2208, where the last data interval ends at the latest.
-pub const LAST_NANOSECOND: i128 = 7_542_115_199_000_000_000;
+const LAST_END_NANOSECOND: i128 = 7_542_115_199_000_000_000;
 
 /// How many bytes a moment has.
 const MOMENT_LEN: usize = 20;
@@ -28,7 +28,7 @@ fn report_moment_in(text: &[u8]) -> Option<Timestamp>
         return None;
     }
     let moment = moment_in(text)?;
-    if !(0..=LAST_NANOSECOND).contains(&moment.as_nanosecond()) {
+    if !(FIRST_NANOSECOND..=LAST_END_NANOSECOND).contains(&moment.as_nanosecond()) {
         return None;
     }
     Some(moment)

@@ -173,6 +173,7 @@ impl OpenRun {
     pub fn count(&self) -> usize
         ensures { result ≡ counted self.now }
     {
+        // a slice has so few items that one more can be counted
         match self.task {
             Some(_) => self.run.tasks.as_slice().len() + 1,
             None => self.run.tasks.len(),

@@ -143,7 +143,7 @@ fn read_run(alloc: Global, beginning: &mut Beginning, text: &[u8]) -> Result<Ste
     let run = RunReport {
         interval,
         state,
-        tasks: Sequence::new(alloc),
+        tasks: Sequence::from_vec(Vec::with_capacity(alloc, beginning.tasks.len())?),
     };
     Ok(step_of(beginning.add_run(run)?))
 }

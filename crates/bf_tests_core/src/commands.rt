@@ -68,7 +68,7 @@ fn words_given(alloc: Global, given: &Given) -> Result<Vec<String>, OutOfMemory>
 }
 
 #[test]
-fn words_of_a_first_try(rt: HostRuntime) -> Result<(), Fail> {
+fn each_kind_of_word_has_its_text(rt: HostRuntime) -> Result<(), Fail> {
     let found = words_given(rt.alloc(), &given(rt.alloc())?)?;
     assert_eq!(rt; found.len(), WORDS.len());
     for (word, text) in found.iter().zip(&WORDS) {
