@@ -95,6 +95,7 @@ fn all_turns<R: TaskRunner>(runner: &R, scheduler: &mut Scheduler<'_>) -> Result
     ensures ended { OnOk result (HasEnded scheduler.new.backfill.state) }
     ensures err { IfErr result (MayFault (R.may_give_up runner.now)) }
 {
+    // what the proof of its end goes by
     let mut events = scheduler.journal().len();
     while turn(runner, scheduler)? {
         events = scheduler.journal().len();

@@ -111,7 +111,7 @@ fn lines_are_utf8(rt: HostRuntime) {
 }
 
 #[test]
-fn the_last_line_of_an_output(rt: HostRuntime) {
+fn the_last_line_of_an_output_is_found(rt: HostRuntime) {
     for (output, line) in LAST_LINES {
         assert_eq!(rt; last_line(output), line);
     }
