@@ -202,6 +202,9 @@ single g t --at => error: a value is required for '--at <T>' but none was suppli
 single g t --at 2024-01-01 --at 2024-01-02 => error: the argument '--at <T>' cannot be used multiple times|
 run -V => error: unexpected argument '-V' found|
 ROWS
+for line in $'check \xff' $'\xff g' $'dry g t --workers \xff'; do
+    is_wrong "$line" 'error: invalid UTF-8 was detected in one or more arguments|'
+done
 
 # Which files a command reads, and which of several faults it tells.
 

@@ -1,21 +1,21 @@
 //! Runs dated task graphs; `backfill --help` says how.
 #![tactic(auto)]
 
+use bf_command_fault::Status;
 use bf_device::Output;
 use bf_program::{Disk, answer};
 use std::process::ExitCode;
 use std::{env, io};
 
-const FAULT: u8 = 3;
+/// What Rust's `clap` says where a word is no UTF-8. The words of such a line can't be read, so `clap` isn't asked here.
+const NOT_UTF8: &str = "error: invalid UTF-8 was detected in one or more arguments
+
+For more information, try '--help'.";
 
 fn main(rt: HostRuntime) -> ExitCode {
     let words = match words(&rt) {
         Ok(words) => words,
-        Err(error) => {
-            // Where standard error fails, nothing is left to say so on.
-            let _ = eprintln!(rt; "fault: {error}");
-            return ExitCode::from(FAULT);
-        }
+        Err(error) => return ExitCode::from(unread(&rt, &error).code()),
     };
     let mut files = Disk::new(&rt);
     let mut out = Output::new(rt.stdout());
@@ -27,4 +27,14 @@ fn main(rt: HostRuntime) -> ExitCode {
 /// The words of the command line, the program's own name first.
 fn words(rt: &HostRuntime) -> io::Result<Vec<String>> {
     Ok(env::args(rt)?.collect(rt.alloc())?)
+}
+
+/// Tells why the words can't be read. Where standard error fails, nothing is left to say so on.
+fn unread(rt: &HostRuntime, error: &io::Error) -> Status {
+    if error.kind() == io::ErrorKind::InvalidData {
+        let _ = eprintln!(rt; "{NOT_UTF8}");
+        return Status::Refused;
+    }
+    let _ = eprintln!(rt; "fault: {error}");
+    Status::Fault
 }
