@@ -1,6 +1,6 @@
 #!/usr/bin/env bash
 # Times `read_report` and `write_report` inside the process, over a report of 2,000 tasks in 100 runs: builds the program below beside
-# copies of the crates that it uses. It writes to a file.
+# copies of the crates that it uses, which takes half an hour where they aren't proved. It writes to a file.
 set -euo pipefail
 
 root=$(dirname "$(dirname "$(readlink -f "${BASH_SOURCE[0]}")")")
