@@ -7,7 +7,7 @@ use std::test::Fail;
 const MOST_BYTES: usize = 8_388_608;
 
 /// Tables, and the number of the first bad entry, or none where the whole is bad.
-const BAD: [(&str, Option<u32>); 26] = [
+static BAD: [(&str, Option<u32>); 26] = [
     ("", None),
     ("[", None),
     ("{}", None),
@@ -46,7 +46,7 @@ fn padded(alloc: Global, length: usize) -> Result<Vec<u8>, OutOfMemory> {
 
 #[test]
 fn bad_tables_are_refused(rt: HostRuntime) {
-    for (table, entry) in BAD {
+    for &(table, entry) in &BAD {
         let fault = Table::read(rt.alloc(), table.as_bytes()).err();
         assert_eq!(rt; fault, Some(TableFault::BadTable(entry)), "{table}");
     }

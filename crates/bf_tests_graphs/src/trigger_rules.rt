@@ -5,7 +5,7 @@ use std::process::Abort;
 /// A rule over counts of success, failed, upstream_failed, skipped, blocked and unfinished instances.
 type Row = (Rule, [u32; 6], Verdict);
 
-const EARLY: [Row; 9] = [
+static EARLY: [Row; 9] = [
     (Rule::OneSuccess, [1, 0, 0, 0, 0, 1], Verdict::Run),
     (Rule::OneSuccess, [0, 3, 0, 0, 0, 1], Verdict::Wait),
     (Rule::OneFailed, [0, 0, 1, 0, 0, 1], Verdict::Run),
@@ -17,7 +17,7 @@ const EARLY: [Row; 9] = [
     (Rule::NoneSkipped, [1, 0, 0, 1, 0, 1], Verdict::Wait),
 ];
 
-const SETTLED: [Row; 29] = [
+static SETTLED: [Row; 29] = [
     (Rule::AllSkipped, [0, 0, 0, 0, 0, 0], Verdict::Run),
     (Rule::OneSuccess, [0, 0, 0, 0, 0, 0], Verdict::Run),
     (Rule::OneFailed, [0, 1, 0, 0, 1, 0], Verdict::Run),
@@ -100,14 +100,14 @@ fn says(rt: &impl Abort, row: Row) {
 
 #[test]
 fn rules_wait_or_decide_before_all_have_finished(rt: HostRuntime) {
-    for row in EARLY {
+    for &row in &EARLY {
         says(&rt, row);
     }
 }
 
 #[test]
 fn rules_decide_once_all_have_finished(rt: HostRuntime) {
-    for row in SETTLED {
+    for &row in &SETTLED {
         says(&rt, row);
     }
 }

@@ -159,7 +159,7 @@ impl io::Write for RaisingWriter {
 }
 
 /// Errors, and whether a call goes on after them: an interruption is no failure, but the 1,001st is one too many.
-const ERRORS: [(io::ErrorKind, u32, bool); 8] = [
+static ERRORS: [(io::ErrorKind, u32, bool); 8] = [
     (io::ErrorKind::Interrupted, 0, true),
     (io::ErrorKind::Interrupted, 1, true),
     (io::ErrorKind::Interrupted, 1_000, true),
@@ -193,7 +193,7 @@ fn write_raising(
 
 #[test]
 fn a_reader_of_std_is_read_on_after_interruptions(rt: HostRuntime) {
-    for (kind, left, goes_on) in ERRORS {
+    for &(kind, left, goes_on) in &ERRORS {
         let fault = read_raising(rt.alloc(), Errors { kind, left });
         let wanted = if goes_on { None } else { Some(ReportFault::Io) };
         assert_eq!(rt; fault, wanted);
@@ -203,7 +203,7 @@ fn a_reader_of_std_is_read_on_after_interruptions(rt: HostRuntime) {
 #[test]
 fn a_writer_of_std_is_written_on_after_interruptions(rt: HostRuntime) -> Result<(), Fail> {
     let report = report_of(rt.alloc(), FULL)?;
-    for (kind, left, goes_on) in ERRORS {
+    for &(kind, left, goes_on) in &ERRORS {
         let (answer, written) = write_raising(rt.alloc(), &report, Errors { kind, left });
         let (wanted, text) = if goes_on {
             (Ok(()), FULL)

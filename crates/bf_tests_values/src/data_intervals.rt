@@ -23,7 +23,7 @@ type Listed = &'static [(&'static str, &'static str)];
 
 const EUROPE: &str = "CET-1CEST,M3.5.0,M10.5.0/3";
 
-const LISTINGS: [(Range, Listed); 14] = [
+static LISTINGS: [(Range, Listed); 14] = [
     // By a zone file, 02:30 isn't there on the day in spring, and is 03:30; in autumn it is there twice, and is the earlier one.
     (
         Range {
@@ -173,7 +173,7 @@ const LISTINGS: [(Range, Listed); 14] = [
 ];
 
 /// Ranges, and why they have no listing.
-const REFUSED: [(Range, IntervalFault); 4] = [
+static REFUSED: [(Range, IntervalFault); 4] = [
     // A moment outside the years is told before a range that is reversed.
     (
         Range {
@@ -236,7 +236,7 @@ fn are(rt: &impl Abort, found: &[Interval], wanted: Listed) -> Result<(), Fail> 
 
 #[test]
 fn data_intervals_are_listed(rt: HostRuntime) -> Result<(), Fail> {
-    for (range, wanted) in LISTINGS {
+    for &(range, wanted) in &LISTINGS {
         are(&rt, &listed(rt.alloc(), range)??, wanted)?;
     }
     Ok(())
@@ -244,7 +244,7 @@ fn data_intervals_are_listed(rt: HostRuntime) -> Result<(), Fail> {
 
 #[test]
 fn ranges_are_refused(rt: HostRuntime) -> Result<(), Fail> {
-    for (range, fault) in REFUSED {
+    for &(range, fault) in &REFUSED {
         assert_eq!(rt; listed(rt.alloc(), range)?.err(), Some(fault));
     }
     Ok(())

@@ -7,7 +7,7 @@ use std::process::Abort;
 use std::test::Fail;
 
 /// Texts, and the seconds since 1970 that they spell.
-const IN_YEARS: [(&str, i64); 7] = [
+static IN_YEARS: [(&str, i64); 7] = [
     ("1970-01-01", 0),
     ("1970-01-01T00:00:01Z", 1),
     ("2000-02-29", 951_782_400),
@@ -17,7 +17,7 @@ const IN_YEARS: [(&str, i64); 7] = [
     ("2199-12-31T23:59:59Z", 7_258_118_399),
 ];
 
-const OUTSIDE: [&str; 7] = [
+static OUTSIDE: [&str; 7] = [
     "0000-01-01",
     "1900-01-01",
     "1969-12-31T23:59:59Z",
@@ -27,7 +27,7 @@ const OUTSIDE: [&str; 7] = [
     "9999-12-31T23:59:59Z",
 ];
 
-const BAD: [&str; 19] = [
+static BAD: [&str; 19] = [
     "",
     "2024",
     "2024-02-30",
@@ -55,7 +55,7 @@ fn spelled(text: &str) -> Result<Timestamp, Fail> {
 
 #[test]
 fn moments_are_spelled(rt: HostRuntime) -> Result<(), Fail> {
-    for (text, second) in IN_YEARS {
+    for &(text, second) in &IN_YEARS {
         let at = spelled(text)?;
         assert_eq!(rt; at.as_second(), second, "{text}");
         assert!(rt; is_in_years(at), "{text}");
@@ -65,7 +65,7 @@ fn moments_are_spelled(rt: HostRuntime) -> Result<(), Fail> {
 
 #[test]
 fn some_moments_lie_outside_the_years(rt: HostRuntime) -> Result<(), Fail> {
-    for text in OUTSIDE {
+    for &text in &OUTSIDE {
         assert!(rt; !is_in_years(spelled(text)?), "{text}");
     }
     Ok(())
@@ -73,7 +73,7 @@ fn some_moments_lie_outside_the_years(rt: HostRuntime) -> Result<(), Fail> {
 
 #[test]
 fn some_texts_are_no_moment(rt: HostRuntime) {
-    for text in BAD {
+    for &text in &BAD {
         assert!(rt; moment_in(text).is_none(), "{text}");
     }
 }

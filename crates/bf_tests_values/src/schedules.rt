@@ -4,7 +4,7 @@ use jiff::civil::DateTime;
 use std::test::Fail;
 
 /// A schedule, a civil time, and whether the schedule has it.
-const MATCHES: [(&str, (i16, i8, i8, i8, i8), bool); 16] = [
+static MATCHES: [(&str, (i16, i8, i8, i8, i8), bool); 16] = [
     ("5 0 * * *", (2024, 6, 3, 0, 5), true),
     ("5 0 * * *", (2024, 6, 3, 5, 0), false),
     ("15 14 1 * *", (2024, 6, 1, 14, 15), true),
@@ -24,7 +24,7 @@ const MATCHES: [(&str, (i16, i8, i8, i8, i8), bool); 16] = [
 ];
 
 /// A schedule, and whether it never fires.
-const NEVER: [(&str, bool); 6] = [
+static NEVER: [(&str, bool); 6] = [
     ("0 0 30 2 *", true),
     ("0 0 31 2,4,6,9,11 *", true),
     ("0 0 29 2 *", false),
@@ -33,7 +33,7 @@ const NEVER: [(&str, bool); 6] = [
     ("* * * * *", false),
 ];
 
-const BAD: [&str; 25] = [
+static BAD: [&str; 25] = [
     "",
     "60 * * * *",
     "* 24 * * *",
@@ -68,7 +68,7 @@ fn civil(parts: (i16, i8, i8, i8, i8)) -> Option<DateTime> {
 
 #[test]
 fn schedules_match(rt: HostRuntime) -> Result<(), Fail> {
-    for (text, parts, want) in MATCHES {
+    for &(text, parts, want) in &MATCHES {
         let at = civil(parts).ok_or("no time")?;
         assert_eq!(rt;
             CronSpec::read(rt.alloc(), text)?.matches(at),
@@ -81,7 +81,7 @@ fn schedules_match(rt: HostRuntime) -> Result<(), Fail> {
 
 #[test]
 fn some_schedules_never_fire(rt: HostRuntime) -> Result<(), Fail> {
-    for (text, want) in NEVER {
+    for &(text, want) in &NEVER {
         assert_eq!(rt;
             CronSpec::read(rt.alloc(), text)?.never_fires(),
             want,
@@ -93,7 +93,7 @@ fn some_schedules_never_fire(rt: HostRuntime) -> Result<(), Fail> {
 
 #[test]
 fn some_texts_are_no_schedule(rt: HostRuntime) {
-    for text in BAD {
+    for &text in &BAD {
         assert_eq!(rt;
             CronSpec::read(rt.alloc(), text).err(),
             Some(CronFault::Bad),

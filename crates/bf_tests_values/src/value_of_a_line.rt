@@ -4,7 +4,7 @@ use std::alloc::Global;
 use std::test::Fail;
 
 /// Lines, and the compact JSON text of the value that each pushes, or `-` where it pushes nothing.
-const LINES: [(&str, &str); 38] = [
+static LINES: [(&str, &str); 38] = [
     ("", "-"),
     ("null", "-"),
     ("  null", "-"),
@@ -49,7 +49,7 @@ const LINES: [(&str, &str); 38] = [
     (" é", r#"" é""#),
 ];
 
-const LAST_LINES: [(&[u8], &[u8]); 12] = [
+static LAST_LINES: [(&[u8], &[u8]); 12] = [
     (b"", b""),
     (b"\n", b""),
     (b"a", b"a"),
@@ -81,7 +81,7 @@ fn nested(alloc: Global, depth: usize) -> Result<String, Fail> {
 
 #[test]
 fn lines_push_values(rt: HostRuntime) -> Result<(), Fail> {
-    for (line, text) in LINES {
+    for &(line, text) in &LINES {
         assert_eq!(rt; pushed(rt.alloc(), line)?.as_str(), text);
     }
     Ok(())
@@ -112,7 +112,7 @@ fn lines_are_utf8(rt: HostRuntime) {
 
 #[test]
 fn the_last_line_of_an_output_is_found(rt: HostRuntime) {
-    for (output, line) in LAST_LINES {
+    for &(output, line) in &LAST_LINES {
         assert_eq!(rt; last_line(output), line);
     }
 }

@@ -17,7 +17,7 @@ pub const CENTRAL_EUROPE: &[u8] = b"TZif2\0\0\0\0\0\0\0\0\0\0\0\0\0\0\0\
 const NO_ZONE_FILE: &[u8] = b"TZif";
 
 /// Texts that mean no zone, of which the last wants a zone file.
-const BAD: [&str; 9] = [
+static BAD: [&str; 9] = [
     "",
     "utc",
     "+1:00",
@@ -31,7 +31,7 @@ const BAD: [&str; 9] = [
 
 #[test]
 fn some_texts_mean_no_zone(rt: HostRuntime) {
-    for text in BAD {
+    for &text in &BAD {
         assert_eq!(rt;
             Zone::read(rt.alloc(), text, None).err(),
             Some(ZoneFault::Bad),
