@@ -37,6 +37,14 @@ pub record IsListIn (graph : List ℕ) (file : Option (List ℕ)) (from to : ℤ
   pub listing : HasListing graph file from to (Ok found)
   pub text_is : text ≡ intervals_text found
 
+-- the fault is the first: those of the graph go before those of the range; or memory or the device is wanting
+abbrev pub IsFaultOfList : List ℕ → Option (List ℕ) → ℤ → ℤ → CommandFault → Type 0
+IsFaultOfList graph file from to (Range fault) = HasListing graph file from to (Err fault)
+IsFaultOfList graph file from to (CannotWrite n) = Unit {0}
+IsFaultOfList graph file from to fault = IsFaultIn graph file fault
+
+-- ---- for private clauses
+
 -- the fault is the one that the range has; or memory is wanting
 abbrev pub IsRangeFault : List ℕ → Option (List ℕ) → ℤ → ℤ → CommandFault → Type 0
 IsRangeFault graph file from to (Range fault) = HasListing graph file from to (Err fault)
@@ -46,12 +54,6 @@ IsRangeFault graph file from to _ = ⊥
 -- the fault is one of the graph, or else of the range; or memory is wanting
 abbrev pub IsDatedFault : List ℕ → Option (List ℕ) → ℤ → ℤ → CommandFault → Type 0
 IsDatedFault graph file from to fault = IsFaultIn graph file fault ⊎ IsRangeFault graph file from to fault
-
--- the fault is the first: those of the graph go before those of the range; or memory or the device is wanting
-abbrev pub IsFaultOfList : List ℕ → Option (List ℕ) → ℤ → ℤ → CommandFault → Type 0
-IsFaultOfList graph file from to (Range fault) = HasListing graph file from to (Err fault)
-IsFaultOfList graph file from to (CannotWrite n) = Unit {0}
-IsFaultOfList graph file from to fault = IsFaultIn graph file fault
 
 -- neither its start nor its end lies before 1970
 abbrev pub IsSince1970 : Interval → Type 0

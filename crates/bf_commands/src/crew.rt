@@ -4,6 +4,7 @@ ghost use Rattle.bf_core.specs.Agreement.{AreRunStates, IsOutcome};
 ghost use Rattle.bf_core.specs.Answered.{AreGraded};
 ghost use Rattle.bf_core.specs.Cores.{IsJournal};
 ghost use Rattle.bf_core.specs.Events.{entry_in};
+ghost use Rattle.bf_exec.specs.Accounts.{KeepsWorkers};
 ghost use Rattle.bf_exec.specs.Faults.{MayFail};
 ghost use Rattle.bf_kept.specs.Kept.{AreFit};
 ghost use Rattle.bf_commands.specs.Cleared.{IsEndedFrom};
@@ -75,6 +76,7 @@ impl<'m, RT: Screen + Threads + Wait + Clock + Sync> Crew<'m, RT> {
         ensures run_states { IfOk result (λ ended. AreRunStates plan.now.dag (entry_in ended.state.ledger) (length intervals.now) ended.run_states) }
         ensures graded { IfOk result (λ ended. AreGraded (R.may_answer runner.now) plan.now.dag (entry_in ended.state.ledger)) }
         ensures journal { IfOk result (λ ended. IsJournal plan.now.dag plan.now.limits (length intervals.now) ended.journal ended.state) }
+        ensures workers { IfOk result (λ ended. KeepsWorkers plan.now.dag (length intervals.now) self.now.workers ended.journal) }
         ensures err { IfErr result (MayFail (R.may_give_up runner.now)) }
     {
         let observer = self.observer(plan, intervals.len());
@@ -101,6 +103,7 @@ impl<'m, RT: Screen + Threads + Wait + Clock + Sync> Crew<'m, RT> {
         requires fit { AreFit plan.now.dag (K.kept keeping.now.kept.now) }
         ensures ended { IfOk result (IsEndedFrom (K.kept keeping.now.kept.now) (R.may_answer keeping.now.runner.now) plan.now.dag intervals.now) }
         ensures journal { IfOk result (λ ended. IsJournal plan.now.dag plan.now.limits (length intervals.now) ended.journal ended.state) }
+        ensures workers { IfOk result (λ ended. KeepsWorkers plan.now.dag (length intervals.now) self.now.workers ended.journal) }
         ensures err { IfErr result (MayFail (R.may_give_up keeping.now.runner.now)) }
     {
         let observer = self.observer(plan, intervals.len());

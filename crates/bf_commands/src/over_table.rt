@@ -1,6 +1,8 @@
 //! Backfills that a table answers, and their reports.
 ghost use Rattle.std.specs.Prelude.{◌≡◌, ◌≤◌, Bool, IfOk, IfErr, Ok, length, map};
+ghost use Rattle.bf_core.specs.Answered.{MayFault};
 ghost use Rattle.bf_core.specs.Cores.{IsJournal};
+ghost use Rattle.bf_exec.specs.Faults.{MayFail};
 ghost use Rattle.bf_report_reader.specs.Written.{AreOfRuns};
 ghost use Rattle.bf_try.specs.Tables.{table_of};
 ghost use Rattle.bf_device.specs.Device.{HasHalted};
@@ -49,7 +51,30 @@ pub(crate) fn runner_over<'p>(
     TableRunner::new(alloc, table, plan, &starts)
 }
 
-/// The end of a backfill whose tries a table answers, by one worker. No try is given up.
+/// What is wanting where a table answers, and one worker needs no thread: no try is given up, and none fails to start.
+pub(crate) fn wanting_alone(fault: &BackfillFault) -> OutOfMemory
+    requires { MayFault (λ name given. ⊥) fault.now }
+{
+    match fault {
+        BackfillFault::OutOfMemory => OutOfMemory,
+        BackfillFault::Runner(_) | BackfillFault::Start => unreachable!(),
+    }
+}
+
+/// What stopped a backfill over a table: no try is given up.
+pub(crate) fn stopped_over(fault: &BackfillFault) -> CommandFault
+    requires { MayFail (λ name given. ⊥) fault.now }
+    ensures wanting { IsWantingWorkers result }
+    ensures unsent { IsUnsent result }
+{
+    match fault {
+        BackfillFault::OutOfMemory => CommandFault::OutOfMemory,
+        BackfillFault::Start => CommandFault::Stopped(StopFault::CannotStart),
+        BackfillFault::Runner(_) => unreachable!(),
+    }
+}
+
+/// The end of a backfill whose tries a table answers, by one worker.
 #[tactic(auto, using(crate::proofs::Over::over))]
 fn ended_over(
     alloc: Global,
@@ -64,8 +89,7 @@ fn ended_over(
 {
     match one_by_one(alloc, plan, intervals, runner) {
         Ok(ended) => Ok(ended),
-        Err(BackfillFault::OutOfMemory) => Err(OutOfMemory),
-        Err(BackfillFault::Runner(_) | BackfillFault::Start) => unreachable!(),
+        Err(fault) => Err(wanting_alone(&fault)),
     }
 }
 
@@ -89,9 +113,7 @@ fn ended_by<RT: Screen + Threads + Wait + Clock + Sync>(
     }
     match crew.backfill(plan, intervals, runner, Jump::new()) {
         Ok(ended) => Ok(ended),
-        Err(BackfillFault::OutOfMemory) => Err(CommandFault::OutOfMemory),
-        Err(BackfillFault::Start) => Err(CommandFault::Stopped(StopFault::CannotStart)),
-        Err(BackfillFault::Runner(_)) => unreachable!(),
+        Err(fault) => Err(stopped_over(&fault)),
     }
 }
 

@@ -12,14 +12,14 @@ ghost use Rattle.bf_commands.specs.OverTable.{IsUnsent, IsWantingWorkers, answer
 ghost use Rattle.bf_commands.specs.Programs.{IsStopOrWanting, launched, launched_lost};
 
 use crate::crew::Crew;
-use crate::over_table::runner_over;
+use crate::over_table::{runner_over, stopped_over, wanting_alone};
 use crate::reported::write_ended;
-use crate::run::given_up;
+use crate::run::stopped_by_programs;
 use crate::screen::Screen;
 use bf_check::Plan;
 use bf_clear::{Cleared, clear};
-use bf_command_fault::{CommandFault, StopFault};
-use bf_core::{BackfillFault, Ended};
+use bf_command_fault::CommandFault;
+use bf_core::Ended;
 use bf_dependents::Seed;
 use bf_device::Write;
 use bf_interval::Interval;
@@ -34,7 +34,7 @@ use std::sync::Wait;
 use std::thread::Threads;
 use std::time::Clock;
 
-/// The end of a backfill in which a table answers what isn't kept, one try after the other. No try is given up.
+/// The end of a backfill in which a table answers what isn't kept, one try after the other.
 fn resumed_alone(
     plan: &Plan,
     intervals: &[Interval],
@@ -47,8 +47,7 @@ fn resumed_alone(
 {
     match resume_one_by_one(keeping.alloc, plan, intervals, keeping) {
         Ok(ended) => Ok(ended),
-        Err(BackfillFault::OutOfMemory) => Err(OutOfMemory),
-        Err(BackfillFault::Runner(_) | BackfillFault::Start) => unreachable!(),
+        Err(fault) => Err(wanting_alone(&fault)),
     }
 }
 
@@ -78,9 +77,7 @@ fn resumed_over<RT: Screen + Threads + Wait + Clock + Sync>(
     }
     match crew.resumed(plan, intervals, &keeping, Jump::new()) {
         Ok(ended) => Ok(ended),
-        Err(BackfillFault::OutOfMemory) => Err(CommandFault::OutOfMemory),
-        Err(BackfillFault::Start) => Err(CommandFault::Stopped(StopFault::CannotStart)),
-        Err(BackfillFault::Runner(_)) => unreachable!(),
+        Err(fault) => Err(stopped_over(&fault)),
     }
 }
 
@@ -106,9 +103,7 @@ fn resumed_by_programs<RT: Starter + Screen + Threads + Wait + Clock + Sync>(
     };
     match crew.resumed(plan, intervals, &keeping, MachineClock::new(crew.rt)) {
         Ok(ended) => Ok(ended),
-        Err(BackfillFault::OutOfMemory) => Err(CommandFault::OutOfMemory),
-        Err(BackfillFault::Start) => Err(CommandFault::Stopped(StopFault::CannotStart)),
-        Err(BackfillFault::Runner(name)) => Err(given_up(crew, plan, intervals, name)),
+        Err(fault) => Err(stopped_by_programs(crew, plan, intervals, &fault)),
     }
 }
 

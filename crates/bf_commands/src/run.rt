@@ -3,6 +3,7 @@ ghost use Rattle.std.specs.Prelude.{◌≡◌, Bool, IfOk, IfErr, length, option
 ghost use Rattle.bf_xcom.specs.declared.values.Given.{Given as GivenTerm};
 ghost use Rattle.bf_process.specs.Words.{MayGiveUp};
 ghost use Rattle.bf_core.specs.Cores.{IsJournal};
+ghost use Rattle.bf_exec.specs.Faults.{MayFail};
 ghost use Rattle.bf_device.specs.Device.{HasHalted};
 ghost use Rattle.bf_report_reader.specs.Written.{AreOfRuns};
 ghost use Rattle.bf_command_fault.specs.Refusal.{Leaves, Sends};
@@ -27,7 +28,7 @@ use std::thread::Threads;
 use std::time::Clock;
 
 /// The fault of a try that was given up.
-pub(crate) fn given_up<RT: Starter>(
+fn given_up<RT: Starter>(
     crew: &Crew<'_, RT>,
     plan: &Plan,
     intervals: &[Interval],
@@ -47,6 +48,24 @@ pub(crate) fn given_up<RT: Starter>(
     }
 }
 
+/// What stopped a backfill with the programs of the tasks.
+pub(crate) fn stopped_by_programs<RT: Starter>(
+    crew: &Crew<'_, RT>,
+    plan: &Plan,
+    intervals: &[Interval],
+    fault: &BackfillFault,
+) -> CommandFault
+    requires { MayFail (MayGiveUp (launched_lost crew.now.launcher (RT.may_lose crew.now.rt.now)) plan.now.dag intervals.now) fault.now }
+    ensures stop { IsStopOrWanting (launched_lost crew.now.launcher (RT.may_lose crew.now.rt.now)) plan.now.dag intervals.now result }
+    ensures unsent { IsUnsent result }
+{
+    match fault {
+        BackfillFault::OutOfMemory => CommandFault::OutOfMemory,
+        BackfillFault::Start => CommandFault::Stopped(StopFault::CannotStart),
+        BackfillFault::Runner(name) => given_up(crew, plan, intervals, *name),
+    }
+}
+
 /// The end of a backfill with the programs of the tasks.
 fn ended_by_programs<RT: Starter + Screen + Threads + Wait + Clock + Sync>(
     crew: &Crew<'_, RT>,
@@ -62,9 +81,7 @@ fn ended_by_programs<RT: Starter + Screen + Threads + Wait + Clock + Sync>(
     let runner = ProcessRunner::new(crew.rt, crew.alloc, plan, intervals, crew.launcher());
     match crew.backfill(plan, intervals, &runner, MachineClock::new(crew.rt)) {
         Ok(ended) => Ok(ended),
-        Err(BackfillFault::OutOfMemory) => Err(CommandFault::OutOfMemory),
-        Err(BackfillFault::Start) => Err(CommandFault::Stopped(StopFault::CannotStart)),
-        Err(BackfillFault::Runner(name)) => Err(given_up(crew, plan, intervals, name)),
+        Err(fault) => Err(stopped_by_programs(crew, plan, intervals, &fault)),
     }
 }
 
