@@ -1,8 +1,8 @@
 #!/usr/bin/env bash
-# Refuses each call for memory, each open, each read and each write of runs of the built program in turn. A run has to
-# end as if nothing was refused, or by the fault that the refused call is, with nothing (or, of a refused write, a
-# beginning of the report) on standard output. Needs a C compiler. The last line is the sum, and the status is 1 where a call
-# ended a run otherwise.
+# Refuses each call for memory, each open, each read, each write and each look at the clock of runs of the built program in turn. A
+# run has to end as if nothing was refused, or by the fault that the refused call is, with nothing (or, of a refused write, a
+# beginning of the report) on standard output. A look at the clock that fails is no fault. Needs a C compiler. The last line is the
+# sum, and the status is 1 where a call ended a run otherwise.
 set -euo pipefail
 
 source "$(dirname "$(readlink -f "${BASH_SOURCE[0]}")")/../bench/program.sh"
@@ -66,6 +66,8 @@ each() {
 cd "$root/examples"
 printf '{"dag_id":"d","schedule":"@daily","tasks":[{"id":"a","upstream":["b"]},{"id":"b","upstream":["a"]}]}' > "$work/cycle"
 printf '{"dag_id":"d","schedule":"30 2 * * *","zone":"file","tasks":[]}' > "$work/by_file"
+printf '{"dag_id":"d","schedule":"@daily","tasks":[{"id":"a","retries":1,"retry_delay":1,"command":["test","2","-eq",%s]}]}' \
+    '{"context":"try_number"}' > "$work/delayed"
 # A zone file of one kind of time, an hour ahead of UTC, and a rule for the times to come.
 {
     for _ in 1 2; do
@@ -103,5 +105,6 @@ for call in memory open read write; do
 done
 each memory run extract_transform_load/graph.json --from 2024-01-01 --to 2024-01-02
 each memory run extract_transform_load/graph.json --from 2024-01-01 --to 2024-01-02 --workers 2
+each clock run "$work/delayed" --from 2024-01-01 --to 2024-01-01
 echo "$passed passed, $failed failed"
 [[ $failed -eq 0 ]]

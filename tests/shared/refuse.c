@@ -1,5 +1,5 @@
 /* Preloaded to a program: refuses one of its calls to the system, and counts how many there were. REFUSED_PROGRAM is the name of the
-   program, REFUSED_CALL the kind of call (memory, open, read, write), REFUSED_NUMBER which of these is refused, from 1 on, or 0 for
+   program, REFUSED_CALL the kind of call (memory, open, read, write, clock), REFUSED_NUMBER which of these is refused, from 1 on, or 0 for
    none, and CALL_COUNT the file that gets the count. */
 #define _GNU_SOURCE
 #include <dlfcn.h>
@@ -9,6 +9,7 @@
 #include <stdlib.h>
 #include <string.h>
 #include <sys/types.h>
+#include <time.h>
 
 static long made;
 
@@ -81,4 +82,11 @@ ssize_t write(int file, const void *from, size_t size) {
     if (!real) real = dlsym(RTLD_NEXT, "write");
     if (is_refused("write")) { errno = EIO; return -1; }
     return real(file, from, size);
+}
+
+int clock_gettime(clockid_t clock, struct timespec *to) {
+    static int (*real)(clockid_t, struct timespec *);
+    if (!real) real = dlsym(RTLD_NEXT, "clock_gettime");
+    if (is_refused("clock")) { errno = EINVAL; return -1; }
+    return real(clock, to);
 }
