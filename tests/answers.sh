@@ -6,22 +6,14 @@
 set -euo pipefail
 
 source "$(dirname "$(readlink -f "${BASH_SOURCE[0]}")")/shared/compare.sh"
-first=${1:-1}
-count=${2:-600}
 
-python3 -B "$root/tests/shared/answers.py" "$work" "$first" "$count"
-
-while read -r seed status; do
-    folder=$work/$seed
-    graph=$folder/graph.json
+compares() {
+    local status=$1
     mapfile -t line < "$folder/line"
-    before=$differing
     case $status in
         0 | 1) answers "$status" "${line[@]}" < "$folder/wanted" ;;
         *) tells "$status" "$(< "$folder/wanted")" "${line[@]}" ;;
     esac
-    [[ $differing -eq $before ]] || echo "that was seed $seed, of which tests/shared/answers.py FOLDER $seed 1 writes the files"
-    rm -r "$folder"
-done < "$work/cases"
+}
 
-sum
+by_chance answers 600 "$@"

@@ -5,22 +5,14 @@
 set -euo pipefail
 
 source "$(dirname "$(readlink -f "${BASH_SOURCE[0]}")")/shared/compare.sh"
-first=${1:-1}
-count=${2:-1000}
 
-python3 -B "$root/tests/shared/faults.py" "$work" "$first" "$count"
-
-while read -r seed status zone_file; do
-    folder=$work/$seed
-    graph=$folder/graph.json
-    before=$differing
-    # a path in a folder that mktemp made has no blanks
+compares() {
+    local status=$1
+    shift
     case $status in
-        0) answers 0 check "$graph" $zone_file < "$folder/told" ;;
-        *) tells "$status" "$(< "$folder/told")" check "$graph" $zone_file ;;
+        0) answers 0 check "$graph" "$@" < "$folder/told" ;;
+        *) tells "$status" "$(< "$folder/told")" check "$graph" "$@" ;;
     esac
-    [[ $differing -eq $before ]] || echo "that was seed $seed, of which tests/shared/faults.py FOLDER $seed 1 writes the files"
-    rm -r "$folder"
-done < "$work/cases"
+}
 
-sum
+by_chance faults 1000 "$@"

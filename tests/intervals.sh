@@ -6,23 +6,14 @@
 set -euo pipefail
 
 source "$(dirname "$(readlink -f "${BASH_SOURCE[0]}")")/shared/compare.sh"
-first=${1:-1}
-count=${2:-600}
 
-python3 -B "$root/tests/shared/intervals.py" "$work" "$first" "$count"
-
-while read -r seed status; do
-    folder=$work/$seed
-    graph=$folder/graph.json
+compares() {
+    local status=$1
     mapfile -t line < "$folder/line"
-    before=$differing
-    if [[ $status -eq 0 ]]; then
-        answers 0 list "${line[@]}" < "$folder/wanted"
-    else
-        tells "$status" "$(< "$folder/wanted")" list "${line[@]}"
-    fi
-    [[ $differing -eq $before ]] || echo "that was seed $seed, of which tests/shared/intervals.py FOLDER $seed 1 writes the files"
-    rm -r "$folder"
-done < "$work/cases"
+    case $status in
+        0) answers 0 list "${line[@]}" < "$folder/wanted" ;;
+        *) tells "$status" "$(< "$folder/wanted")" list "${line[@]}" ;;
+    esac
+}
 
-sum
+by_chance intervals 600 "$@"

@@ -5,22 +5,15 @@
 set -euo pipefail
 
 source "$(dirname "$(readlink -f "${BASH_SOURCE[0]}")")/shared/compare.sh"
-first=${1:-1}
-count=${2:-600}
 
 # A graph that no report is of: one that is read is refused as of another graph.
-echo '{"dag_id":"of-no-report","schedule":"@daily","tasks":[{"id":"t"}]}' > "$graph"
+echo '{"dag_id":"of-no-report","schedule":"@daily","tasks":[{"id":"t"}]}' > "$work/other"
 echo '[]' > "$table"
-seed_of_clear=(--task t --run 2024-01-01T00:00:00Z --from 2024-01-01 --to 2024-01-02 --table "$table")
+cleared=(--task t --run 2024-01-01T00:00:00Z --from 2024-01-01 --to 2024-01-02 --table "$table")
 
-mkdir "$work/reports"
-python3 -B "$root/tests/shared/reports.py" "$work/reports" "$first" "$count"
+compares() {
+    graph=$work/other
+    tells 2 "refused $*" clear "$graph" "$folder/report" "${cleared[@]}"
+}
 
-while read -r seed refusal; do
-    before=$differing
-    tells 2 "refused $refusal" clear "$graph" "$work/reports/$seed" "${seed_of_clear[@]}"
-    [[ $differing -eq $before ]] || echo "that was seed $seed, of which tests/shared/reports.py FOLDER $seed 1 writes the report"
-    rm "$work/reports/$seed"
-done < "$work/reports/cases"
-
-sum
+by_chance reports 600 "$@"

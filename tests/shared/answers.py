@@ -7,16 +7,14 @@ file `cases` has a line for each seed: the seed and the exit status. What is wan
 """
 import copy
 import json
-import pathlib
 import random
 import re
-import sys
 
 import chance as graphs
 import faults
 import intervals
 import recursion
-from chance import happens, some
+from chance import happens, some, write_cases
 from looking import ENTRY_KEYS, Case, told
 
 # A sound table for a graph of one or two tasks, and the faults that are planted in it. A text between two `@@` is written as it stands.
@@ -286,12 +284,5 @@ def write_case(folder, seed):
     return f"{seed} {status}\n"
 
 
-def main():
-    if len(sys.argv) != 4:
-        sys.exit(__doc__)
-    folder, first, count = pathlib.Path(sys.argv[1]), int(sys.argv[2]), int(sys.argv[3])
-    (folder / "cases").write_text("".join(write_case(folder, seed) for seed in range(first, first + count)))
-
-
 if __name__ == "__main__":
-    main()
+    write_cases(write_case, __doc__)

@@ -207,16 +207,16 @@ def write_case(folder, seed):
     for name, content in files.items():
         text = content if isinstance(content, str) else json.dumps(content) + "\n"
         (folder / f"{seed}" / name).write_bytes(text.encode())
-    return " ".join(map(str, [seed, dates[0], dates[-1], task, run, *statuses]))
+    return " ".join(map(str, [seed, dates[0], dates[-1], task, run, *statuses])) + "\n"
 
 
-def main():
+def write_cases(write_case, usage):
+    """Writes the files of the seeds that the line asks for, and the file `cases`, of the line that each seed has or of none."""
     if len(sys.argv) != 4:
-        sys.exit(__doc__)
+        sys.exit(usage)
     folder, first, count = pathlib.Path(sys.argv[1]), int(sys.argv[2]), int(sys.argv[3])
-    lines = [write_case(folder, seed) for seed in range(first, first + count)]
-    (folder / "cases").write_text("".join(f"{line}\n" for line in lines))
+    (folder / "cases").write_text("".join(write_case(folder, seed) for seed in range(first, first + count)))
 
 
 if __name__ == "__main__":
-    main()
+    write_cases(write_case, __doc__)

@@ -56,6 +56,23 @@ tasks() {
     echo "{\"dag_id\":\"d\",\"schedule\":\"@daily\",\"tasks\":[$1]}" > "$graph"
 }
 
+# Compares what goes by chance, and ends the script: `by_chance NAME MANY [FIRST [COUNT]]` has shared/NAME.py write the files of COUNT
+# seeds from FIRST on, by itself of the first MANY, and hands `compares` what the line of each has behind its seed, while `folder` has
+# its files. (Paths in a folder that mktemp made have no blanks.)
+by_chance() {
+    local name=$1 first=${3:-1} count=${4:-$2} seed words before folder
+    python3 -B "$root/tests/shared/$name.py" "$work" "$first" "$count"
+    while read -r seed words; do
+        folder=$work/$seed
+        graph=$folder/graph.json
+        before=$differing
+        compares $words
+        [[ $differing -eq $before ]] || echo "that was seed $seed, of which tests/shared/$name.py FOLDER $seed 1 writes the files"
+        rm -r "$folder"
+    done < "$work/cases"
+    sum
+}
+
 # The sum, with which a script ends.
 sum() {
     echo "$((rows - differing)) passed, $differing failed"

@@ -8,14 +8,12 @@ program prints") and docs/SPECIFICATION.md ("Graphs", "Pools", "Schedules", "Lim
 """
 import itertools
 import json
-import pathlib
 import random
 import re
-import sys
 
 import intervals
 import recursion
-from chance import UNSETTLED, WAITING, graph_of, happens, settled_ancestors, some
+from chance import UNSETTLED, WAITING, graph_of, happens, settled_ancestors, some, write_cases
 
 MOST_BYTES = 8388608
 MOST_TASKS = 2000
@@ -578,18 +576,10 @@ def write_case(folder, seed):
     (place / "graph.json").write_bytes(text.encode())
     (place / "told").write_bytes(f"{line}\n".encode())
     if zone_bytes is None:
-        return f"{seed} {status}"
+        return f"{seed} {status}\n"
     (place / "zone").write_bytes(zone_bytes)
-    return f"{seed} {status} --zone-file {place / 'zone'}"
-
-
-def main():
-    if len(sys.argv) != 4:
-        sys.exit(__doc__)
-    folder, first, count = pathlib.Path(sys.argv[1]), int(sys.argv[2]), int(sys.argv[3])
-    lines = [write_case(folder, seed) for seed in range(first, first + count)]
-    (folder / "cases").write_text("".join(f"{line}\n" for line in lines))
+    return f"{seed} {status} --zone-file {place / 'zone'}\n"
 
 
 if __name__ == "__main__":
-    main()
+    write_cases(write_case, __doc__)

@@ -19,9 +19,8 @@ import pathlib
 import random
 import re
 import struct
-import sys
 
-from chance import happens
+from chance import happens, write_cases
 
 DAY = 86400
 EPOCH = datetime.date(1970, 1, 1).toordinal()
@@ -598,12 +597,5 @@ def write_case(folder, seed):
     return f"{seed} {status}\n"
 
 
-def main():
-    if len(sys.argv) != 4:
-        sys.exit(__doc__)
-    folder, first, count = pathlib.Path(sys.argv[1]), int(sys.argv[2]), int(sys.argv[3])
-    (folder / "cases").write_text("".join(write_case(folder, seed) for seed in range(first, first + count)))
-
-
 if __name__ == "__main__":
-    main()
+    write_cases(write_case, __doc__)

@@ -2,20 +2,18 @@
 """Reports that go by chance, good ones and bad, and what `clear` is to say of each: reports.py FOLDER FIRST COUNT
 
 This is a plain reading of docs/FORMATS.md ("Report, version 1", "Reading a report", "Report, version 2", "Moments" and the table of
-refusals), by somebody who hasn't seen the code. For each seed from FIRST on, COUNT of them, the folder has a file of its name, which
-is the report, and the file `cases` a line: the seed, and the refusal that `clear` prints. A report that is read is refused too, as
+refusals), by somebody who hasn't seen the code. For each seed from FIRST on, COUNT of them, a folder of its name has `report`,
+and the file `cases` a line: the seed, and the refusal that `clear` prints. A report that is read is refused too, as
 42, where the graph is of a dag id that no report here has.
 """
 import copy
 import datetime
 import itertools
 import json
-import pathlib
 import random
 import re
-import sys
 
-from chance import ITEMS, graph_of, happens, in_version_1, intervals_of, some, table_of
+from chance import ITEMS, graph_of, happens, in_version_1, intervals_of, some, table_of, write_cases
 from intervals import BAD_MOMENTS, DAY, FIRST_MOMENT, LAST_DAY, LAST_MOMENT, OUTSIDE_MOMENTS, Refused, moment_of, spelled
 import recursion
 
@@ -332,6 +330,8 @@ def report_at_limit(chance):
         lambda: in_one_run(f"{name} 10 success 1 1" if more else f"{name} -1 success 101 {text}", version=version),
         lambda: in_one_run("a -1 success 1 -", f"@pull {name} -"),
         lambda: [f"@backfill {version} {name}", "@end 0"],
+        lambda: ["@backfill 2 d", f"@run {spelled(LAST_MOMENT + more)} {spelled(LAST_END)} success", "@end 1"],
+        lambda: ["@backfill 2 d", f"@run {spelled(LAST_MOMENT)} {spelled(LAST_END + more)} success", "@end 1"],
         lambda: in_one_run(f"a -1 success 1 {text}", version=version),
         lambda: in_one_run(f"a -1 success 1 {text_of_bytes(recursion.LONGEST_VALUE - 1 + more)[:-2]}é\"", version=version),
         lambda: in_one_run("a 0 success 1 -", f"@item {text}"),
@@ -348,6 +348,8 @@ def with_long_line(chance, lines):
     """A line of about as many bytes as a line may have, somewhere."""
     starts = ["", "a -1 success 1 \"", "@item \"", "@end ", "@pull", "@pull\t", "@pull ", "@pull b \"", "@pull b \"", "@backfill 2 "]
     start = chance.choice(starts)
+    if happens(chance, 60):
+        lines[:] = map(str.encode, in_one_run("a -1 success 1 -"))
     place = chance.randint(0, len(lines))
     lines.insert(place, start.encode().ljust(LONGEST_LINE + chance.choice([-1, 0, 1, 1, 9]), b"x"))
 
@@ -470,7 +472,7 @@ def report_by_chance(seed):
     if happens(chance, KINDS_OF_REPORTS[kind][1]):
         for _ in range(chance.choice([1, 1, 1, 1, 1, 2, 3])):
             chance.choice(CHANGES)(chance, lines or [b""])
-    if happens(chance, 3):
+    if happens(chance, 5):
         with_long_line(chance, lines)
     if happens(chance, 0.25):
         with_huge_pull(chance, lines)
@@ -478,16 +480,13 @@ def report_by_chance(seed):
     return change_end(chance, content) if happens(chance, 8) else content
 
 
-def main():
-    if len(sys.argv) != 4:
-        sys.exit(__doc__)
-    folder, first, count = pathlib.Path(sys.argv[1]), int(sys.argv[2]), int(sys.argv[3])
-    with open(folder / "cases", "w") as cases:
-        for seed in range(first, first + count):
-            content = report_by_chance(seed)
-            (folder / f"{seed}").write_bytes(content)
-            cases.write(f"{seed} {answer(content)}\n")
+def write_case(folder, seed):
+    """Writes the report of a seed, and answers its line."""
+    content = report_by_chance(seed)
+    (folder / f"{seed}").mkdir()
+    (folder / f"{seed}" / "report").write_bytes(content)
+    return f"{seed} {answer(content)}\n"
 
 
 if __name__ == "__main__":
-    main()
+    write_cases(write_case, __doc__)
