@@ -2,16 +2,18 @@
 use Rattle.std.proofs.Common.{◌≡◌, ◌≢◌, inl, inr, ℕ, zero, suc, ◌<◌, ◌+◌, ◌-◌, List, [], ◌∷◌, ◌++◌, length, get_or, set, Contains, Bool, true, false, true≢false, Option, Some, None, sym, ap, ◌∙◌, subst, arith, Vec, Global}
 use Rattle.std.proofs.lemmas.Bool.{cases_lt}
 use Rattle.std.proofs.lemmas.Bool.Decides.{eqb_tells}
-use Rattle.std.proofs.lemmas.List.{get_or_default, get_or-set_same, get_or-set_other, get_or_append_left, length_push, length-set, length-map}
+use Rattle.std.proofs.lemmas.List.{get_or_default, get_or_read, get_or-set_same, get_or-set_other, get_or_append_left, length_push, length-set, length-map}
 use Rattle.std.proofs.lemmas.List.Elements.{Contains-get_or, Contains-append_left, Contains-push, Contains-push_cases}
 use Rattle.std.proofs.lemmas.List.Quantifiers.{all_pairs_push}
 use Rattle.std.proofs.Math.Seq.{get_or-append_seam}
+use Rattle.bf_graph.specs.declared.climb.Climb.{Climb}
 use Rattle.bf_graph.specs.Edges.{lists, upstreams_of, IsUpstream, AreInRange}
 use Rattle.bf_graph.specs.Ranks.{rank_at, HasUnranked}
 use Rattle.bf_graph.specs.Reach.{IsPath, is_marked}
 use Rattle.bf_graph.specs.Cycles.{HasCycle}
-use Rattle.bf_graph.specs.Climbs.{AreRankedBetween, IsFirstUnranked, Climbs, IsOnPath, IsClimb}
+use Rattle.bf_graph.specs.Climbs.{AreRankedBetween, IsFirstUnranked, Climbs, IsOnPath, IsClimb, IsClimbing}
 use Rattle.bf_graph.proofs.PathLemmas.{edge_before}
+use Rattle.bf_graph.proofs.RankLemmas.{upstreams_read}
 
 pub keeps_rank : (rs : List (Option ℕ)) (t r u : ℕ) → t < length rs → rank_at rs u ≢ None → rank_at (set rs t (Some r)) u ≢ None
 keeps_rank rs t r u h some e = elim (eqb_tells u t) [
@@ -41,31 +43,6 @@ none_unranked ranks read us vs from p again same at before after =
     let Q : List ℕ → Type 0 = λ xs. AreRankedBetween ranks xs from (length xs) in
     let R : ℕ → Type 0 = λ n. AreRankedBetween ranks us n (length us) in
     no_unranked ranks us p before (subst R at (subst Q same (subst P again after)))
-
--- the upstream u of t at a place, and what is known of those before it
-pub record IsNextAbove (es : List (Vec ℕ Global)) (ranks : List (Option ℕ)) (t p place u : ℕ) : Type 0 where
-  pub is : u ≡ get_or (upstreams_of (lists es) t) place 0
-  pub up : IsUpstream (lists es) u t
-  pub within : u < length es
-  pub unranked : rank_at ranks u ≡ None
-  pub before : AreRankedBetween ranks (upstreams_of (lists es) t) p place
-
-pub next_above : (es : List (Vec ℕ Global)) (ranks read : List (Option ℕ)) (t from p place : ℕ) (vs : List ℕ) → AreInRange (lists es) → read ≡ ranks → vs ≡ upstreams_of (lists es) t → from ≡ p → IsFirstUnranked read vs from place
-    → IsNextAbove es ranks t p place (get_or vs place 0)
-next_above es ranks read t from p place vs inside again same at first =
-    let P : List (Option ℕ) → Type 0 = λ rs. IsFirstUnranked rs vs p place in
-    let Q : ℕ → Type 0 = λ n. IsFirstUnranked read vs n place in
-    let R : List ℕ → Type 0 = λ xs. IsFirstUnranked ranks xs p place in
-    let S : List ℕ → Type 0 = λ xs. Contains xs (get_or vs place 0) in
-    let there = subst P again (subst Q at first) in
-    let up : IsUpstream (lists es) (get_or vs place 0) t = subst S same (Contains-get_or vs place 0 there.within) in
-    record {
-      is = ap (λ xs. get_or xs place 0) same;
-      up = up;
-      within = omega (arith, inside t (get_or vs place 0) up, length-map es (λ (v : Vec ℕ Global). v.items));
-      unranked = there.unranked;
-      before = (subst R same there).before;
-    }
 
 -- ---- the path while it climbs
 
@@ -173,3 +150,61 @@ module _ (ups : List (List ℕ)) (n : ℕ) (ranks : List (Option ℕ)) (rest : L
         let bottom : get_or whole w.0 0 ≡ u = get_or_default whole w.0 0 u w.1 ∙ w.2 in
         let back = path_back w.0 m (omega (arith, last, length_push rest t)) in
         (u, (m, edge_before ups u t m u up (subst (λ (x : ℕ). IsPath ups t m x) bottom (subst (λ (x : ℕ). IsPath ups x m (get_or whole w.0 0)) top back))))
+
+-- ---- the task that was taken off the path
+
+-- where the path without its last task t is rest
+pub record IsTakenOff (es : List (Vec ℕ Global)) (c : Climb) (rest : List ℕ) (t : ℕ) : Type 0 where
+  pub climb : IsClimb (lists es) (length es) c.found.ranks.items (rest ++ t ∷ []) c.seen.items c.passed.items
+  pub within : t < length es
+  pub in_ranks : t < length c.found.ranks.items
+  pub in_passed : t < length c.passed.items
+  pub unranked : rank_at c.found.ranks.items t ≡ None
+
+pub taken_off : (es : List (Vec ℕ Global)) (c : Climb) (rest : List ℕ) (t : ℕ) → c.path.items ≡ rest ++ t ∷ [] → IsClimbing es c → IsTakenOff es c rest t
+taken_off es c rest t is climbing =
+    let P : List ℕ → Type 0 = λ p. IsClimb (lists es) (length es) c.found.ranks.items p c.seen.items c.passed.items in
+    let k = subst P is climbing.climb in
+    let last = last_on_path _ _ _ rest _ _ _ k in
+    let within = last.within in
+    let ranks = climbing.found.right_ranks.len in
+    let numbers = k.one_number_each in
+    record { climb = k; within = within; in_ranks = omega (arith, within, ranks); in_passed = omega (arith, within, numbers); unranked = last.unranked }
+
+-- its upstreams, and how many of them were passed, where they are read
+pub record AreRead (es : List (Vec ℕ Global)) (c : Climb) (t : ℕ) (us : List ℕ) (passed : ℕ) : Type 0 where
+  pub upstreams : us ≡ upstreams_of (lists es) t
+  pub passed_is : passed ≡ get_or c.passed.items t 0
+
+pub are_read : (es : List (Vec ℕ Global)) (c : Climb) (rest : List ℕ) (t : ℕ) (v : Vec ℕ Global) (us : List ℕ) (passed : ℕ) → IsTakenOff es c rest t → v ≡ get_or es t v → us ≡ v.items → passed ≡ get_or c.passed.items t passed → AreRead es c t us passed
+are_read es c rest t v us passed task at items number =
+    record { upstreams = upstreams_read es t v us task.within at items; passed_is = get_or_read c.passed.items t passed task.in_passed number 0 }
+
+-- its upstream u at a place, and what is known of those before it
+pub record IsNextAbove (es : List (Vec ℕ Global)) (c : Climb) (t place u : ℕ) : Type 0 where
+  pub is : u ≡ get_or (upstreams_of (lists es) t) place 0
+  pub up : IsUpstream (lists es) u t
+  pub within : u < length es
+  pub in_seen : u < length c.seen.items
+  pub unranked : rank_at c.found.ranks.items u ≡ None
+  pub before : AreRankedBetween c.found.ranks.items (upstreams_of (lists es) t) (get_or c.passed.items t 0) place
+
+pub next_above : (es : List (Vec ℕ Global)) (c : Climb) (rest : List ℕ) (t passed place : ℕ) (us : List ℕ) (ranks : List (Option ℕ)) → AreInRange (lists es) → IsTakenOff es c rest t → AreRead es c t us passed → ranks ≡ c.found.ranks.items → IsFirstUnranked ranks us passed place
+    → IsNextAbove es c t place (get_or us place 0)
+next_above es c rest t passed place us ranks inside task read same first =
+    let P : List (Option ℕ) → Type 0 = λ rs. IsFirstUnranked rs us passed place in
+    let Q : ℕ → Type 0 = λ n. IsFirstUnranked c.found.ranks.items us n place in
+    let R : List ℕ → Type 0 = λ xs. IsFirstUnranked c.found.ranks.items xs (get_or c.passed.items t 0) place in
+    let S : List ℕ → Type 0 = λ xs. Contains xs (get_or us place 0) in
+    let there = subst Q read.passed_is (subst P same first) in
+    let up : IsUpstream (lists es) (get_or us place 0) t = subst S read.upstreams (Contains-get_or us place 0 there.within) in
+    let within : get_or us place 0 < length es = omega (arith, inside t (get_or us place 0) up, length-map es (λ (v : Vec ℕ Global). v.items)) in
+    let marks = task.climb.one_mark_each in
+    record {
+      is = ap (λ xs. get_or xs place 0) read.upstreams;
+      up = up;
+      within = within;
+      in_seen = omega (arith, within, marks);
+      unranked = there.unranked;
+      before = (subst R read.upstreams there).before;
+    }
