@@ -13,15 +13,14 @@ use bf_command_line::{GraphAsked, RangeAsked};
 use bf_commands::MomentRange;
 use bf_device::Bytes;
 use bf_moment::moment_in;
+use bf_read::MOST_BYTES;
 use bf_report::Report;
 use bf_report_reader::read_report;
+use bf_try::LONGEST_TABLE;
 use bf_value::Text;
 use bf_zone::MOST_FILE_BYTES;
 use jiff::Timestamp;
 use std::alloc::Global;
-
-/// A graph file and a table have at most this many bytes.
-const LONGEST_FILE: usize = 8_388_608;
 
 /// No vector holds two bytes more than this.
 const LONGEST_REPORT: usize = 9_223_372_036_854_775_806;
@@ -58,7 +57,7 @@ fn graph_bytes<S: Source>(
     ensures fault { IfErr result (IsReadingFault (S.file files.old) (string_bytes path ∷ [])) }
     ensures stays { (p : List ℕ) → S.file files.new p ≡ S.file files.old p }
 {
-    file_bytes(alloc, path, LONGEST_FILE, files)
+    file_bytes(alloc, path, MOST_BYTES, files)
 }
 
 fn table_bytes<S: Source>(
@@ -72,7 +71,7 @@ fn table_bytes<S: Source>(
     ensures fault { IfErr result (IsReadingFault (S.file files.old) (string_bytes path ∷ [])) }
     ensures stays { (p : List ℕ) → S.file files.new p ≡ S.file files.old p }
 {
-    file_bytes(alloc, path, LONGEST_FILE, files)
+    file_bytes(alloc, path, LONGEST_TABLE, files)
 }
 
 fn zone_bytes<S: Source>(

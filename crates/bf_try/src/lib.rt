@@ -23,5 +23,6 @@ pub use grading::{
 pub use ledger::{Entry, Ledger, NoteFault, alike};
 pub use runner::{RunnerFault, TaskRunner};
 pub use table::{Table, TableEntry, TableFault};
+pub use table_reader::LONGEST_TABLE;
 pub use table_runner::TableRunner;
 pub use tickets::{Done, Ticket};

@@ -16,7 +16,7 @@ use serde_json::{Map, Value};
 use std::alloc::Global;
 
 /// How many bytes a table may have.
-const LONGEST_TABLE: usize = 8_388_608;
+pub const LONGEST_TABLE: usize = 8_388_608;
 
 fn is_key(name: &str) -> bool
     ensures { result ≡ key name.now }
