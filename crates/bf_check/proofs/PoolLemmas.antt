@@ -107,20 +107,6 @@ module _ (q : List ℕ) where
 abbrev with_default : Bool → List PoolDraft → List PoolDraft
 with_default named pools = cond named pools (pools ++ default_pool ∷ [])
 
--- a pool of the file keeps its number
-pub number_of_named : (q : List ℕ) (pools : List PoolDraft) (i : ℕ) → position (is_named q) pools ≡ Some i → pool_number (pools_of pools) q ≡ Some i
-number_of_named q pools i e = go (names_default pools)
-  where
-    go : (b : Bool) → position (is_named q) (with_default b pools) ≡ Some i
-    go true = e
-    go false =
-        let d = default_pool in
-        let first = position-Some (is_named q) pools i d e in
-        let all = length-append pools (d ∷ []) in
-        let keep : (k : ℕ) → k < length pools → is_named q (get_or (pools ++ d ∷ []) k d) ≡ is_named q (get_or pools k d) = λ k h. ap (is_named q) (get_or_append_left pools (d ∷ []) d k h) in
-        let low = first.0 in
-        placed (is_named q) (pools ++ d ∷ []) d i (omega (arith, all, low)) (λ k h. keep k (omega (arith, h, low)) ∙ first.2 k h) (keep i low ∙ first.1)
-
 none_default : (pools : List PoolDraft) → position (is_named (codes "default_pool")) pools ≡ None → names_default pools ≡ false
 none_default pools e = list_any_none (is_named (codes "default_pool")) pools (λ k d h. none_passing (is_named (codes "default_pool")) pools d e k h)
 

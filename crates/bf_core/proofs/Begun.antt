@@ -27,6 +27,3 @@ running-at b n at = record { held = begun at.held; is_held = begun-held b n at; 
 -- a try that has begun was given what it is given
 pub begun-given : (b : Backfill) (n : JobName) → IsPresent b.dag b.state n Phase.Waiting → given_in (cell_at (moved b (Event.Begin n)).state n.run n.task) (place_in b.dag n) ≡ given_in (cell_at b.state n.run n.task) (place_in b.dag n)
 begun-given b n at = ap given_of (begun-held b n at) ∙ sym (ap given_of at.is_held)
-
-pub end-may : (b : Backfill) (n : JobName) (o : Outcome) → IsPresent b.dag b.state n Phase.Waiting → fits b.dag n.task o ≡ true → MayCome (moved b (Event.Begin n)) (Event.End n o)
-end-may b n o at fit = ((running-at b n at, fit), tt)

@@ -14,10 +14,6 @@ pub some-test : {X : Type 0} (P : X → Type 0) (Q : Type 0) (o : Option X) → 
 some-test P Q (Some x) some none = (λ e. some.1, λ q. refl)
 some-test P Q None some none = (λ e. cc, λ q. absurd (none q))
 
--- what is present is known by its name
-pub present-knows : (b : Backfill) → IsReplay b → (n : JobName) (p : Phase) → IsPresent b.dag b.state n p → (x : _) × IsKnownAs b.dag b.state n x
-present-knows b is n p at = let k = present-known b is n p at in (k.held, known-back b.dag b.state n k)
-
 is-there : {A : Type 0} (xs : List A) (k : ℕ) → k < length xs → None ≡ slice_get xs k → ⊥
 is-there [] k l e = omega (arith, l)
 is-there (x ∷ xs) zero l e = cc

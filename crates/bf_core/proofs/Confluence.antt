@@ -161,9 +161,6 @@ module _ (dag : Dag) (sound : IsSound dag) (runs : ℕ) (one two : Ledger) (Kept
   pub decided-alike : (k t : ℕ) → Kept k t → k < runs → t < length dag.tasks → decided dag one k t ≡ decided dag two k t
   decided-alike k t kept l m = run-same k l (before-same k l) (suc (sound.rank t)) t kept (omega arith) m
 
-  pub out-alike : (k t : ℕ) → Kept k t → k < runs → t < length dag.tasks → out dag one k t ≡ out dag two k t
-  out-alike k t kept l m = outs-same k t kept l m (decided-alike k t kept l m)
-
   -- what one ledger is asked for, the other has, and it is the same
   entry-alike : (n : JobName) (e : Entry) → Kept n.run n.task → n.run < runs → n.task < length dag.tasks → n ≡ name_of dag n.run n.task (place_in dag n) n.attempt → Asks dag one n.run n.task (place_in dag n) n.attempt e.given → one n ≡ Some e → two n ≡ Some e
   entry-alike n e kept l m name asks h =

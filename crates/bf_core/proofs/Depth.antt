@@ -28,7 +28,7 @@ pulls-cong : (dag : Dag) (a b : ℕ → Seen) (us : List ℕ) → SameOn a b us 
 pulls-cong dag a b [] same = refl
 pulls-cong dag a b (u ∷ us) same = ap₂ (λ x y. option_and_then (pull (task_of dag u)) x.value ∷ y) (same u (inl refl)) (pulls-cong dag a b us (λ v h. same v (inr h)))
 
-ruling-cong : (dag : Dag) (a b : ℕ → Seen) (t : ℕ) → SameOn a b (task_of dag t).upstreams → ruling dag a t ≡ ruling dag b t
+pub ruling-cong : (dag : Dag) (a b : ℕ → Seen) (t : ℕ) → SameOn a b (task_of dag t).upstreams → ruling dag a t ≡ ruling dag b t
 unfolding ruling
 ruling-cong dag a b t same =
     rw (

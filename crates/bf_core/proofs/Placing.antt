@@ -1,8 +1,8 @@
 -- Reading and writing the runs of a state.
 use Rattle.std.proofs.Common.{◌≡◌, ◌<◌, ℕ, List, [], ◌∷◌, length, slice_index_or, slice_set, slice_get, IsSome, Some, None, zero, suc, refl, ap, ◌∙◌, arith}
-use Rattle.bf_core.specs.Events.{change_at, change_instance, ended, cell_at, put, put_in}
+use Rattle.bf_core.specs.Events.{change_at, put_in}
 use Rattle.bf_try.specs.declared.ledger.Ledger.{Ledger}
-use Rattle.bf_core.specs.Terms.{State, Run, Cell, Outcome}
+use Rattle.bf_core.specs.Terms.{State, Run, Cell}
 
 pub read-row : {A : Type 0} (xs : List A) (i : ℕ) (x d : A) → slice_get xs i ≡ Some x → slice_index_or xs i d ≡ x
 read-row [] i x d e = cc
@@ -52,9 +52,3 @@ pub below-some : {A : Type 0} (xs : List A) (i : ℕ) → i < length xs → IsSo
 below-some [] i h = absurd (omega (arith, h))
 below-some (x ∷ xs) zero h = refl
 below-some (x ∷ xs) (suc i) h = below-some xs i (omega arith)
-
--- the state after a try has ended, by what its end was given
-pub ended-state : (s : State) (k t : ℕ) (ledger next : Ledger) (r q : ℕ) (o p : Outcome) (i j : ℕ) → ledger ≡ next → r ≡ q → o ≡ p → i ≡ j →
-    put (record { runs = s.runs; ledger = ledger }) k t (change_instance (ended r o) (cell_at s k t) i)
-    ≡ record { runs = put_in s.runs k t (change_instance (ended q p) (cell_at s k t) j); ledger = next }
-ended-state s k t ledger next r q o p i j e f g h = λ x. record { runs = put_in s.runs k t (change_instance (ended (f x) (g x)) (cell_at s k t) (h x)); ledger = e x }

@@ -86,12 +86,6 @@ put-here s k t c decided = rows (set-here s.runs k changed no_run)
         let e : cell_at (put s k t c) k t ≡ slice_index_or (slice_set row.cells t c) t Cell.Undecided = ap (λ r. slice_index_or r.cells t Cell.Undecided) p in
         elim (set-here row.cells t c Cell.Undecided) [ inl q ↦ e ∙ q | inr q ↦ absurd (decided q) ]
 
--- a cell in range can be put
-pub put-there : (s : State) (k t : ℕ) (c : Cell) → k < length s.runs → t < length (slice_index_or s.runs k no_run).cells → cell_at (put s k t c) k t ≡ c
-unfolding cell_in put_in
-put-there s k t c run task =
-    ap (λ (r : Run). slice_index_or r.cells t Cell.Undecided) (set-there s.runs k _ no_run run) ∙ set-there (slice_index_or s.runs k no_run).cells t c Cell.Undecided task
-
 pub with_phase-cell : (s : State) (k : ℕ) (p : RunPhase) (j u : ℕ) → cell_at (with_phase s k p) j u ≡ cell_at s j u
 unfolding cell_in phase_put_in
 with_phase-cell s k p j u = ap (λ cs. slice_index_or cs u Cell.Undecided) (rows (set-read s.runs k changed j no_run))

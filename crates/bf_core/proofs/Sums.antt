@@ -10,69 +10,6 @@ use Rattle.bf_core.specs.Deciding.{Seen, counts_over, past_ruling, all_passed}
 use Rattle.bf_core.specs.Events.{counts_of_cell, counts_of_instance, counts_of_instances, results, cons_result}
 use Rattle.bf_core.specs.Words.{is_finished, passed, ran_ruling}
 
-pub add-none : (a : Counts) → add a none_counted ≡ a
-add-none a = λ i. record { success = p0 i; failed = p1 i; upstream_failed = p2 i; skipped = p3 i; blocked = p4 i; unfinished = p5 i }
-  where
-    p0 : a.success + 0 ≡ a.success
-    p0 = omega arith
-
-    p1 : a.failed + 0 ≡ a.failed
-    p1 = omega arith
-
-    p2 : a.upstream_failed + 0 ≡ a.upstream_failed
-    p2 = omega arith
-
-    p3 : a.skipped + 0 ≡ a.skipped
-    p3 = omega arith
-
-    p4 : a.blocked + 0 ≡ a.blocked
-    p4 = omega arith
-
-    p5 : a.unfinished + 0 ≡ a.unfinished
-    p5 = omega arith
-
-pub none-add : (a : Counts) → add none_counted a ≡ a
-none-add a = λ i. record { success = p0 i; failed = p1 i; upstream_failed = p2 i; skipped = p3 i; blocked = p4 i; unfinished = p5 i }
-  where
-    p0 : 0 + a.success ≡ a.success
-    p0 = omega arith
-
-    p1 : 0 + a.failed ≡ a.failed
-    p1 = omega arith
-
-    p2 : 0 + a.upstream_failed ≡ a.upstream_failed
-    p2 = omega arith
-
-    p3 : 0 + a.skipped ≡ a.skipped
-    p3 = omega arith
-
-    p4 : 0 + a.blocked ≡ a.blocked
-    p4 = omega arith
-
-    p5 : 0 + a.unfinished ≡ a.unfinished
-    p5 = omega arith
-
-pub add-assoc : (a b c : Counts) → add (add a b) c ≡ add a (add b c)
-add-assoc a b c = λ i. record { success = p0 i; failed = p1 i; upstream_failed = p2 i; skipped = p3 i; blocked = p4 i; unfinished = p5 i }
-  where
-    p0 : (a.success + b.success) + c.success ≡ a.success + (b.success + c.success)
-    p0 = omega arith
-
-    p1 : (a.failed + b.failed) + c.failed ≡ a.failed + (b.failed + c.failed)
-    p1 = omega arith
-
-    p2 : (a.upstream_failed + b.upstream_failed) + c.upstream_failed ≡ a.upstream_failed + (b.upstream_failed + c.upstream_failed)
-    p2 = omega arith
-
-    p3 : (a.skipped + b.skipped) + c.skipped ≡ a.skipped + (b.skipped + c.skipped)
-    p3 = omega arith
-
-    p4 : (a.blocked + b.blocked) + c.blocked ≡ a.blocked + (b.blocked + c.blocked)
-    p4 = omega arith
-
-    p5 : (a.unfinished + b.unfinished) + c.unfinished ≡ a.unfinished + (b.unfinished + c.unfinished)
-    p5 = omega arith
-
 pub total-add : (a b : Counts) → total (add a b) ≡ total a + total b
 total-add a b = omega arith
 
@@ -132,10 +69,6 @@ past_ran xs = sym (past-of (results xs) _ _ (some-results xs) (passed-results xs
 
 -- ---- a loop over instances
 
-pub rest-counts : (xs : List Instance) (i : ℕ) (x : Instance) → i < length xs → x ≡ get_or xs i x →
-    counts_of_instances (drop i xs) ≡ add (counts_of_instance x.phase) (counts_of_instances (drop (i + 1) xs))
-rest-counts xs i x h e = ap counts_of_instances (drop-item xs i x h e)
-
 -- ---- a loop over upstreams
 
 -- few instances are counted of a cell that has few
@@ -145,7 +78,3 @@ few-total Cell.Blocked few = omega arith
 few-total Cell.Skipped few = omega arith
 few-total Cell.UpstreamFailed few = omega arith
 few-total (Cell.Ran xs) few = omega (arith, total-instances xs, few)
-
-pub rest-over : (seen : ℕ → Seen) (us : List ℕ) (i : ℕ) (u : ℕ) → i < length us → u ≡ get_or us i u →
-    counts_over seen (drop i us) ≡ add (seen u).counts (counts_over seen (drop (i + 1) us))
-rest-over seen us i u h e = ap (counts_over seen) (drop-item us i u h e)

@@ -1,6 +1,7 @@
 -- What the checks of an event look at.
 use Rattle.std.specs.Prelude.{◌≡◌, ◌<◌, ◌≤◌, ℕ, List, length, Some, slice_get, slice_index_or}
-use Rattle.bf_core.specs.Terms.{Dag, State, Cell, Run, RunPhase, RunState, JobName, Instance, TaskValue, task_of, map_index}
+use Rattle.bf_core.specs.Terms.{Dag, State, Cell, Phase, Run, RunPhase, RunState, JobName, Instance, TaskValue, task_of, map_index}
+use Rattle.bf_core.specs.declared.checks.Asked.{Asked}
 use Rattle.bf_core.specs.declared.event.Illegal.{Illegal}
 use Rattle.bf_core.specs.Recursion.{run_state_of}
 use Rattle.bf_core.specs.Events.{value_in, value_or_blocked, row_of, cell_at, phase_of, instance_of, place_in}
@@ -25,6 +26,11 @@ pub record IsKnownAs (dag : Dag) (state : State) (name : JobName) (instance : In
   pub is_named : map_index (task_of dag name.task) (place_in dag name) ≡ name.index
   pub from : 1 ≤ name.attempt
   pub to : name.attempt ≤ instance.attempt
+
+-- the phase that is asked for
+abbrev pub asked_phase : Asked → Phase
+asked_phase Asked.Waiting = Phase.Waiting
+asked_phase Asked.Running = Phase.Running
 
 -- the value of a cell for its run's state, by its row
 abbrev pub row_value : List Run → ℕ → ℕ → TaskValue

@@ -1,11 +1,12 @@
 -- What is at hand when a try begins, and when one ends.
-use Rattle.std.specs.Prelude.{◌≡◌, ◌<◌, length}
-use Rattle.bf_core.specs.Terms.{Demand, Event, JobName, Outcome, Phase, demand_of, task_of}
-use Rattle.bf_core.specs.Events.{IsEnabled, IsPresent, cell_at, given_in, place_in}
+use Rattle.std.specs.Prelude.{◌≡◌, ◌<◌, ◌+◌, ◌^◌, length}
+use Rattle.bf_core.specs.Terms.{Demand, Event, Instance, JobName, Outcome, Phase, demand_of, task_of}
+use Rattle.bf_core.specs.Events.{IsEnabled, IsPresent, begun, cell_at, ended, given_in, place_in}
 use Rattle.bf_core.specs.Clocks.{IsTimely, is_made_again, next_try}
 use Rattle.bf_core.specs.Cores.{Backfill}
 use Rattle.bf_core.specs.declared.clock.Retry.{Retry}
 use Rattle.bf_core.specs.declared.ending.Ending.{Ending}
+use Rattle.bf_core.specs.declared.trying.Change.{Change}
 
 -- the try waits, and its moment is reached; what it takes
 pub record IsBeginning (backfill : Backfill) (name : JobName) (demand : Demand) : Type 0 where
@@ -30,3 +31,13 @@ pub record IsEnding (backfill : Backfill) (name : JobName) (outcome : Outcome) (
   pub retries_are : ending.retries ≡ (task_of backfill.dag name.task).retries
   pub place_is : ending.place ≡ place_in backfill.dag name
   pub retry_is : IsRetry backfill name outcome ending.retry
+
+-- the instance after a change
+abbrev pub changed : Change → Instance → Instance
+changed Change.Begin = begun
+changed (Change.End retries outcome) = ended retries outcome
+
+-- the number of a next try has room
+abbrev pub IsCountable : Change → Type 0
+IsCountable Change.Begin = Unit {0}
+IsCountable (Change.End retries outcome) = retries + 1 < 2 ^ 32

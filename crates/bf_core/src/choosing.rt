@@ -8,7 +8,7 @@ ghost use Rattle.bf_core.specs.Cores.{GoesOn, IsThere, MayCome, deciding};
 ghost use Rattle.bf_core.specs.declared.state.Phase.{Phase as PhaseTerm};
 ghost use Rattle.bf_core.specs.declared.deciding.Decision.{Decision as DecisionTerm};
 
-use crate::checks::{instance_at, is_closable, known, runs, waits};
+use crate::checks::{Asked, instance_at, is_closable, present};
 use crate::deciding::{gate, goes_on};
 use crate::event::Event;
 use crate::machine::Core;
@@ -125,7 +125,7 @@ impl<'a> Core<'a> {
     pub fn instance(&self, name: JobName) -> Option<&Instance>
         ensures { option_copied result ≡ instance_of (cell_at self.now.state name.run name.task) (place_in self.now.dag name) }
     {
-        let place = place_of(self.plan.dag(), name);
+        let place = place_of(self.plan.dag(), name) as usize;
         instance_at(&self.state, name.run, name.task, place)
     }
 
@@ -135,16 +135,7 @@ impl<'a> Core<'a> {
         ensures given { IfSome result (λ x. given_in (cell_at self.now.state name.run name.task) (place_in self.now.dag name) ≡ x.now.given) }
         ensures none { IfNone result (¬ (IsPresent self.now.dag self.now.state name PhaseTerm.Running)) }
     {
-        match known(self.plan.dag(), &self.state, name) {
-            None => None,
-            Some(instance) => {
-                if runs(instance, name.attempt) {
-                    Some(instance)
-                } else {
-                    None
-                }
-            }
-        }
+        present(self.plan.dag(), &self.state, name, Asked::Running)
     }
 
     /// Whether the slots of a task fit its pool beside those that are occupied.
@@ -160,12 +151,9 @@ impl<'a> Core<'a> {
     pub fn may_begin(&self, name: JobName) -> bool
         ensures { IsTrue result ↔ MayCome self.now (Event.Begin name) }
     {
-        if !self.clock.lets_begin(name) {
-            return false;
-        }
-        match known(self.plan.dag(), &self.state, name) {
+        match present(self.plan.dag(), &self.state, name, Asked::Waiting) {
+            Some(_) => self.clock.lets_begin(name) && self.has_room(name.task),
             None => false,
-            Some(instance) => waits(instance, name.attempt) && self.has_room(name.task),
         }
     }
 }

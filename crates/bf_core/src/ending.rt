@@ -5,11 +5,12 @@ ghost use Rattle.bf_core.specs.Events.{IsPresent, cell_at, instance_of, given_in
 ghost use Rattle.bf_core.specs.Cores.{HasCome, IsRefusal, MayCome};
 ghost use Rattle.bf_core.specs.Tries.{IsEnding, IsRetry};
 
-use crate::checks::running;
+use crate::checks::{Asked, required};
 use crate::clock::{Retry, note_end};
 use crate::event::{Event, Illegal};
 use crate::machine::Core;
 use crate::places::{next_try, place_of};
+use crate::trying::Change;
 use bf_check::Demand;
 use bf_try::{Entry, Outcome, fits};
 use bf_value::JobName;
@@ -30,7 +31,7 @@ impl<'a> Core<'a> {
         ensures ok { IfOk result (IsEnding self.now name outcome.now) }
         ensures err { IfErr result (IsRefusal self.now (Event.End name outcome.now)) }
     {
-        let instance = running(self.plan.dag(), &self.state, name)?;
+        let instance = required(self.plan.dag(), &self.state, name, Asked::Running)?;
         if !fits(self.plan, name.task, outcome) {
             return Err(Illegal::NotEnabled);
         }
@@ -42,7 +43,7 @@ impl<'a> Core<'a> {
             kept: outcome.copy(self.alloc)?,
             demand: self.plan.demand(name.task),
             retries: self.plan.dag().task(name.task).retries,
-            place: place_of(self.plan.dag(), name),
+            place: place_of(self.plan.dag(), name) as usize,
             retry: self.retry_of(name, outcome),
         })
     }
@@ -74,10 +75,13 @@ impl<'a> Core<'a> {
             place,
             retry,
         } = self.ending(name, &outcome)?;
-        self.pools.known();
         self.journal.reserve(1)?;
         note_end(&mut self.clock, &mut self.state.ledger, name, entry, retry)?;
-        self.state.end(name.run, name.task, place, retries, kept);
+        let change = Change::End {
+            retries,
+            outcome: kept,
+        };
+        self.state.change(name.run, name.task, place, change);
         self.pools.give_back(demand.pool, demand.slots);
         self.journal.push_reserved(Event::End(name, outcome));
         Ok(())

@@ -4,13 +4,14 @@ ghost use Rattle.bf_core.specs.Events.{next_run, decision_in};
 ghost use Rattle.bf_core.specs.Cores.{deciding, opening, HasCome, IsRefusal, MayCome};
 ghost use Rattle.bf_core.specs.Tries.{IsBeginning};
 
-use crate::checks::{closable, undecided, waiting};
+use crate::checks::{Asked, closable, required, undecided};
 use crate::clock::{Clock, Moments};
 use crate::deciding::{Decision, decide, gate, goes_on};
 use crate::event::{Event, Illegal};
 use crate::opening::unopened_runs;
 use crate::places::place_of;
 use crate::state::{RunPhase, State};
+use crate::trying::Change;
 use bf_check::{Demand, Plan};
 use bf_interval::Interval;
 use bf_pool::{NoRoom, Pools};
@@ -162,13 +163,12 @@ impl<'a> Core<'a> {
         ensures same { OnErr result (self.new ≡ self.old) }
     {
         let demand = self.waiting_demand(name)?;
-        self.pools.known();
         self.journal.reserve(1)?;
         match self.pools.take(demand.pool, demand.slots) {
             Err(NoRoom) => Err(Illegal::NoRoom),
             Ok(()) => {
-                self.state
-                    .begin(name.run, name.task, place_of(self.plan.dag(), name));
+                let place = place_of(self.plan.dag(), name) as usize;
+                self.state.change(name.run, name.task, place, Change::Begin);
                 self.clock.moments.forget(name);
                 self.journal.push_reserved(Event::Begin(name));
                 Ok(())
@@ -181,7 +181,7 @@ impl<'a> Core<'a> {
         ensures ok { IfOk result (IsBeginning self.now name) }
         ensures err { IfErr result (IsRefusal self.now (Event.Begin name)) }
     {
-        waiting(self.plan.dag(), &self.state, name)?;
+        required(self.plan.dag(), &self.state, name, Asked::Waiting)?;
         if !self.clock.lets_begin(name) {
             return Err(Illegal::NotEnabled);
         }

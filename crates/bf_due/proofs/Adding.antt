@@ -70,15 +70,6 @@ goes-by b k t g may = (able-decidable b.dag b.limits b.state k t g may.0).1
 same-way : (b : Backfill) (k t : ℕ) (y : Turn) → (y.run ≡ k) × (y.task ≡ t) → (g h : Bool) → MayCome b (deciding g k t) → goes_on b.dag b.state y.run y.task ≡ h → g ≡ h
 same-way b k t y of g h may e = sym (goes-by b k t g may) ∙ subst₂ (λ (j u : ℕ). goes_on b.dag b.state j u ≡ h) of.0 of.1 e
 
--- of the steps of a task that may come there is one
-pub only-one : (b : Backfill) (k t r : ℕ) → IsRank (shape_of b.dag).upstreams t r → (g : Bool) → MayCome b (deciding g k t) → (x : Step) → IsOfTask k t x → IsDue b x → x ≡ step_of g (record { run = k; rank = r; task = t })
-only-one b k t r is g may (Step.Close j) of due = absurd of
-only-one b k t r is g may Step.Open of due = absurd of
-only-one b k t r is g may (Step.Settle y) of due =
-    ap Step.Settle (is-turn (shape_of b.dag).upstreams k t r y is of due.0) ∙ ap (λ (h : Bool). step_of h (record { run = k; rank = r; task = t })) (sym (same-way b k t y of g false may due.1.0.1))
-only-one b k t r is g may (Step.Expand y) of due =
-    ap Step.Expand (is-turn (shape_of b.dag).upstreams k t r y is of due.0) ∙ ap (λ (h : Bool). step_of h (record { run = k; rank = r; task = t })) (sym (same-way b k t y of g true may due.1.0.1))
-
 -- where the task may not be decided, no step of it may come
 pub none-decides : (b : Backfill) (k t : ℕ) → ¬ (IsDecidable b.dag b.state k t) → (x : Step) → IsOfTask k t x → IsDue b x → ⊥
 none-decides b k t none (Step.Close j) of due = absurd of

@@ -1,5 +1,5 @@
 -- Agendas: what is in them after a change, and that the top comes first.
-use Rattle.std.proofs.Common.{◌≡◌, ◌⊎◌, ℕ, zero, suc, ◌<◌, ◌≤◌, false, Ordering, Less, Equal, Greater, List, [], ◌∷◌, length, map, slice_get, slice_index_or, Option, None, Some, refl, sym, ◌∙◌, subst, inl, inr, arith}
+use Rattle.std.proofs.Common.{◌≡◌, ◌⊎◌, ℕ, ◌<◌, ◌≤◌, false, Ordering, Less, Equal, Greater, List, [], ◌∷◌, map, slice_get, Option, None, Some, refl, sym, ◌∙◌, subst, inl, inr, arith}
 use Rattle.std.specs.List.{Contains}
 use Rattle.std.specs.Prelude.{IfSome}
 use Rattle.std.specs.List.Sorted.{IsPermutation}
@@ -8,6 +8,7 @@ use Rattle.std.specs.BinaryHeap.{IsUpperBound}
 use Rattle.std.specs.declared.cmp.Reverse.{Reverse}
 use Rattle.std.proofs.lemmas.Cmp.{ranked}
 use Rattle.std.proofs.lemmas.List.Sorted.{Contains-permutation, IsPermutation-map, IsPermutation-sym}
+use Rattle.bf_core.proofs.Members.{contains-first, contains-rest, contains-cases}
 use Rattle.bf_due.specs.declared.agenda.Step.{Step}
 use Rattle.bf_due.specs.declared.agenda.Turn.{Turn}
 use Rattle.bf_due.specs.contracts.agenda.StepOrd.TheImpl as by_step
@@ -65,19 +66,6 @@ comes (Step.Expand x) (Step.Expand y) e = turn-comes x y e
 abbrev pub unwrapped : List (Reverse Step) → List Step
 unwrapped xs = map (λ (r : Reverse Step). r.0) xs
 
-here : (x : Step) (ys : List Step) → Contains (x ∷ ys) x
-here x ys = (0, omega arith, refl)
-
-later : (x : Step) (ys : List Step) (y : Step) → Contains ys y → Contains (x ∷ ys) y
-later x ys y c = (suc c.0, omega (arith, c.1), c.2)
-
-either : (x : Step) (ys : List Step) (y : Step) → Contains (x ∷ ys) y → (y ≡ x) ⊎ Contains ys y
-either x ys y c = go c.0 c.1 c.2
-  where
-    go : (k : ℕ) → k < length (x ∷ ys) → slice_index_or (x ∷ ys) k y ≡ y → (y ≡ x) ⊎ Contains ys y
-    go zero l e = inl (sym e)
-    go (suc k) l e = inr (k, omega arith, e)
-
 pub top-in : (xs : List Step) (x : Step) → Some x ≡ slice_get xs 0 → Contains xs x
 top-in [] x e = cc
 top-in (y ∷ ys) x e = let same : y ≡ x = cc in (0, omega arith, same)
@@ -91,22 +79,22 @@ no-items (y ∷ ys) e x c = cc
 -- the top comes before all
 pub bounded : (top : Reverse Step) (xs : List (Reverse Step)) → IsUpperBound reverse_cmp top xs → (y : Step) → Contains (unwrapped xs) y → Comes top.0 y
 bounded top [] b y c = absurd (omega (arith, c.1))
-bounded top (z ∷ zs) b y c = elim (either z.0 (unwrapped zs) y c) [
+bounded top (z ∷ zs) b y c = elim (contains-cases z.0 (unwrapped zs) y c) [
   | inl same ↦ subst (λ (w : Step). Comes top.0 w) (sym same) (comes top.0 z.0 b.0)
   | inr more ↦ bounded top zs b.1 y more
 ]
 
 pub added : (x : Reverse Step) (old new : List (Reverse Step)) → IsPermutation (x ∷ old) new → Contains (unwrapped new) x.0
-added x old new p = Contains-permutation (unwrapped (x ∷ old)) (unwrapped new) x.0 (IsPermutation-map (λ (r : Reverse Step). r.0) (x ∷ old) new p) (here x.0 (unwrapped old))
+added x old new p = Contains-permutation (unwrapped (x ∷ old)) (unwrapped new) x.0 (IsPermutation-map (λ (r : Reverse Step). r.0) (x ∷ old) new p) (contains-first x.0 (unwrapped old))
 
 pub kept-added : (x : Reverse Step) (old new : List (Reverse Step)) → IsPermutation (x ∷ old) new → (y : Step) → Contains (unwrapped old) y → Contains (unwrapped new) y
-kept-added x old new p y c = Contains-permutation (unwrapped (x ∷ old)) (unwrapped new) y (IsPermutation-map (λ (r : Reverse Step). r.0) (x ∷ old) new p) (later x.0 (unwrapped old) y c)
+kept-added x old new p y c = Contains-permutation (unwrapped (x ∷ old)) (unwrapped new) y (IsPermutation-map (λ (r : Reverse Step). r.0) (x ∷ old) new p) (contains-rest x.0 (unwrapped old) y c)
 
 pub only-added : (x : Reverse Step) (old new : List (Reverse Step)) → IsPermutation (x ∷ old) new → (y : Step) → Contains (unwrapped new) y → (y ≡ x.0) ⊎ Contains (unwrapped old) y
-only-added x old new p y c = either x.0 (unwrapped old) y (Contains-permutation (unwrapped new) (unwrapped (x ∷ old)) y (IsPermutation-map (λ (r : Reverse Step). r.0) new (x ∷ old) (IsPermutation-sym (x ∷ old) new p)) c)
+only-added x old new p y c = contains-cases x.0 (unwrapped old) y (Contains-permutation (unwrapped new) (unwrapped (x ∷ old)) y (IsPermutation-map (λ (r : Reverse Step). r.0) new (x ∷ old) (IsPermutation-sym (x ∷ old) new p)) c)
 
 pub kept-taken : (x : Reverse Step) (old new : List (Reverse Step)) → IsPermutation old (x ∷ new) → (y : Step) → Contains (unwrapped old) y → (y ≡ x.0) ⊎ Contains (unwrapped new) y
-kept-taken x old new p y c = either x.0 (unwrapped new) y (Contains-permutation (unwrapped old) (unwrapped (x ∷ new)) y (IsPermutation-map (λ (r : Reverse Step). r.0) old (x ∷ new) p) c)
+kept-taken x old new p y c = contains-cases x.0 (unwrapped new) y (Contains-permutation (unwrapped old) (unwrapped (x ∷ new)) y (IsPermutation-map (λ (r : Reverse Step). r.0) old (x ∷ new) p) c)
 
 -- what is not the step that was taken out is still there
 pub still-there : (r : Option Step) (old new : List Step) (step x : Step) → r ≡ slice_get old 0 → Some step ≡ slice_get old 0 →
@@ -118,4 +106,4 @@ still-there (Some z) old new step x e f kept other c =
     elim (kept x c) [ inl h ↦ absurd (other (h ∙ same)) | inr h ↦ h ]
 
 pub taken-fewer : (x : Reverse Step) (old new : List (Reverse Step)) → IsPermutation old (x ∷ new) → (y : Step) → Contains (unwrapped new) y → Contains (unwrapped old) y
-taken-fewer x old new p y c = Contains-permutation (unwrapped (x ∷ new)) (unwrapped old) y (IsPermutation-map (λ (r : Reverse Step). r.0) (x ∷ new) old (IsPermutation-sym old (x ∷ new) p)) (later x.0 (unwrapped new) y c)
+taken-fewer x old new p y c = Contains-permutation (unwrapped (x ∷ new)) (unwrapped old) y (IsPermutation-map (λ (r : Reverse Step). r.0) (x ∷ new) old (IsPermutation-sym old (x ∷ new) p)) (contains-rest x.0 (unwrapped new) y c)

@@ -1,8 +1,8 @@
 -- What an event changes of what may be decided: nothing but at its own task, at those that look at it, and at the tasks
 -- of a run that it opens or closes.
 use Rattle.std.proofs.Common.{◌≡◌, ◌≢◌, ℕ, suc, zero, ◌⊎◌, ◌&&◌, Bool, true, false, List, [], ◌∷◌, slice_get, Option, None, Some, is_some, option_map, refl, sym, ap, ap₂, ◌∙◌, arith, inl, inr, subst}
-use Rattle.std.specs.List.{list_all, list_any}
-use Rattle.bf_core.specs.Terms.{Dag, Limits, Task, task_of, Verdict, TaskValue, Xval, items, IsOneOf, IsSound, add}
+use Rattle.std.specs.List.{list_all}
+use Rattle.bf_core.specs.Terms.{Dag, Limits, task_of, Verdict, TaskValue, Xval, items, IsOneOf, IsSound, add}
 use Rattle.bf_core.specs.declared.state.State.{State}
 use Rattle.bf_core.specs.declared.state.Cell.{Cell}
 use Rattle.bf_core.specs.declared.state.Instance.{Instance}
@@ -10,8 +10,9 @@ use Rattle.bf_core.specs.declared.state.Phase.{Phase}
 use Rattle.bf_core.specs.declared.state.RunPhase.{RunPhase}
 use Rattle.bf_core.specs.declared.event.Event.{Event}
 use Rattle.bf_core.specs.declared.deciding.Decision.{Decision}
-use Rattle.bf_core.specs.Deciding.{Seen, lets_decide, branch_is, branch_skips, is_blocked, counts_over, ruling, gate, pulled, instances, mapped, after_verdict, decision}
+use Rattle.bf_core.specs.Deciding.{Seen, lets_decide, ruling, gate, pulled, instances, mapped, after_verdict, decision}
 use Rattle.bf_core.specs.Events.{cell_at, phase_of, results, cons_result, counts_of_instance, counts_of_instances, seen_in, before_in, decision_in, goes_on, is_run, instance_of, change_at, change_instance, begun, place_in, next_run, put, after, IsDecidable, IsEnabled}
+use Rattle.bf_core.proofs.Depth.{ruling-cong}
 use Rattle.bf_core.proofs.Reading.{put-cases, with_phase-cell}
 use Rattle.bf_core.proofs.Instances.{IsUnfinished, not_yet}
 use Rattle.bf_core.proofs.Steps.{lets}
@@ -20,33 +21,6 @@ use Rattle.bf_core.proofs.Shape.{put-phase, phase-cases}
 use Rattle.bf_core.proofs.Decisions.{and_left, and_right}
 
 -- ---- what a decision looks at
-
--- of each of these tasks the same is known
-abbrev pub AlikeOn : (ℕ → Seen) → (ℕ → Seen) → List ℕ → Type 0
-AlikeOn a b us = (u : ℕ) → IsOneOf us u → a u ≡ b u
-
-all-alike : (dag : Dag) (task : Task) (a b : ℕ → Seen) (us : List ℕ) → AlikeOn a b us → list_all (lets_decide dag task a) us ≡ list_all (lets_decide dag task b) us
-all-alike dag task a b [] h = refl
-all-alike dag task a b (u ∷ us) h = rw (h u (inl refl), all-alike dag task a b us (λ v g. h v (inr g)))
-
-any-alike : (dag : Dag) (p : ℕ → TaskValue → Bool) (a b : ℕ → Seen) (us : List ℕ) → AlikeOn a b us →
-    list_any (λ u. branch_is dag (p u) u (a u).value) us ≡ list_any (λ u. branch_is dag (p u) u (b u).value) us
-any-alike dag p a b [] h = refl
-any-alike dag p a b (u ∷ us) h = rw (h u (inl refl), any-alike dag p a b us (λ v g. h v (inr g)))
-
-counts-alike : (a b : ℕ → Seen) (us : List ℕ) → AlikeOn a b us → counts_over a us ≡ counts_over b us
-counts-alike a b [] h = refl
-counts-alike a b (u ∷ us) h = rw (h u (inl refl), counts-alike a b us (λ v g. h v (inr g)))
-
-pub ruling-alike : (dag : Dag) (a b : ℕ → Seen) (t : ℕ) → AlikeOn a b (task_of dag t).upstreams → ruling dag a t ≡ ruling dag b t
-unfolding ruling
-ruling-alike dag a b t h =
-    rw (
-      all-alike dag (task_of dag t) a b (task_of dag t).upstreams h,
-      any-alike dag (λ u. branch_skips dag t u) a b (task_of dag t).upstreams h,
-      any-alike dag (λ u. is_blocked) a b (task_of dag t).upstreams h,
-      counts-alike a b (task_of dag t).upstreams h,
-    )
 
 gate-alike : (dag : Dag) (k : ℕ) (a b : ℕ → Seen) (p q : Option TaskValue) (t : ℕ) → ruling dag a t ≡ ruling dag b t → p ≡ q → gate dag k a p t ≡ gate dag k b q t
 unfolding gate
@@ -250,7 +224,7 @@ pub rules-alike : (dag : Dag) → IsSound dag → (limits : Limits) (s : State) 
 rules-alike dag sound limits s e able j u = elim (any-touched e j (task_of dag u).upstreams) [
   | inl w ↦ inr w
   | inr none ↦ inl (record {
-    ruling = ruling-alike dag (λ v. seen_in (cell_at (after dag s e) j v)) (λ v. seen_in (cell_at s j v)) u (λ v h. seen-kept dag limits s e able j v (none v h));
+    ruling = ruling-cong dag (λ v. seen_in (cell_at (after dag s e) j v)) (λ v. seen_in (cell_at s j v)) u (λ v h. seen-kept dag limits s e able j v (none v h));
     source = λ v is. seen-kept dag limits s e able j v (none v (sound.source_is_upstream u v is));
   })
 ]

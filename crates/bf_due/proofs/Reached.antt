@@ -110,31 +110,6 @@ zeros zero t d e = sym e
 zeros (suc n) zero d e = refl
 zeros (suc n) (suc t) d e = zeros n t d e
 
--- a number more is noted
-pub passed-noted : (b : Backfill) (k t n : ℕ) (old new : Progress) → IsReached b k old → ArePassed (is_early b.dag t) b.dag b.state k t n →
-    new.passed.items ≡ slice_set old.passed.items t n → new.settled_upstreams.items ≡ old.settled_upstreams.items → new.finished.items ≡ old.finished.items → new.settled ≡ old.settled → IsReached b k new
-passed-noted b k t n old new is here passed upstreams finished settled = record {
-  passed = λ u. elim (set-read old.passed.items t n u 0) [
-    | inl p ↦ rw (passed, p.1) (subst (λ (v : ℕ). ArePassed (is_early b.dag v) b.dag b.state k v n) (sym p.0) here)
-    | inr e ↦ rw (passed, e) (is.passed u)
-  ];
-  upstreams = λ u. rw upstreams (is.upstreams u);
-  finished = λ u. rw finished (is.finished u);
-  settled = λ u l. is.settled u (omega (arith, l, settled));
-}
-
-pub upstreams-noted : (b : Backfill) (k t n : ℕ) (old new : Progress) → IsReached b k old → ArePassed false b.dag b.state k t n →
-    new.passed.items ≡ old.passed.items → new.settled_upstreams.items ≡ slice_set old.settled_upstreams.items t n → new.finished.items ≡ old.finished.items → new.settled ≡ old.settled → IsReached b k new
-upstreams-noted b k t n old new is here passed upstreams finished settled = record {
-  passed = λ u. rw passed (is.passed u);
-  upstreams = λ u. elim (set-read old.settled_upstreams.items t n u 0) [
-    | inl p ↦ rw (upstreams, p.1) (subst (λ (v : ℕ). ArePassed false b.dag b.state k v n) (sym p.0) here)
-    | inr e ↦ rw (upstreams, e) (is.upstreams u)
-  ];
-  finished = λ u. rw finished (is.finished u);
-  settled = λ u l. is.settled u (omega (arith, l, settled));
-}
-
 pub finished-noted : (b : Backfill) (k t n : ℕ) (old new : Progress) → IsReached b k old → AreFinished (cell_at b.state k t) n → new.passed.items ≡ old.passed.items → new.settled_upstreams.items ≡ old.settled_upstreams.items → new.finished.items ≡ slice_set old.finished.items t n → new.settled ≡ old.settled → IsReached b k new
 finished-noted b k t n old new is here passed upstreams finished settled = record {
   passed = λ u. rw passed (is.passed u);
@@ -144,17 +119,6 @@ finished-noted b k t n old new is here passed upstreams finished settled = recor
     | inr e ↦ rw (finished, e) (is.finished u)
   ];
   settled = λ u l. is.settled u (omega (arith, l, settled));
-}
-
-pub settled-noted : (b : Backfill) (k : ℕ) (old new : Progress) → IsReached b k old → is_some (value_in (cell_at b.state k old.settled)) ≡ true → new.passed.items ≡ old.passed.items → new.settled_upstreams.items ≡ old.settled_upstreams.items → new.finished.items ≡ old.finished.items → new.settled ≡ old.settled + 1 → IsReached b k new
-settled-noted b k old new is here passed upstreams finished settled = record {
-  passed = λ u. rw passed (is.passed u);
-  upstreams = λ u. rw upstreams (is.upstreams u);
-  finished = λ u. rw finished (is.finished u);
-  settled = λ u l. elim (below-or u old.settled (omega (arith, l, settled))) [
-    | inl less ↦ is.settled u less
-    | inr same ↦ subst (λ (v : ℕ). is_some (value_in (cell_at b.state k v)) ≡ true) (sym same) here
-  ];
 }
 
 -- ---- instances

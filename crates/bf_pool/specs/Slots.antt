@@ -1,5 +1,5 @@
 -- Pools with what is occupied of them.
-use Rattle.std.specs.Prelude.{◌≡◌, ℕ, ◌≤◌, List, length, slice_index_or, slice_set}
+use Rattle.std.specs.Prelude.{◌≡◌, ◌≢◌, ℕ, ◌≤◌, List, length, slice_index_or}
 
 -- how many slots each pool has, and how many of them are occupied
 pub record Slots : Type 0 where
@@ -13,8 +13,10 @@ abbrev pub occupied_of : Slots → ℕ → ℕ
 occupied_of slots pool = slice_index_or slots.occupied pool 0
 
 -- that many slots of the pool are occupied, and of the others as many as before
-abbrev pub with_occupied : Slots → ℕ → ℕ → Slots
-with_occupied slots pool count = record { sizes = slots.sizes; occupied = slice_set slots.occupied pool count }
+pub record HasOccupied (old : Slots) (pool count : ℕ) (new : Slots) : Type 0 where
+  pub sizes : new.sizes ≡ old.sizes
+  pub here : occupied_of new pool ≡ count
+  pub elsewhere : (other : ℕ) → other ≢ pool → occupied_of new other ≡ occupied_of old other
 
 -- no pool has more slots occupied than it has
 pub record AreWithin (slots : Slots) : Type 0 where

@@ -1,6 +1,6 @@
 //! Pools and their slots.
 ghost use Rattle.std.specs.Prelude.{◌≡◌, ◌+◌, ◌-◌, ◌<◌, ◌≤◌, ◌↔◌, ℕ, length, IsOk, OnOk, OnErr, IfOk, replicate};
-ghost use Rattle.bf_pool.specs.Slots.{AreWithin, size_of, occupied_of, with_occupied};
+ghost use Rattle.bf_pool.specs.Slots.{size_of, occupied_of, HasOccupied};
 
 use bf_check::Plan;
 use bf_value::OutOfMemory;
@@ -41,13 +41,6 @@ impl Pools {
         Ok(Pools { sizes, occupied })
     }
 
-    /// No pool has more slots occupied than it has.
-    pub fn known(&self)
-        ensures { AreWithin self.now }
-    {
-        let _sizes = &self.sizes;
-    }
-
     /// How many slots a pool has.
     pub fn size(&self, pool: u32) -> u32
         requires { pool < length self.now.sizes }
@@ -69,7 +62,7 @@ impl Pools {
     pub fn take(&mut self, pool: u32, slots: u32) -> Result<(), NoRoom>
         requires { pool < length self.old.sizes }
         ensures fits { IsOk result ↔ (occupied_of self.old pool + slots ≤ size_of self.old pool) }
-        ensures ok { OnOk result (self.new ≡ with_occupied self.old pool (occupied_of self.old pool + slots)) }
+        ensures ok { OnOk result (HasOccupied self.old pool (occupied_of self.old pool + slots) self.new) }
         ensures err { OnErr result (self.new ≡ self.old) }
     {
         let at = pool as usize;
@@ -85,7 +78,7 @@ impl Pools {
     pub fn give_back(&mut self, pool: u32, slots: u32)
         requires pool { pool < length self.old.sizes }
         requires held { slots ≤ occupied_of self.old pool }
-        ensures { self.new ≡ with_occupied self.old pool (occupied_of self.old pool - slots) }
+        ensures { HasOccupied self.old pool (occupied_of self.old pool - slots) self.new }
     {
         self.occupied[pool as usize] -= slots;
     }

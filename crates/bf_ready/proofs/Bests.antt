@@ -87,10 +87,6 @@ none-before b = λ m h able. elim h [ inl l ↦ omega (arith, l) | inr e ↦ ome
 
 -- ---- the tries of a task
 
--- without room none may begin
-pub no-room : (b : Backfill) (k t : ℕ) → has_room b.limits b.state t ≡ false → IsBest b (IsTryOf k t) None
-no-room b k t full = λ m is able. let yes : has_room b.limits b.state t ≡ true = ap (has_room b.limits b.state) (sym is.1) ∙ able.0.1 in let f : true ≡ false = sym yes ∙ full in cc
-
 module _ (b : Backfill) (replayed : IsReplay b) (k t i : ℕ) (x : Instance) (is_held : instance_of (cell_at b.state k t) i ≡ Some x) (n : JobName) (named : n ≡ name_of b.dag k t i x.attempt) where
   pub one-begins : MayCome b (Event.Begin n) → IsBest b (IsTryAt b.dag k t i) (Some n)
   one-begins able = (
@@ -114,9 +110,6 @@ first-of b k t i n none one = (one.0.0, one.1, λ m is may. earlier m is may)
       | inl l ↦ absurd (none m (is, l) may)
       | inr h ↦ inr (ap (total_weight_of b.dag b.limits) (is.1 ∙ sym one.0.0.1), inr (one.0.0.0 ∙ sym is.0, inr (one.0.0.1 ∙ sym is.1, omega (arith, h, one.0.1))))
     ]
-
-pub none-more : (b : Backfill) (k t i : ℕ) → IsBest b (IsTryBelow b.dag k t i) None → IsBest b (IsTryAt b.dag k t i) None → IsBest b (IsTryBelow b.dag k t (i + 1)) None
-none-more b k t i none here = λ m is may. elim (last-place b.dag k t i m is) [ inl x ↦ none m x may | inr y ↦ here m y may ]
 
 pub none-of : (b : Backfill) (k t i : ℕ) → length (instances_in (cell_at b.state k t)) ≤ i → IsBest b (IsTryBelow b.dag k t i) None → IsBest b (IsTryOf k t) None
 none-of b k t i end none = λ m is may. let x : _ = below-count b.dag b.state k t m is Phase.Waiting may.0.0 in none m (is, omega (arith, x.1, end)) may

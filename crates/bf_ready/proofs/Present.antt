@@ -53,13 +53,6 @@ module _ (b : Backfill) (replayed : IsReplay b) (k t i : ℕ) (x : Instance) (is
 
 -- ---- places
 
-pub in-held : (c : Cell) (i : ℕ) (x : Instance) → slice_get (instances_in c) i ≡ Some x → instance_of c i ≡ Some x
-in-held (Cell.Ran xs) i x e = e
-in-held Cell.Undecided i x e = cc
-in-held Cell.Blocked i x e = cc
-in-held Cell.Skipped i x e = cc
-in-held Cell.UpstreamFailed i x e = cc
-
 -- a try of the task is one of an instance that its cell has
 pub below-count : (dag : Dag) (s : State) (k t : ℕ) (m : JobName) → IsTryOf k t m → (p : Phase) → IsPresent dag s m p → IsTryBelow dag k t (length (instances_in (cell_at s k t))) m
 below-count dag s k t m is p at = (is, slice_get_within (instances_in (cell_at s k t)) (place_in dag m) at.held (held-in (cell_at s k t) (place_in dag m) at.held held))

@@ -7,17 +7,7 @@ ghost use Rattle.bf_ready.specs.Looks.{AreWeights, IsBest, IsTryAt, IsTryBefore,
 
 use bf_core::{Core, Instance, name_of};
 use bf_value::JobName;
-use bf_waiting::instances_of;
-
-/// The weight of a task.
-fn weight_of(weights: &[u32], task: u32) -> u32
-    ensures { result ≡ slice_index weights.now task }
-{
-    match weights.get(task as usize) {
-        Some(weight) => *weight,
-        None => 0,
-    }
-}
+use bf_waiting::{instances_of, weight_of};
 
 /// The second try where it weighs more, else the first.
 fn better(weights: &[u32], best: Option<JobName>, found: Option<JobName>) -> Option<JobName>

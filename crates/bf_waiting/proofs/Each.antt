@@ -120,9 +120,6 @@ pub record AreKeptTo (e : Event) (now : Backfill) (weights : List ℕ) (i : ℕ)
   pub done : (j : ℕ) (c : Waits) → j < i → slice_get old j ≡ Some c → IsKeptAt e now weights j c new
   pub rest : (j : ℕ) → i ≤ j → slice_get new j ≡ slice_get old j
 
-pub none-yet : (e : Event) (now : Backfill) (weights : List ℕ) (old : List Waits) → AreKeptTo e now weights 0 old old
-none-yet e now weights old = record { done = λ j c l h. absurd (omega (arith, l)); rest = λ j l. refl }
-
 -- one more is kept
 pub one-more : (e : Event) (now : Backfill) (weights : List ℕ) (i : ℕ) (old mid : List Waits) (c d : Waits) → AreKeptTo e now weights i old mid → slice_get mid i ≡ Some c → d.task ≡ c.task → ((class_of : List ℕ) → KeepsOver e now weights class_of i c d) →
     AreKeptTo e now weights (i + 1) old (slice_set mid i d)

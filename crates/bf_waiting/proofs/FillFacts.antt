@@ -129,21 +129,6 @@ filled-all b w j is end filled = record {
   kept = λ a c h. all-runs b w.weights.items w.class_of.items j a c is end (filled.filled a c h);
 }
 
-pub filled-none : (b : Backfill) (w : Waiting) (n : ℕ) → AreWeights b.dag b.limits w.weights.items → n ≡ length b.dag.tasks → AreClassedTo b.dag b.limits n w.class_of.items w.classes.items → AreFilled b w 0 0
-filled-none b w n weighted all classes = record {
-  weighted = weighted;
-  one_each = classes.count ∙ all;
-  classed = λ t l. classes.classed t (rw all l);
-  filled = λ a c h. (let e = classes.empty a c h in none-kept b w.weights.items w.class_of.items a c e.1 e.2);
-}
-
--- each task has a class
-pub filled-has : (b : Backfill) (w : Waiting) (j u t : ℕ) → AreFilled b w j u → t < length b.dag.tasks → (t < length w.class_of.items → ¬ (slice_index w.class_of.items t < length w.classes.items)) → ⊥
-filled-has b w j u t filled l never =
-    let is : IsClassOf b.dag b.limits w.classes.items (slice_index w.class_of.items t) t = filled.classed t l in
-    let each : length w.class_of.items ≡ length b.dag.tasks = filled.one_each in
-    never (omega (arith, l, each)) (slice_get_within w.classes.items (slice_index w.class_of.items t) is.class is.is_there)
-
 -- ---- the classes of the tasks
 
 at-front : (xs : List ℕ) (j i d : ℕ) → i < length xs → slice_index_or (xs ++ j ∷ []) i d ≡ slice_index_or xs i d
@@ -158,17 +143,3 @@ at-end (x ∷ xs) j d = at-end xs j d
 length-end : (xs : List ℕ) (j : ℕ) → length (xs ++ j ∷ []) ≡ suc (length xs)
 length-end [] j = refl
 length-end (x ∷ xs) j = ap suc (length-end xs j)
-
-pub none-classed : (dag : Dag) (limits : Limits) → AreClassedTo dag limits 0 [] []
-none-classed dag limits = record { count = refl; classed = λ t l. absurd (omega (arith, l)); empty = λ i c h. cc }
-
-pub classed-more : (dag : Dag) (limits : Limits) (n j : ℕ) (class_of : List ℕ) (old new : List Waits) → AreClassedTo dag limits n class_of old → ((i u : ℕ) → IsClassOf dag limits old i u → IsClassOf dag limits new i u) → IsClassOf dag limits new j n → AreEmpty dag new →
-    AreClassedTo dag limits (suc n) (class_of ++ j ∷ []) new
-classed-more dag limits n j class_of old new is kept found empty = record {
-  count = length-end class_of j ∙ ap suc is.count;
-  classed = λ t l. elim (below-or t n (omega (arith, l))) [
-    | inl less ↦ subst (λ (i : ℕ). IsClassOf dag limits new i t) (sym (at-front class_of j t 0 (let count : length class_of ≡ n = is.count in omega (arith, less, count)))) (kept (slice_index class_of t) t (is.classed t less))
-    | inr same ↦ subst₂ (λ (i u : ℕ). IsClassOf dag limits new i u) (sym (ap (λ (i : ℕ). slice_index_or (class_of ++ j ∷ []) i 0) (same ∙ sym is.count) ∙ at-end class_of j 0)) (sym same) found
-  ];
-  empty = empty;
-}

@@ -1,35 +1,23 @@
 -- What heaps hold, and which of it is at hand.
-use Rattle.std.proofs.Common.{◌≡◌, ◌⊎◌, ℕ, zero, suc, ◌<◌, ℤ, ◌≤ℤ◌, false, Ordering, Less, Equal, Greater, List, [], ◌∷◌, length, slice_get, slice_index_or, Option, None, Some, IfSome, Contains, refl, sym, ◌∙◌, subst, inl, inr, arith}
+use Rattle.std.proofs.Common.{◌≡◌, ◌⊎◌, ℕ, ◌<◌, ℤ, ◌≤ℤ◌, false, Ordering, Less, Equal, Greater, List, [], ◌∷◌, slice_get, Option, None, Some, IfSome, Contains, refl, sym, ◌∙◌, subst, inl, inr, arith}
 use Rattle.std.specs.List.Sorted.{IsPermutation}
 use Rattle.std.specs.Ordering.{nat_cmp, int_cmp, ordering_then, is_lt}
 use Rattle.std.specs.BinaryHeap.{IsUpperBound}
 use Rattle.std.proofs.lemmas.Cmp.{ranked, int_ranked}
 use Rattle.std.proofs.lemmas.Int.{ints}
 use Rattle.std.proofs.lemmas.List.Sorted.{Contains-permutation, IsPermutation-sym}
+use Rattle.bf_core.proofs.Members.{contains-first, contains-rest, contains-cases}
 use Rattle.bf_waiting.specs.declared.batches.Batch.{Batch}
 use Rattle.bf_waiting.specs.declared.delays.Delay.{Delay}
 use Rattle.bf_waiting.specs.Classes.{AreReleased, batch_of}
 use Rattle.bf_waiting.specs.Heaps.{HasGained, HasLost, Leads, batch_cmp, delay_cmp}
 
 module _ {X : Type 0} where
-  here : (x : X) (ys : List X) → Contains (x ∷ ys) x
-  here x ys = (0, omega arith, refl)
-
-  later : (x : X) (ys : List X) (y : X) → Contains ys y → Contains (x ∷ ys) y
-  later x ys y c = (suc c.0, omega (arith, c.1), c.2)
-
-  either : (x : X) (ys : List X) (y : X) → Contains (x ∷ ys) y → (y ≡ x) ⊎ Contains ys y
-  either x ys y c = go c.0 c.1 c.2
-    where
-      go : (k : ℕ) → k < length (x ∷ ys) → slice_index_or (x ∷ ys) k y ≡ y → (y ≡ x) ⊎ Contains ys y
-      go zero l e = inl (sym e)
-      go (suc k) l e = inr (k, omega arith, e)
-
   pub gained : (x : X) (old new : List X) → IsPermutation (x ∷ old) new → HasGained old x new
   gained x old new p = record {
-    kept = λ y c. Contains-permutation (x ∷ old) new y p (later x old y c);
-    gained = Contains-permutation (x ∷ old) new x p (here x old);
-    no_more = λ y c. either x old y (Contains-permutation new (x ∷ old) y (IsPermutation-sym (x ∷ old) new p) c);
+    kept = λ y c. Contains-permutation (x ∷ old) new y p (contains-rest x old y c);
+    gained = Contains-permutation (x ∷ old) new x p (contains-first x old);
+    no_more = λ y c. contains-cases x old y (Contains-permutation new (x ∷ old) y (IsPermutation-sym (x ∷ old) new p) c);
   }
 
   pub lost : (x : X) (old new : List X) → IsPermutation old (x ∷ new) → HasLost old x new
@@ -47,7 +35,7 @@ module _ {X : Type 0} where
   -- what is bounded by x in an order is so related to it
   pub bounded : (R : X → X → Ordering) (P : X → X → Type 0) → ((x y : X) → is_lt (R x y) ≡ false → P x y) → (x : X) (xs : List X) → IsUpperBound R x xs → (y : X) → Contains xs y → P x y
   bounded R P holds x [] b y c = absurd (omega (arith, c.1))
-  bounded R P holds x (z ∷ zs) b y c = elim (either z zs y c) [ inl same ↦ rw same (holds x z b.0) | inr d ↦ bounded R P holds x zs b.1 y d ]
+  bounded R P holds x (z ∷ zs) b y c = elim (contains-cases z zs y c) [ inl same ↦ rw same (holds x z b.0) | inr d ↦ bounded R P holds x zs b.1 y d ]
 
 -- the order by two numbers and what follows, of which the lesser comes first
 lesser : (a b : ℕ) (q : Ordering) → is_lt (ordering_then (nat_cmp b a) q) ≡ false → (a < b) ⊎ ((a ≡ b) × (is_lt q ≡ false))

@@ -29,9 +29,6 @@ places_left x = suc (suc x.last - x.first.0)
 abbrev pub from_place : Batch → ℕ → Batch
 from_place x p = record x { first = record { 0 = p } }
 
-pub none-passed : (b : Backfill) (items : List Batch) → ArePassed b items items
-none-passed b items = record { kept = λ k t i r h. h; part = λ x h. (x, h, refl, refl) }
-
 module _ (b : Backfill) (old mid : List Batch) (passed : ArePassed b old mid) (x : Batch) where
   -- a batch of which none is ready is taken out
   pub dropped : (new : List Batch) → IsPermutation mid (x ∷ new) → ((j : ℕ) → x.first.0 ≤ j → j ≤ x.last → ¬ (IsReadyAt b x.run.0 x.task.0 j)) → ArePassed b old new

@@ -17,8 +17,6 @@ min-right : (a b : ℤ) → b <ℤ a → int_min a b ≡ b
 min-right a b l = omega (arith, ints, clamps, l)
 
 module _ (classes : List Waits) where
-  pub none-soonest : IsSoonestTo 0 classes None
-  none-soonest = λ j c d l h con. omega (arith, l)
 
   -- one more class
   pub soonest-more : (n : ℕ) (soonest found : Option ℤ) (c : Waits) → slice_get classes n ≡ Some c →

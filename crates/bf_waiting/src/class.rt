@@ -8,6 +8,7 @@ ghost use Rattle.bf_waiting.specs.declared.delays.Delay.{Delay as DelayTerm};
 
 use crate::batches::{Batch, Batches};
 use crate::delays::{Delay, Delays};
+use crate::filling::weight_of;
 use bf_value::OutOfMemory;
 use std::alloc::Global;
 use std::cmp::Reverse;
@@ -35,16 +36,6 @@ impl Model for Class {
     ghost view = { λ c. record { task = c.task; batches = c.batches; delays = c.delays } };
 
     ghost invariant = { λ c. IsRoomy c.batches c.delays };
-}
-
-/// The weight of a task.
-fn weight_of(weights: &[u32], task: u32) -> u32
-    ensures { result ≡ slice_index weights.now task }
-{
-    match weights.get(task as usize) {
-        Some(weight) => *weight,
-        None => 0,
-    }
 }
 
 /// The batch of one instance.

@@ -1,5 +1,5 @@
 //! What waits in a core, taken up from nothing.
-ghost use Rattle.std.specs.Prelude.{◌≡◌, ◌<◌, ◌+◌, ℕ, [], length, IfOk, OnOk, IfSome, IsTrue, ◌↔◌};
+ghost use Rattle.std.specs.Prelude.{◌≡◌, ◌<◌, ◌+◌, ℕ, [], length, slice_index, IfOk, OnOk, IfSome, IsTrue, ◌↔◌};
 ghost use Rattle.bf_check.specs.Sound.{demand_of};
 ghost use Rattle.bf_waiting.specs.Choices.{AreWeights};
 ghost use Rattle.bf_waiting.specs.Filling.{AreClassedTo, AreEmpty, AreFilled, TakesIn};
@@ -27,6 +27,16 @@ pub fn weights(alloc: Global, plan: &Plan) -> Result<Vec<u32>, OutOfMemory>
         weights.push(total_weight(alloc, plan, task as u32)?)?;
     }
     Ok(weights)
+}
+
+/// The weight of a task among those of all tasks.
+pub fn weight_of(weights: &[u32], task: u32) -> u32
+    ensures { result ≡ slice_index weights.now task }
+{
+    match weights.get(task as usize) {
+        Some(weight) => *weight,
+        None => 0,
+    }
 }
 
 /// Whether two tasks take as many slots of the same pool.

@@ -1,13 +1,10 @@
 //! The instances of a task in a run, and how they stand.
-ghost use Rattle.std.specs.Prelude.{◌≡◌, ◌<◌, ◌≤◌, ◌↔◌, IsTrue, IfSome, IfNone, length, Some, is_some};
-ghost use Rattle.bf_check.specs.Plans.{task_of};
-ghost use Rattle.bf_core.specs.Events.{cell_at, instance_of, place_in};
+ghost use Rattle.std.specs.Prelude.{◌≡◌, ◌<◌, ◌≤◌, ◌↔◌, IsTrue, IfSome, IfNone, length, Some};
+ghost use Rattle.bf_core.specs.Events.{cell_at, instance_of};
 ghost use Rattle.bf_core.specs.Few.{IsFew};
 ghost use Rattle.bf_waiting.specs.Standings.{instances_in as instances_within, IsReadyAt, Stands};
 
-use bf_check::Dag;
 use bf_core::{Cell, Core, Instance, Phase, name_of};
-use bf_value::JobName;
 
 /// How an instance stands.
 #[derive(Clone, Copy)]
@@ -41,27 +38,6 @@ pub fn instances_of<'c>(core: &'c Core<'_>, run: u32, task: u32) -> &'c [Instanc
     match core.cell(run, task) {
         Some(cell) => instances_in(cell),
         None => &[],
-    }
-}
-
-#[tactic(auto, unfolding(bf_check::specs::Plans::task_of))]
-fn is_expanded(dag: &Dag, task: u32) -> bool
-    ensures { result ≡ is_some (task_of dag.now task).expand }
-{
-    match dag.tasks.get(task as usize) {
-        Some(task) => task.expand.is_some(),
-        None => false,
-    }
-}
-
-/// The place of a name's instance among those of its task.
-pub(crate) fn place_of(dag: &Dag, name: JobName) -> u32
-    ensures { result ≡ place_in dag.now name }
-{
-    if is_expanded(dag, name.task) {
-        name.index.unsigned_abs()
-    } else {
-        0
     }
 }
 

@@ -11,6 +11,6 @@ mod keeping;
 mod waiting;
 
 pub use choosing::sooner;
-pub use filling::weights;
+pub use filling::{weight_of, weights};
 pub use instances::instances_of;
 pub use waiting::Waiting;

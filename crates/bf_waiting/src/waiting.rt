@@ -9,8 +9,7 @@ ghost use Rattle.bf_waiting.specs.declared.waiting.Waiting.{Waiting as WaitingTe
 ghost use Rattle.bf_waiting.specs.Kept.{HasRoomFor, HasRoomOf, KeepsTries, KeepsTriesOver};
 
 use crate::class::Class;
-use crate::instances::place_of;
-use bf_core::{Core, Event};
+use bf_core::{Core, Event, place_of};
 use bf_value::OutOfMemory;
 
 /// The tries of a backfill that wait, kept over its events: those that wait for room in a pool, and those of later

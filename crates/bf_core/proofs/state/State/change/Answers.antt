@@ -1,7 +1,7 @@
 use Rattle.bf_core.specs.Terms.{Cell}
 use Rattle.bf_core.proofs.Placing.{put-put, with-runs}
 use Rattle.bf_core.proofs.Shape.{length-put, row-put, row_in}
-use Rattle.bf_core.proofs.state.State.begin.Goals as goal
+use Rattle.bf_core.proofs.state.State.change.Goals as goal
 
 pub put-requires-clause-run : goal.put-requires-clause-run
 put-requires-clause-run c = rw (c.put-cell.ensures.now, length-put c.args.self.now.runs c.args.run c.args.task Cell.Undecided) c.requires.run
@@ -12,5 +12,5 @@ put-requires-clause-task c = rw (c.put-cell.ensures.now, row-put c.args.self.now
 
 pub returns : goal.returns
 returns c =
-    rw (c.put.ensures.now, c.put-cell.ensures.now, c.begin.ensures, c.put-cell.ensures.was)
+    rw (c.put.ensures.now, c.put-cell.ensures.now, c.change.ensures, c.put-cell.ensures.was)
     (with-runs _ _ c.args.self.now.ledger (put-put c.args.self.now.runs c.args.run c.args.task Cell.Undecided _))
