@@ -1,11 +1,11 @@
 -- A try that has begun: it runs, has what it was given, and may end.
-use Rattle.std.proofs.Common.{◌≡◌, ℕ, true, Some, refl, sym, ap, ◌∙◌}
-use Rattle.bf_core.specs.Terms.{JobName, Outcome, fits}
+use Rattle.std.proofs.Common.{◌≡◌, ℕ, Some, refl, sym, ap, ◌∙◌}
+use Rattle.bf_core.specs.Terms.{JobName}
 use Rattle.bf_core.specs.declared.event.Event.{Event}
 use Rattle.bf_core.specs.declared.state.Instance.{Instance}
 use Rattle.bf_core.specs.declared.state.Phase.{Phase}
 use Rattle.bf_core.specs.declared.state.State.{State}
-use Rattle.bf_core.specs.Cores.{Backfill, MayCome, moved}
+use Rattle.bf_core.specs.Cores.{Backfill, moved}
 use Rattle.bf_core.specs.Events.{IsPresent, after, begun, cell_at, change_instance, given_in, given_of, instance_of, place_in, put}
 use Rattle.bf_core.proofs.Instances.{instance-here}
 use Rattle.bf_core.proofs.Known.{has-instance}

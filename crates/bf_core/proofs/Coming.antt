@@ -1,12 +1,10 @@
 -- What may come now, by tests.
 use Rattle.std.proofs.Common.{◌≡◌, ◌<◌, ◌&&◌, ℕ, zero, suc, Bool, true, false, List, [], ◌∷◌, length, Option, None, Some, IfSome, IfNone, is_some, slice_get, refl, arith}
 use Rattle.std.specs.List.{list_all}
-use Rattle.bf_core.specs.Terms.{Dag, State, Run, RunPhase, JobName, Phase}
-use Rattle.bf_core.specs.Events.{value_in, is_open, phase_of, AllSettled, IsPresent}
-use Rattle.bf_core.specs.Cores.{Backfill, IsReplay}
-use Rattle.bf_core.specs.Checks.{HasRows, IsKnownAs}
-use Rattle.bf_core.proofs.Known.{known-back, not-closable}
-use Rattle.bf_core.proofs.Enabling.{present-known}
+use Rattle.bf_core.specs.Terms.{Dag, State, Run, RunPhase}
+use Rattle.bf_core.specs.Events.{value_in, is_open, phase_of, AllSettled}
+use Rattle.bf_core.specs.Checks.{HasRows}
+use Rattle.bf_core.proofs.Known.{not-closable}
 use Rattle.bf_core.proofs.Shape.{open-run}
 
 -- an answer that is there exactly where a fact holds tests it

@@ -1,12 +1,11 @@
 -- Counts of instances, one after another, and what is seen of instances that ran.
-use Rattle.std.proofs.Common.{◌≡◌, ℕ, ◌+◌, ◌<◌, ◌≤◌, Bool, not, ◌&&◌, if◌then◌else◌, List, [], ◌∷◌, length, drop, Option, None, Some, is_some, option_map, refl, sym, ap, ap₂, ◌∙◌, arith, get_or}
+use Rattle.std.proofs.Common.{◌≡◌, ℕ, ◌+◌, ◌<◌, ◌≤◌, Bool, not, ◌&&◌, if◌then◌else◌, List, [], ◌∷◌, length, Option, None, Some, is_some, option_map, refl, sym, ap, ap₂, ◌∙◌, arith}
 use Rattle.std.specs.List.{list_all}
-use Rattle.bf_value.proofs.ReadLemmas.{drop-item}
 use Rattle.bf_rule.specs.Verdicts.{total}
 use Rattle.bf_try.specs.Grades.{most_items}
 use Rattle.bf_core.specs.Few.{IsFew}
-use Rattle.bf_core.specs.Terms.{Counts, none_counted, add, Cell, Instance, Phase, Outcome, TaskValue, TaskResult, Verdict, is_failed}
-use Rattle.bf_core.specs.Deciding.{Seen, counts_over, past_ruling, all_passed}
+use Rattle.bf_core.specs.Terms.{Counts, add, Cell, Instance, Phase, Outcome, TaskValue, TaskResult, Verdict, is_failed}
+use Rattle.bf_core.specs.Deciding.{past_ruling, all_passed}
 use Rattle.bf_core.specs.Events.{counts_of_cell, counts_of_instance, counts_of_instances, results, cons_result}
 use Rattle.bf_core.specs.Words.{is_finished, passed, ran_ruling}
 

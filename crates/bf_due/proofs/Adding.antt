@@ -9,9 +9,8 @@ use Rattle.bf_pool.proofs.WeightFacts.{tasks_there}
 use Rattle.bf_core.specs.Terms.{Dag}
 use Rattle.bf_core.specs.declared.event.Event.{Event}
 use Rattle.bf_core.specs.declared.state.State.{State}
-use Rattle.bf_core.specs.Events.{IsDecidable, goes_on}
-use Rattle.bf_core.specs.Cores.{Backfill, MayCome, deciding}
-use Rattle.bf_core.proofs.Enabling.{able-decidable}
+use Rattle.bf_core.specs.Events.{IsDecidable}
+use Rattle.bf_core.specs.Cores.{Backfill, MayCome}
 use Rattle.bf_core.proofs.Shape.{open-run}
 use Rattle.bf_core.proofs.Numbers.{below-or}
 use Rattle.bf_due.specs.declared.agenda.Step.{Step}
@@ -54,21 +53,10 @@ module _ (b : Backfill) where
 pub one-rank : (ups : List (List ℕ)) (t q r : ℕ) → IsRank ups t q → IsRank ups t r → q ≡ r
 one-rank ups t q r a b = let x : q ≤ r = b.longest q a.path in let y : r ≤ q = a.longest r b.path in omega arith
 
-is-turn : (ups : List (List ℕ)) (k t r : ℕ) (y : Turn) → IsRank ups t r → (y.run ≡ k) × (y.task ≡ t) → IsRank ups y.task y.rank → y ≡ record { run = k; rank = r; task = t }
-is-turn ups k t r y is of ranked =
-    let same : y.rank ≡ r = one-rank ups t y.rank r (subst (λ (u : ℕ). IsRank ups u y.rank) of.1 ranked) is in
-    λ i. record { run = of.0 i; rank = same i; task = of.1 i }
-
 -- the step that decides a task by its expansion, or without
 abbrev pub step_of : Bool → Turn → Step
 step_of true x = Step.Expand x
 step_of false x = Step.Settle x
-
-goes-by : (b : Backfill) (k t : ℕ) (g : Bool) → MayCome b (deciding g k t) → goes_on b.dag b.state k t ≡ g
-goes-by b k t g may = (able-decidable b.dag b.limits b.state k t g may.0).1
-
-same-way : (b : Backfill) (k t : ℕ) (y : Turn) → (y.run ≡ k) × (y.task ≡ t) → (g h : Bool) → MayCome b (deciding g k t) → goes_on b.dag b.state y.run y.task ≡ h → g ≡ h
-same-way b k t y of g h may e = sym (goes-by b k t g may) ∙ subst₂ (λ (j u : ℕ). goes_on b.dag b.state j u ≡ h) of.0 of.1 e
 
 -- where the task may not be decided, no step of it may come
 pub none-decides : (b : Backfill) (k t : ℕ) → ¬ (IsDecidable b.dag b.state k t) → (x : Step) → IsOfTask k t x → IsDue b x → ⊥

@@ -1,5 +1,5 @@
 -- The first of what may come by itself.
-use Rattle.std.proofs.Common.{◌≡◌, ◌⊎◌, ℕ, zero, suc, ◌<◌, ◌≤◌, Bool, true, false, List, [], ◌∷◌, length, map, get_or, slice_get, Some, refl, sym, ap, ◌∙◌, subst, inl, inr, arith}
+use Rattle.std.proofs.Common.{◌≡◌, ◌⊎◌, ℕ, zero, suc, ◌<◌, ◌≤◌, Bool, List, [], ◌∷◌, length, map, get_or, slice_get, Some, refl, sym, ap, ◌∙◌, subst, inl, inr, arith}
 use Rattle.std.proofs.lemmas.List.{length-map}
 use Rattle.bf_graph.specs.Edges.{IsRank}
 use Rattle.bf_graph.specs.Order.{IsByRank}
@@ -10,7 +10,7 @@ use Rattle.bf_core.specs.Cores.{Backfill, IsThere, MayCome, deciding}
 use Rattle.bf_core.proofs.Enabling.{able-decidable}
 use Rattle.bf_core.proofs.Shape.{open-run}
 use Rattle.bf_due.proofs.Adding.{one-rank}
-use Rattle.bf_ready.specs.Choices.{StandsBefore, IsEarlier, ComesBefore, IsStep, IsFirstStep, NoStep}
+use Rattle.bf_ready.specs.Choices.{StandsBefore}
 
 -- ---- places in an order
 
@@ -58,7 +58,3 @@ decided-there b expands k t able = let d = (able-decidable b.dag b.limits b.stat
 
 pub closed-there : (b : Backfill) (k : ℕ) → MayCome b (Event.Close k) → k < length b.state.runs
 closed-there b k able = open-run b.state k able.0.0
-
--- ---- steps
-
-module _ (b : Backfill) where

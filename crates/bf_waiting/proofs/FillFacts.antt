@@ -1,18 +1,14 @@
 -- Taking up what waits in a core, task after task and run after run.
 use Rattle.std.proofs.Common.{◌≡◌, ◌⊎◌, ℕ, zero, suc, ◌+◌, ◌<◌, ◌≤◌, List, [], ◌∷◌, ◌++◌, length, Contains, slice_get, slice_set, slice_index, slice_index_or, Some, refl, sym, ap, ◌∙◌, subst, subst₂, inl, inr, arith}
-use Rattle.std.proofs.lemmas.Option.{slice_get_within}
-use Rattle.bf_check.specs.declared.plan.Dag.{Dag}
-use Rattle.bf_check.specs.declared.plan.Limits.{Limits}
 use Rattle.bf_core.specs.Cores.{Backfill, IsReplay}
 use Rattle.bf_core.proofs.Numbers.{below-or}
 use Rattle.bf_waiting.specs.declared.batches.Batch.{Batch}
 use Rattle.bf_waiting.specs.declared.delays.Delay.{Delay}
 use Rattle.bf_waiting.specs.declared.waiting.Waiting.{Waiting}
-use Rattle.bf_waiting.specs.Choices.{AreWeights}
 use Rattle.bf_waiting.specs.Classes.{HasBatch, Waits, delay_of}
-use Rattle.bf_waiting.specs.Filling.{AreClassedTo, AreEmpty, AreFilled, IsEarlier, KeepsEarlier}
+use Rattle.bf_waiting.specs.Filling.{AreFilled, IsEarlier, KeepsEarlier}
 use Rattle.bf_waiting.specs.Keeping.{Anywhere, HasDelayed, HasTakenUp, IsCleaned, IsLive, KeepsWaiting}
-use Rattle.bf_waiting.specs.Kept.{AreKept, IsClassOf}
+use Rattle.bf_waiting.specs.Kept.{AreKept}
 use Rattle.bf_waiting.specs.Standings.{IsDelayedAt, IsReadyAt}
 use Rattle.bf_waiting.proofs.Each.{reclassed, set-cases}
 use Rattle.bf_waiting.proofs.Places.{not-beyond}

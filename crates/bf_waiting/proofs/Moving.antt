@@ -3,13 +3,11 @@ use Rattle.std.proofs.Common.{◌≡◌, ◌⊎◌, ℕ, suc, zero, ◌<◌, ◌
 use Rattle.std.specs.Prelude.{int_lt}
 use Rattle.std.specs.Int.{int_min}
 use Rattle.std.specs.FinMap as map
-use Rattle.std.specs.Cmp.{Equal-is}
 use Rattle.std.specs.Ordering.{eq_by_cmp}
 use Rattle.std.proofs.lemmas.Int.{by_lt_z, ints}
 use Rattle.bf_value.specs.declared.name.JobName.{JobName}
-use Rattle.bf_value.specs.Names.{name_cmp, name_cmp_total, name_cmp-IsAntisymmetric}
+use Rattle.bf_value.specs.Names.{name_cmp, name_cmp_total}
 use Rattle.bf_check.specs.declared.plan.Dag.{Dag}
-use Rattle.bf_check.specs.declared.plan.Limits.{Limits}
 use Rattle.bf_check.specs.Plans.{task_of}
 use Rattle.bf_try.specs.declared.ledger.Entry.{Entry}
 use Rattle.bf_try.specs.Tries.{map_index, name_of, place_of}
@@ -20,14 +18,14 @@ use Rattle.bf_core.specs.declared.state.Cell.{Cell}
 use Rattle.bf_core.specs.declared.state.Instance.{Instance}
 use Rattle.bf_core.specs.declared.state.Phase.{Phase}
 use Rattle.bf_core.specs.declared.state.RunPhase.{RunPhase}
-use Rattle.bf_core.specs.Clocks.{AreTimely, IsMove, IsReached, IsTimely, KeepsTime, after_end, clock_after, clock_of, next_try, start_clock}
+use Rattle.bf_core.specs.Clocks.{IsMove, IsReached, IsTimely, after_end, next_try}
 use Rattle.bf_core.specs.Cores.{Backfill, IsReplay, MayCome, moved}
-use Rattle.bf_core.specs.Events.{IsPresent, after, begun, cell_at, cell_of, change_at, change_instance, decision_in, ended, entry_in, instance_of, next_run, place_in, put, replay, start}
+use Rattle.bf_core.specs.Events.{IsPresent, after, begun, cell_at, cell_of, change_at, change_instance, decision_in, ended, entry_in, instance_of, next_run, place_in, put}
 use Rattle.bf_core.proofs.Instances.{instance-here, new-fresh}
 use Rattle.bf_core.proofs.Kept.{replay-in-time, replay-invariant}
 use Rattle.bf_core.proofs.Reading.{put-cases, put-here, with_phase-cell}
 use Rattle.bf_core.proofs.Stuck.{placed-in}
-use Rattle.bf_core.proofs.Timing.{keeps-time, same-name, start-keeps-time}
+use Rattle.bf_core.proofs.Timing.{same-name}
 use Rattle.bf_waiting.specs.Standings.{IsDelayedAt, IsReadyAt}
 
 -- ---- moments
