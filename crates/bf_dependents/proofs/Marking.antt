@@ -15,7 +15,6 @@ same-or-before j n l = let low : j ≤ n = omega (arith, l) in eq-or-lt_of_le lo
 
 -- a place in the rows is marked
 module _ (rows : List (List Bool)) (p : Place) (runs tasks : ℕ) (len : length rows ≡ runs) (each : (k : ℕ) → k < runs → length (row_at rows k) ≡ tasks) where
-
   row-of : (k : ℕ) → k < runs → (b : Bool) → (k ≡ p.run) ⊎ (k ≢ p.run) →
       length (row_at (if b then slice_set rows p.run (slice_set (row_at rows p.run) p.task true) else rows) k) ≡ tasks
   row-of k l false at = each k l

@@ -103,7 +103,6 @@ module _ (dag : Dag) (order : List ℕ) (ranked : IsByRank (shape_of dag).upstre
       omega (arith, low, length-map dag.tasks (λ (task : Task). task.upstreams))
 
   module _ (seeded before : List Bool) where
-
     pub marks-more : (i : ℕ) → i < length order → (marks : List Bool) → AreMarksForTo dag seeded before order i marks → (mark : Bool) →
         mark ≡ follows dag (slice_index_or order i 0) seeded before marks →
         AreMarksForTo dag seeded before order (i + 1) (slice_set marks (slice_index_or order i 0) mark)

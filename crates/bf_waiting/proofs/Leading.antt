@@ -33,7 +33,6 @@ none-top [] e y c = omega (arith, c.1)
 none-top (x ∷ xs) e y c = cc
 
 module _ (b : Backfill) (classes : List Waits) where
-
   led-before : (n : ℕ) (x : Batch) (best : Option Batch) → IsBestTo b n classes best → LeadsAny x best → (j : ℕ) (c : Waits) (y : Batch) → j < n → slice_get classes j ≡ Some c → MayTake b c → Contains c.batches.items y → Leads x y
   led-before n x None is lead j c y l h may con = absurd (none-top c.batches.items (is j c l h may) y con)
   led-before n x (Some w) is lead j c y l h may con = leads-over x w y lead (is.1 j c y l h may con)

@@ -17,7 +17,6 @@ min-right : (a b : ℤ) → b <ℤ a → int_min a b ≡ b
 min-right a b l = omega (arith, ints, clamps, l)
 
 module _ (classes : List Waits) where
-
   -- one more class
   pub soonest-more : (n : ℕ) (soonest found : Option ℤ) (c : Waits) → slice_get classes n ≡ Some c →
       IfSome found (λ m. (d : Delay) × Contains c.delays.items d × (d.moment.0 ≡ m)) → IfSome found (λ m. (d : Delay) → Contains c.delays.items d → m ≤ℤ d.moment.0) → IfNone found (c.delays.items ≡ []) →

@@ -36,7 +36,7 @@ returns-in-Ok-clause-ok c =
     rw (← c.self.view_is) (
       may-begin _ _ _ _ _ c.self.invariant c.args.name _ is (c.in-Ok.ensures.fits.0 refl),
       moved-is _ (Event.Begin c.args.name) _ _ _
-      (c.change.ensures ∙ begun-state _ _ _ _ _ c.self.invariant c.args.name _ is _ (c.place_of-place.ensures ∙ ap (λ (d : Dag). place_in d c.args.name) c.dag.ensures.dag))
-      (forgets c.self.inside.clock c.args.name c.forget.new.self c.forget.ensures)
-      (c.push_reserved.ensures.items ∙ rw c.in_ok-reserve.ensures.items),
+          (c.change.ensures ∙ begun-state _ _ _ _ _ c.self.invariant c.args.name _ is _ (c.place_of-place.ensures ∙ ap (λ (d : Dag). place_in d c.args.name) c.dag.ensures.dag))
+          (forgets c.self.inside.clock c.args.name c.forget.new.self c.forget.ensures)
+          (c.push_reserved.ensures.items ∙ rw c.in_ok-reserve.ensures.items),
     )
