@@ -13,14 +13,9 @@ use Rattle.bf_commands.specs.Programs.{Hearing, IsEndedBy, IsReportBy, Losing}
 use Rattle.bf_commands.specs.Reported.{IsReportOf}
 
 -- the report over the ledger of a backfill with programs that has ended
-pub reported : (may_hear : Hearing) (dag : Dag) (intervals : List Interval) (ended : Ended) → IsEndedBy may_hear dag intervals ended
+pub reported : {may_hear : Hearing} {dag : Dag} {intervals : List Interval} {ended : Ended} → IsEndedBy may_hear dag intervals ended
     → (text : List ℕ) (success : Bool) → IsReportOf dag intervals (entry_in ended.state.ledger) text success → IsReportBy may_hear dag intervals text success
-reported may_hear dag intervals ended is text success reports = record {
-  ledger = ended.state.ledger;
-  tries = is.outcome.tries;
-  graded = is.graded;
-  reported = reports;
-}
+reported {ended = ended} is text success reports = record { ledger = ended.state.ledger; tries = is.outcome.tries; graded = is.graded; reported = reports }
 
 -- a try that is given up has its task
 pub given-up-there : (may_lose : Losing) (dag : Dag) (intervals : List Interval) (name : JobName) (given : Given) → MayGiveUp may_lose dag intervals name given → name.task < length dag.tasks

@@ -19,22 +19,12 @@ use Rattle.bf_commands.specs.Programs.{Hearing}
 use Rattle.bf_commands.specs.Reported.{IsReportOf}
 
 -- the report over the ledger of a backfill that has ended so
-pub reported_from : (kept : Look) (may_answer : JobName → Given → Raw → Type 0) (dag : Dag) (intervals : List Interval) (ended : Ended) → IsEndedFrom kept may_answer dag intervals ended
+pub reported_from : {kept : Look} {may_answer : JobName → Given → Raw → Type 0} {dag : Dag} {intervals : List Interval} {ended : Ended} → IsEndedFrom kept may_answer dag intervals ended
     → (text : List ℕ) (success : Bool) → IsReportOf dag intervals (entry_in ended.state.ledger) text success → IsReportFrom kept may_answer dag intervals text success
-reported_from kept may_answer dag intervals ended is text success reports = record {
-  ledger = ended.state.ledger;
-  tries = is.outcome.tries;
-  again = is.again;
-  anew = is.anew;
-  reported = reports;
-}
+reported_from {ended = ended} is text success reports = record { ledger = ended.state.ledger; tries = is.outcome.tries; again = is.again; anew = is.anew; reported = reports }
 
 -- the same of what is kept of a report where a seed is cleared
-pub reported_after : (may_hear : Hearing) (answers : Option (List TableEntry)) (dag : Dag) (intervals : List Interval) (was : Report) (seed : Seed) (kept : Look) → clear_fault dag intervals was (seed ∷ []) ≡ None
+pub reported_after : {may_hear : Hearing} {answers : Option (List TableEntry)} {dag : Dag} {intervals : List Interval} {was : Report} {seed : Seed} {kept : Look} → clear_fault dag intervals was (seed ∷ []) ≡ None
     → AreKept dag (places_of dag intervals (seed ∷ [])) was kept → (text : List ℕ) (success : Bool) → IsReportFrom kept (MayAnswerBy may_hear answers dag intervals) dag intervals text success
     → IsReportAfter may_hear answers dag intervals was seed text success
-reported_after may_hear answers dag intervals was seed kept none are text success reports = record {
-  kept = kept;
-  kept_is = record { not_refused = none; are_kept = are };
-  reported = reports;
-}
+reported_after {kept = kept} none are text success reports = record { kept = kept; kept_is = record { not_refused = none; are_kept = are }; reported = reports }

@@ -1,6 +1,8 @@
 pub mod Over
 pub mod ByPrograms
 pub mod FromKept
+pub mod Sharing
+pub mod Results
 pub mod Faults
 pub mod ClearFaults
 pub mod OneList

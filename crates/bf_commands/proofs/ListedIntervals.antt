@@ -1,5 +1,5 @@
 -- What is listed of a graph's schedule.
-use Rattle.std.proofs.Common.{◌≡◌, ℕ, ℤ, List, Option, All, Result, Ok, arith, subst}
+use Rattle.std.proofs.Common.{◌≡◌, ℕ, ℤ, List, Option, All, Result, Ok, arith, ap, ◌∙◌, subst}
 use Rattle.std.proofs.lemmas.Int.{ints}
 use Rattle.jiff.specs.Types.{TimeZone}
 use Rattle.bf_cron.specs.declared.spec.CronSpec.{CronSpec}
@@ -11,12 +11,12 @@ use Rattle.bf_interval.specs.declared.interval.Interval.{Interval}
 use Rattle.bf_interval.proofs.Ending.{intervals_end_by_2208}
 use Rattle.bf_report_reader.specs.Written.{AreOfRuns}
 use Rattle.bf_commands.specs.Graphs.{IsTimed}
-use Rattle.bf_commands.specs.Lists.{HasListing, IsSince1970}
+use Rattle.bf_commands.specs.Lists.{HasListing, IsListIn, IsSince1970, intervals_text}
 
 -- what the schedule has in the zone that is lent is the listing of the graph
-pub listing : (graph : List ℕ) (file : Option (List ℕ)) (schedule lent : CronSpec) (zone : Zone) (tz : TimeZone) (from to : ℤ) (answer : Result (List Interval) IntervalFault)
+pub listing : {graph : List ℕ} {file : Option (List ℕ)} {schedule lent : CronSpec} {zone : Zone} {from to : ℤ} {answer : Result (List Interval) IntervalFault} (tz : TimeZone)
     → IsTimed graph file schedule zone → lent ≡ schedule → IsZoneOf zone tz → IsAnswer lent tz from to answer → HasListing graph file from to answer
-listing graph file schedule lent zone tz from to answer timed same lends answers = record {
+listing {schedule = schedule} {from = from} {to = to} {answer = answer} tz timed same lends answers = record {
   draft = timed.draft;
   graph_is = timed.graph_is;
   schedule = schedule;
@@ -25,6 +25,11 @@ listing graph file schedule lent zone tz from to answer timed same lends answers
   zone_is = timed.zone_is tz lends;
   answers = subst (λ (s : CronSpec). IsAnswer s tz from to answer) same answers;
 }
+
+-- the text of the intervals that are listed is that of the list
+pub listed_text : {graph : List ℕ} {file : Option (List ℕ)} {from to : ℤ} {found lent : List Interval} {said bytes : List ℕ} → HasListing graph file from to (Ok found) → lent ≡ found → said ≡ intervals_text lent → bytes ≡ said
+    → IsListIn graph file from to bytes
+listed_text {found = found} listing same says is = record { found = found; listing = listing; text_is = is ∙ (says ∙ ap intervals_text same) }
 
 -- no interval that is listed begins or ends before 1970
 pub since_1970 : (graph : List ℕ) (file : Option (List ℕ)) (from to : ℤ) (found : List Interval) → HasListing graph file from to (Ok found) → All IsSince1970 found

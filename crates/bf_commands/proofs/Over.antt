@@ -1,5 +1,5 @@
 -- Backfills over a table.
-use Rattle.std.proofs.Common.{◌≡◌, ◌<◌, ◌+◌, ◌/◌, ◌%◌, ◌++◌, ℕ, zero, suc, ℤ, pos, negsuc, ◌<ℤ◌, Bool, List, [], ◌∷◌, length, Result, Ok, Err, IfErr, map, take, All, sym, ap, ◌∙◌, subst, arith, rules, get_or}
+use Rattle.std.proofs.Common.{◌≡◌, ◌<◌, ◌+◌, ◌/◌, ◌%◌, ◌++◌, ℕ, zero, suc, ℤ, pos, negsuc, ◌<ℤ◌, Bool, List, [], ◌∷◌, length, map, take, All, sym, ap, ◌∙◌, subst, arith, rules, get_or}
 use Rattle.std.specs.Prelude.{AllPairs}
 use Rattle.std.proofs.lemmas.Int.{ints}
 use Rattle.std.proofs.lemmas.List.{map-append, take_more}
@@ -18,11 +18,8 @@ use Rattle.bf_core.specs.declared.ended.Ended.{Ended}
 use Rattle.bf_moment.specs.Moment.{IsShown, IsWhole}
 use Rattle.bf_report.specs.Dated.{IsShownInterval}
 use Rattle.bf_report_reader.specs.Written.{AreOfRuns}
-use Rattle.bf_command_fault.specs.declared.fault.CommandFault.{CommandFault}
-use Rattle.bf_command_fault.specs.declared.fault.CommandFault.TheVariants.{Read, Check, Table, Range, Report, Clear, BadMoment, OutOfMemory, CannotRead, CannotWrite, Stopped}
-use Rattle.bf_command_fault.specs.declared.stop.StopFault.{StopFault}
 use Rattle.bf_commands.specs.OneRun.{intervals_at}
-use Rattle.bf_commands.specs.OverTable.{AreAnswered, IsOver, IsReportOver, IsWanting, IsWantingWorkers, answering}
+use Rattle.bf_commands.specs.OverTable.{AreAnswered, IsOver, IsReportOver, answering}
 use Rattle.bf_commands.specs.Reported.{IsReportOf}
 
 -- a grade of what the table may answer is the grade of its answer
@@ -42,37 +39,12 @@ pub answering_by : (dag : Dag) (table : List TableEntry) (intervals : List Inter
     → runner ≡ answering dag table intervals
 answering_by dag table intervals starts runner is same = is ∙ (λ i. record { dag = dag; dates = dates_of (same i); entries = table })
 
--- the report over the ledger of a backfill over the table that has ended
-pub reported_over : (dag : Dag) (table : List TableEntry) (intervals : List Interval) (ended : Ended) → IsOver (answering dag table intervals) (length intervals) ended
+-- the report over the ledger of a backfill that has ended, whose runner has the table's answers
+pub reported_over : {dag : Dag} {table : List TableEntry} {intervals : List Interval} {runner : Answering} {ended : Ended} → runner ≡ answering dag table intervals → IsOver runner (length intervals) ended
     → (text : List ℕ) (success : Bool) → IsReportOf dag intervals (entry_in ended.state.ledger) text success → IsReportOver dag table intervals text success
-reported_over dag table intervals ended is text success reported = record {
-  ledger = ended.state.ledger;
-  over_table = record { tries = is.outcome.tries; answered = is.answered };
-  reported = reported;
-}
-
--- so it is where the runner has the table's answers
-pub over_as : (one two : Answering) (runs : ℕ) (ended : Ended) → one ≡ two → IsOver one runs ended → IsOver two runs ended
-over_as one two runs ended same is = subst (λ (r : Answering). IsOver r runs ended) same is
-
--- what is wanting where a table answers
-wanting_workers : (fault : CommandFault) → IsWanting fault → IsWantingWorkers fault
-wanting_workers OutOfMemory is = tt
-wanting_workers (CannotWrite n) is = tt
-wanting_workers (Read fault) is = absurd is
-wanting_workers (Check fault) is = absurd is
-wanting_workers (Table fault) is = absurd is
-wanting_workers (Range fault) is = absurd is
-wanting_workers (Report fault) is = absurd is
-wanting_workers (Clear fault) is = absurd is
-wanting_workers BadMoment is = absurd is
-wanting_workers (CannotRead path) is = absurd is
-wanting_workers (Stopped StopFault.CannotStart) is = tt
-wanting_workers (Stopped (StopFault.GaveUp task index attempt)) is = absurd is
-
-pub wanting_workers_in : {A : Type 0} (r : Result A CommandFault) → IfErr r IsWanting → IfErr r IsWantingWorkers
-wanting_workers_in (Ok x) is = tt
-wanting_workers_in (Err fault) is = wanting_workers fault is
+reported_over {intervals = intervals} {ended = ended} same by text success reported =
+    let is = subst (λ (r : Answering). IsOver r (length intervals) ended) same by in
+    record { ledger = ended.state.ledger; over_table = record { tries = is.outcome.tries; answered = is.answered }; reported = reported }
 
 -- ---- moments
 

@@ -1,22 +1,15 @@
-use Rattle.std.proofs.lemmas.Result.{err_from_is_err_and}
-use Rattle.bf_commands.proofs.ClearFaults.{graph_before, prepared, range_before, table_before}
+use Rattle.bf_commands.proofs.ClearFaults.{prepared, range_before, table_before}
 use Rattle.bf_commands.proofs.ListedIntervals.{of_runs}
+use Rattle.bf_commands.proofs.Results.{handed_on}
 use Rattle.bf_commands.proofs.clear.prepare.Goals as goal
-
-pub returns-in_err-timed-clause-fault : goal.returns-in_err-timed-clause-fault
-returns-in_err-timed-clause-fault c =
-    let p = err_from_is_err_and c.from_residual.result c.from_residual.ensures.1 in
-    rw (p.1, p.2) (graph_before _ _ _ _ _ _ c.in_err-timed.ensures.fault)
 
 pub returns-in_err-answers-clause-fault : goal.returns-in_err-answers-clause-fault
 returns-in_err-answers-clause-fault c =
-    let p = err_from_is_err_and c.from_residual-in_err-answers.result c.from_residual-in_err-answers.ensures.1 in
-    rw (p.1, p.2) (table_before _ _ _ _ _ c.in_ok-timed.timed.plan c.in_ok-timed.ensures.plan _ c.in_err-answers.ensures.fault)
+    handed_on _ _ c.from_residual-in_err-answers.ensures.1 (table_before _ _ _ _ _ c.in_ok-timed.timed.plan c.in_ok-timed.ensures.plan _ c.in_err-answers.ensures.fault)
 
 pub returns-in_err-intervals-clause-fault : goal.returns-in_err-intervals-clause-fault
 returns-in_err-intervals-clause-fault c =
-    let p = err_from_is_err_and c.from_residual-in_err-intervals.result c.from_residual-in_err-intervals.ensures.1 in
-    rw (p.1, p.2) (range_before _ _ _ _ _ c.in_ok-answers.answers c.in_ok-answers.ensures.ok _ (c.in_err-intervals.ensures.fault _ _ c.in_ok-timed.ensures.zone))
+    handed_on _ _ c.from_residual-in_err-intervals.ensures.1 (range_before _ _ _ _ _ c.in_ok-answers.answers c.in_ok-answers.ensures.ok _ (c.in_err-intervals.ensures.fault _ _ c.in_ok-timed.ensures.zone))
 
 pub returns-clause-ok : goal.returns-clause-ok
 returns-clause-ok c =

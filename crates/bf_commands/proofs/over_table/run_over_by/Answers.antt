@@ -1,23 +1,11 @@
-use Rattle.std.proofs.lemmas.Result.{err_from_is_err_and, IfOk-weaker}
-use Rattle.bf_command_fault.proofs.Leaving.{leaves_due_in}
-use Rattle.bf_commands.proofs.Faults.{unsent_leaves}
-use Rattle.bf_commands.proofs.Over.{over_as, reported_over, wanting_workers_in}
+use Rattle.bf_commands.proofs.Faults.{wanting_workers_in}
+use Rattle.bf_commands.proofs.Over.{reported_over}
+use Rattle.bf_commands.proofs.Results.{leaves_as, sends_as}
 use Rattle.bf_commands.proofs.over_table.run_over_by.Goals as goal
 
-pub returns-in_err-ended-clause-left : goal.returns-in_err-ended-clause-left
-returns-in_err-ended-clause-left g c =
-    let p = err_from_is_err_and c.from_residual-in_err-ended.result c.from_residual-in_err-ended.ensures.1 in
-    rw (p.1, p.2) (unsent_leaves _ _ _ _ c.in_err-ended.ensures.nothing_sent)
-
-pub returns-clause-wanting : goal.returns-clause-wanting
-returns-clause-wanting g c = wanting_workers_in c.write_ended.result c.write_ended.ensures.wanting
-
-pub returns-clause-left : goal.returns-clause-left
-returns-clause-left g c =
-    let over = over_as _ _ _ _ c.in_ok-runner.ensures c.in_ok-ended.ensures.over in
-    leaves_due_in _ _ _ (λ text due. (due.0, reported_over c.args.plan.now.dag c.args.table c.args.intervals.now c.in_ok-ended.ended over text due.0 due.1)) _ _ c.write_ended.result c.write_ended.ensures.left
-
-pub returns-clause-ok : goal.returns-clause-ok
-returns-clause-ok g c =
-    let over = over_as _ _ _ _ c.in_ok-runner.ensures c.in_ok-ended.ensures.over in
-    IfOk-weaker c.write_ended.result _ _ (λ success sends. (sends.0, reported_over c.args.plan.now.dag c.args.table c.args.intervals.now c.in_ok-ended.ended over sends.0 success sends.1, sends.2)) c.write_ended.ensures.ok
+pub returns : goal.returns
+returns g c = record {
+  ok = sends_as (reported_over c.in_ok-runner.ensures c.in_ok-ended.ensures.over) _ _ _ c.write_ended.ensures.ok;
+  wanting = wanting_workers_in _ c.write_ended.ensures.wanting;
+  left = leaves_as (reported_over c.in_ok-runner.ensures c.in_ok-ended.ensures.over) _ _ _ _ c.write_ended.ensures.left;
+}

@@ -2,9 +2,7 @@ use Rattle.bf_commands.proofs.Over.{shown_of_runs}
 use Rattle.bf_commands.proofs.run.ended_by_programs.Goals as goal
 
 pub stopped_by_programs-requires : goal.stopped_by_programs-requires
-stopped_by_programs-requires g c =
-    let made : _ = rw c.new-runner.ensures at (c.in-Err.ensures {u = tt}).err in
-    rw c.launcher.ensures at made
+stopped_by_programs-requires g c = rw (c.new-runner.ensures, c.launcher.ensures) at (c.in-Err.ensures {u = tt}).err
 
 pub new-runner-requires : goal.new-runner-requires
 new-runner-requires g c = shown_of_runs c.args.intervals.now c.requires

@@ -1,0 +1,8 @@
+-- What is lent to the workers of a backfill that goes on from a report may be shared by threads.
+use denote.Param.Send.{sendable}
+use Rattle.std.proofs.Crossing.{crosses}
+use Rattle.bf_value.proofs.sequence.Sequence.TheSendSync as sequence
+use Rattle.bf_check.proofs.plan.Plan.TheSendSync as plan
+use Rattle.bf_clear.proofs.Sharing as sharing
+
+pub ruleset shared = (sendable, crosses, sequence.the_sync, plan.the_sync, sharing.report)
