@@ -10,7 +10,7 @@ use Rattle.bf_interval.specs.declared.fault.IntervalFault.{IntervalFault}
 use Rattle.bf_interval.specs.declared.interval.Interval.{Interval}
 use Rattle.bf_try.specs.Tables.{table_of}
 use Rattle.bf_command_fault.specs.declared.fault.CommandFault.{CommandFault}
-use Rattle.bf_command_fault.specs.declared.fault.CommandFault.TheVariants.{Read, Check, Table, Range, Report, Clear, BadMoment, OutOfMemory, CannotRead, CannotWrite, Stopped}
+use Rattle.bf_command_fault.specs.declared.fault.CommandFault.TheVariants.{Read, Check, Table, Range, CannotWrite, Stopped}
 use Rattle.bf_commands.specs.declared.check.GraphSize.{GraphSize}
 use Rattle.bf_commands.specs.DatedRuns.{IsFaultOfDry, IsReportIn}
 use Rattle.bf_commands.specs.Graphs.{IsFaultIn, IsFileOf, IsGraph, IsSizeOf}
@@ -29,11 +29,8 @@ module _ (read held : List ℕ) (one two : Option (List ℕ)) (alike : AreAlike 
 
   fault_of : (draft : Draft) (fault : CheckFault) → IsFaultOf draft one fault → IsFaultOf draft two fault
   fault_of draft (check.Task fault id) is = (is.0, is.1, λ late. scheduled draft (is.2 late))
-  fault_of draft (check.Cycle ids) is = is
-  fault_of draft check.BadCron is = is
-  fault_of draft check.NeverFires is = is
   fault_of draft check.BadZone is = (λ z means. is.0 z (alike.means.back _ z means), is.1, is.2, is.3)
-  fault_of draft check.OutOfMemory is = tt
+  fault_of draft fault is = is
 
   file_of : (draft : Draft) → IsFileOf read draft → IsFileOf held draft
   file_of draft is = sym alike.says ∙ is
@@ -44,15 +41,7 @@ module _ (read held : List ℕ) (one two : Option (List ℕ)) (alike : AreAlike 
   pub fault_in : (fault : CommandFault) → IsFaultIn read one fault → IsFaultIn held two fault
   fault_in (Read fault) is = sym alike.says ∙ is
   fault_in (Check fault) is = (is.0, file_of is.0 is.1, fault_of is.0 fault is.2)
-  fault_in (Table fault) is = absurd is
-  fault_in (Range fault) is = absurd is
-  fault_in (Report fault) is = absurd is
-  fault_in (Clear fault) is = absurd is
-  fault_in BadMoment is = absurd is
-  fault_in OutOfMemory is = tt
-  fault_in (CannotRead path) is = absurd is
-  fault_in (CannotWrite n) is = absurd is
-  fault_in (Stopped stop) is = absurd is
+  fault_in fault is = is
 
   pub size_of : (size : GraphSize) → IsSizeOf read one size → IsSizeOf held two size
   size_of size is = record { draft = is.draft; graph_is = graph_of is.draft is.graph_is; size_is = is.size_is }
@@ -72,33 +61,16 @@ module _ (read held : List ℕ) (one two : Option (List ℕ)) (alike : AreAlike 
   list_of from to text is = record { found = is.found; listing = listing_of from to _ is.listing; text_is = is.text_is }
 
   pub list_fault : (from to : ℤ) (fault : CommandFault) → IsFaultOfList read one from to fault → IsFaultOfList held two from to fault
-  list_fault from to (Read fault) is = fault_in (Read fault) is
-  list_fault from to (Check fault) is = fault_in (Check fault) is
-  list_fault from to (Table fault) is = absurd is
   list_fault from to (Range fault) is = listing_of from to _ is
-  list_fault from to (Report fault) is = absurd is
-  list_fault from to (Clear fault) is = absurd is
-  list_fault from to BadMoment is = absurd is
-  list_fault from to OutOfMemory is = tt
-  list_fault from to (CannotRead path) is = absurd is
   list_fault from to (CannotWrite n) is = tt
-  list_fault from to (Stopped stop) is = absurd is
+  list_fault from to fault is = fault_in fault is
 
   pub run_report : (may_hear : Hearing) (from to : ℤ) (text : List ℕ) (success : Bool) → IsRunReport may_hear read one from to text success → IsRunReport may_hear held two from to text success
   run_report may_hear from to text success is = record { draft = is.draft; found = is.found; graph_is = graph_of is.draft is.graph_is; listing = listing_of from to _ is.listing; reported = is.reported }
 
   pub run_fault : (may_lose : Losing) (from to : ℤ) (fault : CommandFault) → IsFaultOfRun may_lose read one from to fault → IsFaultOfRun may_lose held two from to fault
-  run_fault may_lose from to (Read fault) is = fault_in (Read fault) is
-  run_fault may_lose from to (Check fault) is = fault_in (Check fault) is
-  run_fault may_lose from to (Table fault) is = absurd is
-  run_fault may_lose from to (Range fault) is = listing_of from to _ is
-  run_fault may_lose from to (Report fault) is = absurd is
-  run_fault may_lose from to (Clear fault) is = absurd is
-  run_fault may_lose from to BadMoment is = absurd is
-  run_fault may_lose from to OutOfMemory is = tt
-  run_fault may_lose from to (CannotRead path) is = absurd is
-  run_fault may_lose from to (CannotWrite n) is = tt
   run_fault may_lose from to (Stopped stop) is = (is.0, is.1, graph_of is.0 is.2, listing_of from to _ is.3, is.4)
+  run_fault may_lose from to fault is = list_fault from to fault is
 
   module _ (table other : List ℕ) (same : table_of table ≡ table_of other) where
     a_table : IsTable table → IsTable other
@@ -126,27 +98,14 @@ module _ (read held : List ℕ) (one two : Option (List ℕ)) (alike : AreAlike 
     }
 
     pub single_fault : (at : Timestamp) (fault : CommandFault) → IsFaultOfSingle read one table at fault → IsFaultOfSingle held two other at fault
-    single_fault at (Read fault) is = fault_in (Read fault) is
-    single_fault at (Check fault) is = fault_in (Check fault) is
     single_fault at (Table fault) is = (is.0, graph_of is.0 is.1, sym same ∙ is.2)
     single_fault at (Range fault) is = (is.0, graph_of is.0 is.1, a_table is.2, is.3, is.4)
-    single_fault at (Report fault) is = absurd is
-    single_fault at (Clear fault) is = absurd is
-    single_fault at BadMoment is = absurd is
-    single_fault at OutOfMemory is = tt
-    single_fault at (CannotRead path) is = absurd is
     single_fault at (CannotWrite n) is = tt
-    single_fault at (Stopped stop) is = absurd is
+    single_fault at fault is = fault_in fault is
 
     pub dry_fault : (from to : ℤ) (fault : CommandFault) → IsFaultOfDry read one table from to fault → IsFaultOfDry held two other from to fault
-    dry_fault from to (Read fault) is = fault_in (Read fault) is
-    dry_fault from to (Check fault) is = fault_in (Check fault) is
     dry_fault from to (Table fault) is = (is.0, graph_of is.0 is.1, sym same ∙ is.2)
     dry_fault from to (Range fault) is = (a_table is.0, listing_of from to _ is.1)
-    dry_fault from to (Report fault) is = absurd is
-    dry_fault from to (Clear fault) is = absurd is
-    dry_fault from to BadMoment is = absurd is
-    dry_fault from to OutOfMemory is = tt
-    dry_fault from to (CannotRead path) is = absurd is
     dry_fault from to (CannotWrite n) is = tt
     dry_fault from to (Stopped stop) is = is
+    dry_fault from to fault is = fault_in fault is

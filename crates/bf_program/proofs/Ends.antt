@@ -1,5 +1,5 @@
 -- How lines end.
-use Rattle.std.proofs.Common.{◌≡◌, ◌≢◌, ◌≤◌, ℕ, Bool, true, false, List, [], ◌∷◌, Option, Result, Ok, Err, IfOk, IfErr, IsErr, IsSome, OnOk, length, take, refl, sym, ◌∙◌, inl, inr, ap, subst, arith}
+use Rattle.std.proofs.Common.{◌≡◌, ◌≢◌, ◌≤◌, ℕ, Bool, true, false, List, [], ◌∷◌, Option, None, Result, Ok, Err, IfOk, IfErr, IsErr, IsSome, OnErr, refl, sym, inl, inr, ap, subst, arith}
 use Rattle.clap.specs.Words.{HasKind, IsAmong, Kinds, Row, Text, kind_of}
 use Rattle.clap.specs.declared.error.Error.{Error}
 use Rattle.clap.specs.declared.error.kind.ErrorKind.{ErrorKind}
@@ -7,16 +7,14 @@ use Rattle.clap.specs.declared.error.kind.ErrorKind.TheVariants as kind
 use Rattle.bf_command_line.specs.declared.forms.Asked.{Asked}
 use Rattle.bf_command_line.specs.declared.forms.Asked.TheVariants as asked
 use Rattle.bf_command_line.specs.Asked.{IsAskedBy}
-use Rattle.bf_device.specs.Device.{sent}
-use Rattle.bf_device.specs.declared.sending.WriteFault.{WriteFault}
 use Rattle.bf_command_fault.specs.Refusal.{Leaves, Sends, number_of}
 use Rattle.bf_command_fault.specs.Status.{code_of, of_runs}
 use Rattle.bf_command_fault.specs.declared.fault.CommandFault.{CommandFault}
-use Rattle.bf_command_fault.specs.declared.fault.CommandFault.TheVariants.{Read, Check, Table, Range, Report, Clear, BadMoment, OutOfMemory, CannotRead, CannotWrite, Stopped}
+use Rattle.bf_command_fault.specs.declared.fault.CommandFault.TheVariants.{OutOfMemory}
 use Rattle.bf_command_fault.specs.declared.status.Status.{Status}
 use Rattle.bf_command_fault.proofs.Leaving.{refusal_leaves}
 use Rattle.bf_commands.specs.Programs.{Hearing, Losing}
-use Rattle.bf_program.specs.Commands.{Files, IsAnswer, IsDone, IsFault, IsFaulted, IsTold, MayBeFaulted, MayTell, Tells}
+use Rattle.bf_program.specs.Commands.{Files, IsAnswer, IsDone, IsFault, MayBeFaulted, MayTell, Tells}
 use Rattle.bf_program.specs.Shown.{EndsAs, shown_as}
 
 -- ---- lines that `clap` answers
@@ -60,68 +58,71 @@ runs_low false = omega arith
 answer_low : (may_hear : Hearing) (files : Files) (asked : Asked) (text : List ℕ) (status : Status) → IsAnswer may_hear files asked text status → code_of status ≤ 1
 answer_low may_hear files (asked.Check a) text status is = rw is.success (omega arith)
 answer_low may_hear files (asked.List a) text status is = rw is.success (omega arith)
-answer_low may_hear files (asked.Single a) text status is = rw is.status_is (runs_low is.succeeded)
-answer_low may_hear files (asked.Dry a) text status is = rw is.status_is (runs_low is.succeeded)
-answer_low may_hear files (asked.Run a) text status is = rw is.status_is (runs_low is.succeeded)
-answer_low may_hear files (asked.Clear a) text status is = rw is.status_is (runs_low is.succeeded)
 answer_low may_hear files (asked.Schema format) text status is = rw is.0 (omega arith)
 answer_low may_hear files (asked.Completions shell) text status is = rw is.0 (omega arith)
+answer_low may_hear files a text status is = rw is.status_is (runs_low is.succeeded)
 
 pub done_low : (may_hear : Hearing) (files : Files) (matched : Option (Text × List Row)) (before after : Option (List ℕ)) (code : ℕ) → IsDone may_hear files matched before after code → code ≤ 1
 done_low may_hear files matched before after code is = rw is.code_is (answer_low may_hear files is.asked is.text is.status is.answer)
 
--- what a command answers is the line's answer
-module _ (may_hear : Hearing) (may_lose : Losing) (files : Files) (matched : Option (Text × List Row)) (a : Asked) (asks : IsAskedBy matched a) (before after : Option (List ℕ)) where
-  pub done : (s : Status) → Sends (λ text. IsAnswer may_hear files a text s) before after → IsDone may_hear files matched before after (code_of s)
-  done s sends = record { asked = a; asks = asks; text = sends.0; status = s; answer = sends.1; written = sends.2; code_is = refl }
+-- and with nothing else
+low_other : (s t : Status) → code_of s ≤ 1 → 2 ≤ code_of t → s ≢ t
+low_other s t low high = λ same. (let is : code_of s ≡ code_of t = ap code_of same in omega arith)
 
-  module _ (Halted : Type 0) where
-    faulted : (f : CommandFault) → IsFault may_lose files a f → Leaves Halted (λ text. (status : Status) × IsAnswer may_hear files a text status) before after f → IsFaulted may_hear may_lose files matched Halted before after f
-    faulted f is left = record { asked = a; asks = asks; is_fault = is; left = left }
+-- what a line comes to with which nothing is wrong
+abbrev pub LineEnds : {E : Type 0} → Hearing → Losing → Files → Option (Text × List Row) → Type 0 → Option (List ℕ) → Option (List ℕ) → Kinds → Option (List ℕ) → E → Result Status CommandFault → Type 0
+LineEnds may_hear may_lose files matched Halted before after kinds told err r = record {
+  range : IfOk r (λ s. s ≢ Status.Fault);
+  answered : IfOk r (λ s. s ≢ Status.Refused → told ≡ told);
+  wrong : IfOk r (λ s. s ≡ Status.Refused → after ≡ before);
+  refused : IfErr r (λ f. IsSome (number_of f) → after ≡ before);
+  untouched : OnErr r (err ≡ err);
+  line : kinds ≢ [] → IfOk r (λ s. EndsAs kinds (code_of s));
+  fault : kinds ≢ [] → IfErr r (λ f. number_of f ≡ None);
+  done : kinds ≡ [] → IfOk r (λ s. IsDone may_hear files matched before after (code_of s));
+  why : kinds ≡ [] → IfErr r (λ f. MayBeFaulted may_hear may_lose files matched Halted before after f);
+}
 
-    may : (f : CommandFault) → IsFault may_lose files a f → Leaves Halted (λ text. (status : Status) × IsAnswer may_hear files a text status) before after f → MayBeFaulted may_hear may_lose files matched Halted before after f
-    may OutOfMemory is left = left
-    may (Read f) is left = faulted (Read f) is left
-    may (Check f) is left = faulted (Check f) is left
-    may (Table f) is left = faulted (Table f) is left
-    may (Range f) is left = faulted (Range f) is left
-    may (Report fault) is left = faulted (Report fault) is left
-    may (Clear fault) is left = faulted (Clear fault) is left
-    may BadMoment is left = faulted BadMoment is left
-    may (CannotRead path) is left = faulted (CannotRead path) is left
-    may (CannotWrite n) is left = faulted (CannotWrite n) is left
-    may (Stopped stop) is left = faulted (Stopped stop) is left
+-- it comes to what the command comes to that it asks for
+module _ (may_hear : Hearing) (may_lose : Losing) (files : Files) (matched : Option (Text × List Row)) (Halted : Type 0) (before after : Option (List ℕ)) (a : Asked) where
+  abbrev IsLeft : CommandFault → Type 0
+  IsLeft fault = Leaves Halted (λ text. (status : Status) × IsAnswer may_hear files a text status) before after fault
 
-    pub may_in : (r : Result Status CommandFault) → IfErr r (IsFault may_lose files a) → IfErr r (Leaves Halted (λ text. (status : Status) × IsAnswer may_hear files a text status) before after)
-        → IfErr r (MayBeFaulted may_hear may_lose files matched Halted before after)
-    may_in (Ok s) is left = tt
-    may_in (Err f) is left = may f is left
+  may : IsAskedBy matched a → (fault : CommandFault) → IsFault may_lose files a fault → IsLeft fault → MayBeFaulted may_hear may_lose files matched Halted before after fault
+  may asks OutOfMemory is left = left
+  may asks fault is left = record { asked = a; asks = asks; is_fault = is; left = left }
 
--- a refusal has written nothing
-pub refusal_leaves_in : (Halted : Type 0) (IsDue : List ℕ → Type 0) (before after : Option (List ℕ)) (r : Result Status CommandFault) → IfErr r (Leaves Halted IsDue before after)
-    → IfErr r (λ f. IsSome (number_of f) → after ≡ before)
-refusal_leaves_in Halted IsDue before after (Ok s) left = tt
-refusal_leaves_in Halted IsDue before after (Err f) left = refusal_leaves Halted IsDue before after f left
+  pub line_ends : {E : Type 0} (kinds : Kinds) (told : Option (List ℕ)) (err : E) (x : Asked) → x ≡ a → IsAskedBy matched x → kinds ≡ [] → (r : Result Status CommandFault)
+      → IfOk r (λ s. Sends (λ text. IsAnswer may_hear files a text s) before after) → IfErr r (IsFault may_lose files a) → IfErr r IsLeft
+      → LineEnds may_hear may_lose files matched Halted before after kinds told err r
+  line_ends kinds told err x same asks none (Ok s) sends is left =
+      let low = answer_low may_hear files a sends.0 s sends.1 in
+      record {
+        range = low_other s Status.Fault low (omega arith);
+        answered = λ other. refl;
+        wrong = λ refused. absurd (low_other s Status.Refused low (omega arith) refused);
+        refused = tt;
+        untouched = tt;
+        line = λ some. absurd (some none);
+        fault = λ some. tt;
+        done = λ fine. record { asked = a; asks = subst (IsAskedBy matched) same asks; text = sends.0; status = s; answer = sends.1; written = sends.2; code_is = refl };
+        why = λ fine. tt;
+      }
+  line_ends kinds told err x same asks none (Err f) sends is left = record {
+    range = tt;
+    answered = tt;
+    wrong = tt;
+    refused = refusal_leaves Halted (λ text. (status : Status) × IsAnswer may_hear files a text status) before after f left;
+    untouched = refl;
+    line = λ some. tt;
+    fault = λ some. absurd (some none);
+    done = λ fine. tt;
+    why = λ fine. may (subst (IsAskedBy matched) same asks) f is left;
+  }
 
 -- ---- what is told
-
--- a line that was sent is told
-pub told_by : (Halted : Type 0) (before after : Option (List ℕ)) (line : List ℕ) (r : Result (Unit {0}) WriteFault) → OnOk r (after ≡ sent before line)
-    → IfErr r (λ fault. (fault.sent ≤ length line) × (after ≡ sent before (take fault.sent line))) → IfErr r (λ fault. Halted) → IsTold Halted before after line
-told_by Halted before after line (Ok u) ok part halted = inl ok
-told_by Halted before after line (Err fault) ok part halted = inr (halted, fault.sent, part.0, part.1)
 
 -- status 3 tells a fault
 pub tells_three : (Halted : Type 0) (before after : Option (List ℕ)) (fault : CommandFault) (code : ℕ) → MayTell Halted before after fault code → code ≡ 3 → (f : CommandFault) × Tells Halted before after f 3
 tells_three Halted before after fault code (inl tells) three = (fault, subst (λ (n : ℕ). Tells Halted before after fault n) three tells)
 tells_three Halted before after fault code (inr tells) three = (OutOfMemory, subst (λ (n : ℕ). Tells Halted before after OutOfMemory n) three tells)
-
-not_three : (s : Status) → s ≢ Status.Fault → code_of s ≢ 3
-not_three Status.Success ne = λ e. omega (arith, e)
-not_three Status.Failed ne = λ e. omega (arith, e)
-not_three Status.Refused ne = λ e. omega (arith, e)
-not_three Status.Fault ne = λ e. ne refl
-
--- no answer has status 3
-pub no_three : (s : Status) (code : ℕ) → s ≢ Status.Fault → code ≡ code_of s → code ≢ 3
-no_three s code ne is = λ e. not_three s ne (sym is ∙ e)

@@ -1,4 +1,5 @@
 pub mod FoundFiles
+pub mod Exits
 pub mod Ends
 pub mod Alike
 pub mod CommandFacts

@@ -1,18 +1,12 @@
-use Rattle.std.proofs.Common.{inl, inr}
-use Rattle.std.proofs.lemmas.Result.{err_from_is_err_and, IfErr-weaker, IfOk-weaker}
+use Rattle.std.proofs.Common.{inr}
+use Rattle.std.proofs.lemmas.Result.{IfErr-weaker, IfOk-weaker}
 use Rattle.bf_command_fault.proofs.Leaving.{leaves_due_in}
 use Rattle.bf_program.proofs.ClearEnds.{report_leaves}
+use Rattle.bf_commands.proofs.Results.{handed_on}
 use Rattle.bf_program.proofs.clear.go_on.Goals as goal
 
-pub returns-in_err-report-clause-fault : goal.returns-in_err-report-clause-fault
-returns-in_err-report-clause-fault g c =
-    let p = err_from_is_err_and c.from_residual.result c.from_residual.ensures.1 in
-    rw (p.1, p.2) (inl c.in_err-report.ensures.fault)
-
 pub returns-in_err-report-clause-left : goal.returns-in_err-report-clause-left
-returns-in_err-report-clause-left g c =
-    let p = err_from_is_err_and c.from_residual.result c.from_residual.ensures.1 in
-    rw (p.1, p.2) (report_leaves _ _ _ _ _ _ c.in_err-report.ensures.fault)
+returns-in_err-report-clause-left g c = handed_on _ _ c.from_residual.ensures.1 (report_leaves _ _ _ _ _ _ c.in_err-report.ensures.fault)
 
 pub returns-clause-fault : goal.returns-clause-fault
 returns-clause-fault g c =

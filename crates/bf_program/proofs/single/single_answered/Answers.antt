@@ -1,54 +1,25 @@
 use Rattle.std.proofs.Common.{string_bytes}
-use Rattle.std.proofs.lemmas.Result.{err_from_is_err_and}
-use Rattle.bf_command_fault.specs.Status.{of_runs}
-use Rattle.bf_command_fault.proofs.Leaving.{leaves_due, moment_leaves}
-use Rattle.bf_program.specs.Commands.{run_paths}
-use Rattle.bf_program.proofs.CommandEnds.{single_answer, single_files, single_moment, single_reading, lent_table_alike, reading_leaves}
-use Rattle.bf_program.proofs.CommandFacts.{means_lent, no_moment_lent, whole_in_years}
+use Rattle.bf_program.specs.Commands.{IsSingleAnswer, run_paths}
+use Rattle.bf_program.proofs.CommandEnds.{lent_run, single_answer, single_files}
+use Rattle.bf_program.proofs.CommandFacts.{means_lent}
+use Rattle.bf_program.proofs.Exits.{fails, reading_fails, runs_leave, runs_send}
 use Rattle.bf_program.proofs.single.single_answered.Goals as goal
 
-pub returns-in_err-at-clause-fault : goal.returns-in_err-at-clause-fault
-returns-in_err-at-clause-fault g c =
-    let p = err_from_is_err_and c.from_residual.result c.from_residual.ensures.1 in
-    rw (p.1, p.2) (single_moment (g.S.Source.file c.args.files.now) c.args.asked _ (c.in_err-at.ensures.bad.0, no_moment_lent c.as_str.result.now _ c.as_str.ensures.value c.in_err-at.ensures.bad.1))
+pub returns-in_err-files : goal.returns-in_err-files
+returns-in_err-files g c =
+    let means = means_lent c.as_str.result.now _ c.in_ok-at.at c.as_str.ensures.value c.in_ok-at.ensures.means in
+    reading_fails _ _ _ _ _ _ _ c.from_residual-in_err-files.ensures.1 (g.S.Source.file c.args.files.now) (run_paths c.args.asked.graph (string_bytes c.args.asked.table)) c.in_err-files.ensures.fault
+    (c.in_ok-at.at, means, tt) (λ path is. (c.in_ok-at.at, means, is))
 
-pub returns-in_err-at-clause-left : goal.returns-in_err-at-clause-left
-returns-in_err-at-clause-left g c =
-    let p = err_from_is_err_and c.from_residual.result c.from_residual.ensures.1 in
-    rw (p.1, p.2) (moment_leaves _ _ _ _ c.in_err-at.ensures.bad.0)
-
-pub returns-in_err-files-clause-fault : goal.returns-in_err-files-clause-fault
-returns-in_err-files-clause-fault g c =
-    let p = err_from_is_err_and c.from_residual-in_err-files.result c.from_residual-in_err-files.ensures.1 in
-    let lent = means_lent c.as_str.result.now _ c.in_ok-at.at c.as_str.ensures.value c.in_ok-at.ensures.means in
-    rw (p.1, p.2) (single_reading (g.S.Source.file c.args.files.now) c.args.asked c.in_ok-at.at lent _ c.in_err-files.ensures.fault)
-
-pub returns-in_err-files-clause-left : goal.returns-in_err-files-clause-left
-returns-in_err-files-clause-left g c =
-    let p = err_from_is_err_and c.from_residual-in_err-files.result c.from_residual-in_err-files.ensures.1 in
-    rw (p.1, p.2) (reading_leaves _ _ _ (g.S.Source.file c.args.files.now) (run_paths c.args.asked.graph (string_bytes c.args.asked.table)) _ c.in_err-files.ensures.fault)
-
-pub returns-in_err-succeeded-clause-fault : goal.returns-in_err-succeeded-clause-fault
-returns-in_err-succeeded-clause-fault g c =
-    let p = err_from_is_err_and c.from_residual-in_err-succeeded.result c.from_residual-in_err-succeeded.ensures.1 in
-    let lent = means_lent c.as_str.result.now _ c.in_ok-at.at c.as_str.ensures.value c.in_ok-at.ensures.means in
-    let alike = lent_table_alike _ c.args.asked.graph _ c.deref.result.now _ c.deref-2.result.now _ _ _ c.deref.ensures.value c.zone_file.ensures c.deref-2.ensures.value c.in_ok-files.ensures.alike in
-    rw (p.1, p.2) (single_files _ c.args.asked c.in_ok-at.at lent c.deref.result.now c.deref-2.result.now _ c.in_ok-files.ensures.readable alike _ c.in_err-succeeded.ensures.fault)
-
-pub returns-in_err-succeeded-clause-left : goal.returns-in_err-succeeded-clause-left
-returns-in_err-succeeded-clause-left g c =
-    let p = err_from_is_err_and c.from_residual-in_err-succeeded.result c.from_residual-in_err-succeeded.ensures.1 in
-    let lent = means_lent c.as_str.result.now _ c.in_ok-at.at c.as_str.ensures.value c.in_ok-at.ensures.means in
-    let alike = lent_table_alike _ c.args.asked.graph _ c.deref.result.now _ c.deref-2.result.now _ _ _ c.deref.ensures.value c.zone_file.ensures c.deref-2.ensures.value c.in_ok-files.ensures.alike in
-    rw (p.1, p.2) (leaves_due _ _ _ (λ text is. (of_runs is.0, single_answer _ c.args.asked c.in_ok-at.at lent c.deref.result.now c.deref-2.result.now _ c.in_ok-files.ensures.readable alike text is.0 is.1)) _ _ _ c.in_err-succeeded.ensures.left)
+pub returns-in_err-succeeded : goal.returns-in_err-succeeded
+returns-in_err-succeeded g c =
+    let means = means_lent c.as_str.result.now _ c.in_ok-at.at c.as_str.ensures.value c.in_ok-at.ensures.means in
+    let bytes = lent_run c.deref.ensures.value c.deref-2.ensures.value c.zone_file.ensures c.in_ok-files.ensures.readable c.in_ok-files.ensures.alike in
+    fails _ _ _ _ _ c.from_residual-in_err-succeeded.ensures.1 (single_files c.args.asked c.in_ok-at.at means bytes _ c.in_err-succeeded.ensures.fault)
+    (runs_leave _ _ (single_answer c.args.asked c.in_ok-at.at means bytes) _ _ _ _ c.in_err-succeeded.ensures.left)
 
 pub returns-clause-answer : goal.returns-clause-answer
 returns-clause-answer g c =
-    let lent = means_lent c.as_str.result.now _ c.in_ok-at.at c.as_str.ensures.value c.in_ok-at.ensures.means in
-    let alike = lent_table_alike _ c.args.asked.graph _ c.deref.result.now _ c.deref-2.result.now _ _ _ c.deref.ensures.value c.zone_file.ensures c.deref-2.ensures.value c.in_ok-files.ensures.alike in
-    let sends = c.in_ok-succeeded.ensures.ok in
-    let answer = single_answer _ c.args.asked c.in_ok-at.at lent c.deref.result.now c.deref-2.result.now _ c.in_ok-files.ensures.readable alike sends.0 c.in_ok-succeeded.succeeded sends.1 in
-    (sends.0, rw c.of_runs.ensures answer, sends.2)
-
-pub run_single-requires : goal.run_single-requires
-run_single-requires g c = whole_in_years c.as_str.result.now c.in_ok-at.at c.in_ok-at.ensures.means
+    let means = means_lent c.as_str.result.now _ c.in_ok-at.at c.as_str.ensures.value c.in_ok-at.ensures.means in
+    let bytes = lent_run c.deref.ensures.value c.deref-2.ensures.value c.zone_file.ensures c.in_ok-files.ensures.readable c.in_ok-files.ensures.alike in
+    runs_send _ (IsSingleAnswer (g.S.Source.file c.args.files.now) c.args.asked) (single_answer c.args.asked c.in_ok-at.at means bytes) _ _ c.in_ok-succeeded.succeeded _ c.of_runs.ensures c.in_ok-succeeded.ensures.ok
