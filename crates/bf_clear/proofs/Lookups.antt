@@ -7,7 +7,6 @@ use Rattle.bf_core.specs.Terms.{Dag, Entry, Given, JobName, fits}
 use Rattle.bf_report.specs.declared.report.Version.{Version}
 use Rattle.bf_report.specs.declared.report.InstanceReport.{InstanceReport}
 use Rattle.bf_report.specs.declared.report.Report.{Report}
-use Rattle.bf_kept.specs.Kept.{AreFit}
 use Rattle.bf_dependents.specs.declared.place.Place.{Place}
 use Rattle.bf_dependents.specs.Dependents.{AreDependents, AreMarks, IsBeside, IsDependent}
 use Rattle.bf_clear.specs.Entries.{entry_by, found_at, told, IsWithin}
@@ -106,16 +105,3 @@ module _ (dag : Dag) (seeds : List Place) (runs : ℕ) (rows : List (List Bool))
 pub kept-told : (dag : Dag) (seeds : List Place) (runs : ℕ) (rows : List (List Bool)) (report : Report) → AreDependents dag seeds runs rows → IsWithin dag runs report →
     AreKept dag seeds report (kept_in (record { dag = dag; marks = rows; report = report }))
 kept-told dag seeds runs rows report are within n e = (kept-forth dag seeds runs rows report are within n e, kept-back dag seeds runs rows report are within n e)
-
--- what is kept fits
-pub kept-fits : (c : Clearance) → AreFit c.dag (kept_in c)
-kept-fits c n e h = go (nat_lt n.task (length c.dag.tasks) && not (is_cleared c.marks n.run n.task)) (told c.dag c.report n) h
-  where
-    fit : (d : Entry) (f : Bool) → fits c.dag n.task d.outcome ≡ f → (if f then Some d else None) ≡ Some e → fits c.dag n.task e.outcome ≡ true
-    fit d true is h = let same : d ≡ e = cc in ap (λ (d : Entry). fits c.dag n.task d.outcome) (sym same) ∙ is
-    fit d false is h = cc
-
-    go : (b : Bool) (o : Option Entry) → kept_of b c.dag n.task o ≡ Some e → fits c.dag n.task e.outcome ≡ true
-    go true (Some d) h = fit d (fits c.dag n.task d.outcome) refl h
-    go true None h = cc
-    go false o h = cc

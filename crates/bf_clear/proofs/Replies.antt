@@ -42,19 +42,6 @@ raw-answers dag told x n given o same is =
     answers-same (λ m. fitting dag n.task (entry_of_try x.result n.attempt told)) (λ m. fitting dag n.task (entry_of_try x.result n.attempt (Some given))) n given o
     (ap (λ g. fitting dag n.task (entry_of_try x.result n.attempt g)) same) (outcome-answers dag x n given o is)
 
-fitting-given : (dag : Dag) (t : ℕ) (g : Given) (w : Option Outcome) (d : Entry) → fitting dag t (option_map (λ o. record { given = g; outcome = o }) w) ≡ Some d → d.given ≡ g
-fitting-given dag t g None d e = cc
-fitting-given dag t g (Some o) d e = go (fits dag t o) e
-  where
-    go : (f : Bool) → (if f then Some (record { given = g; outcome = o }) else None) ≡ Some d → d.given ≡ g
-    go true h = let same : ◌≡◌ {A = Entry} (record { given = g; outcome = o }) d = cc in ap (λ (d : Entry). d.given) (sym same)
-    go false h = cc
-
--- it was given something else
-pub other-given : (dag : Dag) (told : Option Given) (x : InstanceReport) (n : JobName) (given : Given) → (told ≡ Some given → ⊥) → IsAnswerOf dag told x n given None
-other-given dag None x n given other = λ d held. let both : ◌≡◌ {A = Option Entry} None (Some d) = held.0 in cc
-other-given dag (Some g) x n given other = λ d held. other (ap Some (sym (fitting-given dag n.task g (outcome_of_try x.result n.attempt) d held.0) ∙ held.1))
-
 -- ---- by the report
 
 pub answers-here : (c : Clearance) (n : JobName) (given : Given) (x : InstanceReport) (o : Option Raw) →
@@ -78,7 +65,3 @@ answers-none c n given none =
     none-kept (kept_in c) n given
     (ap (λ m. kept_of (nat_lt n.task (length c.dag.tasks) && not (is_cleared c.marks n.run n.task)) c.dag n.task (entry_by c.report.version (worked_out c.dag c.report n.run n.task n.index) m n.attempt)) none
     ∙ fitting-none (nat_lt n.task (length c.dag.tasks) && not (is_cleared c.marks n.run n.task)) c.dag n.task)
-
--- it is cleared, or no such task is there
-pub answers-cleared : (c : Clearance) (n : JobName) (given : Given) → (nat_lt n.task (length c.dag.tasks) && not (is_cleared c.marks n.run n.task)) ≡ false → IsAnsweredBy (kept_in c) n given None
-answers-cleared c n given cleared = none-kept (kept_in c) n given (ap (λ b. kept_of b c.dag n.task (told c.dag c.report n)) cleared)

@@ -1,6 +1,6 @@
 -- What stands in a report of a plan is of tasks and runs that are there.
-use Rattle.std.proofs.Common.{◌≡◌, ℕ, zero, suc, ◌<◌, ◌==◌, ◌||◌, Bool, true, false, if◌then◌else◌, List, [], ◌∷◌, length, Option, None, Some, slice_get, refl, sym, ap, ◌∙◌, arith}
-use Rattle.std.specs.List.{list_all, list_any, zip}
+use Rattle.std.proofs.Common.{◌≡◌, ℕ, zero, suc, ◌<◌, ◌==◌, ◌||◌, true, if◌then◌else◌, List, [], ◌∷◌, length, Option, None, Some, slice_get, refl, sym, ap, ◌∙◌, arith}
+use Rattle.std.specs.List.{list_all, zip}
 use Rattle.std.specs.Option.{option_and_then}
 use Rattle.std.specs.Str.{bytes_eq}
 use Rattle.std.proofs.lemmas.Bool.{and_parts, eqb-true}
@@ -11,11 +11,8 @@ use Rattle.bf_report.specs.declared.report.Version.{Version}
 use Rattle.bf_report.specs.declared.report.RunReport.{RunReport}
 use Rattle.bf_report.specs.declared.report.TaskReport.{TaskReport}
 use Rattle.bf_report.specs.declared.report.Report.{Report}
-use Rattle.bf_dependents.specs.declared.fault.ClearFault.{ClearFault}
-use Rattle.bf_dependents.specs.declared.seeds.Seed.{Seed}
-use Rattle.bf_dependents.specs.Seeds.{is_unknown_run, is_unknown_task, seed_fault}
 use Rattle.bf_clear.specs.Entries.{instance_at, IsWithin}
-use Rattle.bf_clear.specs.Matching.{are_ids_of, are_runs_of, are_tasks_of, clear_fault, fault_after, is_report_of, is_run_of, is_same_interval, refusal}
+use Rattle.bf_clear.specs.Matching.{are_ids_of, are_runs_of, are_tasks_of, is_report_of, is_run_of, is_same_interval}
 
 -- each run that is told of is of the plan
 each-run : (v : Version) (dag : Dag) (runs : List RunReport) (intervals : List Interval) → length runs ≡ length intervals → list_all (λ p. is_run_of v dag p.0 p.1) (zip runs intervals) ≡ true →
@@ -56,21 +53,3 @@ matches-within dag intervals report is k t index x e = at (slice_get report.runs
     at : (o : Option RunReport) → slice_get report.runs k ≡ o → option_and_then (λ x. instance_at x index) (option_and_then (λ run. slice_get run.tasks t) o) ≡ Some x → (k < length intervals) × (t < length dag.tasks)
     at None h f = cc
     at (Some run) h f = in-run run h (slice_get run.tasks t) refl f
-
--- ---- refusals
-
--- the seeds are never refused for want of memory, nor for the report
-pub seeds-refused : (dag : Dag) (intervals : List Interval) (report : Report) (seeds : List Seed) (fault : ClearFault) → seed_fault dag intervals seeds ≡ Some fault → clear_fault dag intervals report seeds ≡ refusal fault
-seeds-refused dag intervals report seeds fault e = ap (λ o. fault_after o (is_report_of dag intervals report)) e ∙ go (list_any (is_unknown_task dag) seeds) (list_any (is_unknown_run intervals) seeds) fault e
-  where
-    go : (a b : Bool) (f : ClearFault) → (if a then Some ClearFault.UnknownTask else (if b then Some ClearFault.UnknownRun else None)) ≡ Some f → Some f ≡ refusal f
-    go true b f h = let same : ClearFault.UnknownTask ≡ f = cc in ap (λ f. Some f) (sym same) ∙ ap refusal same
-    go false true f h = let same : ClearFault.UnknownRun ≡ f = cc in ap (λ f. Some f) (sym same) ∙ ap refusal same
-    go false false f h = cc
-
-pub clear-of : (dag : Dag) (intervals : List Interval) (report : Report) (seeds : List Seed) → seed_fault dag intervals seeds ≡ None → is_report_of dag intervals report ≡ true → clear_fault dag intervals report seeds ≡ None
-clear-of dag intervals report seeds none is = ap (λ o. fault_after o (is_report_of dag intervals report)) none ∙ ap (fault_after None) is
-
-pub mismatch-of : (dag : Dag) (intervals : List Interval) (report : Report) (seeds : List Seed) → seed_fault dag intervals seeds ≡ None → is_report_of dag intervals report ≡ false →
-    clear_fault dag intervals report seeds ≡ Some ClearFault.ReportMismatch
-mismatch-of dag intervals report seeds none is = ap (λ o. fault_after o (is_report_of dag intervals report)) none ∙ ap (fault_after None) is

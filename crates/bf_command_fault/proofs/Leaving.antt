@@ -1,5 +1,5 @@
 -- What a fault leaves of a text that was due.
-use Rattle.std.proofs.Common.{◌≡◌, ◌≤◌, ℕ, List, [], Option, Some, None, Result, Ok, Err, IfErr, IsSome, length, take, refl, sym, ◌∙◌, ap, append-nil, subst, true≢false}
+use Rattle.std.proofs.Common.{◌≡◌, ◌≤◌, ℕ, List, [], Option, Some, None, Result, Ok, Err, IfErr, IsSome, length, take, refl, sym, ◌∙◌, ap, append-nil, true≢false}
 use Rattle.bf_device.specs.Device.{sent}
 use Rattle.bf_device.specs.declared.sending.Cause.{Cause}
 use Rattle.bf_device.specs.declared.sending.Cause.TheVariants as cause
@@ -7,10 +7,6 @@ use Rattle.bf_device.specs.declared.sending.WriteFault.{WriteFault}
 use Rattle.bf_command_fault.specs.Refusal.{Leaves, number_of, of_cause, of_write}
 use Rattle.bf_command_fault.specs.declared.fault.CommandFault.{CommandFault}
 use Rattle.bf_command_fault.specs.declared.fault.CommandFault.TheVariants.{Read, Check, Table, Range, Report, Clear, BadMoment, OutOfMemory, CannotRead, CannotWrite, Stopped}
-
--- nothing went out where a text is no moment
-pub moment_leaves : (Halted : Type 0) (IsDue : List ℕ → Type 0) (before : Option (List ℕ)) (fault : CommandFault) → fault ≡ BadMoment → Leaves Halted IsDue before before fault
-moment_leaves Halted IsDue before fault same = subst (λ (f : CommandFault). Leaves Halted IsDue before before f) (sym same) refl
 
 -- the first bytes of a text went out, or none
 sent_none : (before : Option (List ℕ)) → sent before [] ≡ before

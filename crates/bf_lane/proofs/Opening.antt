@@ -1,6 +1,6 @@
 -- What keeps a lane open, and what its end shows.
-use Rattle.std.proofs.Common.{◌≡◌, ◌∙◌, ℕ, ◌≤◌, Bool, true, false, nat_lt, List, [], ◌∷◌, ◌++◌, length, length-append, sym, refl, ap, subst, rules, arith, append_assoc}
-use Rattle.crossbeam_queue.specs.Passes.{Pass, view, IsPassOf, IsSamePass}
+use Rattle.std.proofs.Common.{◌≡◌, ◌∙◌, ◌≤◌, Bool, true, false, List, [], ◌∷◌, ◌++◌, length-append, sym, refl, ap, subst, arith}
+use Rattle.crossbeam_queue.specs.Passes.{Pass, view, IsSamePass}
 use Rattle.bf_try.specs.Asked.{Asked}
 use Rattle.bf_lane.specs.declared.messages.Job.{Job}
 use Rattle.bf_lane.specs.declared.messages.Job.TheVariants.{Run, Stop}
@@ -15,7 +15,7 @@ use Rattle.bf_try.specs.declared.answers.Raw.{Raw}
 use Rattle.bf_lane.specs.declared.messages.Answer.{Answer}
 use Rattle.bf_lane.specs.Lanes.{asked, answered, all_runs, Answers, IsClosed, IsAllowedBy}
 use Rattle.bf_lane.specs.Open.{IsOpen, awaits, scheduled}
-use Rattle.std.proofs.lemmas.Bool.{ltb-false, lt-ltb, le-ltb}
+use Rattle.std.proofs.lemmas.Bool.{ltb-false}
 use Rattle.bf_lane.proofs.Serving.{same_of, all_runs-run, asked-append}
 
 pub open_submitted : {K : Type 0} (q theirs : Queues K) (p s : Pass Job (Log Job)) (r : Pass Answer (Log Answer)) (t : Asked) → IsOpen q theirs p r false
@@ -33,32 +33,11 @@ open_submitted q theirs p s r t h ls e =
       one_awaited = rw put (omega (arith, length-append (view p).put (Run t ∷ []), h.one_awaited));
     }
 
-pub open_gathered : {K : Type 0} (q theirs : Queues K) (p : Pass Job (Log Job)) (r s : Pass Answer (Log Answer)) (a : Answer) → IsOpen q theirs p r true
-    → IsSamePass r s → view s ≡ log (view r).puts (view r).takes (view r).put ((view r).taken ++ a ∷ [])
-    → IsOpen q theirs p s false
-open_gathered q theirs p r s a h rs e =
-    let taken : (view s).taken ≡ (view r).taken ++ a ∷ [] = ap (λ (v : Log Answer). v.taken) e in
-    record {
-      of_jobs = h.of_jobs;
-      of_results = same_of q.results r s h.of_results rs;
-      puts_are = h.puts_are;
-      gathers_are = e ∙ (λ i. log (h.gathers_are i).puts (h.gathers_are i).takes (h.gathers_are i).put (sym taken i));
-      runs = h.runs;
-      queues_are = h.queues_are;
-      one_awaited = rw taken (omega (arith, length-append (view r).taken (a ∷ []), h.one_awaited));
-    }
-
 -- a lane that awaits no answer isn't marked as busy
 pub is_idle : {K : Type 0} (q theirs : Queues K) (p : Pass Job (Log Job)) (r : Pass Answer (Log Answer)) (busy : Bool) → IsOpen q theirs p r busy
     → awaits (scheduled (view p).put (view r).taken) ≡ false → IsOpen q theirs p r false
 is_idle q theirs p r true h idle = absurd (omega (arith, h.one_awaited, ltb-false _ _ idle))
 is_idle q theirs p r false h idle = h
-
--- whether a lane is marked as busy is whether it awaits an answer
-pub busy_awaits : {K : Type 0} (q theirs : Queues K) (p : Pass Job (Log Job)) (r : Pass Answer (Log Answer)) (busy : Bool) → IsOpen q theirs p r busy
-    → busy ≡ awaits (scheduled (view p).put (view r).taken)
-busy_awaits q theirs p r true h = sym (lt-ltb _ _ (omega (arith, h.one_awaited)))
-busy_awaits q theirs p r false h = sym (le-ltb _ _ (omega (arith, h.one_awaited)))
 
 abbrev rest_of : List Job → List Job
 rest_of [] = []

@@ -69,21 +69,6 @@ stops_tell opening Stands number ReportFault.Truncated bytes opens goes place st
 stops_tell opening Stands number ReportFault.Io bytes opens goes place stops = tt
 stops_tell opening Stands number ReportFault.OutOfMemory bytes opens goes place stops = tt
 
-pub stops_cut : (a : Option (List ℕ)) (text : List ℕ) (number : ℕ) → IfSome a (λ bytes. bytes ≡ text) → length text ≤ longest_line text → IsInLine text → IfSome a (StopsAt ReportFault.Truncated number)
-stops_cut None text number is short in_line = tt
-stops_cut (Some xs) text number is short in_line =
-    let P : List ℕ → Type 0 = λ l. StopsAt ReportFault.Truncated number l in
-    subst P (sym is) (in_line, short)
-
-pub stops_long : (a b : Option (List ℕ)) (text : List ℕ) (number : ℕ) → Consumes a b text → length text ≡ longest_line text + 1 → IsInLine text → IfSome a (StopsAt (ReportFault.TooLong number) number)
-stops_long None b text number came long in_line = tt
-stops_long (Some xs) None text number came long in_line = absurd came
-stops_long (Some xs) (Some ys) text number came long in_line = (refl, (text, ys, came, in_line, long))
-
-pub nothing_told : (a : Option (List ℕ)) → IfSome a (λ _. Unit {0})
-nothing_told None = tt
-nothing_told (Some xs) = tt
-
 -- the first line did not come
 pub first_stops : (left : Option (List ℕ)) (bytes : List ℕ) (number : ℕ) (fault : ReportFault) → bytes ≡ [] → number ≡ 0 → IfSome (prepend_known bytes left) (StopsAt fault (number + 1)) → IfSome left (λ told. Tells told fault)
 first_stops left bytes number fault none first stops =
@@ -162,13 +147,3 @@ pub ends_there : (a b : Option (List ℕ)) (text : List ℕ) → ReadsOn a b [] 
 ends_there a b text (read, came, is) ends =
     let P : List ℕ → Type 0 = λ t. IfSome a (λ bytes. bytes ≡ t) in
     subst P (sym is) (ends_as a b read came ends)
-
--- a device that halts, or want of memory, says nothing of the bytes
-pub halts_stop : (a : Option (List ℕ)) (fault : ReportFault) (number : ℕ) → (fault ≡ ReportFault.Io) ⊎ (fault ≡ ReportFault.OutOfMemory) → IfSome a (StopsAt fault number)
-halts_stop None fault number why = tt
-halts_stop (Some xs) fault number (inl io) = let P : ReportFault → Type 0 = λ f. StopsAt f number xs in subst P (sym io) tt
-halts_stop (Some xs) fault number (inr memory) = let P : ReportFault → Type 0 = λ f. StopsAt f number xs in subst P (sym memory) tt
-
-pub memory_tells : (a : Option (List ℕ)) (before : List ℕ) (fault : ReportFault) → fault ≡ ReportFault.OutOfMemory → IfSome a (λ bytes. Tells (before ++ bytes) fault)
-memory_tells None before fault memory = tt
-memory_tells (Some xs) before fault memory = let P : ReportFault → Type 0 = λ f. Tells (before ++ xs) f in subst P (sym memory) tt

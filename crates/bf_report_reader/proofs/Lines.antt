@@ -29,7 +29,7 @@ use Rattle.bf_report_reader.specs.Beginning.{count, runs_of, is_text, is_next_in
 use Rattle.bf_report_reader.specs.declared.reading.Step.{Step}
 use Rattle.bf_report_reader.specs.Reads.{IsWord}
 use Rattle.bf_report_reader.specs.Steps.{Follows, MayEnd, MayStand, Steps, EntrySteps, EndsBy}
-use Rattle.bf_report_reader.proofs.Splits.{cut_once, none_stands}
+use Rattle.bf_report_reader.proofs.Splits.{cut_once}
 use Rattle.bf_report_reader.proofs.Words.{id_lacks, id_short, decimal_plain, moment_plain, moment_length, state_plain, never_plain, index_plain, run_state_plain, value_lacks, pulled_lacks, decimal_short, state_short, never_short, run_state_short, index_short, value_short, pulled_short, at_least}
 use Rattle.bf_report_reader.proofs.Spelled.{same_entry, same_run_state, some_same, run_fields, apart, same_told, same_pull, same_part}
 use Rattle.bf_report_reader.proofs.Growth.{if_some, is_text_of, next_parts, further_parts}
@@ -253,17 +253,6 @@ part_step b c line part false counted small ruled good spelled none =
     go : (part : GivenPart) → IsPart part → with_part b part ≡ None → MayStand b (part_text part) → ⊥
     go (GivenPart.Item v) good none = no_item_line b (text_of v) ruled (λ w other too spelled' added. none_added _ _ other none (ap (λ x. with_part b (GivenPart.Item x)) (same_told 64 65_536 v w good too spelled')) added)
     go (GivenPart.Pull p) good none = no_pull_line b (pull_words p) ruled (λ q other too spelled' added. none_added _ _ other none (ap (λ x. with_part b (GivenPart.Pull x)) (same_pull p q good too spelled')) added)
-
--- a line without a space
-pub no_field : (b : Beginning) (text : List ℕ) → IsWord text → MayStand b text → ⊥
-no_field b text word (inl (c, inl one)) = none_stands 32 text one.id _ word one.spelled
-no_field b text word (inl (c, inr (inl one))) = none_stands 32 text (codes "@run") _ word one.spelled
-no_field b text word (inl (c, inr (inr one))) = go one.part one.spelled
-  where
-    go : (part : GivenPart) → text ≡ part_text part → ⊥
-    go (GivenPart.Item v) spelled = none_stands 32 text (codes "@item") (text_of v) word spelled
-    go (GivenPart.Pull p) spelled = none_stands 32 text (codes "@pull") (pull_words p) word spelled
-no_field b text word (inr ends) = none_stands 32 text (codes "@end") _ word ends.0
 
 pub no_end : (b : Beginning) (text : List ℕ) → IsRuled b → (MayEnd b (codes "@end" ++ 32 ∷ text) → ⊥) → MayStand b (codes "@end" ++ 32 ∷ text) → ⊥
 no_end b text ruled none (inl (c, inl one)) = not_end one.id _ _ (entry_id b c one.id one.entry ruled one.added) (sym one.spelled)

@@ -139,12 +139,3 @@ run_room b c run none small e =
     let below : run_count b < 4_096 = lt_true (run_count b) 4_096 (begin_parts b run.interval next).1.0 in
     let P : Beginning → Type 0 = λ x. IsSmall x × (room x < room b) in
     subst P is (small, omega (arith, below, length-append b.runs (last_run b.run)))
-
--- ---- how much there is
-
-few_open : (run : Option OpenRun) → open_room run ≤ 60_020_497
-few_open None = omega arith
-few_open (Some o) = omega (arith, open_most o.task)
-
-pub most_room : (b : Beginning) → room b ≤ 286_780_020_497
-most_room b = omega (arith, few_open b.run)

@@ -161,12 +161,6 @@ at_least line = elim (cases_Bool (bytes_eq (take 6 line) (codes "@pull "))) as (
   | inr not_is ↦ rw not_is (omega arith)
 ]
 
-pub at_most : (line : List ℕ) → longest_line line ≤ 68_000_000
-at_most line = elim (cases_Bool (bytes_eq (take 6 line) (codes "@pull "))) as (λ _. longest_line line ≤ 68_000_000) [
-  | inl is ↦ rw is (omega arith)
-  | inr not_is ↦ rw not_is (omega arith)
-]
-
 -- lines that begin alike may be as long
 pub same_limit : (one two : List ℕ) → take 6 one ≡ take 6 two → longest_line one ≡ longest_line two
 same_limit one two same = ap (λ l. if bytes_eq l (codes "@pull ") then 68_000_000 else 66_000) same

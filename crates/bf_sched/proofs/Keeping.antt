@@ -1,12 +1,11 @@
 -- What a scheduler keeps when an event comes.
-use Rattle.std.proofs.Common.{◌≡◌, ℕ, ◌+◌, ◌<◌, ◌≤◌, ℤ, Bool, true, false, None, refl, sym, ◌∙◌, arith, inl, inr}
+use Rattle.std.proofs.Common.{◌≡◌, ℕ, ◌+◌, ◌<◌, ◌≤◌, ℤ, Bool, true, false, None, sym, ◌∙◌, arith, inl, inr}
 use Rattle.bf_value.specs.declared.name.JobName.{JobName}
 use Rattle.bf_xcom.specs.declared.values.Outcome.{Outcome}
 use Rattle.bf_core.specs.declared.event.Event.{Event}
-use Rattle.bf_core.specs.declared.event.Illegal.{Illegal}
 use Rattle.bf_core.specs.Clocks.{IsMove}
 use Rattle.bf_core.specs.Events.{after, HasEnded}
-use Rattle.bf_core.specs.Cores.{Backfill, GoesOn, IsRefusal, IsReplay, MayCome, moved}
+use Rattle.bf_core.specs.Cores.{Backfill, GoesOn, IsReplay, MayCome, moved}
 use Rattle.bf_core.specs.Running.{running_now}
 use Rattle.bf_core.proofs.Kept.{replay-shaped}
 use Rattle.bf_core.proofs.RunningTries.{running-after, more_running, fewer_running, ends-run}
@@ -52,13 +51,6 @@ tick-keeps b new workers running m true replayed is has =
     let n : _ = tick-running b replayed m has.0 in
     kept b new workers running running (Event.Tick m) is has.1 (omega (arith, n, is.counted)) is.within
 tick-keeps b new workers running m false replayed is has = rw has.1 is
-
--- a tick that is refused for another cause than memory may not come
-pub refused-tick : (b new : Backfill) (m : ℤ) (fault : Illegal) → (fault ≡ Illegal.OutOfMemory → ⊥) → IsRefusal b (Event.Tick m) fault → new ≡ b → HasComeTo b m false new
-refused-tick b new m Illegal.Stranger other refused same = absurd (refused tt)
-refused-tick b new m Illegal.NotEnabled other refused same = (λ may. refused.1 may, same)
-refused-tick b new m Illegal.NoRoom other refused same = absurd (refused.2 tt)
-refused-tick b new m Illegal.OutOfMemory other refused same = absurd (other refl)
 
 pub begin-keeps : (b new : Backfill) (workers running : ℕ) (n : JobName) → IsReplay b → IsScheduler b workers running → MayCome b (Event.Begin n) → running < workers → new ≡ moved b (Event.Begin n) →
     IsScheduler new workers (running + 1)

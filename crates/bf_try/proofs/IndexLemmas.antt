@@ -80,8 +80,3 @@ module _ (ids : List (List ℕ)) (entries : List TableEntry) (n : ℕ) (e : Tabl
   pattern_noted p key old new has step before =
       step ∙ ap (λ b. cond b (Some n) old) (pattern_turned p key) ∙ at_number n (is_pattern key (Some p)) (first_of_key ids (drop (n + 1) entries) key) old before
       ∙ ap (λ o. option_map (λ k. n + k) (if is_pattern key o then Some 0 else option_map suc (first_of_key ids (drop (n + 1) entries) key))) (sym has) ∙ sym (opened key)
-
-  pub pattern_passed : (key : Pattern) (old : Option ℕ) → pattern_in ids e ≡ None → old ≡ from key (n + 1) → old ≡ from key n
-  pattern_passed key old has before =
-      before ∙ later n (first_of_key ids (drop (n + 1) entries) key)
-      ∙ ap (λ o. option_map (λ k. n + k) (if is_pattern key o then Some 0 else option_map suc (first_of_key ids (drop (n + 1) entries) key))) (sym has) ∙ sym (opened key)

@@ -1,5 +1,5 @@
 -- Reading the entries of a table.
-use Rattle.std.proofs.Common.{◌≡◌, ℕ, zero, suc, ◌≢◌, ◌<◌, ◌≤◌, ◌+◌, Bool, true, false, ◌&&◌, if◌then◌else◌, IsUtf8, List, [], ◌∷◌, ◌++◌, length, get_or, drop, drop-cons, add-one, slice_get, slice_index_or, Option, Some, None, Result, Ok, Err, String, Global, string_bytes, refl, sym, ap, ◌∙◌, append_assoc}
+use Rattle.std.proofs.Common.{◌≡◌, ℕ, zero, suc, ◌≢◌, ◌<◌, ◌≤◌, ◌+◌, Bool, true, false, ◌&&◌, if◌then◌else◌, IsUtf8, List, [], ◌∷◌, ◌++◌, length, get_or, drop, drop-cons, add-one, slice_get, slice_index_or, Option, Some, None, Result, Ok, Err, String, Global, string_bytes, refl, sym, ap, ◌∙◌}
 use Rattle.std.specs.List.{list_all}
 use Rattle.std.specs.Map.{keys_of}
 use Rattle.std.specs.Str.{is_utf8}
@@ -14,8 +14,7 @@ use Rattle.bf_check.specs.declared.plan.Dag.{Dag}
 use Rattle.bf_check.specs.Plans.{no_task, task_of}
 use Rattle.bf_try.specs.declared.table.TableEntry.{TableEntry}
 use Rattle.bf_try.specs.declared.table.TableFault.{TableFault}
-use Rattle.bf_try.specs.declared.table.TableFault.TheVariants.{BadTable, OutOfMemory}
-use Rattle.bf_try.specs.Tables.{is_key, has_known_keys, entry_of, entries_of, entries_from, with_first, longest_table, json_of_file, Gives}
+use Rattle.bf_try.specs.Tables.{is_key, has_known_keys, entry_of, entries_of, entries_from, longest_table, json_of_file}
 
 pub known_by_keys : (es : List (String Global × Value)) → list_all (λ name. is_key (string_bytes name)) (keys_of es) ≡ has_known_keys (members_view es)
 known_by_keys [] = refl
@@ -27,14 +26,6 @@ known_by_keys (e ∷ es) = ap (λ b. is_key (string_bytes e.0) && b) (known_by_k
 abbrev pub after : List TableEntry → Result (List TableEntry) TableFault → Result (List TableEntry) TableFault
 after es (Ok rest) = Ok (es ++ rest)
 after es (Err fault) = Err fault
-
-after-with_first : (es : List TableEntry) (e : TableEntry) (read : Result (List TableEntry) TableFault) → after es (with_first e read) ≡ after (es ++ e ∷ []) read
-after-with_first es e (Ok rest) = ap Ok (sym (append_assoc es (e ∷ []) rest))
-after-with_first es e (Err fault) = refl
-
-pub after_nothing : (read : Result (List TableEntry) TableFault) → after [] read ≡ read
-after_nothing (Ok es) = refl
-after_nothing (Err fault) = refl
 
 -- what is left of a list, from its next item on
 pub rest_from : {A : Type 0} → (xs : List A) (i : ℕ) (x : A) → i < length xs → x ≡ get_or xs i x → drop i xs ≡ x ∷ drop (i + 1) xs
@@ -51,14 +42,6 @@ at es n vs o = after es (entries_from n (o ∷ entries_of (items_view (drop (n +
 next : (es : List TableEntry) (vs : List Value) (n : ℕ) (v : Value) → n < length vs → v ≡ get_or vs n v → after es (read_from n vs) ≡ at es n vs (entry_of (view v))
 next es vs n v h is = ap (λ us. after es (entries_from n (entries_of (items_view us)))) (rest_from vs n v h is)
 
-pub entry_read : (es : List TableEntry) (vs : List Value) (n : ℕ) (v : Value) (e : TableEntry) → n < length vs → v ≡ get_or vs n v → entry_of (view v) ≡ Some e
-    → after (es ++ e ∷ []) (read_from (n + 1) vs) ≡ after es (read_from n vs)
-entry_read es vs n v e h is good = sym (next es vs n v h is ∙ ap (at es n vs) good ∙ after-with_first es e _)
-
-pub entry_refused : (es : List TableEntry) (vs : List Value) (n : ℕ) (v : Value) → n < length vs → v ≡ get_or vs n v → entry_of (view v) ≡ None
-    → after es (read_from n vs) ≡ Err (BadTable (Some n))
-entry_refused es vs n v h is bad = next es vs n v h is ∙ ap (at es n vs) bad
-
 -- ---- the file
 
 pub json_there : (bytes : List ℕ) (d : Data) → length bytes ≤ longest_table → IsUtf8 bytes → read bytes ≡ Some d → json_of_file bytes ≡ Some d
@@ -73,11 +56,6 @@ none_where false text o none = refl
 pub json_not_there : (bytes : List ℕ) → (IsUtf8 bytes → read bytes ≡ None) → json_of_file bytes ≡ None
 unfolding json_of_file
 json_not_there bytes none = none_where _ (is_utf8 bytes) _ (λ e. none (IsUtf8-from_is_utf8 bytes e))
-
--- a fault that is not want of memory is the definition's
-pub bad_is : (fault : TableFault) (given : Result (List TableEntry) TableFault) → Gives {A = List TableEntry} (λ es. es) (Err fault) given → fault ≢ OutOfMemory → given ≡ Err fault
-bad_is (BadTable number) given is some = is
-bad_is OutOfMemory given is some = absurd (some refl)
 
 -- ---- a task that is not there
 
