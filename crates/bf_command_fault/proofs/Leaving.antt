@@ -6,7 +6,7 @@ use Rattle.bf_device.specs.declared.sending.Cause.TheVariants as cause
 use Rattle.bf_device.specs.declared.sending.WriteFault.{WriteFault}
 use Rattle.bf_command_fault.specs.Refusal.{Leaves, number_of, of_cause, of_write}
 use Rattle.bf_command_fault.specs.declared.fault.CommandFault.{CommandFault}
-use Rattle.bf_command_fault.specs.declared.fault.CommandFault.TheVariants.{Read, Check, Table, Range, Report, Clear, BadMoment, OutOfMemory, CannotRead, CannotWrite, Stopped}
+use Rattle.bf_command_fault.specs.declared.fault.CommandFault.TheVariants.{CannotWrite}
 
 -- the first bytes of a text went out, or none
 sent_none : (before : Option (List ℕ)) → sent before [] ≡ before
@@ -28,17 +28,8 @@ module _ (Halted : Type 0) (IsDue : List ℕ → Type 0) (before after : Option 
 -- a text that is due for one reason is due for another
 module _ (Halted : Type 0) (P Q : List ℕ → Type 0) (is : (text : List ℕ) → P text → Q text) (before after : Option (List ℕ)) where
   pub leaves_due : (fault : CommandFault) → Leaves Halted P before after fault → Leaves Halted Q before after fault
-  leaves_due (Read fault) left = left
-  leaves_due (Check fault) left = left
-  leaves_due (Table fault) left = left
-  leaves_due (Range fault) left = left
-  leaves_due (Report fault) left = left
-  leaves_due (Clear fault) left = left
-  leaves_due BadMoment left = left
-  leaves_due OutOfMemory left = left
-  leaves_due (CannotRead path) left = left
   leaves_due (CannotWrite n) left = (left.0, left.1, is left.1 left.2, left.3, left.4)
-  leaves_due (Stopped stop) left = left
+  leaves_due _ left = left
 
   pub leaves_due_in : {A : Type 0} (r : Result A CommandFault) → IfErr r (Leaves Halted P before after) → IfErr r (Leaves Halted Q before after)
   leaves_due_in (Ok x) left = tt
@@ -47,14 +38,5 @@ module _ (Halted : Type 0) (P Q : List ℕ → Type 0) (is : (text : List ℕ) �
 -- a refusal leaves nothing
 module _ (Halted : Type 0) (IsDue : List ℕ → Type 0) (before after : Option (List ℕ)) where
   pub refusal_leaves : (fault : CommandFault) → Leaves Halted IsDue before after fault → IsSome (number_of fault) → after ≡ before
-  refusal_leaves (Read fault) left some = left
-  refusal_leaves (Check fault) left some = left
-  refusal_leaves (Table fault) left some = left
-  refusal_leaves (Range fault) left some = left
-  refusal_leaves (Report fault) left some = left
-  refusal_leaves (Clear fault) left some = left
-  refusal_leaves BadMoment left some = left
-  refusal_leaves OutOfMemory left some = left
-  refusal_leaves (CannotRead path) left some = left
   refusal_leaves (CannotWrite n) left some = absurd (true≢false (sym some))
-  refusal_leaves (Stopped stop) left some = left
+  refusal_leaves _ left some = left
