@@ -5,10 +5,8 @@
 # differs.
 set -euo pipefail
 
-source "$(dirname "$(readlink -f "${BASH_SOURCE[0]}")")/../bench/program.sh"
+source "$(dirname "$(readlink -f "${BASH_SOURCE[0]}")")/shared/count.sh"
 source "$root/tests/shared/help.sh"
-rows=0
-differing=0
 
 # The words on standard input, one a line, are the ones that are told.
 same() {
@@ -16,10 +14,7 @@ same() {
     rows=$((rows + 1))
     sort > "$work/held"
     printf '%s\n' $told | sort > "$work/told"
-    if ! diff "$work/told" "$work/held"; then
-        differing=$((differing + 1))
-        echo "differs, told (<) and held (>): $name"
-    fi
+    diff "$work/told" "$work/held" || differs "told (<) and held (>), $name"
 }
 
 # The long options of a command, or of the whole line.
@@ -135,5 +130,4 @@ else
     echo 'not run: what fish offers, since there is no fish'
 fi
 
-echo "$((rows - differing)) passed, $differing failed"
-[[ $differing -eq 0 ]]
+sum

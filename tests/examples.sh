@@ -6,18 +6,15 @@
 # line is the sum, and the status is 1 where something differs. Other pages may be named, and then these alone are looked at.
 set -euo pipefail
 
-source "$(dirname "$(readlink -f "${BASH_SOURCE[0]}")")/../bench/program.sh"
+source "$(dirname "$(readlink -f "${BASH_SOURCE[0]}")")/shared/count.sh"
 pages=("$@")
 [[ $# -gt 0 ]] || pages=("$root/README.md" "$root/examples/README.md" "$root/docs/FROM_AIRFLOW.md")
-rows=0
-differing=0
 
 # What a page says of a file that has what is printed; its path is seen from the page.
 same_in='The same stands in \[[^]]*\]\(([^)]+)\)'
 
-differs() {
-    differing=$((differing + 1))
-    echo "$page: differs, $1: $command"
+other() {
+    differs "$page, $1, $command"
 }
 
 # The graph file that the page shows is the one of the command line, and so is a table, which is a list.
@@ -26,7 +23,7 @@ compare_shown() {
     read -ra words <<< "$command"
     rows=$((rows + 1))
     [[ $(head -n 1 "$work/shown") != '['* ]] || place=3
-    diff "$work/shown" "${words[place]}" || differs "the file ${words[place]}"
+    diff "$work/shown" "${words[place]}" || other "the file ${words[place]}"
     rm "$work/shown"
 }
 
@@ -37,15 +34,15 @@ run_met() {
     rows=$((rows + 1))
     bash -c "$command" > "$work/out" 2> "$work/err" < /dev/null || status=$?
     if [[ $status -gt 1 || $status -ne ${told:-$status} ]]; then
-        differs "with status $status"
+        other "with status $status"
         cat "$work/err"
     elif [[ -s $work/err ]]; then
-        differs 'with words on standard error'
+        other 'with words on standard error'
         cat "$work/err"
     elif [[ -e $work/wanted ]] && ! diff "$work/wanted" "$work/out"; then
-        differs 'in what it prints'
+        other 'in what it prints'
     elif [[ -n $file ]] && ! diff "$file" "$work/out"; then
-        differs "from $file"
+        other "from $file"
     fi
     [[ -z $file ]] || realpath "$file" >> "$work/compared"
     command=''
@@ -93,12 +90,12 @@ look_at_folders() {
     for folder in examples/*/; do
         rows=$((rows + 1))
         command=${folder%/}
-        grep -qx "## $(basename "$folder")" "$page" || differs 'no heading'
+        grep -qx "## $(basename "$folder")" "$page" || other 'no heading'
     done
     while IFS= read -r report; do
         rows=$((rows + 1))
         command=$report
-        grep -qxF "$root/$report" "$work/compared" || differs 'no command line prints it'
+        grep -qxF "$root/$report" "$work/compared" || other 'no command line prints it'
     done < <(grep -l '^@backfill ' examples/*/*)
 }
 
@@ -125,9 +122,8 @@ for page in "${pages[@]}"; do
     run_met
     if [[ $rows -eq $met ]]; then
         rows=$((rows + 1))
-        differs 'it has no command line'
+        other 'it has no command line'
     fi
 done
 [[ $# -gt 0 ]] || look_at_folders
-echo "$((rows - differing)) passed, $differing failed"
-[[ $differing -eq 0 ]]
+sum

@@ -6,7 +6,6 @@
 set -euo pipefail
 
 source "$(dirname "$(readlink -f "${BASH_SOURCE[0]}")")/shared/compare.sh"
-day=(--from 2024-01-01 --to 2024-01-01)
 # Descriptors are limited below, so none that was handed on stays open, but that by which the shell reads this script; and a signal
 # that would write a core writes none.
 for descriptor in /proc/$$/fd/*; do
@@ -30,30 +29,12 @@ until_holds() {
     return 1
 }
 
-# The report of one day that ends in this state, with the instances on standard input.
-one_day() {
-    echo '@backfill 2 d'
-    echo "@run 2024-01-01T00:00:00Z 2024-01-02T00:00:00Z $1"
-    cat
-    echo '@end 1'
-}
-
-# The graph that was written, run for one day by 1, 2 and 8 workers, ends in this state with the instances on standard input.
-runs() {
-    local status=0 workers
-    [[ $1 == success ]] || status=1
-    one_day "$1" > "$work/report"
-    for workers in 1 2 8; do
-        answers "$status" run "$graph" "${day[@]}" --workers "$workers" < "$work/report"
-    done
-}
-
 # The program of the one task, a, is this command, and this comes of it.
 comes_to() {
     local state=success
     [[ $2 != failed* ]] || state=failed
     tasks "{\"id\":\"a\",\"command\":$1}"
-    runs "$state" <<< "a -1 $2"
+    ends_in "$state" <<< "a -1 $2"
 }
 
 # Programs whose output is as long as it may be, a byte longer, and a thousand times as long; the last one isn't killed by that.
@@ -119,7 +100,7 @@ done
 tasks "$(for task in a b c d e f g h; do
     echo "{\"id\":\"$task\",\"command\":[\"sh\",\"-c\",\"sleep 0.1; ls /proc/self/fd | tr -d '\\\\n'; sleep 0.1\"]},"
 done | sed '$ s/,$//')"
-runs success < <(printf '%s -1 success 1 123\n' a b c d e f g h | sed 's/123$/"0123"/')
+ends_in success < <(printf '%s -1 success 1 123\n' a b c d e f g h | sed 's/123$/"0123"/')
 # Signals are as by default, and none is held back.
 comes_to '["sh","-c","kill -PIPE $$; echo 7"]' 'failed 1 -'
 comes_to '["sh","-c","kill -INT $$; echo 7"]' 'failed 1 -'
@@ -151,7 +132,7 @@ comes_to "[\"echo\",\"$word\"]" "success 1 \"$word\""
 tasks '{"id":"m","command":["sh","-c","head -c 65534 /dev/zero | tr \"\\\\0\" x"]},
   {"id":"n","upstream":["m"],"command":["sh","-c","echo ${#0}",{"pull":"m"}]}'
 long=$(head -c 65534 /dev/zero | tr '\0' x)
-runs success <<LINES
+ends_in success <<LINES
 m -1 success 1 "$long"
 n -1 success 1 65534
 @pull m "$long"
@@ -159,7 +140,7 @@ LINES
 tasks '{"id":"src","command":["echo","[1,2,3]"]},
   {"id":"m","upstream":["src"],"expand":"src","command":["sh","-c","head -c 65534 /dev/zero | tr \"\\\\0\" x"]},
   {"id":"n","upstream":["m"],"command":["true",{"pull":"m"}]}'
-runs failed <<LINES
+ends_in failed <<LINES
 src -1 success 1 [1,2,3]
 m 0 success 1 "$long"
 @item 1
@@ -177,7 +158,7 @@ mkdir "$work/gone"
 tasks '{"id":"a","command":["echo","7"]}'
 cd "$work/gone"
 rmdir "$work/gone"
-runs success <<< 'a -1 success 1 7'
+ends_in success <<< 'a -1 success 1 7'
 tells 3 'fault: cannot read graph.json' run graph.json "${day[@]}"
 cd "$work/here"
 
@@ -404,21 +385,13 @@ is_same 'a runner that ignores SIGCHLD' '3 fault: runner gave up: a -1 1' "$stat
 # What many such programs leave behind: while the last one runs, the runner has no dead child, and as many descriptors and threads as
 # where it started no other before.
 
-cat > "$work/look.sh" <<'LOOK'
-# The runner may still be closing its ends of what this program was started with.
-sleep 0.3
-descriptors=$(ls "/proc/$PPID/fd" | wc -l)
-threads=$(ls "/proc/$PPID/task" | wc -l)
-dead=$(cat /proc/[0-9]*/stat 2> /dev/null | grep -c ") Z $PPID ")
-echo "$descriptors $threads $dead"
-LOOK
 bad=('["/no/such/program"]' '["echo","\u0000"]' '["cat","/dev/zero"]' '["sh","-c","kill -9 $$"]' '["sh","-c","exec >&-; exit 3"]'
     '["sh","-c","cat /dev/zero & exit 0"]' "[\"$work/no_interpreter\"]" '["sh","-c","sleep 0.1 & echo 7"]')
 left_by() {
     local count=$1 task
     tasks "$(for ((task = 0; task < count; task++)); do printf '{"id":"t%d","command":%s},' "$task" "${bad[task % 8]}"; done
         )$(printf '{"id":"last","upstream":[%s],"rule":"all_done","command":["sh","%s"]}' \
-            "$(for ((task = 0; task < count; task++)); do printf '"t%d",' "$task"; done | sed 's/,$//')" "$work/look.sh")"
+            "$(for ((task = 0; task < count; task++)); do printf '"t%d",' "$task"; done | sed 's/,$//')" "$root/tests/shared/look.sh")"
     timeout 120 "$program" run "$graph" "${day[@]}" --workers 8 | sed -n 's/^last -1 success 1 //p'
 }
 few=$(left_by 0)

@@ -5,51 +5,28 @@
 # srun, ssh and kubectl. The last line is the sum, and the status is 1 where a row differs.
 set -euo pipefail
 
-source "$(dirname "$(readlink -f "${BASH_SOURCE[0]}")")/../bench/program.sh"
-graph=$work/graph.json
-rows=0
-differing=0
-
-# Writes a graph of these tasks.
-tasks() {
-    echo "{\"dag_id\":\"d\",\"schedule\":\"@daily\",\"tasks\":[$1]}" > "$graph"
-}
+source "$(dirname "$(readlink -f "${BASH_SOURCE[0]}")")/shared/compare.sh"
 
 # Requires that the program ends with this status, prints what stands in the file `wanted`, and tells of no fault. A launcher has
 # the same standard error, and may write there. A run that takes more than a minute hangs.
-ends() {
+launches() {
     local wanted=$1 status=0
     shift
     timeout 60 "$program" "$@" > "$work/out" 2> "$work/err" || status=$?
     rows=$((rows + 1))
     if [[ $status -ne $wanted ]] || ! cmp -s "$work/out" "$work/wanted" || grep -qE '^(fault:|refused |error:)' "$work/err"; then
-        differing=$((differing + 1))
-        echo "differs, with status $status for $wanted: $*"
+        differs "status $status for $wanted, of $*"
         cat "$work/err"
         diff "$work/wanted" "$work/out" || true
     fi
 }
-
-# The instances on standard input are those of a run of one day that ends in this state.
-wants_day() {
-    {
-        echo '@backfill 2 d'
-        echo "@run 2024-01-01T00:00:00Z 2024-01-02T00:00:00Z $1"
-        cat
-        echo '@end 1'
-    } > "$work/wanted"
-}
-day=(--from 2024-01-01 --to 2024-01-01)
 
 # Requires that the lines of a file, in any order, are those on standard input.
 has_lines() {
     LC_ALL=C sort > "$work/lines_wanted"
     LC_ALL=C sort "$1" > "$work/lines"
     rows=$((rows + 1))
-    if ! diff "$work/lines_wanted" "$work/lines"; then
-        differing=$((differing + 1))
-        echo "other lines stand in ${1##*/}"
-    fi
+    diff "$work/lines_wanted" "$work/lines" || differs "other lines stand in ${1##*/}"
 }
 
 # A launcher that notes the words which it is handed, and runs them.
@@ -68,7 +45,7 @@ days=(--from 2024-01-01 --to 2024-01-02)
 cp "$work/orders" "$work/wanted"
 for workers in 1 2 8; do
     : > "$work/words"
-    ends 0 run "$orders" "${days[@]}" --workers "$workers" --launcher "$work/record"
+    launches 0 run "$orders" "${days[@]}" --workers "$workers" --launcher "$work/record"
     has_lines "$work/words" <<'WORDS'
 <echo><["north","south"]>
 <echo><["north","south"]>
@@ -82,17 +59,17 @@ WORDS
 done
 
 # A name without `/` is looked for in PATH, as the first word of a command is.
-PATH=$work:$PATH ends 0 run "$orders" "${days[@]}" --launcher record
+PATH=$work:$PATH launches 0 run "$orders" "${days[@]}" --launcher record
 
 # A command without words starts nothing, and no launcher either. A try that failed is handed over again.
 
 tasks '{"id":"a"},{"id":"b","upstream":["a"],"retries":2,"command":["false"]}'
-wants_day failed <<'LINES'
+one_day failed > "$work/wanted" <<'LINES'
 a -1 success 1 -
 b -1 failed 3 -
 LINES
 : > "$work/words"
-ends 1 run "$graph" "${day[@]}" --launcher "$work/record"
+launches 1 run "$graph" "${day[@]}" --launcher "$work/record"
 has_lines "$work/words" <<'WORDS'
 <false>
 <false>
@@ -102,7 +79,7 @@ WORDS
 # Where the launcher can't be started, no try is started, and each has failed.
 
 tasks '{"id":"a"},{"id":"b","upstream":["a"],"retries":1,"command":["true"]},{"id":"c","upstream":["b"],"command":["true"]}'
-wants_day failed <<'LINES'
+one_day failed > "$work/wanted" <<'LINES'
 a -1 success 1 -
 b -1 failed 2 -
 c -1 upstream_failed 0 -
@@ -110,7 +87,7 @@ LINES
 echo true > "$work/plain_file"
 for launcher in /no/such/launcher no_such_launcher "$work/plain_file" "$work" ''; do
     for workers in 1 8; do
-        ends 1 run "$graph" "${day[@]}" --workers "$workers" --launcher "$launcher"
+        launches 1 run "$graph" "${day[@]}" --workers "$workers" --launcher "$launcher"
     done
 done
 
@@ -123,7 +100,7 @@ tasks '
   {"id":"fails","command":["sh","-c","exit 3"]},
   {"id":"killed","command":["sh","-c","kill -9 $$"]},
   {"id":"absent","command":["/no/such/program"]}'
-wants_day failed <<'LINES'
+one_day failed > "$work/wanted" <<'LINES'
 words -1 success 1 "two  words|it's|'|\"double\"||$HOME|`id`|back\\slash|*|a&b;#|-n|é|"
 lines -1 success 1 3
 skips -1 skipped 1 -
@@ -132,8 +109,8 @@ killed -1 failed 1 -
 absent -1 failed 1 -
 LINES
 cp "$work/wanted" "$work/crossed"
-ends 1 run "$graph" "${day[@]}"
-ends 1 run "$graph" "${day[@]}" --launcher "$work/record"
+launches 1 run "$graph" "${day[@]}"
+launches 1 run "$graph" "${day[@]}" --launcher "$work/record"
 cp "$graph" "$work/crossing.json"
 
 # What a launcher itself answers is the answer of the try, and what it prints last is its line.
@@ -144,8 +121,8 @@ echo "$# words"
 LAUNCHER
 chmod +x "$work/refuse"
 tasks '{"id":"a","command":["false","two words"]}'
-wants_day success <<< 'a -1 success 1 "2 words"'
-ends 0 run "$graph" "${day[@]}" --launcher "$work/refuse"
+one_day success > "$work/wanted" <<< 'a -1 success 1 "2 words"'
+launches 0 run "$graph" "${day[@]}" --launcher "$work/refuse"
 
 # The launchers of examples/cluster, over programs that stand for those of a cluster.
 
@@ -176,12 +153,12 @@ printf 'one\ntwo\n' > "$work/hosts"
 
 for launcher in on-slurm on-ssh on-kubernetes; do
     cp "$work/crossed" "$work/wanted"
-    ends 1 run "$work/crossing.json" "${day[@]}" --launcher "$root/examples/cluster/$launcher"
+    launches 1 run "$work/crossing.json" "${day[@]}" --launcher "$root/examples/cluster/$launcher"
     cp "$work/orders" "$work/wanted"
     for workers in 1 2 8; do
         : > "$work/bin/hosts_asked"
         : > "$work/bin/pods"
-        ends 0 run "$orders" "${days[@]}" --workers "$workers" --launcher "$root/examples/cluster/$launcher"
+        launches 0 run "$orders" "${days[@]}" --workers "$workers" --launcher "$root/examples/cluster/$launcher"
         # Each host has its turn, and no two pods have one name.
         case $launcher in
         on-ssh) has_lines "$work/bin/hosts_asked" < <(printf '%s\n' one one one one two two two two) ;;
@@ -194,7 +171,7 @@ done
 
 for workers in 1 8; do
     : > "$work/words"
-    ends 0 clear "$orders" "$work/orders" "${days[@]}" --task transform --run 2024-01-02 --workers "$workers" --launcher "$work/record"
+    launches 0 clear "$orders" "$work/orders" "${days[@]}" --task transform --run 2024-01-02 --workers "$workers" --launcher "$work/record"
     has_lines "$work/words" <<'WORDS'
 <sh><-c><echo "$0" | tr a-z A-Z><north>
 <sh><-c><echo "$0" | tr a-z A-Z><south>
@@ -207,8 +184,7 @@ done
 echo '[{"out":"by hand"}]' > "$work/table"
 sed 's/"\[.* of 2024-01-02"/"by hand"/' "$work/orders" > "$work/wanted"
 : > "$work/words"
-ends 0 clear "$orders" "$work/orders" "${days[@]}" --task load --run 2024-01-02 --table "$work/table" --launcher "$work/record"
+launches 0 clear "$orders" "$work/orders" "${days[@]}" --task load --run 2024-01-02 --table "$work/table" --launcher "$work/record"
 has_lines "$work/words" < /dev/null
 
-echo "$((rows - differing)) passed, $differing failed"
-[[ $differing -eq 0 ]]
+sum

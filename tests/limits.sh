@@ -40,15 +40,9 @@ blanks "$graph"
 answers 0 check "$graph" <<< 'ok 3 tasks, 2 edges'
 echo '[]' > "$table"
 blanks "$table"
-one_day() {
-    echo '@backfill 2 d'
-    echo "@run 2024-01-01T00:00:00Z 2024-01-02T00:00:00Z ${1:-success}"
-    cat
-    echo '@end 1'
-}
 cp "$graph" "$work/longer"
 tasks '{"id":"a"}'
-answers 0 dry "$graph" "$table" "${day[@]}" < <(one_day <<< 'a -1 success 1 -')
+answers 0 dry "$graph" "$table" "${day[@]}" < <(one_day success <<< 'a -1 success 1 -')
 echo >> "$table"
 tells 2 'refused 19 bad table: file' dry "$graph" "$table" "${day[@]}"
 tells 2 'refused 19 bad table: file' dry "$graph" /dev/zero "${day[@]}"
@@ -181,7 +175,7 @@ tells 2 'refused 27 too many runs' dry "$graph" "$table" --from 2024-01-01 --to 
 # Workers: a number beyond is a wrong line, with nothing on standard output.
 
 tasks '{"id":"a"}'
-answers 0 dry "$graph" "$table" "${day[@]}" --workers 64 < <(one_day <<< 'a -1 success 1 -')
+answers 0 dry "$graph" "$table" "${day[@]}" --workers 64 < <(one_day success <<< 'a -1 success 1 -')
 for workers in 0 65 -1 1.5 x ''; do
     status=0
     "$program" dry "$graph" "$table" "${day[@]}" --workers="$workers" > "$work/out" 2> "$work/err" || status=$?
@@ -193,7 +187,7 @@ done
 tasks "{\"id\":\"$id\"},{\"id\":\"b\",\"upstream\":[\"$id\"],\"command\":[{\"pull\":\"$id\"}]}"
 value=$(times 65534 x)
 echo "[{\"task\":\"$id\",\"out\":\"$value\"},{\"out\":\"7\"}]" > "$table"
-one_day > "$work/report" <<LINES
+one_day success > "$work/report" <<LINES
 $id -1 success 1 "$value"
 b -1 success 1 7
 @pull $id "$value"

@@ -4,11 +4,9 @@
 # what --version prints with the file VERSION. The last line is the sum, and the status is 1 where something differs.
 set -euo pipefail
 
-source "$(dirname "$(readlink -f "${BASH_SOURCE[0]}")")/../bench/program.sh"
+source "$(dirname "$(readlink -f "${BASH_SOURCE[0]}")")/shared/count.sh"
 source "$root/tests/shared/help.sh"
 page=${1:-$root/docs/backfill.1}
-rows=0
-differing=0
 
 # The pieces of a command's line: `GRAPH`, `--from T`, or in brackets what may be left out.
 piece='\[(--[a-z-]+( [A-Z]+)?|[A-Z]+)\]|--[a-z-]+( [A-Z]+)?|[A-Z]+'
@@ -60,10 +58,7 @@ same() {
     rows=$((rows + 1))
     sort "$work/help" > "$work/help_sorted"
     sort "$work/page" > "$work/page_sorted"
-    if [[ ! -s $work/help ]] || ! diff "$work/help_sorted" "$work/page_sorted"; then
-        differing=$((differing + 1))
-        echo "differs between help (<) and page (>): $1"
-    fi
+    [[ -s $work/help ]] && diff "$work/help_sorted" "$work/page_sorted" || differs "help (<) and page (>), $1"
 }
 
 commands_in_help > "$work/help"
@@ -100,8 +95,7 @@ same 'commands with an example'
 while read -ra words; do
     rows=$((rows + 1))
     if ! "$program" "${words[@]:1}" > "$work/out" 2> "$work/err" < /dev/null || [[ ! -s $work/out ]]; then
-        differing=$((differing + 1))
-        echo "the example fails: ${words[*]}"
+        differs "the example fails, ${words[*]}"
         cat "$work/err"
     fi
 done < "$work/examples"
@@ -114,26 +108,17 @@ cd "$work/folder"
 for command in $(commands_in_help | grep -vx help); do
     help "$command" | sed -n '/^Example/,$s/^  //p' > "$work/examples"
     rows=$((rows + 1))
-    if ! grep -q "^backfill $command " "$work/examples"; then
-        differing=$((differing + 1))
-        echo "the help of $command has no example of it"
-    fi
+    grep -q "^backfill $command " "$work/examples" || differs "the help of $command has no example of it"
     while IFS= read -r line; do
         rows=$((rows + 1))
         if ! PATH=$work/bin:$PATH sh -c "$line" > "$work/out" 2> "$work/err" < /dev/null; then
-            differing=$((differing + 1))
-            echo "the example of the help fails: $line"
+            differs "the example of the help fails, $line"
             cat "$work/err"
         fi
     done < "$work/examples"
 done
 
 # The number of the version is the one that the release has.
-rows=$((rows + 1))
-if [[ $("$program" --version) != "backfill $(< "$root/VERSION")" ]]; then
-    differing=$((differing + 1))
-    echo "differs between --version and VERSION: $("$program" --version), $(< "$root/VERSION")"
-fi
+is_same 'the version' "backfill $(< "$root/VERSION")" "$("$program" --version)"
 
-echo "$((rows - differing)) passed, $differing failed"
-[[ $differing -eq 0 ]]
+sum

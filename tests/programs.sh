@@ -4,52 +4,14 @@
 # the status is 1 where a row differs.
 set -euo pipefail
 
-source "$(dirname "$(readlink -f "${BASH_SOURCE[0]}")")/../bench/program.sh"
-graph=$work/graph.json
-rows=0
-differing=0
-
-# Writes a graph of these tasks.
-tasks() {
-    echo "{\"dag_id\":\"d\",\"schedule\":\"@daily\",\"tasks\":[$1]}" > "$graph"
-}
-
-# Requires that `run` over one day, by so many workers, ends in this state, with the instances on standard input. A run that
-# takes more than a minute hangs.
-runs_by() {
-    local workers=$1 state=$2 wanted=0 status=0
-    [[ $state == success ]] || wanted=1
-    {
-        echo '@backfill 2 d'
-        echo "@run 2024-01-01T00:00:00Z 2024-01-02T00:00:00Z $state"
-        cat
-        echo '@end 1'
-    } > "$work/wanted"
-    timeout 60 "$program" run "$graph" --from 2024-01-01 --to 2024-01-01 --workers "$workers" > "$work/out" 2> "$work/err" || status=$?
-    rows=$((rows + 1))
-    if [[ $status -ne $wanted ]] || ! cmp -s "$work/out" "$work/wanted" || [[ -s $work/err ]]; then
-        differing=$((differing + 1))
-        echo "differs, with status $status for $wanted, by $workers workers"
-        cat "$graph" "$work/err"
-        diff "$work/wanted" "$work/out" || true
-    fi
-}
-
-# The same by 1, 2 and 8 workers.
-runs() {
-    local workers
-    cat > "$work/instances"
-    for workers in 1 2 8; do
-        runs_by "$workers" "$1" < "$work/instances"
-    done
-}
+source "$(dirname "$(readlink -f "${BASH_SOURCE[0]}")")/shared/compare.sh"
 
 # A list is printed, a task is made for each item, and another is given what they printed.
 
 tasks '{"id":"src","command":["echo","[3,1,2]"]},
   {"id":"m","upstream":["src"],"expand":"src","command":["sh","-c","if [ \"$0\" != 1 ]; then echo \"$0\"; fi",{"item":true}]},
   {"id":"sum","upstream":["m"],"command":["echo",{"pull":"m"}]}'
-runs success <<'LINES'
+ends_in success <<'LINES'
 src -1 success 1 [3,1,2]
 m 0 success 1 3
 @item 3
@@ -64,14 +26,14 @@ LINES
 # What a try's words see of it.
 
 tasks '{"id":"a","command":["echo",{"context":"dag_id"},{"context":"task_id"},{"context":"data_interval_start"},{"context":"data_interval_end"},{"context":"map_index"},{"context":"try_number"}]}'
-runs success <<< 'a -1 success 1 "d a 2024-01-01T00:00:00Z 2024-01-02T00:00:00Z -1 1"'
+ends_in success <<< 'a -1 success 1 "d a 2024-01-01T00:00:00Z 2024-01-02T00:00:00Z -1 1"'
 
 # A program has the environment and the folder of the runner.
 
 tasks '{"id":"a","command":["sh","-c","echo \"$GREETING from ${PWD##*/}\""]}'
 mkdir "$work/here"
 cd "$work/here"
-GREETING=hello runs success <<< 'a -1 success 1 "hello from here"'
+GREETING=hello ends_in success <<< 'a -1 success 1 "hello from here"'
 cd - > /dev/null
 
 # How programs end. A try that failed is made again where its task has retries.
@@ -80,7 +42,7 @@ while IFS= read -r row; do
     tasks "{\"id\":\"a\",\"retries\":1,\"command\":${row%% => *}}"
     state=failed
     [[ ${row##* => } != *failed* ]] && state=success
-    runs "$state" <<< "a -1 ${row##* => }"
+    ends_in "$state" <<< "a -1 ${row##* => }"
 done <<'ROWS'
 [] => success 1 -
 ["true"] => success 1 -
@@ -105,7 +67,7 @@ mkfifo "$work/one" "$work/other"
 tasks "{\"id\":\"a\",\"command\":[\"sh\",\"-c\",\"echo > $work/one; cat $work/other\"]},
   {\"id\":\"b\",\"command\":[\"sh\",\"-c\",\"cat $work/one; echo > $work/other\"]}"
 for workers in 2 8; do
-    runs_by "$workers" success <<'LINES'
+    ends_by "$workers" success <<'LINES'
 a -1 success 1 -
 b -1 success 1 -
 LINES
@@ -120,8 +82,7 @@ for workers in 1 8; do
     rows=$((rows + 1))
     if [[ $(tail -n 1 "$work/err") != 'runs 2/2 (0 open)  tasks 6/6  running 0  waiting 0  failed 2' || $lines -gt 7 ]] ||
         [[ $(grep -c '^@run .* failed$' "$work/out") -ne 2 ]]; then
-        differing=$((differing + 1))
-        echo "progress differs, by $workers workers:"
+        differs "progress, by $workers workers"
         cat "$work/err" "$work/out"
     fi
 done
@@ -129,28 +90,18 @@ done
 # What many programs leave behind: while the last one runs, the runner has no dead child, and as many descriptors and threads as
 # where it started no other before.
 
-cat > "$work/look.sh" <<'LOOK'
-# The runner may still be closing its ends of what this program was started with.
-sleep 0.3
-descriptors=$(ls "/proc/$PPID/fd" | wc -l)
-threads=$(ls "/proc/$PPID/task" | wc -l)
-dead=$(cat /proc/[0-9]*/stat 2> /dev/null | grep -c ") Z $PPID ")
-echo "$descriptors $threads $dead"
-LOOK
 left_by() {
     local count=$1 task
     tasks "$(for ((task = 0; task < count; task++)); do printf '{"id":"t%d","command":["true"]},' "$task"; done
         )$(printf '{"id":"last","upstream":[%s],"command":["sh","%s"]}' \
-            "$(for ((task = 0; task < count; task++)); do printf '"t%d",' "$task"; done | sed 's/,$//')" "$work/look.sh")"
-    timeout 120 "$program" run "$graph" --from 2024-01-01 --to 2024-01-01 --workers 8 | sed -n 's/^last -1 success 1 //p'
+            "$(for ((task = 0; task < count; task++)); do printf '"t%d",' "$task"; done | sed 's/,$//')" "$root/tests/shared/look.sh")"
+    timeout 120 "$program" run "$graph" "${day[@]}" --workers 8 | sed -n 's/^last -1 success 1 //p'
 }
 rows=$((rows + 1))
 few=$(left_by 0)
 many=$(left_by 500)
-if [[ ! $few =~ ^\"[0-9]+\ 9\ 0\"$ ]] || [[ $few != "$many" ]]; then
-    differing=$((differing + 1))
-    echo "descriptors, threads and dead children: $few after no program, $many after 500"
-fi
+[[ $few =~ ^\"[0-9]+\ 9\ 0\"$ && $few == "$many" ]] ||
+    differs "descriptors, threads and dead children: $few after no program, $many after 500"
 
 # A pool of one slot: each program finds that no other of its pool runs.
 
@@ -158,12 +109,11 @@ tasks "$(for task in a b c d; do
     echo "{\"id\":\"$task\",\"command\":[\"sh\",\"-c\",\"mkdir $work/only && sleep 0.05 && rmdir $work/only\"],\"pool\":\"p\"},"
 done | sed '$ s/,$//')"
 sed -i 's/"schedule"/"pools":{"p":1},"schedule"/' "$graph"
-runs success <<'LINES'
+ends_in success <<'LINES'
 a -1 success 1 -
 b -1 success 1 -
 c -1 success 1 -
 d -1 success 1 -
 LINES
 
-echo "$((rows - differing)) passed, $differing failed"
-[[ $differing -eq 0 ]]
+sum

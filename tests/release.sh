@@ -5,9 +5,7 @@
 # differs.
 set -euo pipefail
 
-source "$(dirname "$(readlink -f "${BASH_SOURCE[0]}")")/../bench/program.sh"
-rows=0
-differing=0
+source "$(dirname "$(readlink -f "${BASH_SOURCE[0]}")")/shared/count.sh"
 
 # Counts a row, and tells where it fails.
 holds() {
@@ -15,15 +13,14 @@ holds() {
     shift
     rows=$((rows + 1))
     if ! "$@" > "$work/said" 2>&1; then
-        differing=$((differing + 1))
-        echo "differs: $name"
+        differs "$name"
         cat "$work/said"
     fi
 }
 
 if ! git -C "$root" rev-parse --verify --quiet HEAD > /dev/null 2>&1; then
     echo 'not run: ./release, since this is no git repository'
-    echo '0 passed, 0 failed'
+    sum
     exit
 fi
 git clone --quiet "$root" "$work/clone"
@@ -63,5 +60,4 @@ cd "$work/clone"
 echo >> README.md
 holds 'what is not committed is refused' bash -c 'status=0; ./release || status=$?; [[ $status -eq 3 ]]'
 
-echo "$((rows - differing)) passed, $differing failed"
-[[ $differing -eq 0 ]]
+sum

@@ -21,14 +21,6 @@ is_refused() {
     tells 2 "refused $1" run "$graph" --from 2024-01-01 --to 2024-01-01
 }
 
-# The report of one run that starts at 2024-01-01 and ends then, in this state, with the instances on standard input.
-one_run() {
-    echo '@backfill 2 d'
-    echo "@run 2024-01-01T00:00:00Z $1 $2"
-    cat
-    echo '@end 1'
-}
-
 # The graph that was written, run at 2024-01-01 by this table and for that day by 1, 2 and 8 workers, ends in this state with the instances on
 # standard input.
 runs() {
@@ -38,7 +30,7 @@ runs() {
     cat > "$work/instances"
     answers "$status" single "$graph" "$table" --at 2024-01-01 < <(one_run 2024-01-01T00:00:00Z "$state" < "$work/instances")
     for workers in 1 2 8; do
-        answers "$status" dry "$graph" "$table" --from 2024-01-01 --to 2024-01-01 --workers "$workers" < <(one_run 2024-01-02T00:00:00Z "$state" < "$work/instances")
+        answers "$status" dry "$graph" "$table" "${day[@]}" --workers "$workers" < <(one_day "$state" < "$work/instances")
     done
 }
 

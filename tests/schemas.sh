@@ -7,17 +7,10 @@
 # line is the sum, and the status is 1 where something differs.
 set -euo pipefail
 
-source "$(dirname "$(readlink -f "${BASH_SOURCE[0]}")")/../bench/program.sh"
-rows=0
-differing=0
+source "$(dirname "$(readlink -f "${BASH_SOURCE[0]}")")/shared/count.sh"
 file=$work/file.json
 mkdir "$work/graph" "$work/table"
 echo '{"dag_id":"d","schedule":"@daily","tasks":[]}' > "$work/no_tasks.json"
-
-differs() {
-    differing=$((differing + 1))
-    echo "differs: $*"
-}
 
 # What the program says of the file: `ok`, or the number of its refusal.
 said_of() {
@@ -437,8 +430,7 @@ done
 
 if ! python3 -c 'from jsonschema import Draft202012Validator' 2> /dev/null; then
     echo "not run: the schemas over these $rows files, since there is no python3 with the module jsonschema"
-    echo "$((rows - differing)) passed, $differing failed"
-    [[ $differing -eq 0 ]]
+    sum
     exit
 fi
 
@@ -547,5 +539,4 @@ PY
 rows=$((rows + 1))
 [[ -z $(python3 "$work/keys.py" "$program" "$root/docs/FORMATS.md" | tee "$work/told") ]] || differs "the keys: $(< "$work/told")"
 
-echo "$((rows - differing)) passed, $differing failed"
-[[ $differing -eq 0 ]]
+sum

@@ -1,17 +1,7 @@
-# Compares what the built program prints. Sourced by scripts of this folder: sets what bench/program.sh sets, and counts `rows`
-# and `differing`.
-source "$(dirname "$(readlink -f "${BASH_SOURCE[0]}")")/../../bench/program.sh"
+# Compares what the built program prints. Sourced by scripts of this folder: sets what shared/count.sh sets.
+source "$(dirname "$(readlink -f "${BASH_SOURCE[0]}")")/count.sh"
 graph=$work/graph.json
 table=$work/table.json
-rows=0
-differing=0
-
-# Counts a row, and where it differs what is told on standard input.
-differs() {
-    differing=$((differing + 1))
-    echo "differs: $*"
-    cat
-}
 
 # Requires the exit status of a run. What it is to print stands in the files `wanted_out` and `wanted_err`. A run that takes more
 # than two minutes hangs.
@@ -21,11 +11,10 @@ ends() {
     timeout 120 "$program" "$@" > "$work/out" 2> "$work/err" || status=$?
     rows=$((rows + 1))
     if [[ $status -ne $wanted ]] || ! cmp -s "$work/out" "$work/wanted_out" || ! cmp -s "$work/err" "$work/wanted_err"; then
-        differs "status $status for $wanted, of $*" < <(
-            head -c 2000 "$graph"
-            diff "$work/wanted_out" "$work/out" | head -n 40
-            diff "$work/wanted_err" "$work/err" | head -n 40
-        )
+        differs "status $status for $wanted, of $*"
+        head -c 2000 "$graph" || true
+        diff "$work/wanted_out" "$work/out" | head -n 40 || true
+        diff "$work/wanted_err" "$work/err" | head -n 40 || true
     fi
 }
 
@@ -45,15 +34,38 @@ tells() {
     ends "$status" "$@"
 }
 
-# Requires that two texts are the same.
-is_same() {
-    rows=$((rows + 1))
-    [[ $2 == "$3" ]] || differs "$1" < <(diff <(echo "$2") <(echo "$3"))
-}
-
 # Writes a graph of these tasks.
 tasks() {
     echo "{\"dag_id\":\"d\",\"schedule\":\"@daily\",\"tasks\":[$1]}" > "$graph"
+}
+
+# One run over 2024-01-01.
+day=(--from 2024-01-01 --to 2024-01-01)
+
+# The report of one run that starts at 2024-01-01 and ends then, in this state, with the instances on standard input.
+one_run() {
+    echo '@backfill 2 d'
+    echo "@run 2024-01-01T00:00:00Z $1 $2"
+    cat
+    echo '@end 1'
+}
+one_day() {
+    one_run 2024-01-02T00:00:00Z "$1"
+}
+
+# The graph that was written, run for one day by so many workers, or by 1, 2 and 8, ends in this state with the instances on standard
+# input.
+ends_by() {
+    local workers=$1 state=$2 status=0
+    [[ $state == success ]] || status=1
+    answers "$status" run "$graph" "${day[@]}" --workers "$workers" < <(one_day "$state")
+}
+ends_in() {
+    local workers
+    cat > "$work/instances"
+    for workers in 1 2 8; do
+        ends_by "$workers" "$1" < "$work/instances"
+    done
 }
 
 # Compares what goes by chance, and ends the script: `by_chance NAME MANY [FIRST [COUNT]]` has shared/NAME.py write the files of COUNT
@@ -71,10 +83,4 @@ by_chance() {
         rm -r "$folder"
     done < "$work/cases"
     sum
-}
-
-# The sum, with which a script ends.
-sum() {
-    echo "$((rows - differing)) passed, $differing failed"
-    [[ $differing -eq 0 ]]
 }
