@@ -5,7 +5,6 @@
 set -euo pipefail
 
 source "$(dirname "$(readlink -f "${BASH_SOURCE[0]}")")/shared/compare.sh"
-day=(--from 2024-01-01 --to 2024-01-01)
 
 # So many times a text.
 times() {
