@@ -1,5 +1,5 @@
 -- One more minute among those whose fires were found.
-use Rattle.std.proofs.Common.{◌≡◌, ◌⊎◌, ℕ, ◌+◌, ◌<◌, ◌≤◌, true, ℤ, List, [], ap, ◌∙◌, sym, subst, arith, inl, inr}
+use Rattle.std.proofs.Common.{◌≡◌, ◌⊎◌, ℕ, ◌+◌, ◌<◌, ◌≤◌, true, ℤ, List, ap, ◌∙◌, sym, subst, arith, inl, inr}
 use Rattle.std.proofs.lemmas.Int.{ints}
 use Rattle.std.specs.List.{Contains}
 use Rattle.std.proofs.lemmas.Bool.{cases_eq, cases_lt}
@@ -11,12 +11,6 @@ use Rattle.bf_cron.specs.declared.spec.CronSpec.{CronSpec}
 use Rattle.bf_cron.proofs.Dates.{same_minute}
 use Rattle.bf_interval.specs.Fires.{IsFire}
 use Rattle.bf_interval.specs.Search.{Adds, FiresBetween, Collects, seconds}
-
-pub collects_empty : (spec : CronSpec) (zone : TimeZone) (low from : ℕ) → Collects spec zone low low from []
-collects_empty spec zone low from = record {
-  each = λ k h. absurd (omega (arith, h.1));
-  all = λ k after f. absurd (omega (arith, f.1, f.2));
-}
 
 wider : {spec : CronSpec} {zone : TimeZone} {low m more : ℕ} {n : ℤ} → m ≤ more → FiresBetween spec zone low m n → FiresBetween spec zone low more n
 wider up (fire, above, below) = (fire, above, omega arith)

@@ -1,12 +1,11 @@
 -- Words of commands.
-use Rattle.std.proofs.Common.{◌≡◌, ◌≢◌, ℕ, ◌<◌, ◌+◌, List, [], ◌∷◌, ◌++◌, length, get_or, drop, Some, None, option_map, String, Global, string_bytes, refl, sym, ap, ◌∙◌, arith, append_assoc}
-use Rattle.std.specs.List.{cons_option, filter_map, slice_get}
+use Rattle.std.proofs.Common.{◌≡◌, ◌≢◌, ℕ, List, [], ◌∷◌, ◌++◌, length, drop, Some, None, option_map, String, Global, string_bytes, refl, ap, arith}
+use Rattle.std.specs.List.{filter_map, slice_get}
 use Rattle.serde_json.specs.View.{view, members_view}
 use Rattle.serde_json.specs.declared.value.Value.{Value}
 use Rattle.bf_read.specs.declared.draft.WordDraft.{WordDraft}
 use Rattle.bf_read.specs.Drafts.{pulled_by}
 use Rattle.bf_read.specs.Commands.{only_of}
-use Rattle.bf_read.proofs.FieldLemmas.{rest_from}
 
 -- ---- the only member
 
@@ -25,13 +24,3 @@ not_one (d ∷ f ∷ es) other = refl
 -- the ids so far, and those of the words from n on
 abbrev pub with_rest : List (List ℕ) → List WordDraft → ℕ → List (List ℕ)
 with_rest ids words n = ids ++ filter_map pulled_by (drop n words)
-
-pub one_more_id : (ids : List (List ℕ)) (words : List WordDraft) (n : ℕ) (word : WordDraft) (id : List ℕ) → n < length words → word ≡ get_or words n word → pulled_by word ≡ Some id → with_rest (ids ++ id ∷ []) words (n + 1) ≡ with_rest ids words n
-one_more_id ids words n word id h is pulls =
-    let rest = filter_map pulled_by (drop (n + 1) words) in
-    append_assoc ids (id ∷ []) rest ∙ sym (ap (λ ws. ids ++ filter_map pulled_by ws) (rest_from words n word h is) ∙ ap (λ o. ids ++ cons_option o rest) pulls)
-
-pub no_more_id : (ids : List (List ℕ)) (words : List WordDraft) (n : ℕ) (word : WordDraft) → n < length words → word ≡ get_or words n word → pulled_by word ≡ None → with_rest ids words (n + 1) ≡ with_rest ids words n
-no_more_id ids words n word h is pulls =
-    let rest = filter_map pulled_by (drop (n + 1) words) in
-    sym (ap (λ ws. ids ++ filter_map pulled_by ws) (rest_from words n word h is) ∙ ap (λ o. ids ++ cons_option o rest) pulls)

@@ -26,10 +26,6 @@ fails_on (BadName p) read f whole is h = is ∙ ap (λ r. r >>= f) h
 fails_on (DuplicateTask id) read f whole is h = is ∙ ap (λ r. r >>= f) h
 fails_on (LimitPassed p) read f whole is h = is ∙ ap (λ r. r >>= f) h
 
-pub then-then : {A B C : Type 0} (read : Result A ReadFault) (f : A → Result B ReadFault) (g : B → Result C ReadFault) → ((read >>= f) >>= g) ≡ (read >>= λ x. f x >>= g)
-then-then (Ok x) f g = refl
-then-then (Err e) f g = refl
-
 -- what is left of a list, from its next item on
 pub rest_from : {A : Type 0} → (xs : List A) (i : ℕ) (x : A) → i < length xs → x ≡ get_or xs i x → drop i xs ≡ x ∷ drop (i + 1) xs
 rest_from xs i x h e = rw add-one (drop-cons xs i x h ∙ ap (λ y. y ∷ drop (suc i) xs) (sym e))

@@ -1,5 +1,5 @@
 -- How many bytes stand in the compact text of a value.
-use Rattle.std.proofs.Common.{◌≡◌, ℕ, zero, suc, ◌+◌, ◌-◌, ◌*◌, ◌^◌, ◌/◌, ◌%◌, ◌<◌, ◌≤◌, Bool, true, false, Option, None, Some, cond, List, [], ◌∷◌, ◌++◌, length, length-append, get_or, nat_lt, ◌==◌, refl, sym, ap, ◌∙◌, arith}
+use Rattle.std.proofs.Common.{◌≡◌, ℕ, zero, suc, ◌+◌, ◌-◌, ◌*◌, ◌^◌, ◌/◌, ◌%◌, ◌<◌, ◌≤◌, Bool, true, false, Option, None, cond, List, [], ◌∷◌, ◌++◌, length, length-append, get_or, nat_lt, ◌==◌, refl, sym, ap, ◌∙◌, arith}
 use Rattle.std.specs.List.{sum_by}
 use Rattle.std.specs.Fmt.{decimal}
 use Rattle.std.specs.Option.{SomeIff}
@@ -18,10 +18,6 @@ use Rattle.bf_value.specs.declared.xval.Xval.{Xval}
 
 pub room_short : (o : Option ℕ) (n room : ℕ) → o ≡ None → room < n → SomeIff o (n ≤ room) (room - n)
 room_short o n room e h = rw e (λ k. omega arith)
-
-pub room_was_short : (o : Option ℕ) (n room : ℕ) → o ≡ None → SomeIff o (n ≤ room) (room - n) → room < n
-room_was_short None n room e h = omega arith
-room_was_short (Some left) n room e h = cc
 
 pub room_left : (left n room : ℕ) → left + n ≡ room → (n ≤ room) × (left ≡ room - n)
 room_left left n room e = (omega arith, omega arith)
