@@ -8,8 +8,8 @@ use crate::spec::CronSpec;
 use jiff::civil::{Date, DateTime};
 use jiff_core::civil;
 
-/// The number of the dates 1969-12-30 to 2208-12-31.
-const DATES: u64 = 87_295;
+/// The number of the dates 1969-12-30 to 2208-12-31, in which schedules are looked for.
+pub const DATES: u64 = 87_295;
 
 /// The number of the minutes of a date.
 const MINUTES_OF_DATE: u16 = 1_440;

@@ -7,13 +7,10 @@ ghost use Rattle.bf_interval.specs.Search.{seconds, Collects, IsSettled, AreFirs
 
 use crate::listing::MOST_RUNS;
 use crate::rising::{place_above, put};
-use bf_cron::{CronSpec, date_of, minute_of};
+use bf_cron::{CronSpec, DATES, date_of, minute_of};
 use jiff::civil::DateTime;
 use jiff::tz::TimeZone;
 use std::alloc::{AllocError, Global};
-
-/// The number of the dates 1969-12-30 to 2208-12-31.
-const DATES: u64 = 87_295;
 
 /// A day, in seconds.
 const DAY: u64 = 86_400;
