@@ -1,8 +1,7 @@
 -- The shape of a graph, which is what contracts see of it.
-use Rattle.std.specs.Prelude.{◌≡◌, ◌≢◌, ℕ, ◌<◌, ◌≤◌, Bool, List, length, AllPairs, map, String, string_bytes, Vec}
+use Rattle.std.specs.Prelude.{◌≡◌, ◌≢◌, ℕ, ◌<◌, ◌≤◌, ◌+◌, ◌^◌, Bool, List, length, AllPairs, map, String, string_bytes, Vec}
 use Rattle.std.specs.List.{slice_index_or}
 use Rattle.std.specs.declared.alloc.Global.{Global}
-use Rattle.bf_graph.specs.declared.graph.TheConstants.{MOST_TASKS}
 use Rattle.bf_graph.specs.Edges.{lists, AreInRange, IsRank}
 use Rattle.bf_graph.specs.Reach.{rows_of, HasRows}
 use Rattle.bf_graph.specs.Lookups.{IsRisingListOf, IsLeaf, AreDownstreams}
@@ -23,7 +22,7 @@ AreDistinct ids = AllPairs (λ a b. a ≢ b) ids
 -- the ids of the tasks of a graph
 pub record AreIds (ids : List (List ℕ)) : Type 0 where
   pub distinct : AreDistinct ids
-  pub few : length ids ≤ MOST_TASKS
+  pub few : length ids + 1 < 2 ^ 32
 
 -- the rank of each task
 pub record HasRanks (ups : List (List ℕ)) (ranks : List ℕ) : Type 0 where
@@ -40,4 +39,4 @@ pub record IsKept (ids : List (List ℕ)) (edges downs : List (Vec ℕ Global)) 
   pub one_rank_each : length ranks ≡ length edges
   pub ranked : HasRanks (lists edges) ranks
   pub reached : HasRows (lists edges) (length edges) (rows_of rows)
-  pub few : length edges ≤ MOST_TASKS
+  pub few : length edges + 1 < 2 ^ 32

@@ -1,5 +1,5 @@
 //! Graphs of tasks, and what is looked up in them.
-ghost use Rattle.std.specs.Prelude.{◌≡◌, ◌↔◌, ℕ, ◌<◌, ◌≤◌, length, IsTrue, None, position, slice_get, Some, map, unwrap_or, MatchOption, IfOk, IfErr, OnOk};
+ghost use Rattle.std.specs.Prelude.{◌≡◌, ◌↔◌, ℕ, ◌<◌, ◌+◌, ◌^◌, length, IsTrue, None, position, slice_get, Some, map, unwrap_or, MatchOption, IfOk, IfErr, OnOk};
 ghost use Rattle.std.specs.Str.{bytes_eq};
 ghost use Rattle.std.specs.List.Sorted.{IsPermutation, IsSorted};
 ghost use Rattle.bf_graph.specs.Edges.{lists, upstreams_of, AreInRange, IsUpstream, IsRank, IsAcyclic};
@@ -20,10 +20,7 @@ use std::alloc::Global;
 use std::marker::Model;
 use thiserror::Error;
 
-/// How many tasks a graph may have.
-pub const MOST_TASKS: usize = 2_000;
-
-/// Tasks with their upstreams, and no cycle. A task is known by its number in file order.
+/// Tasks with their upstreams, and no cycle. A task is known by its number in file order, a `u32`.
 #[derive(Drop)]
 pub struct Graph {
     ids: Ids,
@@ -66,7 +63,7 @@ impl Graph {
     pub fn len(&self) -> usize
         ensures tasks { result ≡ length self.now.upstreams }
         ensures ids { result ≡ length self.now.ids }
-        ensures few { result ≤ MOST_TASKS }
+        ensures few { result + 1 < 2 ^ 32 }
     {
         self.edges.len()
     }
@@ -213,7 +210,7 @@ impl Graph {
     ) -> Result<Graph, GraphFault>
         requires distinct { AreDistinct (texts ids.items) }
         requires same { length ids.items ≡ length upstreams.items }
-        requires few { length ids.items ≤ MOST_TASKS }
+        requires few { length ids.items + 1 < 2 ^ 32 }
         requires in_range { AreInRange (lists upstreams.items) }
         ensures ok { IfOk result (λ g. g ≡ record { ids = texts ids.items; upstreams = lists upstreams.items }) }
         ensures acyclic { OnOk result (IsAcyclic (lists upstreams.items)) }
@@ -235,7 +232,7 @@ impl Graph {
     ) -> Result<Graph, OutOfMemory>
         requires distinct { AreDistinct (texts ids.items) }
         requires same { length ids.items ≡ length edges.items }
-        requires few { length ids.items ≤ MOST_TASKS }
+        requires few { length ids.items + 1 < 2 ^ 32 }
         requires in_range { AreInRange (lists edges.items) }
         requires found { AreAllFound edges.items found }
         ensures ok { IfOk result (λ g. g ≡ record { ids = texts ids.items; upstreams = lists edges.items }) }
@@ -258,7 +255,7 @@ impl Graph {
 
 /// Each task with its rank before it, in file order.
 fn ranked(alloc: Global, ranks: &[u32]) -> Result<Vec<(u32, u32)>, OutOfMemory>
-    requires { length ranks.now ≤ MOST_TASKS }
+    requires { length ranks.now < 2 ^ 32 }
     ensures { IfOk result (λ pairs. pairs.items ≡ ranked_tasks ranks.now) }
 {
     Ok(

@@ -1,10 +1,8 @@
 //! Ids of tasks, numbered.
-ghost use Rattle.std.specs.Prelude.{◌≡◌, ◌<◌, ◌≤◌, length, position, slice_get, Some, IfOk};
+ghost use Rattle.std.specs.Prelude.{◌≡◌, ◌<◌, ◌+◌, ◌^◌, length, position, slice_get, Some, IfOk};
 ghost use Rattle.std.specs.Str.{bytes_eq};
 ghost use Rattle.bf_graph.specs.Shape.{texts, AreDistinct};
-ghost use Rattle.bf_graph.specs.declared.graph.TheConstants.{MOST_TASKS};
 
-use crate::graph::MOST_TASKS;
 use bf_value::OutOfMemory;
 use indexmap::IndexSet;
 use std::alloc::Global;
@@ -31,7 +29,7 @@ impl Ids {
     /// Numbers ids in order.
     pub fn numbered(alloc: Global, ids: Vec<String>) -> Result<Ids, OutOfMemory>
         requires distinct { AreDistinct (texts ids.items) }
-        requires few { length ids.items ≤ MOST_TASKS }
+        requires few { length ids.items + 1 < 2 ^ 32 }
         ensures { IfOk result (λ numbered. numbered ≡ texts ids.items) }
     {
         let set = set_of(alloc, ids)?;

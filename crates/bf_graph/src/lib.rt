@@ -12,6 +12,6 @@ mod lookups;
 mod ranking;
 mod reach;
 
-pub use graph::{Graph, GraphFault, MOST_TASKS};
+pub use graph::{Graph, GraphFault};
 pub use ids::Ids;
 pub use reach::reaching;
