@@ -7,19 +7,9 @@ use crate::working::was_worked_out;
 use bf_check::Plan;
 use bf_report::{InstanceReport, Pull, Report, Version};
 use bf_try::{Outcome, Raw, answer_for, fits};
-use bf_value::{JobName, OutOfMemory, Xval};
+use bf_value::{JobName, OutOfMemory, Xval, is_same_option};
 use bf_xcom::{Given, TaskResult};
 use std::alloc::Global;
-
-fn is_same_value(one: &Option<Xval>, other: &Option<Xval>) -> bool
-    ensures { IsTrue result ↔ (one.now ≡ other.now) }
-{
-    match (one, other) {
-        (Some(one), Some(other)) => one.is_same(other),
-        (None, None) => true,
-        _ => false,
-    }
-}
 
 fn are_pulled(pulls: &[Pull], values: &[Option<Xval>]) -> bool
     ensures { IsTrue result ↔ (map (λ p. p.value) pulls.now ≡ values.now) }
@@ -28,7 +18,7 @@ fn are_pulled(pulls: &[Pull], values: &[Option<Xval>]) -> bool
         return false;
     }
     for i in 0..pulls.len() {
-        if !is_same_value(&pulls[i].value, &values[i]) {
+        if !is_same_option(pulls[i].value.as_ref(), values[i].as_ref()) {
             return false;
         }
     }
@@ -39,7 +29,7 @@ fn are_pulled(pulls: &[Pull], values: &[Option<Xval>]) -> bool
 fn tells_given(instance: &InstanceReport, given: &Given) -> bool
     ensures { IsTrue result ↔ (given_in instance.now ≡ given.now) }
 {
-    is_same_value(&instance.item, &given.item)
+    is_same_option(instance.item.as_ref(), given.item.as_ref())
         && are_pulled(instance.pulls.as_slice(), given.pulled.as_slice())
 }
 

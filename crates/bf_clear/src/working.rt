@@ -5,7 +5,7 @@ ghost use Rattle.bf_clear.specs.Entries.{item_in, pull_from, value_in, value_at 
 use crate::looking::task_at;
 use bf_check::Dag;
 use bf_report::{InstanceReport, Report, TaskReport};
-use bf_value::{JobName, OutOfMemory, Sequence, Xval};
+use bf_value::{JobName, OutOfMemory, Sequence, Xval, copy_option};
 use bf_xcom::{Given, TaskResult, TaskValue, pull};
 use std::alloc::Global;
 
@@ -99,10 +99,9 @@ fn item_of(alloc: Global, items: &Option<Xval>, index: i32) -> Result<Option<Xva
     ensures { IfOk result (λ item. item ≡ item_in items.now index) }
 {
     match items {
-        Some(Xval::List(items)) if index >= 0 => match items.as_slice().get(index as usize) {
-            Some(item) => Ok(Some(item.copy(alloc)?)),
-            None => Ok(None),
-        },
+        Some(Xval::List(items)) if index >= 0 => {
+            copy_option(alloc, items.as_slice().get(index as usize))
+        }
         _ => Ok(None),
     }
 }

@@ -10,7 +10,7 @@ ghost use Rattle.bf_core.specs.Words.{pushed_by_one, pushed_by_first, pulled_fro
 use crate::seen::are_finished;
 use crate::state::{Cell, Instance, Phase, State};
 use bf_check::{Dag, Task};
-use bf_value::{OutOfMemory, Values, Xval};
+use bf_value::{OutOfMemory, Values, Xval, copy_option};
 use std::alloc::Global;
 
 impl Instance {
@@ -27,10 +27,7 @@ impl Instance {
     pub(crate) fn copy_of_pushed(&self, alloc: Global) -> Result<Option<Xval>, OutOfMemory>
         ensures { IfOk result (λ value. value ≡ pushed_by_one self.now) }
     {
-        match self.pushed() {
-            Some(value) => Ok(Some(value.copy(alloc)?)),
-            None => Ok(None),
-        }
+        copy_option(alloc, self.pushed())
     }
 }
 

@@ -8,6 +8,7 @@
 mod line;
 mod memory;
 mod name;
+mod optional;
 mod reading;
 mod sequence;
 mod size;
@@ -17,6 +18,7 @@ mod xval;
 pub use line::last_line;
 pub use memory::OutOfMemory;
 pub use name::JobName;
+pub use optional::{copy_option, is_same_option};
 pub use reading::{DEEPEST, LineFault, read_line, read_text, text_of, text_reads_back};
 pub use sequence::Sequence;
 pub use text::Text;

@@ -4,7 +4,7 @@ ghost use Rattle.bf_xcom.specs.Pulls.{all_pushed as all_of, pull as pulled_from,
 
 use crate::values::{TaskResult, TaskValue};
 use bf_check::Task;
-use bf_value::{OutOfMemory, Values, Xval};
+use bf_value::{OutOfMemory, Values, Xval, copy_option};
 use std::alloc::Global;
 
 fn pushed(instance: &TaskResult) -> Option<&Xval>
@@ -18,10 +18,7 @@ fn pushed_alone(alloc: Global, instances: &[TaskResult]) -> Result<Option<Xval>,
 {
     match instances {
         [] => Ok(None),
-        [instance, ..] => match pushed(instance) {
-            Some(value) => Ok(Some(value.copy(alloc)?)),
-            None => Ok(None),
-        },
+        [instance, ..] => copy_option(alloc, pushed(instance)),
     }
 }
 

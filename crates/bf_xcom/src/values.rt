@@ -2,7 +2,7 @@
 ghost use Rattle.std.specs.Prelude.{◌≡◌, ◌↔◌, IfOk, IsTrue, option_copied};
 ghost use Rattle.bf_xcom.specs.Pulls.{pushed_by};
 
-use bf_value::{OutOfMemory, Sequence, Xval};
+use bf_value::{OutOfMemory, Sequence, Xval, copy_option, is_same_option};
 use std::alloc::Global;
 
 /// What the tries of an instance are given: its item, for an instance of an expanded task, and for each pull of
@@ -46,31 +46,12 @@ pub enum RunState {
     Failed,
 }
 
-fn copy_of(alloc: Global, value: &Option<Xval>) -> Result<Option<Xval>, OutOfMemory>
-    ensures { IfOk result (λ v. v ≡ value.now) }
-{
-    match value {
-        Some(value) => Ok(Some(value.copy(alloc)?)),
-        None => Ok(None),
-    }
-}
-
-fn is_same(one: &Option<Xval>, other: &Option<Xval>) -> bool
-    ensures { IsTrue result ↔ (one.now ≡ other.now) }
-{
-    match (one, other) {
-        (Some(one), Some(other)) => one.is_same(other),
-        (None, None) => true,
-        _ => false,
-    }
-}
-
 impl Given {
     /// Whether two are equal.
     pub fn is_same(&self, other: &Given) -> bool
         ensures { IsTrue result ↔ (self.now ≡ other.now) }
     {
-        is_same(&self.item, &other.item)
+        is_same_option(self.item.as_ref(), other.item.as_ref())
             && are_same(self.pulled.as_slice(), other.pulled.as_slice())
     }
 
@@ -78,7 +59,7 @@ impl Given {
     pub fn copy(&self, alloc: Global) -> Result<Given, OutOfMemory>
         ensures { IfOk result (λ given. given ≡ self.now) }
     {
-        let item = copy_of(alloc, &self.item)?;
+        let item = copy_option(alloc, self.item.as_ref())?;
         let pulled = copies_of(alloc, self.pulled.as_slice())?;
         Ok(Given {
             item,
@@ -94,7 +75,7 @@ fn are_same(one: &[Option<Xval>], other: &[Option<Xval>]) -> bool
         return false;
     }
     for i in 0..one.len() {
-        if !is_same(&one[i], &other[i]) {
+        if !is_same_option(one[i].as_ref(), other[i].as_ref()) {
             return false;
         }
     }
@@ -106,7 +87,7 @@ fn copies_of(alloc: Global, values: &[Option<Xval>]) -> Result<Vec<Option<Xval>>
 {
     let mut copies = Vec::with_capacity(alloc, values.len())?;
     for value in values {
-        copies.push(copy_of(alloc, value)?)?;
+        copies.push(copy_option(alloc, value.as_ref())?)?;
     }
     Ok(copies)
 }
@@ -127,7 +108,9 @@ impl Outcome {
         ensures { IsTrue result ↔ (self.now ≡ other.now) }
     {
         match (self, other) {
-            (Outcome::Success(one), Outcome::Success(other)) => is_same(one, other),
+            (Outcome::Success(one), Outcome::Success(other)) => {
+                is_same_option(one.as_ref(), other.as_ref())
+            }
             (Outcome::Failed, Outcome::Failed) | (Outcome::Skipped, Outcome::Skipped) => true,
             _ => false,
         }
@@ -138,7 +121,9 @@ impl Outcome {
         ensures { IfOk result (λ outcome. outcome ≡ self.now) }
     {
         match self {
-            Outcome::Success(pushed) => Ok(Outcome::Success(copy_of(alloc, pushed)?)),
+            Outcome::Success(pushed) => {
+                Ok(Outcome::Success(copy_option(alloc, pushed.as_ref())?))
+            }
             Outcome::Failed => Ok(Outcome::Failed),
             Outcome::Skipped => Ok(Outcome::Skipped),
         }
