@@ -5,7 +5,7 @@ use Rattle.std.specs.List.{find, list_any, position}
 use Rattle.std.specs.Option.{option_cmp}
 use Rattle.std.specs.Ordering.{nat_cmp, int_cmp, int_eq, ordering_then, is_eq}
 use Rattle.std.specs.Str.{bytes_eq}
-use Rattle.std.specs.Cmp.{IsTotalOrder, nat_cmp_total, int_cmp_total, eq_by_cmp_equiv, signed_Decides}
+use Rattle.std.specs.Cmp.{IsTotalOrder, Equal-is, nat_cmp_total, int_cmp_total, eq_by_cmp_equiv, signed_Decides}
 use Rattle.std.specs.Cmp.Lexicographic.{slice_cmp, lists_total}
 use Rattle.std.specs.FinMap.{IsAntisymmetric, nat_cmp-IsAntisymmetric, int_cmp-IsAntisymmetric, slice_cmp-IsAntisymmetric}
 use Rattle.std.proofs.lemmas.List.Folds.{list_any-append}
@@ -134,12 +134,7 @@ module _ (asked : Pattern) (A : Option ℕ → Bool) (B : Option (List ℕ) → 
 
 -- an order says that two are equal where a test does
 test_is : {X : Type 0} {R : X → X → Ordering} → IsTotalOrder R → IsAntisymmetric R → (x y : X) (b : Bool) → (b ≡ true → y ≡ x) → (y ≡ x → b ≡ true) → is_eq (R x y) ≡ b
-test_is {R = R} total same x y b right back = same_answer (is_eq (R x y)) b (λ e. back (sym (same x y (equal (R x y) e)))) (λ e. ap (λ z. is_eq (R x z)) (right e) ∙ (eq_by_cmp_equiv total).refl x)
-  where
-    equal : (o : Ordering) → is_eq o ≡ true → o ≡ Equal
-    equal Less h = cc
-    equal Equal h = refl
-    equal Greater h = cc
+test_is {R = R} total same x y b right back = same_answer (is_eq (R x y)) b (λ e. back (sym (same x y ((Equal-is (R x y)).0 e)))) (λ e. ap (λ z. is_eq (R x z)) (right e) ∙ (eq_by_cmp_equiv total).refl x)
 
 named_number : (named : Option ℤ) (n : ℤ) → (is_eq (option_cmp int_cmp None named) || is_eq (option_cmp int_cmp (Some n) named)) ≡ is_number named n
 named_number None n = refl
