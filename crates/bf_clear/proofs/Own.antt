@@ -12,11 +12,11 @@ use Rattle.std.proofs.lemmas.Option.{get_or_from_slice_get, slice_get-get_or}
 use Rattle.bf_interval.specs.declared.interval.Interval.{Interval}
 use Rattle.bf_check.specs.declared.plan.Task.{Task}
 use Rattle.bf_check.specs.Plans.{no_task}
-use Rattle.bf_core.specs.Terms.{Dag, Given, Ledger, TaskResult, Xval, IsOneOf, IsSettledAncestor, IsSound, task_of}
+use Rattle.bf_core.specs.Terms.{Dag, Given, Ledger, TaskResult, Xval, IsOneOf, IsSettledAncestor, IsSound, result_of, task_of}
 use Rattle.bf_core.specs.declared.deciding.Decision.{Decision}
 use Rattle.bf_core.specs.declared.state.Cell.{Cell}
 use Rattle.bf_core.specs.Recursion.{decided}
-use Rattle.bf_core.specs.Agreement.{final_cell, finished_from, results_of}
+use Rattle.bf_core.specs.Agreement.{final_cell, finished_from}
 use Rattle.bf_core.proofs.Depth.{pick}
 use Rattle.bf_report.specs.declared.report.Version.{Version}
 use Rattle.bf_report.specs.declared.report.InstanceReport.{InstanceReport}
@@ -96,14 +96,14 @@ task-is : (dag : Dag) → IsSound dag → (ledger : Ledger) (k t : ℕ) → is_t
 unfolding cell_by
 task-is dag sound ledger k t = go (decided dag ledger k t) refl
   where
-    go : (d : Decision) → decided dag ledger k t ≡ d → is_task_of Version.Two dag (reported dag t (final_cell d (results_of dag ledger k t))) (task_of dag t) ≡ true
+    go : (d : Decision) → decided dag ledger k t ≡ d → is_task_of Version.Two dag (reported dag t (final_cell d (result_of dag ledger k t))) (task_of dag t) ≡ true
     go Decision.Wait e = refl
     go Decision.Blocked e = refl
     go Decision.Skipped e = refl
     go Decision.UpstreamFailed e = refl
     go (Decision.Instances gs) e =
         by-kind dag (task_of dag t) (is_some (task_of dag t).expand) _
-        (each-instance dag t (results_of dag ledger k t) 0 gs (λ i g r h. has-pulls dag sound t _ g r (decided-pulled dag ledger k t gs e i g h)))
+        (each-instance dag t (result_of dag ledger k t) 0 gs (λ i g r h. has-pulls dag sound t _ g r (decided-pulled dag ledger k t gs e i g h)))
 
 each-task : (dag : Dag) → IsSound dag → (ledger : Ledger) (k from : ℕ) (tasks : List Task) → ((i : ℕ) (task : Task) → slice_get tasks i ≡ Some task → task ≡ task_of dag (from + i)) →
     list_all (λ p. is_task_of Version.Two dag p.0 p.1) (zip (reports_from dag (cell_by dag ledger k) from tasks) tasks) ≡ true

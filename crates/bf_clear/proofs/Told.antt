@@ -10,7 +10,7 @@ use Rattle.bf_core.specs.declared.deciding.Decision.{Decision}
 use Rattle.bf_core.specs.declared.state.Cell.{Cell}
 use Rattle.bf_core.specs.Recursion.{out, decided, Asks}
 use Rattle.bf_core.specs.Events.{place_in}
-use Rattle.bf_core.specs.Agreement.{finished_from, final_cell, results_of, HoldsItsTries}
+use Rattle.bf_core.specs.Agreement.{finished_from, final_cell, HoldsItsTries}
 use Rattle.bf_core.proofs.Attempts.{last_try-from}
 use Rattle.bf_report.specs.declared.report.Version.{Version}
 use Rattle.bf_report.specs.declared.report.InstanceReport.{InstanceReport}
@@ -298,7 +298,7 @@ module _ (dag : Dag) (intervals : List Interval) (ledger : Ledger) (holds : Hold
   told-entry n e h =
       by-version report.version _ _ n.attempt is.version
       ∙ (ap (λ m. entry_by Version.Two None m n.attempt) there
-      ∙ (ap (λ g. entry_of_try (results_of dag ledger n.run n.task i) n.attempt (Some g)) (given-back dag ledger n.run n.task asks.givens asks.runs i e.given asks.is_one (results_of dag ledger n.run n.task i))
+      ∙ (ap (λ g. entry_of_try (result_of dag ledger n.run n.task i) n.attempt (Some g)) (given-back dag ledger n.run n.task asks.givens asks.runs i e.given asks.is_one (result_of dag ledger n.run n.task i))
       ∙ (ap (option_map (λ o. record { given = e.given; outcome = o })) (tried (outcome_at dag ledger n.run n.task i) (task_of dag n.task).retries n.attempt asks.from_first asks.to_last)
       ∙ ap (λ o. Some (record { given = e.given; outcome = outcome_of o })) (ap ledger (sym a.2) ∙ h))))
     where
@@ -314,11 +314,11 @@ module _ (dag : Dag) (intervals : List Interval) (ledger : Ledger) (holds : Hold
       named : map_index (task_of dag n.task) i ≡ n.index
       named = ap (λ (n : JobName). n.index) (sym a.2)
 
-      there : found_at report n.run n.task n.index ≡ Some (instance_report dag n.task e.given (results_of dag ledger n.run n.task i))
+      there : found_at report n.run n.task n.index ≡ Some (instance_report dag n.task e.given (result_of dag ledger n.run n.task i))
       there =
           ap (option_and_then (λ r. instance_at r n.index)) (task-at dag ledger intervals report is n.run n.task a.0 a.1
-          ∙ ap (λ d. Some (reported dag n.task (final_cell d (results_of dag ledger n.run n.task)))) asks.runs)
-          ∙ told-here dag n.task (results_of dag ledger n.run n.task) asks.givens n.index named e.given asks.is_one
+          ∙ ap (λ d. Some (reported dag n.task (final_cell d (result_of dag ledger n.run n.task)))) asks.runs)
+          ∙ told-here dag n.task (result_of dag ledger n.run n.task) asks.givens n.index named e.given asks.is_one
 
   none-told : (n : JobName) → ledger n ≡ None → (d : Entry) → told dag report n ≡ Some d → ⊥
   unfolding told cell_by name_of result_of
@@ -333,8 +333,8 @@ module _ (dag : Dag) (intervals : List Interval) (ledger : Ledger) (holds : Hold
       i : ℕ
       i = place_in dag n
 
-      here : IsHere dag n.task (results_of dag ledger n.run n.task) (decided dag ledger n.run n.task) n.index found.held
-      here = decided-here dag n.task (results_of dag ledger n.run n.task) (decided dag ledger n.run n.task) n.index found.held
+      here : IsHere dag n.task (result_of dag ledger n.run n.task) (decided dag ledger n.run n.task) n.index found.held
+      here = decided-here dag n.task (result_of dag ledger n.run n.task) (decided dag ledger n.run n.task) n.index found.held
           (ap (option_and_then (λ r. instance_at r n.index)) (sym (task-at dag ledger intervals report is n.run n.task within.0 within.1)) ∙ found.is_held)
 
       same : found.held.result ≡ result_of dag ledger n.run n.task i

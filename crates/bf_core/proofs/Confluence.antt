@@ -6,7 +6,7 @@ use Rattle.bf_core.specs.Deciding.{Seen, settled, Decision, and_then_past, after
 use Rattle.bf_core.specs.Recursion.{out, before, decided, value_of, results_from, Asks, IsDefined}
 use Rattle.bf_core.proofs.Shape.{IsShaped, row_in}
 use Rattle.bf_core.specs.Events.{HasEnded, no_run, phase_in, cell_in, entry_in, cell_at, place_in}
-use Rattle.bf_core.specs.Agreement.{results_of, final_cell, finished_from, HoldsItsTries, IsOutcome}
+use Rattle.bf_core.specs.Agreement.{final_cell, finished_from, HoldsItsTries, IsOutcome}
 use Rattle.bf_core.proofs.Attempts.{last_try-same, last_try-from}
 use Rattle.bf_core.proofs.Depth.{decision-cong, out-is, pick, pull-below}
 
@@ -76,7 +76,7 @@ results-same p q from (g ∷ gs) same =
     ap₂ (λ r rs. r ∷ rs) first (results-same p q (suc from) gs (λ i h e. let at : suc from + i ≡ from + suc i = omega arith in rw at (same (suc i) h e)))
 
 value-same : (dag : Dag) (one two : Ledger) (k t : ℕ) (d : Decision) →
-    ((gs : List Given) → d ≡ Decision.Instances gs → (i : ℕ) (g : Given) → slice_get gs i ≡ Some g → results_of dag one k t i ≡ results_of dag two k t i) →
+    ((gs : List Given) → d ≡ Decision.Instances gs → (i : ℕ) (g : Given) → slice_get gs i ≡ Some g → result_of dag one k t i ≡ result_of dag two k t i) →
     value_of dag one k t d ≡ value_of dag two k t d
 value-same dag one two k t Decision.Skipped same = refl
 value-same dag one two k t Decision.UpstreamFailed same = refl
@@ -110,7 +110,7 @@ module _ (dag : Dag) (sound : IsSound dag) (runs : ℕ) (one two : Ledger) (Kept
 
   -- what is made of equal decisions is equal
   made-same : (k t : ℕ) → Kept k t → k < runs → t < length dag.tasks → decided dag one k t ≡ decided dag two k t →
-      (gs : List Given) → decided dag one k t ≡ Decision.Instances gs → (i : ℕ) (g : Given) → slice_get gs i ≡ Some g → results_of dag one k t i ≡ results_of dag two k t i
+      (gs : List Given) → decided dag one k t ≡ Decision.Instances gs → (i : ℕ) (g : Given) → slice_get gs i ≡ Some g → result_of dag one k t i ≡ result_of dag two k t i
   made-same k t kept l m same gs e i g h =
       result-same dag one two k t (alike k t kept) i g (tries-of k t i one def_one l m gs e g h) (tries-of k t i two def_two l m gs (sym same ∙ e) g h)
 
@@ -165,7 +165,7 @@ module _ (dag : Dag) (sound : IsSound dag) (runs : ℕ) (one two : Ledger) (Kept
   entry-alike : (n : JobName) (e : Entry) → Kept n.run n.task → n.run < runs → n.task < length dag.tasks → n ≡ name_of dag n.run n.task (place_in dag n) n.attempt → Asks dag one n.run n.task (place_in dag n) n.attempt e.given → one n ≡ Some e → two n ≡ Some e
   entry-alike n e kept l m name asks h =
       let same : decided dag one n.run n.task ≡ decided dag two n.run n.task = decided-alike n.run n.task kept l m in
-      let result : results_of dag one n.run n.task (place_in dag n) ≡ results_of dag two n.run n.task (place_in dag n) = made-same n.run n.task kept l m same asks.givens asks.runs (place_in dag n) e.given asks.is_one in
+      let result : result_of dag one n.run n.task (place_in dag n) ≡ result_of dag two n.run n.task (place_in dag n) = made-same n.run n.task kept l m same asks.givens asks.runs (place_in dag n) e.given asks.is_one in
       let found : _ = def_two n.run n.task (place_in dag n) n.attempt e.given l m (record { givens = asks.givens; runs = sym same ∙ asks.runs; is_one = asks.is_one; from_first = asks.from_first; to_last = rw (← result) asks.to_last }) in
       let outcome : e.outcome ≡ found.0 = alike n.run n.task kept (place_in dag n) n.attempt e _ (ap one (sym name) ∙ h) found.1 refl in
       ap two name ∙ (found.1 ∙ ap (λ o. Some (record { given = e.given; outcome = o })) (sym outcome))
@@ -214,7 +214,7 @@ pub cells-equal : (dag : Dag) → IsSound dag → (runs : ℕ) (s t : State) →
 cells-equal dag sound runs s t one two alike k u l m =
     one.cells k u l m
     ∙ (final-same (decided dag (entry_in s.ledger) k u) _ _ (made-same dag sound runs _ _ (λ k t. Unit {0}) (all-kept dag) (everywhere dag _ _ alike) one.tries.defined two.tries.defined k u tt l m same)
-    ∙ (ap (λ d. final_cell d (results_of dag (entry_in t.ledger) k u)) same ∙ sym (two.cells k u l m)))
+    ∙ (ap (λ d. final_cell d (result_of dag (entry_in t.ledger) k u)) same ∙ sym (two.cells k u l m)))
   where
     same : decided dag (entry_in s.ledger) k u ≡ decided dag (entry_in t.ledger) k u
     same = decided-alike dag sound runs _ _ (λ k t. Unit {0}) (all-kept dag) (everywhere dag _ _ alike) one.tries.defined two.tries.defined k u tt l m

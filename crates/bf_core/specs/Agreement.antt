@@ -12,6 +12,7 @@ Holds ledger part = (name : JobName) (entry : Entry) → part name ≡ Some entr
 abbrev pub givens_of : List Instance → List Given
 givens_of instances = map (λ instance. instance.given) instances
 
+-- an instance that has finished at this try has this result
 abbrev pub PhaseAgrees : TaskResult → ℕ → Phase → Type 0
 PhaseAgrees result attempt (Phase.Finished outcome) = result ≡ record { outcome = outcome; tries = attempt }
 PhaseAgrees result attempt _ = Unit {0}
@@ -29,6 +30,7 @@ CellAgrees decision result_at Cell.Skipped = decision ≡ Decision.Skipped
 CellAgrees decision result_at Cell.UpstreamFailed = decision ≡ Decision.UpstreamFailed
 CellAgrees decision result_at (Cell.Ran instances) = (decision ≡ Decision.Instances (givens_of instances)) × HaveResults result_at 0 instances
 
+-- each cell is what the recursion over the ledger makes of its task, as far as it has come
 abbrev pub Agrees : Dag → State → Ledger → Type 0
 Agrees dag state ledger = (run task : ℕ) → CellAgrees (decided dag ledger run task) (result_of dag ledger run task) (cell_at state run task)
 
@@ -47,9 +49,6 @@ final_cell Decision.Skipped result_at = Cell.Skipped
 final_cell Decision.UpstreamFailed result_at = Cell.UpstreamFailed
 final_cell (Decision.Instances givens) result_at = Cell.Ran (finished_from result_at 0 givens)
 
-abbrev pub results_of : Dag → Ledger → ℕ → ℕ → ℕ → TaskResult
-results_of dag ledger run task = result_of dag ledger run task
-
 -- each try is one that the recursion asks for, in so many runs
 abbrev pub AreAsked : Dag → ℕ → Ledger → Type 0
 AreAsked dag runs ledger = (name : JobName) (entry : Entry) → ledger name ≡ Some entry →
@@ -63,7 +62,7 @@ pub record HoldsItsTries (dag : Dag) (runs : ℕ) (ledger : Ledger) : Type 0 whe
 -- the state's ledger holds its tries, and the cells are the values of the recursion over it
 pub record IsOutcome (dag : Dag) (runs : ℕ) (state : State) : Type 0 where
   pub tries : HoldsItsTries dag runs (entry_in state.ledger)
-  pub cells : (run task : ℕ) → run < runs → task < length dag.tasks → cell_at state run task ≡ final_cell (decided dag (entry_in state.ledger) run task) (results_of dag (entry_in state.ledger) run task)
+  pub cells : (run task : ℕ) → run < runs → task < length dag.tasks → cell_at state run task ≡ final_cell (decided dag (entry_in state.ledger) run task) (result_of dag (entry_in state.ledger) run task)
   pub values : (run task : ℕ) → run < runs → task < length dag.tasks → value_in (cell_at state run task) ≡ Some (out dag (entry_in state.ledger) run task)
   pub run_states : (run : ℕ) → run < runs → has_failed dag state run ≡ run_fails dag (out dag (entry_in state.ledger) run)
 

@@ -1,7 +1,7 @@
 -- What the checks of an event look at.
 use Rattle.std.specs.Prelude.{◌≡◌, ◌<◌, ◌≤◌, ℕ, List, length, Some, slice_get, slice_index_or}
 use Rattle.bf_core.specs.Terms.{Dag, State, Cell, Phase, Run, RunPhase, RunState, JobName, Instance, TaskValue, task_of, map_index}
-use Rattle.bf_core.specs.declared.checks.Asked.{Asked}
+use Rattle.bf_core.specs.declared.checks.Unfinished.{Unfinished}
 use Rattle.bf_core.specs.declared.event.Illegal.{Illegal}
 use Rattle.bf_core.specs.Recursion.{run_state_of}
 use Rattle.bf_core.specs.Events.{value_in, value_or_blocked, row_of, cell_at, phase_of, instance_of, place_in}
@@ -20,6 +20,11 @@ RefusedFor There Due Illegal.NotEnabled = There × ¬ Due
 RefusedFor There Due Illegal.NoRoom = ⊥
 RefusedFor There Due Illegal.OutOfMemory = Unit {0}
 
+-- the instance of that name is there
+pub record IsOfName (dag : Dag) (state : State) (name : JobName) (instance : Instance) : Type 0 where
+  pub is_held : instance_of (cell_at state name.run name.task) (place_in dag name) ≡ Some instance
+  pub is_named : map_index (task_of dag name.task) (place_in dag name) ≡ name.index
+
 -- the instance of that name is there, and has come to that try
 pub record IsKnownAs (dag : Dag) (state : State) (name : JobName) (instance : Instance) : Type 0 where
   pub is_held : instance_of (cell_at state name.run name.task) (place_in dag name) ≡ Some instance
@@ -28,9 +33,9 @@ pub record IsKnownAs (dag : Dag) (state : State) (name : JobName) (instance : In
   pub to : name.attempt ≤ instance.attempt
 
 -- the phase that is asked for
-abbrev pub asked_phase : Asked → Phase
-asked_phase Asked.Waiting = Phase.Waiting
-asked_phase Asked.Running = Phase.Running
+abbrev pub asked_phase : Unfinished → Phase
+asked_phase Unfinished.Waiting = Phase.Waiting
+asked_phase Unfinished.Running = Phase.Running
 
 -- the value of a cell for its run's state, by its row
 abbrev pub row_value : List Run → ℕ → ℕ → TaskValue

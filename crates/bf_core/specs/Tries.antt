@@ -1,4 +1,4 @@
--- What is at hand when a try begins, and when one ends.
+-- What is at hand when a try begins, and when one ends; and what either makes of its instance.
 use Rattle.std.specs.Prelude.{◌≡◌, ◌<◌, ◌+◌, ◌^◌, length}
 use Rattle.bf_core.specs.Terms.{Demand, Event, Instance, JobName, Outcome, Phase, demand_of, task_of}
 use Rattle.bf_core.specs.Events.{IsEnabled, IsPresent, begun, cell_at, ended, given_in, place_in}

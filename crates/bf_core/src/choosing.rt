@@ -8,7 +8,7 @@ ghost use Rattle.bf_core.specs.Cores.{GoesOn, IsThere, MayCome, deciding};
 ghost use Rattle.bf_core.specs.declared.state.Phase.{Phase as PhaseTerm};
 ghost use Rattle.bf_core.specs.declared.deciding.Decision.{Decision as DecisionTerm};
 
-use crate::checks::{Asked, instance_at, is_closable, present};
+use crate::checks::{Unfinished, instance_at, is_closable, present};
 use crate::deciding::{gate, goes_on};
 use crate::event::Event;
 use crate::machine::Core;
@@ -135,7 +135,7 @@ impl<'a> Core<'a> {
         ensures given { IfSome result (λ x. given_in (cell_at self.now.state name.run name.task) (place_in self.now.dag name) ≡ x.now.given) }
         ensures none { IfNone result (¬ (IsPresent self.now.dag self.now.state name PhaseTerm.Running)) }
     {
-        present(self.plan.dag(), &self.state, name, Asked::Running)
+        present(self.plan.dag(), &self.state, name, Unfinished::Running)
     }
 
     /// Whether the slots of a task fit its pool beside those that are occupied.
@@ -151,7 +151,7 @@ impl<'a> Core<'a> {
     pub fn may_begin(&self, name: JobName) -> bool
         ensures { IsTrue result ↔ MayCome self.now (Event.Begin name) }
     {
-        match present(self.plan.dag(), &self.state, name, Asked::Waiting) {
+        match present(self.plan.dag(), &self.state, name, Unfinished::Waiting) {
             Some(_) => self.clock.lets_begin(name) && self.has_room(name.task),
             None => false,
         }

@@ -5,7 +5,7 @@ ghost use Rattle.bf_core.specs.Events.{IsPresent, cell_at, instance_of, given_in
 ghost use Rattle.bf_core.specs.Cores.{HasCome, IsRefusal, MayCome};
 ghost use Rattle.bf_core.specs.Tries.{IsEnding, IsRetry};
 
-use crate::checks::{Asked, required};
+use crate::checks::{Unfinished, required};
 use crate::clock::{Retry, note_end};
 use crate::event::{Event, Illegal};
 use crate::machine::Core;
@@ -31,7 +31,7 @@ impl<'a> Core<'a> {
         ensures ok { IfOk result (IsEnding self.now name outcome.now) }
         ensures err { IfErr result (IsRefusal self.now (Event.End name outcome.now)) }
     {
-        let instance = required(self.plan.dag(), &self.state, name, Asked::Running)?;
+        let instance = required(self.plan.dag(), &self.state, name, Unfinished::Running)?;
         if !fits(self.plan, name.task, outcome) {
             return Err(Illegal::NotEnabled);
         }

@@ -4,7 +4,7 @@ ghost use Rattle.bf_core.specs.Events.{next_run, decision_in};
 ghost use Rattle.bf_core.specs.Cores.{deciding, opening, HasCome, IsRefusal, MayCome};
 ghost use Rattle.bf_core.specs.Tries.{IsBeginning};
 
-use crate::checks::{Asked, closable, required, undecided};
+use crate::checks::{Unfinished, closable, required, undecided};
 use crate::clock::{Clock, Moments};
 use crate::deciding::{Decision, decide, gate, goes_on};
 use crate::event::{Event, Illegal};
@@ -181,7 +181,7 @@ impl<'a> Core<'a> {
         ensures ok { IfOk result (IsBeginning self.now name) }
         ensures err { IfErr result (IsRefusal self.now (Event.Begin name)) }
     {
-        required(self.plan.dag(), &self.state, name, Asked::Waiting)?;
+        required(self.plan.dag(), &self.state, name, Unfinished::Waiting)?;
         if !self.clock.lets_begin(name) {
             return Err(Illegal::NotEnabled);
         }

@@ -12,8 +12,9 @@ use Rattle.bf_try.specs.Tries.{Look}
 use Rattle.bf_core.specs.declared.state.Cell.{Cell}
 use Rattle.bf_core.specs.declared.state.Instance.{Instance}
 use Rattle.bf_core.specs.declared.state.Phase.{Phase}
+use Rattle.bf_core.specs.Terms.{result_of}
 use Rattle.bf_core.specs.Recursion.{decided, out, run_state_of}
-use Rattle.bf_core.specs.Agreement.{final_cell, results_of}
+use Rattle.bf_core.specs.Agreement.{final_cell}
 use Rattle.bf_report.specs.declared.report.Version.{Version}
 use Rattle.bf_report.specs.declared.report.Pull.{Pull}
 use Rattle.bf_report.specs.declared.report.InstanceReport.{InstanceReport}
@@ -64,7 +65,7 @@ reports_from dag cell place (first ∷ rest) = reported dag place (cell place) �
 -- the cell that the recursion makes of the task in the run: its instances have the items and the pulled values, and
 -- the results, that their entries in the ledger have
 unfoldable pub cell_by : Dag → Look → ℕ → ℕ → Cell
-cell_by dag ledger run task = final_cell (decided dag ledger run task) (results_of dag ledger run task)
+cell_by dag ledger run task = final_cell (decided dag ledger run task) (result_of dag ledger run task)
 
 -- the runs are those of the intervals, of which the first has this number, with the states and the cells of the recursion
 abbrev pub AreDated : Dag → Look → ℕ → List Interval → List RunReport → Type 0
