@@ -1,4 +1,6 @@
 pub mod Splits
+pub mod Finding
+pub mod Digits
 pub mod Words
 pub mod Spelled
 pub mod IdFacts

@@ -1,5 +1,5 @@
 //! The fields of a line.
-ghost use Rattle.std.specs.Prelude.{◌≡◌, ◌==◌, ◌<◌, ◌^◌, ◌++◌, ◌∷◌, ℕ, IfSome, IfNone, Some, decimal, position};
+ghost use Rattle.std.specs.Prelude.{◌≡◌, ◌==◌, ◌<◌, ◌^◌, ◌++◌, ◌∷◌, [], ℕ, IfSome, IfNone, Some, decimal, position};
 ghost use Rattle.bf_report_reader.specs.Reads.{IsWord};
 
 use itoa::Buffer;
@@ -21,11 +21,27 @@ pub(crate) fn split_field(text: &[u8]) -> Option<(&[u8], &[u8])>
     Some((&text[..at], &text[at + 1..]))
 }
 
+/// The number that a digit spells.
+fn digit_in(digit: u8) -> Option<u32>
+    ensures some { IfSome result (λ n. digit ∷ [] ≡ decimal n) }
+    ensures every { (n : ℕ) → n < 2 ^ 32 → digit ∷ [] ≡ decimal n → result ≡ Some n }
+{
+    if digit.is_ascii_digit() {
+        Some((digit - b'0') as u32)
+    } else {
+        None
+    }
+}
+
 /// The number that a text spells.
 pub(crate) fn number_in(text: &[u8]) -> Option<u32>
     ensures some { IfSome result (λ n. text.now ≡ decimal n) }
     ensures every { (n : ℕ) → n < 2 ^ 32 → text.now ≡ decimal n → result ≡ Some n }
 {
+    // most numbers of a report are tries, which have one digit
+    if let [digit] = text {
+        return digit_in(*digit);
+    }
     let Ok(digits) = std::str::from_utf8(text) else {
         return None;
     };

@@ -7,6 +7,7 @@ use crate::fault::ReportFault;
 use crate::held::Held;
 use bf_device::Read;
 use bf_value::OutOfMemory;
+use memchr::memchr;
 
 /// How many bytes a line may have, its line feed not counted.
 const LONGEST_LINE: usize = 66_000;
@@ -36,10 +37,11 @@ fn limit_of(line: &[u8]) -> usize
 }
 
 /// Where the first line feed stands.
+#[tactic(auto, using(crate::proofs::Finding::first_is))]
 fn line_feed_in(bytes: &[u8]) -> Option<usize>
     ensures { result ≡ position (λ b. b == 10) bytes.now }
 {
-    bytes.iter().position(|byte| *byte == b'\n')
+    memchr(b'\n', bytes)
 }
 
 /// Moves bytes that are held to a line, up to the first that is one too many for it, or up to the line feed, which is

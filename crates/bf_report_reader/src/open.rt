@@ -4,7 +4,7 @@
 ghost use Rattle.std.specs.Prelude.{◌≡◌, ◌&&◌, ◌∷◌, ◌++◌, [], IfOk, OnOk, Some, None};
 ghost use Rattle.std.specs.List.{list_any};
 ghost use Rattle.std.specs.Str.{bytes_eq};
-ghost use Rattle.bf_report_reader.specs.Beginning.{task_with, open_task, never_report, opened_by, count as counted, closed, most_told, lacks_no_item, takes, told, untold as untold_of, further, is_further, is_further_task, is_given_task, takes_task, put_task, put_open, put_further, put_part};
+ghost use Rattle.bf_report_reader.specs.Beginning.{open_task, never_report, opened_by, count as counted, closed, most_told, lacks_no_item, takes, told, untold as untold_of, further, is_further, is_further_task, is_given_task, takes_task, put_task, put_open, put_further, put_part};
 
 use crate::entry::Untried;
 use crate::part::GivenPart;
@@ -125,19 +125,6 @@ impl OpenTask {
         }
         Ok(())
     }
-
-    /// The task, which has no more lines.
-    #[inline(always)]
-    fn into_report(self) -> Result<TaskReport, OutOfMemory>
-        ensures { IfOk result (λ task. task ≡ task_with self.before self.instance) }
-    {
-        let OpenTask { before, instance } = self;
-        let Some(mut instances) = before else {
-            return Ok(TaskReport::Ran(instance));
-        };
-        instances.push(instance)?;
-        Ok(TaskReport::Mapped(instances))
-    }
 }
 
 /// Puts a task behind the others of a run.
@@ -154,10 +141,15 @@ fn push(run: &mut RunReport, task: TaskReport) -> Result<(), OutOfMemory>
 fn close(run: &mut RunReport, task: Option<OpenTask>) -> Result<(), OutOfMemory>
     ensures { OnOk result (run.new ≡ record run.old { tasks = run.old.tasks ++ open_task task }) }
 {
-    if let Some(task) = task {
-        push(run, task.into_report()?)?;
-    }
-    Ok(())
+    let Some(task) = task else {
+        return Ok(());
+    };
+    let OpenTask { before, instance } = task;
+    let Some(mut instances) = before else {
+        return push(run, TaskReport::Ran(instance));
+    };
+    instances.push(instance)?;
+    push(run, TaskReport::Mapped(instances))
 }
 
 /// The run whose tasks are read.

@@ -7,8 +7,8 @@ use Rattle.bf_report_reader.proofs.field.number_in.Goals as goal
 utf8 : (n : ℕ) (text : List ℕ) → n < 2 ^ 32 → text ≡ decimal n → IsUtf8 text
 utf8 n text small is = subst IsUtf8 (sym is) (IsUtf8-from_ascii (decimal n) (IsAscii-decimal n (omega arith)))
 
-pub returns-in_default-clause-every : goal.returns-in_default-clause-every
-returns-in_default-clause-every c = λ n small is. absurd (c.in_default.ensures.cases.0 (utf8 n c.args.text.now small is))
+pub returns-in_default-from_utf8-clause-every : goal.returns-in_default-from_utf8-clause-every
+returns-in_default-from_utf8-clause-every c = λ n small is. absurd (c.in_default-from_utf8.ensures.cases.0 (utf8 n c.args.text.now small is))
 
 pub returns-in_default-parse-clause-every : goal.returns-in_default-parse-clause-every
 returns-in_default-parse-clause-every c = λ n small is.
