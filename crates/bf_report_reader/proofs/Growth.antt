@@ -1,9 +1,11 @@
 -- The text of what was read grows by each line.
 use Rattle.std.proofs.Common.{◌≡◌, ◌≤◌, ◌<◌, ◌&&◌, ℕ, zero, suc, ◌+◌, List, [], ◌∷◌, ◌++◌, length, Option, Some, None, is_some, unwrap_or, Bool, true, false, true≢false, not, cond, nat_lt, get_or, slice_get, decimal, codes, refl, sym, ap, ◌∙◌, subst, append_assoc, append-nil, arith, length-append}
-use Rattle.std.specs.List.{flat_map}
+use Rattle.std.specs.List.{flat_map, list_any}
+use Rattle.std.specs.Str.{IsUtf8, bytes_eq}
 use Rattle.std.specs.Cmp.Lexicographic.{bytes_decides}
 use Rattle.std.proofs.lemmas.Bool.{and_parts, eqb-true}
 use Rattle.std.proofs.lemmas.Option.{slice_get-get_or}
+use Rattle.bf_read.specs.Ids.{is_id}
 use Rattle.bf_value.specs.declared.xval.Xval.{Xval}
 use Rattle.bf_interval.specs.declared.interval.Interval.{Interval}
 use Rattle.bf_xcom.specs.declared.values.TaskResult.{TaskResult}
@@ -23,6 +25,7 @@ use Rattle.bf_report_reader.specs.declared.beginning.Beginning.{Beginning}
 use Rattle.bf_report_reader.specs.Parts.{part_text}
 use Rattle.bf_report_reader.specs.Rules.{IsOpenInstance, IsOpenTask, IsOpenRun, IsRuled}
 use Rattle.bf_report_reader.specs.Beginning.{task_with, open_task, tasks_in, open_count, count, closed, last_run, runs_of, run_count, tells_item, has_item, takes, with_told, untold, is_given, is_whole_in, is_whole, starts_before, is_text, is_next_in, is_next, ids_with, is_further, is_further_task, goes_on_in, goes_on, takes_task, takes_in, put_task, put_open, further, put_further, told, put_part, may_begin, with_run, with_task, with_open, with_further, with_part, with_entry, IsCountedIn, IsCounted, GrowsBy, entry_line}
+use Rattle.bf_report_reader.proofs.Words.{id_utf8}
 
 -- ---- lists
 
@@ -78,6 +81,14 @@ count_is o = length-append o.run.tasks (open_task o.task) ∙ ap (λ n. length o
 -- what stands in a test of what may come next
 pub next_parts : (b : Beginning) (id : List ℕ) → is_next b id ≡ true → (is_given b ≡ true) × (is_next_in b.runs b.tasks b.run id ≡ true)
 next_parts b id e = and_parts (is_given b) (is_next_in b.runs b.tasks b.run id) e
+
+-- in the first run it is an id
+pub first_utf8 : (runs : List RunReport) (tasks : List (List ℕ)) (run : Option OpenRun) (id : List ℕ) → length runs ≡ 0 → is_next_in runs tasks run id ≡ true → IsUtf8 id
+first_utf8 [] tasks None id first next = absurd (true≢false (sym next))
+first_utf8 [] tasks (Some o) id first next =
+    let (both, other) = and_parts (is_id id && nat_lt (length tasks) 2_000) (not (list_any (λ task. bytes_eq task id) tasks)) next in
+    id_utf8 id (and_parts (is_id id) (nat_lt (length tasks) 2_000) both).0
+first_utf8 (r ∷ rs) tasks run id first next = absurd (omega (arith, first))
 
 pub further_parts : (b : Beginning) (id : List ℕ) (index : ℕ) → goes_on b id index ≡ true → (is_given b ≡ true) × (goes_on_in b.tasks b.run id index ≡ true)
 further_parts b id index e = and_parts (is_given b) (goes_on_in b.tasks b.run id index) e

@@ -54,6 +54,10 @@ id_lacks s id low e = bytes_lack s id low (id_parts id e).1
 pub id_utf8 : (id : List ℕ) → is_id id ≡ true → IsUtf8 id
 id_utf8 id e = IsUtf8-from_ascii id (bytes_ascii id (id_parts id e).1)
 
+-- a text that isn't UTF-8 is no id
+pub no_id : (text : List ℕ) → ¬ (IsUtf8 text) → is_id text ≡ false
+no_id text other = elim (cases_Bool (is_id text)) [ inl is ↦ absurd (other (id_utf8 text is)) | inr is ↦ is ]
+
 pub id_short : (id : List ℕ) → is_id id ≡ true → length id ≤ 250
 id_short id e = (id_parts id e).0
 

@@ -131,10 +131,14 @@ abbrev pub is_text : Option (List ℕ) → List ℕ → Bool
 is_text None id = false
 is_text (Some task) id = bytes_eq task id
 
+-- an id that isn't there yet
+abbrev pub is_new : List (List ℕ) → List ℕ → Bool
+is_new tasks id = (is_id id && nat_lt (length tasks) 2_000) && not (list_any (λ task. bytes_eq task id) tasks)
+
 -- in the first run a task that isn't there yet, in the others the next one
 abbrev pub is_next_in : List RunReport → List (List ℕ) → Option OpenRun → List ℕ → Bool
 is_next_in runs tasks None id = false
-is_next_in [] tasks (Some o) id = (is_id id && nat_lt (length tasks) 2_000) && not (list_any (λ task. bytes_eq task id) tasks)
+is_next_in [] tasks (Some o) id = is_new tasks id
 is_next_in (r ∷ rs) tasks (Some o) id = is_text (slice_get tasks (count o)) id
 
 abbrev pub is_next : Beginning → List ℕ → Bool

@@ -1,6 +1,6 @@
 //! A report as far as it was read.
 ghost use Rattle.std.specs.Prelude.{◌≡◌, ◌∷◌, ◌++◌, [], if◌then◌else◌, true, IfOk, OnOk, Some, None};
-ghost use Rattle.bf_report_reader.specs.Beginning.{so_far, last_run, never_report, opened_by, run_count as counted_runs, is_given as is_given_by, is_whole_in, is_whole as is_whole_by, may_begin as begins, with_run, is_next as is_next_by, ids_with, with_task, with_open, goes_on as continues, with_further, takes_in, with_part, with_entry};
+ghost use Rattle.bf_report_reader.specs.Beginning.{so_far, last_run, never_report, opened_by, run_count as counted_runs, is_given as is_given_by, is_whole_in, is_whole as is_whole_by, may_begin as begins, with_run, is_new as is_new_in, is_next as is_next_by, ids_with, with_task, with_open, goes_on as continues, with_further, takes_in, with_part, with_entry};
 
 use crate::entry::{Entry, Untried};
 use crate::ids::TaskIds;
@@ -114,8 +114,18 @@ impl Beginning {
         Ok(true)
     }
 
+    /// Whether a task with this id may stand next in the first run: it is an id that isn't there yet.
+    fn is_new(&self, id: &[u8]) -> bool
+        ensures { result ≡ is_new_in self.now.tasks id.now }
+    {
+        let Ok(id) = std::str::from_utf8(id) else {
+            return false;
+        };
+        is_id(id) && self.tasks.len() < MOST_TASKS && !self.tasks.contains(id)
+    }
+
     /// Whether a task with this id may stand next: in the first run any that isn't there yet, in the others the next one.
-    fn is_next(&self, id: &str) -> bool
+    fn is_next(&self, id: &[u8]) -> bool
         ensures { result ≡ is_next_by self.now id.now }
     {
         let Some(open) = &self.run else {
@@ -125,25 +135,28 @@ impl Beginning {
             return false;
         }
         if self.runs.is_empty() {
-            return is_id(id) && self.tasks.len() < MOST_TASKS && !self.tasks.contains(id);
+            return self.is_new(id);
         }
         self.tasks.has_at(open.count(), id)
     }
 
-    fn add_id(&mut self, alloc: Global, id: &str) -> Result<(), OutOfMemory>
+    fn add_id(&mut self, alloc: Global, id: &[u8]) -> Result<(), OutOfMemory>
         requires { is_next_by self.old id.now ≡ true }
         ensures { OnOk result (self.new ≡ record self.old {
           tasks = ids_with self.old.runs self.old.tasks id.now;
         }) }
     {
-        if self.runs.is_empty() {
-            self.tasks.add(alloc, id)?;
+        if !self.runs.is_empty() {
+            return Ok(());
         }
-        Ok(())
+        let Ok(id) = std::str::from_utf8(id) else {
+            unreachable!();
+        };
+        self.tasks.add(alloc, id)
     }
 
     /// Adds a task without a try, where it may stand next.
-    fn add_task(&mut self, alloc: Global, id: &str, untried: Untried) -> Result<bool, OutOfMemory>
+    fn add_task(&mut self, alloc: Global, id: &[u8], untried: Untried) -> Result<bool, OutOfMemory>
         ensures { IfOk result (λ taken. with_task self.old id.now (never_report untried)
             ≡ (if taken then Some self.new else None)) }
     {
@@ -162,7 +175,7 @@ impl Beginning {
     fn add_open(
         &mut self,
         alloc: Global,
-        id: &str,
+        id: &[u8],
         is_expanded: bool,
         first: TaskResult,
     ) -> Result<bool, OutOfMemory>
@@ -180,7 +193,7 @@ impl Beginning {
     }
 
     /// Whether an instance with this index is the next of the task that stands last.
-    fn goes_on(&self, id: &str, index: u32) -> bool
+    fn goes_on(&self, id: &[u8], index: u32) -> bool
         ensures { result ≡ continues self.now id.now index }
     {
         let Some(open) = &self.run else {
@@ -196,7 +209,7 @@ impl Beginning {
     fn add_instance(
         &mut self,
         alloc: Global,
-        id: &str,
+        id: &[u8],
         index: u32,
         ended: TaskResult,
     ) -> Result<bool, OutOfMemory>
@@ -214,7 +227,7 @@ impl Beginning {
 
     /// Adds what a line says of a task, where it may stand next.
     #[tactic(auto, unfolding(crate::specs::Beginning::with_entry))]
-    pub fn add_entry(&mut self, alloc: Global, id: &str, entry: Entry) -> Result<bool, OutOfMemory>
+    pub fn add_entry(&mut self, alloc: Global, id: &[u8], entry: Entry) -> Result<bool, OutOfMemory>
         ensures { IfOk result (λ taken.
             with_entry self.old id.now entry ≡ (if taken then Some self.new else None)) }
     {

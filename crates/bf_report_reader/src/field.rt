@@ -3,12 +3,14 @@ ghost use Rattle.std.specs.Prelude.{◌≡◌, ◌==◌, ◌<◌, ◌^◌, ◌++
 ghost use Rattle.bf_report_reader.specs.Reads.{IsWord};
 
 use itoa::Buffer;
+use memchr::memchr;
 
 /// Where the first space stands.
+#[tactic(auto, using(crate::proofs::Finding::first_is))]
 fn space_in(text: &[u8]) -> Option<usize>
     ensures { result ≡ position (λ b. b == 32) text.now }
 {
-    text.iter().position(|byte| *byte == b' ')
+    memchr(b' ', text)
 }
 
 /// The first field of a text, and what stands behind the space after it.

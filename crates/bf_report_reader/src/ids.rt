@@ -49,11 +49,11 @@ impl TaskIds {
     }
 
     /// Whether the task of that number has an id.
-    pub fn has_at(&self, number: usize, id: &str) -> bool
+    pub fn has_at(&self, number: usize, id: &[u8]) -> bool
         ensures { result ≡ is_text (slice_get self.now number) id.now }
     {
         match self.set.get_index(number) {
-            Some(task) => task.as_str() == id,
+            Some(task) => task.as_bytes() == id,
             None => false,
         }
     }

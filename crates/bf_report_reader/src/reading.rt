@@ -159,9 +159,6 @@ fn read_task(
     requires ruled { IsRuled beginning.old }
     ensures { IfOk result (λ step. EntrySteps step beginning.old id.now text.now beginning.new) }
 {
-    let Ok(id) = std::str::from_utf8(id) else {
-        return Ok(Step::Refused);
-    };
     match entry_in(alloc, text)? {
         Some(entry) => Ok(step_of(beginning.add_entry(alloc, id, entry)?)),
         None => Ok(Step::Refused),

@@ -1,4 +1,4 @@
-use Rattle.std.proofs.Common.{rules, Some, ap, arith}
+use Rattle.std.proofs.Common.{rules, Some, ap}
 use Rattle.bf_report_reader.proofs.Digits.{digit_text, digit_of, is_digit}
 use Rattle.bf_report_reader.proofs.field.digit_in.Goals as goal
 
