@@ -29,25 +29,25 @@ has-instance c i x e f = let g : None ≡ Some x = sym (ap (λ d. instance_of d 
 -- ---- names
 
 pub present-from : (dag : Dag) (s : State) (n : JobName) (x : Instance) (p : Phase) → IsKnownAs dag s n x → x.attempt ≡ n.attempt → x.phase ≡ p → IsPresent dag s n p
-present-from dag s n x p known same phase = record { held = x; is_held = known.is_held; is_named = known.is_named; is_present = same; in_phase = phase }
+present-from dag s n x p known same phase = record { held = x; is_held = known.is_there.is_held; is_named = known.is_there.is_named; is_present = same; in_phase = phase }
 
 pub known-from : (dag : Dag) (s : State) → HasRows dag s → (n : JobName) (x : Instance) → IsKnownAs dag s n x → IsKnown dag s n
 known-from dag s rows n x known = record {
-  there = decided-there dag s rows n.run n.task (has-instance _ (place_in dag n) x known.is_held);
+  there = decided-there dag s rows n.run n.task (has-instance _ (place_in dag n) x known.is_there.is_held);
   held = x;
-  is_held = known.is_held;
-  is_named = known.is_named;
+  is_held = known.is_there.is_held;
+  is_named = known.is_there.is_named;
   from = known.from;
   to = known.to;
 }
 
 pub known-back : (dag : Dag) (s : State) (n : JobName) → (k : IsKnown dag s n) → IsKnownAs dag s n k.held
-known-back dag s n k = record { is_held = k.is_held; is_named = k.is_named; from = k.from; to = k.to }
+known-back dag s n k = record { is_there = record { is_held = k.is_held; is_named = k.is_named }; from = k.from; to = k.to }
 
 -- what is present is what is held
 pub present-back : (dag : Dag) (s : State) (n : JobName) (x : Instance) (p : Phase) → IsKnownAs dag s n x → IsPresent dag s n p → (x.attempt ≡ n.attempt) × (x.phase ≡ p)
 present-back dag s n x p known present =
-    let held : Some x ≡ Some present.held = sym known.is_held ∙ present.is_held in
+    let held : Some x ≡ Some present.held = sym known.is_there.is_held ∙ present.is_held in
     let same : x ≡ present.held = cc in
     (ap (λ (y : Instance). y.attempt) same ∙ present.is_present, ap (λ (y : Instance). y.phase) same ∙ present.in_phase)
 

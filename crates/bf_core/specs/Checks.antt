@@ -27,8 +27,7 @@ pub record IsOfName (dag : Dag) (state : State) (name : JobName) (instance : Ins
 
 -- the instance of that name is there, and has come to that try
 pub record IsKnownAs (dag : Dag) (state : State) (name : JobName) (instance : Instance) : Type 0 where
-  pub is_held : instance_of (cell_at state name.run name.task) (place_in dag name) ≡ Some instance
-  pub is_named : map_index (task_of dag name.task) (place_in dag name) ≡ name.index
+  pub is_there : IsOfName dag state name instance
   pub from : 1 ≤ name.attempt
   pub to : name.attempt ≤ instance.attempt
 

@@ -1,8 +1,9 @@
 -- Marks of what follows from the seeds.
-use Rattle.std.proofs.Common.{◌≡◌, ◌⊎◌, ◌↔◌, ◌||◌, ◌&&◌, ◌==◌, inl, inr, ℕ, zero, suc, ◌<◌, ◌+◌, List, [], ◌∷◌, ◌++◌, length, Contains, Bool, true, false, Some, slice_get, slice_index_or, slice_set, refl, sym, ap, ◌∙◌, subst, arith}
+use Rattle.std.proofs.Common.{◌≡◌, ◌⊎◌, ◌↔◌, ◌||◌, ◌&&◌, ◌==◌, inl, inr, ℕ, zero, suc, ◌<◌, ◌≤◌, ◌+◌, List, [], ◌∷◌, ◌++◌, length, Contains, Bool, true, false, Some, slice_get, slice_index_or, slice_set, refl, sym, ap, ◌∙◌, subst, arith}
 use Rattle.std.specs.List.{list_any}
 use Rattle.std.proofs.Math.Bool.{or-true}
 use Rattle.std.proofs.Math.ListN.{get_or-append}
+use Rattle.std.proofs.Math.Nat.{eq-or-lt_of_le}
 use Rattle.std.proofs.Math.Seq.{get_or-append_seam}
 use Rattle.std.proofs.lemmas.Bool.{and_parts}
 use Rattle.std.proofs.lemmas.List.{length-append, get_or-set_same, get_or-set_other, length-set, length-map}
@@ -19,7 +20,9 @@ use Rattle.bf_check.proofs.PlanLemmas.{is_upstream}
 use Rattle.bf_dependents.specs.declared.place.Place.{Place}
 use Rattle.bf_dependents.specs.Dependents.{IsDependent, AreMarks, AreDependents}
 use Rattle.bf_dependents.specs.Marks.{is_place, follows, marks_before, AreMarksFor, AreMarksForTo, AreMarksTo, ArePast, AreSeeded, IsSeedRow, WasDependent}
-use Rattle.bf_dependents.proofs.Marking.{same-or-before}
+
+same-or-before : (j n : ℕ) → j < n + 1 → (j ≡ n) ⊎ (j < n)
+same-or-before j n l = let low : j ≤ n = omega (arith, l) in eq-or-lt_of_le low
 
 -- ---- what marks a task
 

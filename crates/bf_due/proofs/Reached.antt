@@ -1,5 +1,5 @@
 -- What a cursor says stays true over every event.
-use Rattle.std.proofs.Common.{◌≡◌, ◌⊎◌, ◌+◌, ◌++◌, ◌||◌, ℕ, zero, suc, ◌<◌, ◌≤◌, nat_le, Bool, true, false, List, [], ◌∷◌, length, get_or, slice_get, slice_set, replicate, Some, None, is_some, refl, sym, ap, ◌∙◌, subst, subst₂, inl, inr, arith}
+use Rattle.std.proofs.Common.{◌≡◌, ◌⊎◌, ◌+◌, ◌++◌, ◌||◌, ℕ, zero, suc, ◌<◌, ◌≤◌, nat_le, Bool, true, false, List, [], ◌∷◌, length, get_or, slice_get, slice_set, Some, None, is_some, refl, sym, ap, ◌∙◌, subst, subst₂, inl, inr, arith}
 use Rattle.std.proofs.lemmas.Bool.{or_parts}
 use Rattle.std.proofs.lemmas.List.Folds.{list_all_at}
 use Rattle.std.specs.List.{list_all}
@@ -104,11 +104,6 @@ unknown b k row passed upstreams finished settled = record {
   finished = λ t i l. absurd (omega (arith, l, finished t));
   settled = λ t l. absurd (omega (arith, l, settled));
 }
-
-pub zeros : (n t d : ℕ) → d ≡ 0 → get_or (replicate n d) t 0 ≡ d
-zeros zero t d e = sym e
-zeros (suc n) zero d e = refl
-zeros (suc n) (suc t) d e = zeros n t d e
 
 pub finished-noted : (b : Backfill) (k t n : ℕ) (old new : Progress) → IsReached b k old → AreFinished (cell_at b.state k t) n → new.passed.items ≡ old.passed.items → new.settled_upstreams.items ≡ old.settled_upstreams.items → new.finished.items ≡ slice_set old.finished.items t n → new.settled ≡ old.settled → IsReached b k new
 finished-noted b k t n old new is here passed upstreams finished settled = record {

@@ -1,5 +1,5 @@
 //! Ranks, found by climbing from each task to its upstreams.
-ghost use Rattle.std.specs.Prelude.{◌≡◌, ℕ, ◌<◌, List, None, Vec, length, Contains, MatchBool, MatchOption, IfOk};
+ghost use Rattle.std.specs.Prelude.{◌≡◌, ℕ, ◌+◌, ◌^◌, ◌<◌, List, None, Vec, length, Contains, MatchBool, MatchOption, IfOk};
 ghost use Rattle.std.specs.declared.alloc.Global.{Global as Heap};
 ghost use Rattle.bf_graph.specs.Edges.{lists, AreInRange};
 ghost use Rattle.bf_graph.specs.Ranks.{rank_at};
@@ -51,7 +51,7 @@ impl Climb {
     /// Ranks a task, and before it those of its upstreams that have no rank; false where that comes upon a cycle.
     fn climb(&mut self, alloc: Global, edges: &[Vec<u32>], start: u32) -> Result<bool, OutOfMemory>
         requires in_range { AreInRange (lists edges.now) }
-        requires few { length edges.now < 4294967295 }
+        requires few { length edges.now + 1 < 2 ^ 32 }
         requires down { IsDown edges.now self.old }
         requires within { start < length edges.now }
         requires unranked { rank_at self.old.found.ranks.items start ≡ None }
@@ -84,7 +84,7 @@ impl Climb {
 /// The rank of each task and which tasks reach it, if there is no cycle.
 pub(crate) fn found_in(alloc: Global, edges: &[Vec<u32>]) -> Result<Option<Found>, OutOfMemory>
     requires in_range { AreInRange (lists edges.now) }
-    requires few { length edges.now < 4294967295 }
+    requires few { length edges.now + 1 < 2 ^ 32 }
     ensures { IfOk result (λ found. MatchOption found (HasCycle (lists edges.now)) (AreAllFound edges.now)) }
 {
     let mut climb = Climb::new(alloc, edges.len())?;

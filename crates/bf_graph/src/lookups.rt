@@ -1,5 +1,5 @@
 //! Lists of tasks that a graph keeps or gives.
-ghost use Rattle.std.specs.Prelude.{◌≡◌, ◌+◌, ◌<◌, ◌≤◌, ◌==◌, ◌⊎◌, ℕ, true, List, All, Contains, length, map, [], IfOk, OnOk};
+ghost use Rattle.std.specs.Prelude.{◌≡◌, ◌+◌, ◌^◌, ◌<◌, ◌≤◌, ◌==◌, ◌⊎◌, ℕ, true, List, All, Contains, length, map, [], IfOk, OnOk};
 ghost use Rattle.std.specs.List.Sorted.{IsStrictlyIncreasing};
 ghost use Rattle.bf_graph.specs.Edges.{lists, AreInRange};
 ghost use Rattle.bf_graph.specs.Reach.{is_marked};
@@ -46,7 +46,7 @@ pub(crate) fn downstreams_of(
     edges: &[Vec<u32>],
 ) -> Result<Vec<Vec<u32>>, OutOfMemory>
     requires in_range { AreInRange (lists edges.now) }
-    requires few { length edges.now < 4294967296 }
+    requires few { length edges.now < 2 ^ 32 }
     ensures { IfOk result (λ found. AreDownstreams (lists edges.now) (lists found.items)) }
 {
     let mut found = empty_lists(alloc, edges.len())?;
@@ -77,7 +77,7 @@ fn empty_ones(alloc: Global, lists: &[Vec<u32>]) -> Result<Vec<bool>, OutOfMemor
 
 /// The places that are marked.
 pub(crate) fn marked_places(alloc: Global, marks: &[bool]) -> Result<Vec<u32>, OutOfMemory>
-    requires { length marks.now < 4294967296 }
+    requires { length marks.now < 2 ^ 32 }
     ensures { IfOk result (λ places. IsRisingListOf (λ t. is_marked marks.now t ≡ true) places.items) }
 {
     let mut places = Vec::new(alloc);
@@ -91,7 +91,7 @@ pub(crate) fn marked_places(alloc: Global, marks: &[bool]) -> Result<Vec<u32>, O
 
 /// The tasks without downstreams.
 pub(crate) fn leaves_of(alloc: Global, downstreams: &[Vec<u32>]) -> Result<Vec<u32>, OutOfMemory>
-    requires { length downstreams.now < 4294967296 }
+    requires { length downstreams.now < 2 ^ 32 }
     ensures { IfOk result (λ leaves. (ups : List (List ℕ)) → AreDownstreams ups (lists downstreams.now)
         → IsRisingListOf (IsLeaf ups) leaves.items) }
 {

@@ -1,5 +1,5 @@
 -- The best of the tries that may begin.
-use Rattle.std.proofs.Common.{◌≡◌, ◌⊎◌, ℕ, ◌<◌, ◌≤◌, ◌+◌, nat_lt, if◌then◌else◌, Bool, true, false, List, length, get_or, Option, None, Some, refl, sym, ap, ◌∙◌, inl, inr, arith}
+use Rattle.std.proofs.Common.{◌≡◌, ◌⊎◌, ℕ, ◌<◌, ◌≤◌, ◌+◌, nat_lt, if◌then◌else◌, Bool, true, false, List, length, get_or, Option, None, Some, refl, sym, ◌∙◌, inl, inr, arith}
 use Rattle.std.proofs.lemmas.Bool.Decides.{nat_tests}
 use Rattle.bf_value.specs.declared.name.JobName.{JobName}
 use Rattle.bf_check.specs.declared.plan.Dag.{Dag}
@@ -9,7 +9,7 @@ use Rattle.bf_try.specs.Tries.{name_of}
 use Rattle.bf_core.specs.declared.event.Event.{Event}
 use Rattle.bf_core.specs.declared.state.Phase.{Phase}
 use Rattle.bf_core.specs.declared.state.Instance.{Instance}
-use Rattle.bf_core.specs.Events.{cell_at, instance_of, place_in}
+use Rattle.bf_core.specs.Events.{cell_at, instance_of}
 use Rattle.bf_core.specs.Checks.{HasRows}
 use Rattle.bf_core.specs.Cores.{Backfill, IsReplay, MayCome}
 use Rattle.bf_core.proofs.Enabling.{present-there}
@@ -97,19 +97,6 @@ module _ (b : Backfill) (replayed : IsReplay b) (k t i : ℕ) (x : Instance) (is
 
   pub none-begins : ¬ (MayCome b (Event.Begin n)) → IsBest b (IsTryAt b.dag k t i) None
   none-begins not_able = λ m is may. let same : m ≡ n = named-so b replayed k t i x is_held m is Phase.Waiting may.0.0 ∙ sym named in not_able (rw same at may)
-
--- where none of those before may begin, and this one may, it is the first of its task
-pub first-of : (b : Backfill) (k t i : ℕ) (n : JobName) → IsBest b (IsTryBelow b.dag k t i) None → IsBest b (IsTryAt b.dag k t i) (Some n) → IsBest b (IsTryOf k t) (Some n)
-first-of b k t i n none one = (one.0.0, one.1, λ m is may. earlier m is may)
-  where
-    three : (p : ℕ) → (p < i) ⊎ (i ≤ p)
-    three p = grind arith
-
-    earlier : (m : JobName) → IsTryOf k t m → MayCome b (Event.Begin m) → IsPreferred b.dag b.limits n m
-    earlier m is may = elim (three (place_in b.dag m)) [
-      | inl l ↦ absurd (none m (is, l) may)
-      | inr h ↦ inr (ap (total_weight_of b.dag b.limits) (is.1 ∙ sym one.0.0.1), inr (one.0.0.0 ∙ sym is.0, inr (one.0.0.1 ∙ sym is.1, omega (arith, h, one.0.1))))
-    ]
 
 pub none-of : (b : Backfill) (k t i : ℕ) → length (instances_in (cell_at b.state k t)) ≤ i → IsBest b (IsTryBelow b.dag k t i) None → IsBest b (IsTryOf k t) None
 none-of b k t i end none = λ m is may. let x : _ = below-count b.dag b.state k t m is Phase.Waiting may.0.0 in none m (is, omega (arith, x.1, end)) may

@@ -1,5 +1,5 @@
 -- How many bytes stand in the compact text of a value.
-use Rattle.std.proofs.Common.{◌≡◌, ℕ, zero, suc, ◌+◌, ◌-◌, ◌*◌, ◌^◌, ◌/◌, ◌%◌, ◌<◌, ◌≤◌, Bool, true, false, Option, None, cond, List, [], ◌∷◌, ◌++◌, length, length-append, get_or, nat_lt, ◌==◌, refl, sym, ap, ◌∙◌, arith}
+use Rattle.std.proofs.Common.{◌≡◌, ℕ, suc, ◌+◌, ◌-◌, ◌*◌, ◌^◌, ◌/◌, ◌%◌, ◌<◌, ◌≤◌, Bool, true, false, Option, None, cond, List, [], ◌∷◌, ◌++◌, length, length-append, get_or, nat_lt, ◌==◌, refl, sym, ap, ◌∙◌, arith}
 use Rattle.std.specs.List.{sum_by}
 use Rattle.std.specs.Fmt.{decimal}
 use Rattle.std.specs.Option.{SomeIff}
@@ -63,11 +63,6 @@ pub length-quoted : (s : List ℕ) → length (quoted s) ≡ 2 + sum_by byte_siz
 length-quoted s = omega (arith, length-append (escape s) (34 ∷ []), length-flat_map escape_byte s)
 
 -- ---- lists
-
-pub item_below : (xs : List Xval) (i : ℕ) (d : Xval) → i < length xs → plain_depth (plain_of (get_or xs i d)) < plains_depth (plains_of xs)
-item_below [] i d h = absurd (omega arith)
-item_below (x ∷ xs) zero d h = omega arith
-item_below (x ∷ xs) (suc i) d h = omega (arith, item_below xs i d (omega arith))
 
 pub all_below : (xs : List Xval) (n : ℕ) → 0 < n → ((i : ℕ) (d : Xval) → i < length xs → plain_depth (plain_of (get_or xs i d)) < n) → plains_depth (plains_of xs) ≤ n
 all_below [] n some below = some

@@ -1,5 +1,5 @@
 -- Taking up what waits in a core, task after task and run after run.
-use Rattle.std.proofs.Common.{◌≡◌, ◌⊎◌, ℕ, zero, suc, ◌+◌, ◌<◌, ◌≤◌, List, [], ◌∷◌, ◌++◌, length, Contains, slice_get, slice_set, slice_index, slice_index_or, Some, refl, sym, ap, ◌∙◌, subst, subst₂, inl, inr, arith}
+use Rattle.std.proofs.Common.{◌≡◌, ◌⊎◌, ℕ, ◌+◌, ◌<◌, ◌≤◌, List, [], ◌∷◌, ◌++◌, length, Contains, slice_get, slice_set, slice_index, slice_index_or, Some, refl, sym, ap, ◌∙◌, subst, subst₂, inl, inr, arith}
 use Rattle.bf_core.specs.Cores.{Backfill, IsReplay}
 use Rattle.bf_core.proofs.Numbers.{below-or}
 use Rattle.bf_waiting.specs.declared.batches.Batch.{Batch}
@@ -127,15 +127,6 @@ filled-all b w j is end filled = record {
 
 -- ---- the classes of the tasks
 
-at-front : (xs : List ℕ) (j i d : ℕ) → i < length xs → slice_index_or (xs ++ j ∷ []) i d ≡ slice_index_or xs i d
-at-front [] j i d l = absurd (omega (arith, l))
-at-front (x ∷ xs) j zero d l = refl
-at-front (x ∷ xs) j (suc i) d l = at-front xs j i d (omega arith)
-
 at-end : (xs : List ℕ) (j d : ℕ) → slice_index_or (xs ++ j ∷ []) (length xs) d ≡ j
 at-end [] j d = refl
 at-end (x ∷ xs) j d = at-end xs j d
-
-length-end : (xs : List ℕ) (j : ℕ) → length (xs ++ j ∷ []) ≡ suc (length xs)
-length-end [] j = refl
-length-end (x ∷ xs) j = ap suc (length-end xs j)
