@@ -49,7 +49,7 @@ fn each_is_pull_of(dag: &Dag, pulls: &[Pull], sources: &[u32]) -> bool
 fn has_pulls_of(dag: &Dag, task: &Task, instance: &InstanceReport) -> bool
     ensures { result ≡ instance_of dag.now task.now instance.now }
 {
-    let pulls = instance.pulls.as_slice();
+    let pulls = instance.pulls();
     let sources = task.pulls.as_slice();
     pulls.len() == sources.len() && each_is_pull_of(dag, pulls, sources)
 }

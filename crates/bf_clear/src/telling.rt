@@ -29,8 +29,8 @@ fn are_pulled(pulls: &[Pull], values: &[Option<Xval>]) -> bool
 fn tells_given(instance: &InstanceReport, given: &Given) -> bool
     ensures { IsTrue result ↔ (given_in instance.now ≡ given.now) }
 {
-    is_same_option(instance.item.as_ref(), given.item.as_ref())
-        && are_pulled(instance.pulls.as_slice(), given.pulled.as_slice())
+    is_same_option(instance.item(), given.item.as_ref())
+        && are_pulled(instance.pulls(), given.pulled.as_slice())
 }
 
 /// Whether an instance was given this, by what the report tells or by what is worked out from it.
@@ -91,5 +91,6 @@ pub(crate) fn answer_of_instance(
     if !was_given {
         return Ok(None);
     }
-    answer_of_try(alloc, plan, name.task, &instance.result, name.attempt)
+    let ended = instance.result(alloc)?;
+    answer_of_try(alloc, plan, name.task, &ended, name.attempt)
 }

@@ -9,15 +9,6 @@ use bf_value::{JobName, OutOfMemory, Sequence, Xval, copy_option};
 use bf_xcom::{Given, TaskResult, TaskValue, pull};
 use std::alloc::Global;
 
-fn result_of(alloc: Global, instance: &InstanceReport) -> Result<TaskResult, OutOfMemory>
-    ensures { IfOk result (λ r. r ≡ instance.now.result) }
-{
-    Ok(TaskResult {
-        outcome: instance.result.outcome.copy(alloc)?,
-        tries: instance.result.tries,
-    })
-}
-
 fn results_of(
     alloc: Global,
     instances: &[InstanceReport],
@@ -26,7 +17,7 @@ fn results_of(
 {
     let mut results = Vec::with_capacity(alloc, instances.len())?;
     for instance in instances {
-        results.push(result_of(alloc, instance)?)?;
+        results.push(instance.result(alloc)?)?;
     }
     Ok(Sequence::from_vec(results))
 }
@@ -41,7 +32,7 @@ fn value_of(alloc: Global, task: &TaskReport) -> Result<TaskValue, OutOfMemory>
         TaskReport::UpstreamFailed => Ok(TaskValue::UpstreamFailed),
         TaskReport::Ran(instance) => {
             let mut results = Sequence::new(alloc);
-            results.push(result_of(alloc, instance)?)?;
+            results.push(instance.result(alloc)?)?;
             Ok(TaskValue::Ran(results))
         }
         TaskReport::Mapped(instances) => {

@@ -1,3 +1,5 @@
+pub mod Instances
+pub mod Told
 pub mod Report
 pub mod Dated
 pub mod Values

@@ -92,11 +92,12 @@ fn instance_report(
         return Ok(None);
     };
     let (tasks, given) = (dag.task(task).pulls.as_slice(), &instance.given);
-    Ok(Some(InstanceReport {
-        result: result_of(alloc, outcome, instance.attempt)?,
-        item: copy_of(alloc, &given.item)?,
-        pulls: pulls_of(alloc, dag, tasks, given.pulled.as_slice())?,
-    }))
+    Ok(Some(InstanceReport::new(
+        alloc,
+        result_of(alloc, outcome, instance.attempt)?,
+        copy_of(alloc, &given.item)?,
+        pulls_of(alloc, dag, tasks, given.pulled.as_slice())?,
+    )?))
 }
 
 /// The reports of the instances that have finished.

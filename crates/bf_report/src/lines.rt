@@ -1,51 +1,43 @@
 //! The lines of a report, each added behind a text.
-ghost use Rattle.std.specs.Prelude.{◌≡◌, ◌++◌, ◌∷◌, [], IfOk, OnOk, string_bytes, decimal, codes};
-ghost use Rattle.bf_report.specs.Report.{line, state_word as state, value_word as value, item_line, pulled_word, pull_line, instance_text, untried_line, mapped_text, task_text, tasks_text, run_state_word as run_state, run_line, run_text, version_word as version_digit, report_text};
+ghost use Rattle.std.specs.Prelude.{◌≡◌, ◌++◌, ◌∷◌, [], IfOk, OnOk, string_bytes, decimal, codes, option_copied};
+ghost use Rattle.bf_report.specs.Report.{line, state_word, value_word, item_line, pulled_word, pull_line, instance_text, untried_line, mapped_text, task_text, tasks_text, run_state_word as run_state, run_line, run_text, version_word as version_digit, report_text};
 ghost use Rattle.std.specs.List.{flat_map};
 
 use crate::report::{InstanceReport, Pull, Report, RunReport, TaskReport, Version};
 use bf_moment::Moment;
 use bf_value::{OutOfMemory, Text, Xval, text_of};
-use bf_xcom::{Outcome, RunState, TaskResult};
+use bf_xcom::RunState;
 use std::alloc::Global;
 
-fn state_word(outcome: &Outcome) -> &'static str
-    ensures { result.now ≡ state outcome.now }
+/// A value, or `-` for nothing.
+fn push_value(alloc: Global, text: &mut String, value: Option<&Xval>) -> Result<(), OutOfMemory>
+    ensures { OnOk result (string_bytes text.new ≡ string_bytes text.old ++ pulled_word (option_copied value.entry)) }
 {
-    match outcome {
-        Outcome::Success(_) => "success",
-        Outcome::Failed => "failed",
-        Outcome::Skipped => "skipped",
-    }
-}
-
-fn push_value(alloc: Global, text: &mut String, outcome: &Outcome) -> Result<(), OutOfMemory>
-    ensures { OnOk result (string_bytes text.new ≡ string_bytes text.old ++ value outcome.now) }
-{
-    match outcome {
-        Outcome::Success(Some(value)) => text.push_str(text_of(alloc, value)?.as_str())?,
-        _ => text.push_str("-")?,
+    match value {
+        Some(value) => text.push_str(text_of(alloc, value)?.as_str())?,
+        None => text.push_str("-")?,
     }
     Ok(())
 }
 
+/// How an instance ended, its tries, and what it pushed.
 fn push_result(
     alloc: Global,
     text: &mut String,
-    task_result: &TaskResult,
+    instance: &InstanceReport,
 ) -> Result<(), OutOfMemory>
-    ensures { OnOk result (string_bytes text.new ≡ string_bytes text.old
-        ++ line (state task_result.now.outcome ∷ decimal task_result.now.tries ∷ value task_result.now.outcome ∷ [])) }
+    ensures { OnOk result (string_bytes text.new ≡ string_bytes text.old ++ line (state_word instance.now.result.outcome
+        ∷ decimal instance.now.result.tries ∷ value_word instance.now.result.outcome ∷ [])) }
 {
-    let (state, tries) = (state_word(&task_result.outcome), task_result.tries);
+    let (state, tries) = (instance.state(), instance.tries());
     write!(text, "{state} {tries} ")?;
-    push_value(alloc, text, &task_result.outcome)?;
+    push_value(alloc, text, instance.pushed())?;
     text.push_str("\n")?;
     Ok(())
 }
 
-fn push_item(alloc: Global, text: &mut String, item: &Option<Xval>) -> Result<(), OutOfMemory>
-    ensures { OnOk result (string_bytes text.new ≡ string_bytes text.old ++ item_line item.now) }
+fn push_item(alloc: Global, text: &mut String, item: Option<&Xval>) -> Result<(), OutOfMemory>
+    ensures { OnOk result (string_bytes text.new ≡ string_bytes text.old ++ item_line (option_copied item.entry)) }
 {
     let Some(item) = item else {
         return Ok(());
@@ -56,22 +48,12 @@ fn push_item(alloc: Global, text: &mut String, item: &Option<Xval>) -> Result<()
     Ok(())
 }
 
-fn push_pulled(alloc: Global, text: &mut String, value: &Option<Xval>) -> Result<(), OutOfMemory>
-    ensures { OnOk result (string_bytes text.new ≡ string_bytes text.old ++ pulled_word value.now) }
-{
-    match value {
-        Some(value) => text.push_str(text_of(alloc, value)?.as_str())?,
-        None => text.push_str("-")?,
-    }
-    Ok(())
-}
-
 fn push_pull(alloc: Global, text: &mut String, pull: &Pull) -> Result<(), OutOfMemory>
     ensures { OnOk result (string_bytes text.new ≡ string_bytes text.old ++ pull_line pull.now) }
 {
     let task = pull.task.as_str();
     write!(text, "@pull {task} ")?;
-    push_pulled(alloc, text, &pull.value)?;
+    push_value(alloc, text, pull.value.as_ref())?;
     text.push_str("\n")?;
     Ok(())
 }
@@ -94,8 +76,8 @@ fn push_given(
     ensures { OnOk result (string_bytes text.new ≡ string_bytes text.old
         ++ (item_line instance.now.item ++ flat_map pull_line instance.now.pulls)) }
 {
-    push_item(alloc, text, &instance.item)?;
-    push_pulls(alloc, text, instance.pulls.as_slice())
+    push_item(alloc, text, instance.item())?;
+    push_pulls(alloc, text, instance.pulls())
 }
 
 fn push_unmapped(
@@ -108,7 +90,7 @@ fn push_unmapped(
         ++ instance_text id.now (codes "-1") instance.now) }
 {
     write!(text, "{id} -1 ")?;
-    push_result(alloc, text, &instance.result)?;
+    push_result(alloc, text, instance)?;
     push_given(alloc, text, instance)
 }
 
@@ -123,7 +105,7 @@ fn push_instance(
         ++ instance_text id.now (decimal index) instance.now) }
 {
     write!(text, "{id} {index} ")?;
-    push_result(alloc, text, &instance.result)?;
+    push_result(alloc, text, instance)?;
     push_given(alloc, text, instance)
 }
 

@@ -1,9 +1,12 @@
 //! Reports.
+ghost use Rattle.std.specs.Prelude.{◌≡◌, ◌++◌, ◌∷◌, [], Some, None, IfOk, OnOk, option_copied};
 ghost use Rattle.bf_moment.specs.Moment.{IsShown};
 
 use bf_interval::Interval;
-use bf_value::{Sequence, Text, Xval};
-use bf_xcom::{RunState, TaskResult};
+use bf_value::{OutOfMemory, Sequence, Text, Xval};
+use bf_xcom::{Outcome, RunState, TaskResult};
+use std::alloc::Global;
+use std::marker::Model;
 
 /// The version of a report. One of version 1 doesn't tell what the instances were given: in it no instance has an item
 /// or pulls.
@@ -20,13 +23,203 @@ pub struct Pull {
     pub value: Option<Xval>,
 }
 
+/// What is told of an instance that pushed a value or was given something.
+#[derive(Debug, Drop)]
+struct Told {
+    outcome: Outcome,
+    item: Option<Xval>,
+    pulls: Sequence<Pull>,
+}
+
+/// How an instance is kept: one that pushed nothing and was given nothing is no more than a word.
+#[derive(Debug, Drop)]
+enum Kept {
+    Success,
+    Failed,
+    Skipped,
+    Told(Box<Told>),
+}
+
 /// An instance with at least one try: what came of it, and what all its tries were given, which is its item, for an
 /// instance of an expanded task, and what it pulled, in the order of its task's pulls.
+///
+/// Most instances push nothing and are given nothing. What the others have stands in a box, so that a report of many tasks
+/// is a quarter as large.
 #[derive(Debug, Drop)]
 pub struct InstanceReport {
-    pub result: TaskResult,
-    pub item: Option<Xval>,
-    pub pulls: Sequence<Pull>,
+    tries: u32,
+    kept: Kept,
+}
+
+impl Model for InstanceReport {
+    ghost use Rattle.std.specs.Coded.{codes};
+    ghost use Rattle.bf_value.specs.contracts.xval.Xval as v;
+    ghost use Rattle.bf_xcom.specs.contracts.values.TaskResult as r;
+    ghost use Rattle.bf_report.specs.contracts.report.Pull as p;
+    ghost use Rattle.bf_report.specs.Instances.{ReportedInstance};
+
+    ghost Value = { ReportedInstance };
+
+    ghost coded = { Prim.hlevel (codes, v.the_row.coded, r.the_row.coded, p.the_row.coded) };
+
+    ghost use Rattle.bf_report.specs.Told.{instance_told};
+
+    ghost view = { instance_told };
+}
+
+impl InstanceReport {
+    ghost use Rattle.bf_report.specs.Report.{state_word, value_word, pulled_word};
+
+    /// An instance that was given nothing, as far as is known.
+    #[inline(always)]
+    pub fn bare(alloc: Global, ended: TaskResult) -> Result<InstanceReport, OutOfMemory>
+        ensures { IfOk result (λ instance. instance ≡ record { result = ended; item = None; pulls = [] }) }
+    {
+        let TaskResult { outcome, tries } = ended;
+        let kept = match outcome {
+            Outcome::Success(None) => Kept::Success,
+            Outcome::Failed => Kept::Failed,
+            Outcome::Skipped => Kept::Skipped,
+            Outcome::Success(Some(value)) => Kept::Told(Box::new(
+                alloc,
+                Told {
+                    outcome: Outcome::Success(Some(value)),
+                    item: None,
+                    pulls: Sequence::new(alloc),
+                },
+            )?),
+        };
+        Ok(InstanceReport { tries, kept })
+    }
+
+    /// An instance with what it was given.
+    pub fn new(
+        alloc: Global,
+        ended: TaskResult,
+        item: Option<Xval>,
+        pulls: Sequence<Pull>,
+    ) -> Result<InstanceReport, OutOfMemory>
+        ensures { IfOk result (λ instance. instance ≡ record { result = ended; item = item; pulls = pulls }) }
+    {
+        if item.is_none() && pulls.is_empty() {
+            return InstanceReport::bare(alloc, ended);
+        }
+        let TaskResult { outcome, tries } = ended;
+        let told = Told {
+            outcome,
+            item,
+            pulls,
+        };
+        let kept = Kept::Told(Box::new(alloc, told)?);
+        Ok(InstanceReport { tries, kept })
+    }
+
+    /// What came of it.
+    pub fn result(&self, alloc: Global) -> Result<TaskResult, OutOfMemory>
+        ensures { IfOk result (λ ended. ended ≡ self.now.result) }
+    {
+        let outcome = match &self.kept {
+            Kept::Success => Outcome::Success(None),
+            Kept::Failed => Outcome::Failed,
+            Kept::Skipped => Outcome::Skipped,
+            Kept::Told(told) => told.outcome.copy(alloc)?,
+        };
+        let tries = self.tries;
+        Ok(TaskResult { outcome, tries })
+    }
+
+    /// The word for how its last try ended.
+    pub(crate) fn state(&self) -> &'static str
+        ensures { result.now ≡ state_word self.now.result.outcome }
+    {
+        match &self.kept {
+            Kept::Success => "success",
+            Kept::Failed => "failed",
+            Kept::Skipped => "skipped",
+            Kept::Told(told) => match told.outcome {
+                Outcome::Success(_) => "success",
+                Outcome::Failed => "failed",
+                Outcome::Skipped => "skipped",
+            },
+        }
+    }
+
+    /// The number of its last try.
+    pub(crate) fn tries(&self) -> u32
+        ensures { result ≡ self.now.result.tries }
+    {
+        self.tries
+    }
+
+    /// What it pushed.
+    pub(crate) fn pushed(&self) -> Option<&Xval>
+        ensures { pulled_word (option_copied result) ≡ value_word self.now.result.outcome }
+    {
+        match &self.kept {
+            Kept::Told(told) => match &told.outcome {
+                Outcome::Success(pushed) => pushed.as_ref(),
+                Outcome::Failed | Outcome::Skipped => None,
+            },
+            Kept::Success | Kept::Failed | Kept::Skipped => None,
+        }
+    }
+
+    /// Its item.
+    pub fn item(&self) -> Option<&Xval>
+        ensures { option_copied result ≡ self.now.item }
+    {
+        match &self.kept {
+            Kept::Told(told) => told.item.as_ref(),
+            Kept::Success | Kept::Failed | Kept::Skipped => None,
+        }
+    }
+
+    /// What it pulled, in the order of its task's pulls.
+    pub fn pulls(&self) -> &[Pull]
+        ensures { result.now ≡ self.now.pulls }
+    {
+        match &self.kept {
+            Kept::Told(told) => told.pulls.as_slice(),
+            Kept::Success | Kept::Failed | Kept::Skipped => &[],
+        }
+    }
+
+    /// Says what its item was, in the place of what was said before.
+    pub fn set_item(&mut self, alloc: Global, item: Xval) -> Result<(), OutOfMemory>
+        ensures { OnOk result (self.new ≡ record self.old { item = Some item }) }
+    {
+        if let Kept::Told(told) = &mut self.kept {
+            told.item = Some(item);
+            return Ok(());
+        }
+        let TaskResult { outcome, .. } = self.result(alloc)?;
+        let told = Told {
+            outcome,
+            item: Some(item),
+            pulls: Sequence::new(alloc),
+        };
+        self.kept = Kept::Told(Box::new(alloc, told)?);
+        Ok(())
+    }
+
+    /// Adds a pull behind the others.
+    pub fn add_pull(&mut self, alloc: Global, pull: Pull) -> Result<(), OutOfMemory>
+        ensures { OnOk result (self.new ≡ record self.old { pulls = self.old.pulls ++ pull ∷ [] }) }
+    {
+        if let Kept::Told(told) = &mut self.kept {
+            return told.pulls.push(pull);
+        }
+        let mut pulls = Sequence::new(alloc);
+        pulls.push(pull)?;
+        let TaskResult { outcome, .. } = self.result(alloc)?;
+        let told = Told {
+            outcome,
+            item: None,
+            pulls,
+        };
+        self.kept = Kept::Told(Box::new(alloc, told)?);
+        Ok(())
+    }
 }
 
 /// What came of a task in a run: it was blocked, which is reported as `no_status`; or it was skipped, or

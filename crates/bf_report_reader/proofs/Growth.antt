@@ -19,7 +19,7 @@ use Rattle.bf_report.proofs.GivenFacts.{pull_more, item_more, last_more}
 use Rattle.bf_report_reader.specs.declared.entry.Untried.{Untried}
 use Rattle.bf_report_reader.specs.declared.entry.Entry.{Entry}
 use Rattle.bf_report_reader.specs.declared.part.GivenPart.{GivenPart}
-use Rattle.bf_report_reader.specs.declared.open.OpenTask.{OpenTask}
+use Rattle.bf_report_reader.specs.Open.{OpenTask}
 use Rattle.bf_report_reader.specs.declared.open.OpenRun.{OpenRun}
 use Rattle.bf_report_reader.specs.declared.beginning.Beginning.{Beginning}
 use Rattle.bf_report_reader.specs.Parts.{part_text}
@@ -33,11 +33,11 @@ flat_push : {X : Type 0} (f : X → List ℕ) (xs : List X) (y : X) → flat_map
 flat_push f [] y = append-nil (f y)
 flat_push f (x ∷ xs) y = ap (λ t. f x ++ t) (flat_push f xs y) ∙ sym (append_assoc (f x) (flat_map f xs) (f y))
 
-get_last : (ids : List (List ℕ)) (id : List ℕ) (n : ℕ) → n ≡ length ids → slice_get (ids ++ id ∷ []) n ≡ Some id
-get_last [] id zero e = refl
-get_last [] id (suc n) e = absurd (omega arith)
-get_last (i ∷ is) id zero e = absurd (omega arith)
-get_last (i ∷ is) id (suc n) e = get_last is id n (omega arith)
+pub get_last : {X : Type 0} (xs : List X) (x : X) (n : ℕ) → n ≡ length xs → slice_get (xs ++ x ∷ []) n ≡ Some x
+get_last [] x zero e = refl
+get_last [] x (suc n) e = absurd (omega arith)
+get_last (y ∷ ys) x zero e = absurd (omega arith)
+get_last (y ∷ ys) x (suc n) e = get_last ys x n (omega arith)
 
 pub get_within : (ids : List (List ℕ)) (id : List ℕ) (n : ℕ) → slice_get ids n ≡ Some id → n < length ids
 get_within [] id n e = absurd (cc)

@@ -5,8 +5,10 @@ pub mod Words
 pub mod Spelled
 pub mod IdFacts
 pub mod Growth
+pub mod PartingFacts
 pub mod HeldFacts
 pub mod Pieces
+pub mod Taking
 pub mod RunFacts
 pub mod Rooms
 pub mod Ruled

@@ -9,6 +9,17 @@ use Rattle.bf_report_reader.specs.Faults.{IsInLine, longest_line}
 abbrev pub held_bytes : Held → List ℕ
 held_bytes h = drop h.start (take h.end h.room.items)
 
+-- the line before them that was taken off whole
+abbrev pub held_line : Held → List ℕ
+held_line h = drop h.line_start (take h.line_end h.room.items)
+
+-- a line was taken off whole, with its line feed
+pub record TakesLine (old new : Held) : Type 0 where
+  pub taken : held_bytes old ≡ held_line new ++ 10 ∷ held_bytes new
+  pub in_line : IsInLine (held_line new)
+  pub short : length (held_line new) ≤ longest_line (held_line new)
+  pub same : new.interruptions ≡ old.interruptions
+
 -- the bytes to come, where the device tells what it has left
 abbrev pub ahead : Held → Option (List ℕ) → Option (List ℕ)
 ahead h left = prepend_known (held_bytes h) left

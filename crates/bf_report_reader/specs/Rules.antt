@@ -10,7 +10,7 @@ use Rattle.bf_report.specs.declared.report.InstanceReport.{InstanceReport}
 use Rattle.bf_report.specs.declared.report.TaskReport.{TaskReport}
 use Rattle.bf_report.specs.declared.report.RunReport.{RunReport}
 use Rattle.bf_report.specs.declared.report.Report.{Report}
-use Rattle.bf_report_reader.specs.declared.open.OpenTask.{OpenTask}
+use Rattle.bf_report_reader.specs.Open.{OpenTask}
 use Rattle.bf_report_reader.specs.declared.open.OpenRun.{OpenRun}
 use Rattle.bf_report_reader.specs.declared.beginning.Beginning.{Beginning}
 use Rattle.bf_report_reader.specs.Entries.{IsShownResult}

@@ -18,7 +18,7 @@ fn close(runs: &mut Sequence<RunReport>, run: Option<OpenRun>) -> Result<(), Out
     ensures { OnOk result (runs.new ≡ runs.old ++ last_run run) }
 {
     if let Some(open) = run {
-        runs.push(open.into_run()?)?;
+        runs.push(open.into_run())?;
     }
     Ok(())
 }
@@ -94,23 +94,21 @@ impl Beginning {
             return false;
         }
         match &self.run {
-            Some(open) => open.run.interval.start < interval.start,
+            Some(open) => open.starts_before(interval),
             None => true,
         }
     }
 
     /// Adds a run without its tasks, where it may stand next.
     pub fn add_run(&mut self, run: RunReport) -> Result<bool, OutOfMemory>
+        requires { run.tasks ≡ [] }
         ensures { IfOk result (λ taken.
             with_run self.old run ≡ (if taken then Some self.new else None)) }
     {
         if !self.may_begin(run.interval) {
             return Ok(false);
         }
-        close(
-            &mut self.runs,
-            self.run.replace(OpenRun { run, task: None }),
-        )?;
+        close(&mut self.runs, self.run.replace(OpenRun::new(run)))?;
         Ok(true)
     }
 
@@ -199,10 +197,10 @@ impl Beginning {
         let Some(open) = &self.run else {
             return false;
         };
-        if !open.goes_on(self.version, index) {
+        if !open.is_given(self.version) || !open.goes_on(index) {
             return false;
         }
-        self.tasks.has_at(open.run.tasks.len(), id)
+        self.tasks.has_at(open.count() - 1, id)
     }
 
     /// Adds a further instance of an expanded task, where it may stand next.
@@ -250,7 +248,7 @@ impl Beginning {
     }
 
     /// Adds a part of what the instance that was read last was given, where it may stand next.
-    pub fn add_part(&mut self, part: GivenPart) -> Result<bool, OutOfMemory>
+    pub fn add_part(&mut self, alloc: Global, part: GivenPart) -> Result<bool, OutOfMemory>
         ensures { IfOk result (λ taken.
             with_part self.old part ≡ (if taken then Some self.new else None)) }
     {
@@ -258,7 +256,7 @@ impl Beginning {
             return Ok(false);
         }
         if let Some(open) = &mut self.run {
-            open.add_part(part)?;
+            open.add_part(alloc, part)?;
         }
         Ok(true)
     }

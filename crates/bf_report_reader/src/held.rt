@@ -1,30 +1,47 @@
 //! The bytes of a device, over a room that is filled by few reads.
-ghost use Rattle.std.specs.Prelude.{◌≡◌, [], ◌≤◌, ◌<◌, ◌↔◌, length, drop, false, IfOk, OnOk, OnErr, IsTrue};
+ghost use Rattle.std.specs.Prelude.{◌≡◌, ◌==◌, [], ◌≤◌, ◌<◌, ◌↔◌, length, position, drop, false, IfOk, OnOk, OnErr, IsTrue, MatchBool};
 ghost use Rattle.std.specs.Io.KnownBytes.{Consumes, IsAtEnd};
 
 use crate::fault::Halted;
 use bf_device::{Halt, MOST_INTERRUPTIONS, Read};
 use bf_value::OutOfMemory;
+use memchr::memchr;
 use std::alloc::Global;
+
+/// How many bytes a line may have, its line feed not counted.
+pub(crate) const LONGEST_LINE: usize = 66_000;
 
 /// How many bytes one read may give.
 const ROOM: usize = 8_192;
 
-/// The bytes that were read from a device and not used yet, and how often it was interrupted.
+/// Where the first line feed stands.
+#[tactic(auto, using(crate::proofs::Finding::first_is))]
+pub(crate) fn line_feed_in(bytes: &[u8]) -> Option<usize>
+    ensures { result ≡ position (λ b. b == 10) bytes.now }
+{
+    memchr(b'\n', bytes)
+}
+
+/// The bytes that were read from a device and not used yet, the line before them that was taken off whole, and how often
+/// the device was interrupted.
 #[derive(Drop)]
 pub(crate) struct Held {
     pub room: Vec<u8>,
     pub start: usize,
     pub end: usize,
+    pub line_start: usize,
+    pub line_end: usize,
     pub interruptions: u32,
     ghost in_order: { start ≤ end },
     ghost within: { end ≤ length room.items },
+    ghost line_in_order: { line_start ≤ line_end },
+    ghost line_within: { line_end ≤ length room.items },
     ghost some_room: { 0 < length room.items },
     ghost few: { interruptions ≤ 1_000 },
 }
 
 impl Held {
-    ghost use Rattle.bf_report_reader.specs.Held.{held_bytes, ahead, Tallies, Breaks};
+    ghost use Rattle.bf_report_reader.specs.Held.{held_bytes, held_line, ahead, Tallies, Breaks, TakesLine};
 
     pub fn new(alloc: Global) -> Result<Held, OutOfMemory>
         ensures { IfOk result (λ held. (held_bytes held ≡ []) × (held.interruptions ≡ 0)) }
@@ -33,6 +50,8 @@ impl Held {
             room: vec![in alloc; 0; ROOM]?,
             start: 0,
             end: 0,
+            line_start: 0,
+            line_end: 0,
             interruptions: 0,
         })
     }
@@ -104,5 +123,27 @@ impl Held {
         ensures same { self.new.interruptions ≡ self.old.interruptions }
     {
         self.start += count;
+    }
+
+    /// Takes a line off that is held whole, where its line feed comes soon enough for any line. Says whether it could.
+    pub fn take_line(&mut self) -> bool
+        ensures { MatchBool result (TakesLine self.old self.new) (self.new ≡ self.old) }
+    {
+        match line_feed_in(self.bytes()) {
+            Some(at) if at <= LONGEST_LINE => {
+                self.line_start = self.start;
+                self.line_end = self.start + at;
+                self.start += at + 1;
+                true
+            }
+            _ => false,
+        }
+    }
+
+    /// The line that was taken off whole.
+    pub fn line(&self) -> &[u8]
+        ensures { result.now ≡ held_line self.now }
+    {
+        &self.room[self.line_start..self.line_end]
     }
 }

@@ -1,16 +1,12 @@
 //! Lines, taken off a device.
-ghost use Rattle.std.specs.Prelude.{◌≡◌, ◌==◌, ◌≤◌, if◌then◌else◌, length, position, IfOk, OnOk, IfErr};
+ghost use Rattle.std.specs.Prelude.{◌≡◌, ◌≤◌, if◌then◌else◌, length, IfOk, OnOk, IfErr};
 ghost use Rattle.bf_report_reader.specs.Held.{held_bytes, ahead, Tallies, Breaks, MovesPiece};
 ghost use Rattle.bf_report_reader.specs.Faults.{longest_line, Came, IsInLine, IsFromOutside};
 
 use crate::fault::ReportFault;
-use crate::held::Held;
+use crate::held::{Held, LONGEST_LINE, line_feed_in};
 use bf_device::Read;
 use bf_value::OutOfMemory;
-use memchr::memchr;
-
-/// How many bytes a line may have, its line feed not counted.
-const LONGEST_LINE: usize = 66_000;
 
 /// How many bytes the line of a pull may have.
 const LONGEST_PULL_LINE: usize = 68_000_000;
@@ -34,14 +30,6 @@ fn limit_of(line: &[u8]) -> usize
     } else {
         LONGEST_LINE
     }
-}
-
-/// Where the first line feed stands.
-#[tactic(auto, using(crate::proofs::Finding::first_is))]
-fn line_feed_in(bytes: &[u8]) -> Option<usize>
-    ensures { result ≡ position (λ b. b == 10) bytes.now }
-{
-    memchr(b'\n', bytes)
 }
 
 /// Moves bytes that are held to a line, up to the first that is one too many for it, or up to the line feed, which is

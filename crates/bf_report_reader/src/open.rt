@@ -1,18 +1,22 @@
-//! The run whose tasks are read, and its task that may have more lines.
+//! The run whose tasks are read, of which the last may have more lines.
 //!
-//! What hands a task on is inlined, here and in `beginning`: else each call moves it, which took a seventh of a report's reading.
-ghost use Rattle.std.specs.Prelude.{◌≡◌, ◌&&◌, ◌∷◌, ◌++◌, [], IfOk, OnOk, Some, None};
+//! What hands a task on is inlined, here and in `beginning`: else each call moves it.
+ghost use Rattle.std.specs.Prelude.{◌≡◌, ◌∷◌, ◌++◌, [], ℕ, true, IfOk, OnOk, IfSome, IfNone, Some, None, int_lt};
 ghost use Rattle.std.specs.List.{list_any};
 ghost use Rattle.std.specs.Str.{bytes_eq};
-ghost use Rattle.bf_report_reader.specs.Beginning.{open_task, never_report, opened_by, count as counted, closed, most_told, lacks_no_item, takes, told, untold as untold_of, further, is_further, is_further_task, is_given_task, takes_task, put_task, put_open, put_further, put_part};
+ghost use Rattle.bf_report_reader.specs.Parting.{open_by};
+ghost use Rattle.bf_report_reader.specs.Lasts.{told_instances, told_task, further_task, at_last};
+ghost use Rattle.bf_report_reader.specs.Beginning.{never_report, opened_by, count as counted, closed, most_told, with_told, is_further_task, is_given_task, takes as may_take, takes_task, put_task, put_open, put_further, put_part};
 
 use crate::entry::Untried;
 use crate::part::GivenPart;
+use bf_interval::Interval;
 use bf_read::MOST_PULLS;
 use bf_report::{InstanceReport, RunReport, TaskReport, Version};
 use bf_value::{OutOfMemory, Sequence};
 use bf_xcom::TaskResult;
 use std::alloc::Global;
+use std::marker::Model;
 
 /// How many pulls an instance may have.
 fn most_pulls(version: Version) -> usize
@@ -24,107 +28,150 @@ fn most_pulls(version: Version) -> usize
     }
 }
 
-/// An instance of which its own line was read.
-fn untold(alloc: Global, ended: TaskResult) -> InstanceReport
-    ensures { result ≡ untold_of ended }
+/// Whether the last instance of a task has its item, where the version tells one.
+fn has_its_item(version: Version, task: &TaskReport) -> bool
+    ensures { result ≡ is_given_task version (open_by task.now) }
 {
-    InstanceReport {
-        result: ended,
-        item: None,
-        pulls: Sequence::new(alloc),
+    match (version, task) {
+        (Version::Two, TaskReport::Mapped(instances)) => match instances.as_slice().last() {
+            Some(instance) => instance.item().is_some(),
+            None => true,
+        },
+        _ => true,
     }
 }
 
-/// The instances of a task that may have more lines, or more instances: the ones before the last, where it is expanded,
-/// and the last.
-#[derive(Drop)]
-pub(crate) struct OpenTask {
-    pub before: Option<Sequence<InstanceReport>>,
-    pub instance: InstanceReport,
+/// Whether an instance has a pull from the task of an id.
+fn has_pull(instance: &InstanceReport, id: &str) -> bool
+    ensures { result ≡ list_any (λ pull. bytes_eq pull.task id.now) instance.now.pulls }
+{
+    instance.pulls().iter().any(|pull| pull.task.as_str() == id)
 }
 
-impl OpenTask {
-    /// A task by its first instance.
-    pub fn new(alloc: Global, is_expanded: bool, first: TaskResult) -> OpenTask
-        ensures { result ≡ opened_by is_expanded first }
-    {
-        let before = if is_expanded {
-            Some(Sequence::new(alloc))
-        } else {
-            None
-        };
-        OpenTask {
-            before,
-            instance: untold(alloc, first),
+/// Whether a part of what an instance was given may stand next, behind its item, where it has one, or in its place.
+fn takes_part(version: Version, is_given: bool, instance: &InstanceReport, part: &GivenPart) -> bool
+    ensures { result ≡ may_take version is_given instance.now part.now }
+{
+    match part {
+        GivenPart::Item(_) => !is_given,
+        GivenPart::Pull(pull) => {
+            is_given
+                && instance.pulls().len() < most_pulls(version)
+                && !has_pull(instance, pull.task.as_str())
         }
     }
+}
 
-    /// Whether its last instance has its item, where the version tells one.
-    pub fn has_its_item(&self, version: Version) -> bool
-        ensures { result ≡ lacks_no_item version self.now }
-    {
-        match (version, &self.before) {
-            (Version::Two, Some(_)) => self.instance.item.is_some(),
-            (Version::One, _) | (Version::Two, None) => true,
-        }
-    }
-
-    /// Whether its last instance has a pull from the task of an id.
-    fn has_pull(&self, id: &str) -> bool
-        ensures { result ≡ list_any (λ pull. bytes_eq pull.task id.now) self.now.instance.pulls }
-    {
-        self.instance
-            .pulls
-            .as_slice()
-            .iter()
-            .any(|pull| pull.task.as_str() == id)
-    }
-
-    /// Whether a part of what its last instance was given may stand next.
-    fn takes(&self, version: Version, part: &GivenPart) -> bool
-        ensures { result ≡ takes version (lacks_no_item version self.now) self.now.instance part.now }
-    {
-        match part {
-            GivenPart::Item(_) => !self.has_its_item(version),
-            GivenPart::Pull(pull) => {
-                self.has_its_item(version)
-                    && self.instance.pulls.len() < most_pulls(version)
-                    && !self.has_pull(pull.task.as_str())
-            }
-        }
-    }
-
-    /// Adds a part of what its last instance was given.
-    fn add_part(&mut self, part: GivenPart) -> Result<(), OutOfMemory>
-        ensures { OnOk result (self.new ≡ told self.old part) }
-    {
-        match part {
-            GivenPart::Item(item) => self.instance.item = Some(item),
-            GivenPart::Pull(pull) => self.instance.pulls.push(pull)?,
-        }
-        Ok(())
-    }
-
-    /// Whether an instance with this index is the next.
-    fn is_further(&self, index: u32) -> bool
-        ensures { result ≡ is_further self.now.before index }
-    {
-        match &self.before {
-            Some(before) => before.as_slice().len() + 1 == index as usize,
+/// Whether a part of what the last instance of a task was given may stand next.
+fn takes(version: Version, task: &TaskReport, part: &GivenPart) -> bool
+    ensures { result ≡ takes_task version (open_by task.now) part.now }
+{
+    let is_given = has_its_item(version, task);
+    match task {
+        TaskReport::Ran(instance) => takes_part(version, is_given, instance, part),
+        TaskReport::Mapped(instances) => match instances.as_slice().last() {
+            Some(instance) => takes_part(version, is_given, instance, part),
             None => false,
-        }
+        },
+        TaskReport::NoStatus | TaskReport::Skipped | TaskReport::UpstreamFailed => false,
     }
+}
 
-    /// Adds a further instance of an expanded task.
-    fn add_instance(&mut self, alloc: Global, ended: TaskResult) -> Result<(), OutOfMemory>
-        ensures { OnOk result (self.new ≡ further self.old ended) }
-    {
-        let last = std::mem::replace(&mut self.instance, untold(alloc, ended));
-        if let Some(before) = &mut self.before {
-            before.push(last)?;
-        }
-        Ok(())
+/// Whether an instance with this index is the next of a task.
+fn is_next_index(task: &TaskReport, index: u32) -> bool
+    ensures { result ≡ is_further_task (open_by task.now) index }
+{
+    match task {
+        TaskReport::Mapped(instances) => index > 0 && instances.len() == index as usize,
+        _ => false,
     }
+}
+
+/// Tells a part of what an instance was given.
+fn tell(alloc: Global, instance: &mut InstanceReport, part: GivenPart) -> Result<(), OutOfMemory>
+    ensures { OnOk result (instance.new ≡ with_told instance.old part) }
+{
+    match part {
+        GivenPart::Item(item) => instance.set_item(alloc, item),
+        GivenPart::Pull(pull) => instance.add_pull(alloc, pull),
+    }
+}
+
+/// Tells a part of what the last of these instances was given.
+fn tell_last(
+    alloc: Global,
+    instances: &mut Sequence<InstanceReport>,
+    part: GivenPart,
+) -> Result<(), OutOfMemory>
+    ensures { OnOk result (instances.new ≡ told_instances part instances.old) }
+{
+    let Some(instance) = instances.items.last_mut() else {
+        return Ok(());
+    };
+    tell(alloc, instance, part)
+}
+
+/// Tells a part of what the last instance of a task was given.
+fn tell_task(alloc: Global, task: &mut TaskReport, part: GivenPart) -> Result<(), OutOfMemory>
+    ensures { OnOk result (task.new ≡ told_task part task.old) }
+{
+    match task {
+        TaskReport::Ran(instance) => tell(alloc, instance, part),
+        TaskReport::Mapped(instances) => tell_last(alloc, instances, part),
+        TaskReport::NoStatus | TaskReport::Skipped | TaskReport::UpstreamFailed => Ok(()),
+    }
+}
+
+/// Tells a part of what the last instance of the last of these tasks was given.
+fn tell_last_task(
+    alloc: Global,
+    tasks: &mut Sequence<TaskReport>,
+    part: GivenPart,
+) -> Result<(), OutOfMemory>
+    ensures { OnOk result (tasks.new ≡ at_last (told_task part) tasks.old) }
+{
+    let Some(task) = tasks.items.last_mut() else {
+        return Ok(());
+    };
+    tell_task(alloc, task, part)
+}
+
+/// Adds a further instance to a task, where it is expanded.
+fn go_on(alloc: Global, task: &mut TaskReport, ended: TaskResult) -> Result<(), OutOfMemory>
+    ensures { OnOk result (task.new ≡ further_task ended task.old) }
+{
+    match task {
+        TaskReport::Mapped(instances) => instances.push(InstanceReport::bare(alloc, ended)?),
+        _ => Ok(()),
+    }
+}
+
+/// Adds a further instance to the last of these tasks, where it is expanded.
+fn go_on_last(
+    alloc: Global,
+    tasks: &mut Sequence<TaskReport>,
+    ended: TaskResult,
+) -> Result<(), OutOfMemory>
+    ensures { OnOk result (tasks.new ≡ at_last (further_task ended) tasks.old) }
+{
+    let Some(task) = tasks.items.last_mut() else {
+        return Ok(());
+    };
+    go_on(alloc, task, ended)
+}
+
+/// Tells a part of what the instance of a run that was read last was given.
+fn tell_run(alloc: Global, run: &mut RunReport, part: GivenPart) -> Result<(), OutOfMemory>
+    ensures { OnOk result (run.new ≡ record run.old { tasks = at_last (told_task part) run.old.tasks }) }
+{
+    tell_last_task(alloc, &mut run.tasks, part)
+}
+
+/// Adds a further instance to the last task of a run, where it is expanded.
+fn go_on_run(alloc: Global, run: &mut RunReport, ended: TaskResult) -> Result<(), OutOfMemory>
+    ensures { OnOk result (run.new ≡ record run.old { tasks = at_last (further_task ended) run.old.tasks }) }
+{
+    go_on_last(alloc, &mut run.tasks, ended)
 }
 
 /// Puts a task behind the others of a run.
@@ -136,55 +183,69 @@ fn push(run: &mut RunReport, task: TaskReport) -> Result<(), OutOfMemory>
     Ok(())
 }
 
-/// Puts a task that has no more lines behind the others of a run.
+/// A task by its first instance.
 #[inline(always)]
-fn close(run: &mut RunReport, task: Option<OpenTask>) -> Result<(), OutOfMemory>
-    ensures { OnOk result (run.new ≡ record run.old { tasks = run.old.tasks ++ open_task task }) }
+fn begun(alloc: Global, is_expanded: bool, first: TaskResult) -> Result<TaskReport, OutOfMemory>
+    ensures { IfOk result (λ task. open_by task ≡ Some (opened_by is_expanded first)) }
 {
-    let Some(task) = task else {
-        return Ok(());
-    };
-    let OpenTask { before, instance } = task;
-    let Some(mut instances) = before else {
-        return push(run, TaskReport::Ran(instance));
-    };
+    let instance = InstanceReport::bare(alloc, first)?;
+    if !is_expanded {
+        return Ok(TaskReport::Ran(instance));
+    }
+    let mut instances = Sequence::new(alloc);
     instances.push(instance)?;
-    push(run, TaskReport::Mapped(instances))
+    Ok(TaskReport::Mapped(instances))
 }
 
-/// The run whose tasks are read.
+/// The run whose tasks are read. A task that ran is put behind the others at once: most have one line. Contracts see it
+/// apart from the others while it stands last, since it may have more.
 #[derive(Drop)]
 pub(crate) struct OpenRun {
-    pub run: RunReport,
-    /// The task that may have more lines. It stands behind the tasks of the run.
-    pub task: Option<OpenTask>,
+    run: RunReport,
+}
+
+impl Model for OpenRun {
+    ghost use Rattle.std.specs.Coded.{codes};
+    ghost use Rattle.bf_report.specs.contracts.report.InstanceReport as i;
+    ghost use Rattle.bf_report.specs.contracts.report.RunReport as r;
+    ghost use Rattle.bf_report_reader.specs.Open.{RunSoFar};
+
+    ghost Value = { RunSoFar };
+
+    ghost coded = { Prim.hlevel (codes, i.the_row.coded, r.the_row.coded) };
+
+    ghost use Rattle.bf_report_reader.specs.Parting.{run_so_far};
+
+    ghost view = { λ o. run_so_far o.run };
 }
 
 impl OpenRun {
+    /// A run of which its own line was read.
+    pub fn new(run: RunReport) -> OpenRun
+        requires { run.tasks ≡ [] }
+        ensures { result ≡ record { run = run; task = None } }
+    {
+        OpenRun { run }
+    }
+
+    /// Whether it starts before a data interval.
+    pub fn starts_before(&self, interval: Interval) -> bool
+        ensures { result ≡ int_lt self.now.run.interval.start.nanosecond interval.start.nanosecond }
+    {
+        self.run.interval.start < interval.start
+    }
+
     /// How many tasks were read.
     pub fn count(&self) -> usize
         ensures { result ≡ counted self.now }
     {
-        // a slice has so few items that one more can be counted
-        match self.task {
-            Some(_) => self.run.tasks.as_slice().len() + 1,
-            None => self.run.tasks.len(),
-        }
-    }
-
-    /// Puts the task that may have had more lines behind the others.
-    #[inline(always)]
-    fn close_task(&mut self) -> Result<(), OutOfMemory>
-        ensures { OnOk result (self.new ≡ record { run = closed self.old; task = None }) }
-    {
-        close(&mut self.run, self.task.take())
+        self.run.tasks.len()
     }
 
     /// Puts a task without a try behind the others.
     pub fn add_task(&mut self, untried: Untried) -> Result<(), OutOfMemory>
         ensures { OnOk result (put_task (Some self.old) (never_report untried) ≡ Some self.new) }
     {
-        self.close_task()?;
         push(&mut self.run, untried.report())
     }
 
@@ -198,67 +259,67 @@ impl OpenRun {
     ) -> Result<(), OutOfMemory>
         ensures { OnOk result (put_open (Some self.old) (opened_by is_expanded first) ≡ Some self.new) }
     {
-        self.close_task()?;
-        self.task = Some(OpenTask::new(alloc, is_expanded, first));
-        Ok(())
+        push(&mut self.run, begun(alloc, is_expanded, first)?)
+    }
+
+    /// The task that stands last.
+    fn last(&self) -> Option<&TaskReport>
+        ensures some { IfSome result (λ task. open_by task.now ≡ self.now.task) }
+        ensures none { IfNone result (self.now.task ≡ None) }
+    {
+        self.run.tasks.as_slice().last()
     }
 
     /// Whether the instance that was read last has its item, where the version tells one.
     pub fn is_given(&self, version: Version) -> bool
         ensures { result ≡ is_given_task version self.now.task }
     {
-        match &self.task {
-            Some(task) => task.has_its_item(version),
+        match self.last() {
+            Some(task) => has_its_item(version, task),
             None => true,
         }
     }
 
     /// Whether an instance with this index is the next of the task that may have more.
-    pub fn goes_on(&self, version: Version, index: u32) -> bool
-        ensures { result ≡ (is_given_task version self.now.task && is_further_task self.now.task index) }
+    pub fn goes_on(&self, index: u32) -> bool
+        ensures { result ≡ is_further_task self.now.task index }
     {
-        match &self.task {
-            Some(task) => task.has_its_item(version) && task.is_further(index),
+        match self.last() {
+            Some(task) => is_next_index(task, index),
             None => false,
         }
     }
 
     /// Adds a further instance of an expanded task.
     pub fn add_instance(&mut self, alloc: Global, ended: TaskResult) -> Result<(), OutOfMemory>
+        requires { (index : ℕ) × (is_further_task self.old.task index ≡ true) }
         ensures { OnOk result (put_further (Some self.old) ended ≡ Some self.new) }
     {
-        if let Some(task) = &mut self.task {
-            task.add_instance(alloc, ended)?;
-        }
-        Ok(())
+        go_on_run(alloc, &mut self.run, ended)
     }
 
     /// Whether a part of what the instance that was read last was given may stand next.
     pub fn takes(&self, version: Version, part: &GivenPart) -> bool
         ensures { result ≡ takes_task version self.now.task part.now }
     {
-        match &self.task {
-            Some(task) => task.takes(version, part),
+        match self.last() {
+            Some(task) => takes(version, task, part),
             None => false,
         }
     }
 
     /// Adds a part of what the instance that was read last was given.
-    pub fn add_part(&mut self, part: GivenPart) -> Result<(), OutOfMemory>
+    pub fn add_part(&mut self, alloc: Global, part: GivenPart) -> Result<(), OutOfMemory>
         ensures { OnOk result (put_part (Some self.old) part ≡ Some self.new) }
     {
-        if let Some(task) = &mut self.task {
-            task.add_part(part)?;
-        }
-        Ok(())
+        tell_run(alloc, &mut self.run, part)
     }
 
     /// Gives the run up.
-    pub fn into_run(self) -> Result<RunReport, OutOfMemory>
-        ensures { IfOk result (λ run. run ≡ closed self) }
+    pub fn into_run(self) -> RunReport
+        ensures { result ≡ closed self }
     {
-        let OpenRun { mut run, task } = self;
-        close(&mut run, task)?;
-        Ok(run)
+        let OpenRun { run } = self;
+        run
     }
 }

@@ -5,6 +5,7 @@ ghost use Rattle.bf_device.specs.Device.{HasHalted};
 ghost use Rattle.bf_report.specs.Report.{version_word, report_text};
 ghost use Rattle.bf_report_reader.specs.Reads.{IsWord, Finds};
 ghost use Rattle.bf_report_reader.specs.Held.{held_bytes, ahead, Tallies, Breaks};
+ghost use Rattle.bf_report_reader.specs.Lines.{line_in};
 ghost use Rattle.bf_report_reader.specs.Beginning.{IsCounted, IsSmall, so_far, opening_text};
 ghost use Rattle.bf_report_reader.specs.Rules.{IsRuled, IsShownReport};
 ghost use Rattle.bf_report_reader.specs.Faults.{longest_line, IsInLine, StopsAt, Tells, IsReportText, IsFromOutside, lines_in};
@@ -25,11 +26,13 @@ use bf_report::{Report, RunReport, Version};
 use bf_value::{OutOfMemory, Sequence, Text};
 use std::alloc::Global;
 
-/// The bytes of a device, the line that was read last, and its number.
+/// The bytes of a device, the line that was read last, and its number. Most lines are held whole, and lent from there;
+/// one that comes in pieces is put together.
 #[derive(Drop)]
 struct Lines {
     held: Held,
-    line: Vec<u8>,
+    is_held: bool,
+    pieces: Vec<u8>,
     number: u64,
 }
 
@@ -40,7 +43,8 @@ impl Lines {
     {
         Ok(Lines {
             held: Held::new(alloc)?,
-            line: Vec::new(alloc),
+            is_held: false,
+            pieces: Vec::new(alloc),
             number: 0,
         })
     }
@@ -49,10 +53,10 @@ impl Lines {
     fn read<R: Read>(&mut self, device: &mut R) -> Result<(), ReportFault>
         requires { self.old.number < 300_000_000_000 }
         ensures line { OnOk result (Consumes (ahead self.old.held (R.left device.old))
-            (ahead self.new.held (R.left device.new)) (self.new.line.items ++ 10 ∷ [])) }
-        ensures in_line { OnOk result (IsInLine self.new.line.items) }
+            (ahead self.new.held (R.left device.new)) (line_in self.new ++ 10 ∷ [])) }
+        ensures in_line { OnOk result (IsInLine (line_in self.new)) }
         ensures short { OnOk result
-            (length self.new.line.items ≤ longest_line self.new.line.items) }
+            (length (line_in self.new) ≤ longest_line (line_in self.new)) }
         ensures stops { IfErr result (λ fault.
             IfSome (ahead self.old.held (R.left device.old)) (StopsAt fault (self.old.number + 1))) }
         ensures number { OnOk result (self.new.number ≡ self.old.number + 1) }
@@ -65,10 +69,25 @@ impl Lines {
             (R.interruptions device.new) (R.failures device.new)) }
     {
         self.number += 1;
-        match next_line(&mut self.held, device, &mut self.line)? {
+        self.is_held = self.held.take_line();
+        if self.is_held {
+            return Ok(());
+        }
+        match next_line(&mut self.held, device, &mut self.pieces)? {
             LineEnd::LineFeed => Ok(()),
             LineEnd::Nothing => Err(ReportFault::Truncated),
             LineEnd::TooMuch => Err(ReportFault::TooLong(self.number)),
+        }
+    }
+
+    /// The line that was read last.
+    fn line(&self) -> &[u8]
+        ensures { result.now ≡ line_in self.now }
+    {
+        if self.is_held {
+            self.held.line()
+        } else {
+            self.pieces.as_slice()
         }
     }
 }
@@ -173,7 +192,7 @@ fn read_item(alloc: Global, beginning: &mut Beginning, text: &[u8]) -> Result<St
         Steps step beginning.old (codes "@item" ++ 32 ∷ text.now) beginning.new) }
 {
     match item_in(alloc, text)? {
-        Some(item) => Ok(step_of(beginning.add_part(GivenPart::Item(item))?)),
+        Some(item) => Ok(step_of(beginning.add_part(alloc, GivenPart::Item(item))?)),
         None => Ok(Step::Refused),
     }
 }
@@ -186,7 +205,7 @@ fn read_pull(alloc: Global, beginning: &mut Beginning, text: &[u8]) -> Result<St
         Steps step beginning.old (codes "@pull" ++ 32 ∷ text.now) beginning.new) }
 {
     match pull_in(alloc, text)? {
-        Some(pull) => Ok(step_of(beginning.add_part(GivenPart::Pull(pull))?)),
+        Some(pull) => Ok(step_of(beginning.add_part(alloc, GivenPart::Pull(pull))?)),
         None => Ok(Step::Refused),
     }
 }
@@ -257,7 +276,7 @@ fn read_lines<R: Read>(
 {
     loop {
         lines.read(device)?;
-        match read_line(alloc, beginning, lines.line.as_slice())? {
+        match read_line(alloc, beginning, lines.line())? {
             Step::Taken => {}
             Step::End => return Ok(()),
             Step::Refused => return Err(ReportFault::BadLine(lines.number)),
@@ -290,7 +309,7 @@ fn read_head<R: Read>(
         (R.interruptions device.new) (R.failures device.new)) }
 {
     lines.read(device)?;
-    match head_in(alloc, lines.line.as_slice())? {
+    match head_in(alloc, lines.line())? {
         Some((version, dag_id)) => Ok(Beginning::new(alloc, version, dag_id)),
         None => Err(ReportFault::BadLine(1)),
     }

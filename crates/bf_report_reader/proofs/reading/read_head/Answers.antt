@@ -3,6 +3,7 @@ use Rattle.std.proofs.lemmas.Result.{err_from_is_err_and}
 use Rattle.bf_report_reader.specs.Beginning.{so_far, opening_text}
 use Rattle.bf_report_reader.specs.Extensions.{SaysHead, IsKnown}
 use Rattle.bf_report_reader.specs.Faults.{lines_in}
+use Rattle.bf_report_reader.specs.Lines.{line_in}
 use Rattle.bf_report_reader.proofs.LineFacts.{one_line_more, first_read, first_stops, first_told}
 use Rattle.bf_report_reader.proofs.StepFacts.{head_opens}
 use Rattle.bf_report_reader.proofs.Reports.{known_start}
@@ -16,8 +17,8 @@ returns-in_err-read-clause-tells g c =
 pub returns-in-Some-clause-ok : goal.returns-in-Some-clause-ok
 returns-in-Some-clause-ok g c =
     let said = rw c.in-Some.is at c.in_ok-version.ensures.some in
-    let opens = head_opens c.new.result (c.in-Some.version, c.in-Some.dag_id) c.as_slice.result.now c.new.ensures said.1 ∙ ap (λ l. l ++ 10 ∷ []) c.as_slice.ensures.value in
-    first_read (g.R.Read.left c.args.device.now) _ _ (c.read.new.self.line.items ++ 10 ∷ []) (opening_text (so_far c.new.result)) c.requires.nothing c.in_ok-read.ensures.line opens
+    let opens = head_opens c.new.result (c.in-Some.version, c.in-Some.dag_id) c.line.result.now c.new.ensures said.1 ∙ ap (λ l. l ++ 10 ∷ []) c.line.ensures in
+    first_read (g.R.Read.left c.args.device.now) _ _ (line_in c.read.new.self ++ 10 ∷ []) (opening_text (so_far c.new.result)) c.requires.nothing c.in_ok-read.ensures.line opens
 
 pub returns-in-Some-clause-known : goal.returns-in-Some-clause-known
 returns-in-Some-clause-known g c =
@@ -27,10 +28,10 @@ returns-in-Some-clause-known g c =
 pub returns-in-Some-clause-place : goal.returns-in-Some-clause-place
 returns-in-Some-clause-place g c =
     let said = rw c.in-Some.is at c.in_ok-version.ensures.some in
-    let opens = head_opens c.new.result (c.in-Some.version, c.in-Some.dag_id) c.as_slice.result.now c.new.ensures said.1 in
-    ap lines_in (opens ∙ ap (λ l. l ++ 10 ∷ []) c.as_slice.ensures.value) ∙ one_line_more [] c.read.new.self.line.items c.in_ok-read.ensures.in_line
+    let opens = head_opens c.new.result (c.in-Some.version, c.in-Some.dag_id) c.line.result.now c.new.ensures said.1 in
+    ap lines_in (opens ∙ ap (λ l. l ++ 10 ∷ []) c.line.ensures) ∙ one_line_more [] (line_in c.read.new.self) c.in_ok-read.ensures.in_line
 
 pub returns-in-None-clause-tells : goal.returns-in-None-clause-tells
 returns-in-None-clause-tells g c =
-    first_told (g.R.Read.left c.args.device.now) _ _ c.read.new.self.line.items c.requires.nothing c.in_ok-read.ensures.line c.in_ok-read.ensures.in_line c.in_ok-read.ensures.short
-    (λ head says. let none = c.in_ok-version.ensures.every head (subst (λ l. SaysHead l head) (sym c.as_slice.ensures.value) says) in absurd (cc none))
+    first_told (g.R.Read.left c.args.device.now) _ _ (line_in c.read.new.self) c.requires.nothing c.in_ok-read.ensures.line c.in_ok-read.ensures.in_line c.in_ok-read.ensures.short
+    (λ head says. let none = c.in_ok-version.ensures.every head (subst (λ l. SaysHead l head) (sym c.line.ensures) says) in absurd (cc none))

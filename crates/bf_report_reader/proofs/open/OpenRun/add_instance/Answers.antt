@@ -1,0 +1,17 @@
+use Rattle.std.proofs.Common.{◌≡◌, ◌∙◌, true, Some, ap, sym, subst}
+use Rattle.std.proofs.lemmas.Result.{on_ok_weaker}
+use Rattle.bf_report.specs.declared.report.RunReport.{RunReport}
+use Rattle.bf_report_reader.specs.Open.{RunSoFar}
+use Rattle.bf_report_reader.specs.Parting.{run_so_far, open_in}
+use Rattle.bf_report_reader.specs.Beginning.{is_further_task, put_further}
+use Rattle.bf_report_reader.proofs.PartingFacts.{further_seen}
+use Rattle.bf_report_reader.proofs.open.OpenRun.add_instance.Goals as goal
+
+pub returns : goal.returns
+returns c =
+    let run = c.self.inside.run in
+    let next : is_further_task (open_in run.tasks) c.requires.0 ≡ true = subst (λ (o : RunSoFar). is_further_task o.task c.requires.0 ≡ true) (sym c.self.view_is) c.requires.1 in
+    on_ok_weaker c.go_on_run.result
+    (λ went. subst (λ (o : RunSoFar). put_further (Some o) c.args.ended ≡ Some (run_so_far c.go_on_run.new.run)) c.self.view_is
+    (further_seen run c.requires.0 c.args.ended next ∙ ap (λ (r : RunReport). Some (run_so_far r)) (sym went)))
+    c.go_on_run.ensures
