@@ -10,6 +10,7 @@ use Rattle.bf_value.specs.declared.xval.Xval.{Xval}
 use Rattle.bf_interval.specs.declared.interval.Interval.{Interval}
 use Rattle.bf_xcom.specs.declared.values.TaskResult.{TaskResult}
 use Rattle.bf_report.specs.declared.report.Version.{Version}
+use Rattle.bf_report.specs.declared.report.Pull.{Pull}
 use Rattle.bf_report.specs.declared.report.InstanceReport.{InstanceReport}
 use Rattle.bf_report.specs.declared.report.TaskReport.{TaskReport}
 use Rattle.bf_report.specs.declared.report.RunReport.{RunReport}
@@ -24,7 +25,7 @@ use Rattle.bf_report_reader.specs.declared.open.OpenRun.{OpenRun}
 use Rattle.bf_report_reader.specs.declared.beginning.Beginning.{Beginning}
 use Rattle.bf_report_reader.specs.Parts.{part_text}
 use Rattle.bf_report_reader.specs.Rules.{IsOpenInstance, IsOpenTask, IsOpenRun, IsRuled}
-use Rattle.bf_report_reader.specs.Beginning.{task_with, open_task, tasks_in, open_count, count, closed, last_run, runs_of, run_count, tells_item, has_item, takes, with_told, untold, is_given, is_whole_in, is_whole, starts_before, is_text, is_next_in, is_next, ids_with, is_further, is_further_task, goes_on_in, goes_on, takes_task, takes_in, put_task, put_open, further, put_further, told, put_part, may_begin, with_run, with_task, with_open, with_further, with_part, with_entry, IsCountedIn, IsCounted, GrowsBy, entry_line}
+use Rattle.bf_report_reader.specs.Beginning.{task_with, open_task, tasks_in, open_count, count, closed, last_run, runs_of, run_count, tells_item, most_told, has_item, takes, with_told, untold, is_given, is_whole_in, is_whole, starts_before, is_text, is_new, is_next_in, is_next, ids_with, is_further, is_further_task, goes_on_in, goes_on, takes_task, takes_in, put_task, put_open, further, put_further, told, put_part, may_begin, with_run, with_task, with_open, with_further, with_part, with_entry, IsCountedIn, IsCounted, GrowsBy, entry_line}
 use Rattle.bf_report_reader.proofs.Words.{id_utf8}
 
 -- ---- lists
@@ -82,12 +83,23 @@ count_is o = length-append o.run.tasks (open_task o.task) ∙ ap (λ n. length o
 pub next_parts : (b : Beginning) (id : List ℕ) → is_next b id ≡ true → (is_given b ≡ true) × (is_next_in b.runs b.tasks b.run id ≡ true)
 next_parts b id e = and_parts (is_given b) (is_next_in b.runs b.tasks b.run id) e
 
--- in the first run it is an id
+three_parts : (a b c : Bool) → (a && b) && c ≡ true → (a ≡ true) × ((b ≡ true) × (c ≡ true))
+three_parts a b c e =
+    let (both, third) = and_parts (a && b) c e in
+    let (first, second) = and_parts a b both in
+    (first, (second, third))
+
+pub new_parts : (tasks : List (List ℕ)) (id : List ℕ) → is_new tasks id ≡ true → (is_id id ≡ true) × ((nat_lt (length tasks) 2_000 ≡ true) × (not (list_any (λ task. bytes_eq task id) tasks) ≡ true))
+new_parts tasks id e = three_parts (is_id id) (nat_lt (length tasks) 2_000) (not (list_any (λ task. bytes_eq task id) tasks)) e
+
+pub pull_parts : (version : Version) (complete : Bool) (x : InstanceReport) (p : Pull) → takes version complete x (GivenPart.Pull p) ≡ true
+    → (complete ≡ true) × ((nat_lt (length x.pulls) (most_told version) ≡ true) × (not (list_any (λ q. bytes_eq q.task p.task) x.pulls) ≡ true))
+pull_parts version complete x p e = three_parts complete (nat_lt (length x.pulls) (most_told version)) (not (list_any (λ q. bytes_eq q.task p.task) x.pulls)) e
+
+-- the id of a task of the first run is UTF-8
 pub first_utf8 : (runs : List RunReport) (tasks : List (List ℕ)) (run : Option OpenRun) (id : List ℕ) → length runs ≡ 0 → is_next_in runs tasks run id ≡ true → IsUtf8 id
 first_utf8 [] tasks None id first next = absurd (true≢false (sym next))
-first_utf8 [] tasks (Some o) id first next =
-    let (both, other) = and_parts (is_id id && nat_lt (length tasks) 2_000) (not (list_any (λ task. bytes_eq task id) tasks)) next in
-    id_utf8 id (and_parts (is_id id) (nat_lt (length tasks) 2_000) both).0
+first_utf8 [] tasks (Some o) id first next = id_utf8 id (new_parts tasks id next).0
 first_utf8 (r ∷ rs) tasks run id first next = absurd (omega (arith, first))
 
 pub further_parts : (b : Beginning) (id : List ℕ) (index : ℕ) → goes_on b id index ≡ true → (is_given b ≡ true) × (goes_on_in b.tasks b.run id index ≡ true)
@@ -97,10 +109,7 @@ pub whole_parts : (b : Beginning) → is_whole b ≡ true → (is_given b ≡ tr
 whole_parts b e = and_parts (is_given b) (is_whole_in b.run b.tasks) e
 
 pub begin_parts : (b : Beginning) (i : Interval) → may_begin b i ≡ true → (is_whole b ≡ true) × ((nat_lt (run_count b) 4_096 ≡ true) × (starts_before b.run i ≡ true))
-begin_parts b i e =
-    let (both, later) = and_parts (is_whole b && nat_lt (run_count b) 4_096) (starts_before b.run i) e in
-    let (whole, few) = and_parts (is_whole b) (nat_lt (run_count b) 4_096) both in
-    (whole, (few, later))
+begin_parts b i e = three_parts (is_whole b) (nat_lt (run_count b) 4_096) (starts_before b.run i) e
 
 -- a run with one more task
 run_more : (ids : List (List ℕ)) (run : RunReport) (ts us : List TaskReport) (id : List ℕ) (t : TaskReport) → slice_get ids (length ts) ≡ Some id → us ≡ ts ++ t ∷ []

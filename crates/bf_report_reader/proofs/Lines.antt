@@ -1,7 +1,6 @@
 -- Which lines follow: each line is short, lies within its line and spells one thing.
-use Rattle.std.proofs.Common.{◌≡◌, ◌≤◌, ◌&&◌, ℕ, zero, suc, List, [], ◌∷◌, ◌++◌, length, slice_get, not, nat_lt, Bool, true, false, cond, true≢false, Option, Some, None, codes, decimal, refl, sym, ap, ◌∙◌, subst, arith, length-append, inl, inr}
-use Rattle.std.specs.List.{list_any, AllByRecursion}
-use Rattle.std.specs.Str.{bytes_eq}
+use Rattle.std.proofs.Common.{◌≡◌, ◌≤◌, ℕ, zero, suc, List, [], ◌∷◌, ◌++◌, length, slice_get, Bool, true, false, cond, true≢false, Option, Some, None, codes, decimal, refl, sym, ap, ◌∙◌, subst, arith, length-append, inl, inr}
+use Rattle.std.specs.List.{AllByRecursion}
 use Rattle.std.proofs.lemmas.Bool.{and_parts}
 use Rattle.bf_read.specs.Ids.{is_id}
 use Rattle.bf_value.specs.Json.{text_of}
@@ -32,7 +31,7 @@ use Rattle.bf_report_reader.specs.Steps.{Follows, MayEnd, MayStand, Steps, Entry
 use Rattle.bf_report_reader.proofs.Splits.{cut_once}
 use Rattle.bf_report_reader.proofs.Words.{id_lacks, id_short, decimal_plain, moment_plain, moment_length, state_plain, never_plain, index_plain, run_state_plain, value_lacks, pulled_lacks, decimal_short, state_short, never_short, run_state_short, index_short, value_short, pulled_short, at_least}
 use Rattle.bf_report_reader.proofs.Spelled.{same_entry, same_run_state, some_same, run_fields, apart, same_told, same_pull, same_part}
-use Rattle.bf_report_reader.proofs.Growth.{if_some, is_text_of, next_parts, further_parts}
+use Rattle.bf_report_reader.proofs.Growth.{if_some, is_text_of, next_parts, further_parts, new_parts}
 use Rattle.bf_report_reader.proofs.RunFacts.{same_run}
 use Rattle.bf_report_reader.proofs.StepFacts.{counted_runs, entry_next, run_next, part_next}
 
@@ -45,7 +44,7 @@ each_at P (y ∷ ys) (suc n) x each at = each_at P ys n x each.1 at
 
 next_id : (runs : List RunReport) (ids : List (List ℕ)) (run : Option OpenRun) (id : List ℕ) → AllByRecursion (λ id. is_id id ≡ true) ids → is_next_in runs ids run id ≡ true → is_id id ≡ true
 next_id runs ids None id named next = absurd (true≢false (sym next))
-next_id [] ids (Some o) id named next = (and_parts (is_id id) (nat_lt (length ids) 2_000) (and_parts (is_id id && nat_lt (length ids) 2_000) (not (list_any (λ task. bytes_eq task id) ids)) next).0).0
+next_id [] ids (Some o) id named next = (new_parts ids id next).0
 next_id (r ∷ rs) ids (Some o) id named next = each_at (λ i. is_id i ≡ true) ids (count o) id named (is_text_of (slice_get ids (count o)) id next)
 
 further_id : (ids : List (List ℕ)) (run : Option OpenRun) (id : List ℕ) (index : ℕ) → AllByRecursion (λ id. is_id id ≡ true) ids → goes_on_in ids run id index ≡ true → is_id id ≡ true

@@ -1,10 +1,7 @@
 -- Each line leaves less room for more.
-use Rattle.std.proofs.Common.{◌≡◌, ◌≤◌, ◌<◌, ◌&&◌, ℕ, zero, suc, List, [], ◌∷◌, length, Option, Some, None, is_some, Bool, true, true≢false, not, nat_lt, slice_get, sym, ap, subst, arith, length-append}
-use Rattle.std.specs.List.{list_any}
-use Rattle.std.specs.Str.{bytes_eq}
+use Rattle.std.proofs.Common.{◌≡◌, ◌≤◌, ◌<◌, ℕ, zero, suc, List, [], ◌∷◌, length, Option, Some, None, is_some, Bool, true, true≢false, nat_lt, slice_get, sym, ap, subst, arith, length-append}
 use Rattle.std.proofs.lemmas.Bool.{and_parts, eqb-true}
 use Rattle.std.proofs.lemmas.Bool.Decides.{nat_tests}
-use Rattle.bf_read.specs.Ids.{is_id}
 use Rattle.bf_value.specs.declared.xval.Xval.{Xval}
 use Rattle.bf_xcom.specs.declared.values.TaskResult.{TaskResult}
 use Rattle.bf_report.specs.declared.report.Version.{Version}
@@ -19,7 +16,7 @@ use Rattle.bf_report_reader.specs.declared.open.OpenRun.{OpenRun}
 use Rattle.bf_report_reader.specs.declared.beginning.Beginning.{Beginning}
 use Rattle.bf_report_reader.specs.Entries.{IsEntry}
 use Rattle.bf_report_reader.specs.Beginning.{tasks_in, count, last_run, run_count, tells_item, most_told, has_item, takes, with_told, untold, is_text, is_next_in, is_next, ids_with, is_further, is_further_task, goes_on_in, goes_on, takes_task, takes_in, put_task, put_open, further, put_further, put_part, may_begin, with_run, with_task, with_open, with_further, with_part, with_entry, IsCountedIn, IsCounted, item_room, instance_room, before_room, task_room, open_room, room, IsSmall}
-use Rattle.bf_report_reader.proofs.Growth.{if_some, count_is, get_within, is_text_of, next_parts, further_parts, begin_parts, no_item, not_true}
+use Rattle.bf_report_reader.proofs.Growth.{if_some, count_is, get_within, is_text_of, next_parts, further_parts, begin_parts, no_item, not_true, new_parts, pull_parts}
 
 pub lt_true : (m n : ℕ) → nat_lt m n ≡ true → m < n
 lt_true m n e = grind (arith, nat_tests)
@@ -30,9 +27,7 @@ lt_true m n e = grind (arith, nat_tests)
 fits : (runs : List RunReport) (ids : List (List ℕ)) (o : OpenRun) (id : List ℕ) → length ids ≤ 2_000 → IsCountedIn runs ids (Some o) → is_next_in runs ids (Some o) id ≡ true
     → (count o < 2_000) × (length (ids_with runs ids id) ≤ 2_000)
 fits [] ids o id small counted next =
-    let (both, other) = and_parts (is_id id && nat_lt (length ids) 2_000) (not (list_any (λ task. bytes_eq task id) ids)) next in
-    let (named, few) = and_parts (is_id id) (nat_lt (length ids) 2_000) both in
-    let below : length ids < 2_000 = lt_true (length ids) 2_000 few in
+    let below : length ids < 2_000 = lt_true (length ids) 2_000 (new_parts ids id next).1.0 in
     (omega (arith, below, counted), omega (arith, below, length-append ids (id ∷ [])))
 fits (r ∷ rs) ids o id small counted next = (omega (arith, small, get_within ids id (count o) (is_text_of (slice_get ids (count o)) id next)), small)
 
@@ -113,9 +108,7 @@ few_told Version.Two = omega arith
 told_less : (version : Version) (is_told : Bool) (x : InstanceReport) (part : GivenPart) → takes version (has_item is_told x.item) x part ≡ true → instance_room (with_told x part) < instance_room x
 told_less version is_told x (GivenPart.Item v) next = omega (arith, ap item_room (no_item is_told x.item (not_true (has_item is_told x.item) next)))
 told_less version is_told x (GivenPart.Pull p) next =
-    let (both, other) = and_parts (has_item is_told x.item && nat_lt (length x.pulls) (most_told version)) (not (list_any (λ q. bytes_eq q.task p.task) x.pulls)) next in
-    let (complete, few) = and_parts (has_item is_told x.item) (nat_lt (length x.pulls) (most_told version)) both in
-    omega (arith, lt_true (length x.pulls) (most_told version) few, few_told version, length-append x.pulls (p ∷ []))
+    omega (arith, lt_true (length x.pulls) (most_told version) (pull_parts version (has_item is_told x.item) x p next).1.0, few_told version, length-append x.pulls (p ∷ []))
 
 pub part_room : (b c : Beginning) (part : GivenPart) → IsSmall b → with_part b part ≡ Some c → IsSmall c × (room c < room b)
 part_room b c part small e =

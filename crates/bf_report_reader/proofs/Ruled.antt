@@ -1,5 +1,5 @@
 -- What was read keeps the rules of a report.
-use Rattle.std.proofs.Common.{◌≡◌, ◌≢◌, ◌<◌, ◌<ℤ◌, ◌==◌, ◌&&◌, ℕ, zero, suc, ℤ, List, [], ◌∷◌, ◌++◌, length, map, get_or, Option, Some, None, is_some, Bool, true, false, true≢false, not, nat_lt, int_lt, slice_get, refl, sym, ap, ◌∙◌, subst, arith, length-append, inl, inr}
+use Rattle.std.proofs.Common.{◌≡◌, ◌≢◌, ◌<◌, ◌<ℤ◌, ◌==◌, ℕ, zero, suc, ℤ, List, [], ◌∷◌, ◌++◌, length, map, get_or, Option, Some, None, is_some, Bool, true, false, true≢false, not, int_lt, slice_get, refl, sym, ap, ◌∙◌, subst, arith, length-append, inl, inr}
 use Rattle.std.specs.List.{list_any, AllByRecursion}
 use Rattle.std.specs.Str.{bytes_eq}
 use Rattle.std.specs.Cmp.Lexicographic.{bytes_decides}
@@ -27,7 +27,7 @@ use Rattle.bf_report_reader.specs.Runs.{IsRunInterval}
 use Rattle.bf_report_reader.specs.Parts.{IsPart}
 use Rattle.bf_report_reader.specs.Beginning.{task_with, open_task, tasks_in, count, closed, last_run, so_far, run_count, tells_item, most_told, has_item, takes, with_told, untold, is_given_task, is_given_in, is_whole_in, is_whole, starts_before, is_text, is_next_in, is_next, ids_with, is_further, is_further_task, goes_on_in, goes_on, takes_task, takes_in, put_task, put_open, further, put_further, told, put_part, may_begin, with_run, with_task, with_open, with_further, with_part, with_entry, IsCountedIn, IsCounted, IsSmall}
 use Rattle.bf_report_reader.specs.Rules.{AreToldPulls, IsShownInstance, IsShownTask, IsShownRun, Rise, IsShownReport, AreShownBefore, IsOpenInstance, IsOpenTask, IsOpenRun, IsRuled}
-use Rattle.bf_report_reader.proofs.Growth.{if_some, count_is, next_parts, further_parts, begin_parts, whole_parts, not_true}
+use Rattle.bf_report_reader.proofs.Growth.{if_some, count_is, next_parts, further_parts, begin_parts, whole_parts, not_true, new_parts, pull_parts}
 use Rattle.bf_report_reader.proofs.Rooms.{lt_true}
 
 -- ---- lists
@@ -94,8 +94,7 @@ told_open version expanded x (GivenPart.Item v) good begun next =
     let lacks = not_true (has_item (tells_item version expanded) x.item) next in
     record { result = begun.result; item = (is_told_item (tells_item version expanded) x.item lacks, good); pulls = begun.pulls; in_order = λ none. absurd (true≢false none) }
 told_open version expanded x (GivenPart.Pull p) good begun next =
-    let (both, other) = and_parts (has_item (tells_item version expanded) x.item && nat_lt (length x.pulls) (most_told version)) (not (list_any (λ q. bytes_eq q.task p.task) x.pulls)) next in
-    let (complete, few) = and_parts (has_item (tells_item version expanded) x.item) (nat_lt (length x.pulls) (most_told version)) both in
+    let (complete, (few, other)) = pull_parts version (has_item (tells_item version expanded) x.item) x p next in
     record {
       result = begun.result;
       item = begun.item;
@@ -131,8 +130,7 @@ record AreNamed (version : Version) (runs : List RunReport) (ids : List (List �
 names : (version : Version) (runs : List RunReport) (ids : List (List ℕ)) (o : OpenRun) (id : List ℕ) → is_next_in runs ids (Some o) id ≡ true → AllByRecursion (λ id. is_id id ≡ true) ids → AreDistinct ids
     → AllByRecursion (IsShownRun version (length ids)) runs → AreNamed version runs (ids_with runs ids id)
 names version [] ids o id next named distinct shown =
-    let (both, other) = and_parts (is_id id && nat_lt (length ids) 2_000) (not (list_any (λ task. bytes_eq task id) ids)) next in
-    let (good, few) = and_parts (is_id id) (nat_lt (length ids) 2_000) both in
+    let (good, (few, other)) = new_parts ids id next in
     record { named = each_push (λ id. is_id id ≡ true) ids id named good; distinct = all_pairs_push (λ a b. a ≢ b) ids id distinct (none_there ids id other); shown = tt }
 names version (r ∷ rs) ids o id next named distinct shown = record { named = named; distinct = distinct; shown = shown }
 

@@ -1,5 +1,5 @@
 -- The bytes of a device that were read and not used yet.
-use Rattle.std.specs.Prelude.{◌≡◌, ◌≤◌, ◌<◌, ◌+◌, ℕ, Bool, false, if◌then◌else◌, List, ◌∷◌, ◌++◌, length, take, drop, Option}
+use Rattle.std.specs.Prelude.{◌≡◌, ◌≤◌, ◌<◌, ◌+◌, ◌==◌, ℕ, Bool, false, if◌then◌else◌, List, ◌∷◌, ◌++◌, length, take, drop, position, Option, IfSome}
 use Rattle.std.specs.Io.KnownBytes.{prepend_known}
 use Rattle.bf_device.specs.Device.{WentOn, HasHalted}
 use Rattle.bf_report_reader.specs.declared.held.Held.{Held}
@@ -19,6 +19,11 @@ pub record TakesLine (old new : Held) : Type 0 where
   pub in_line : IsInLine (held_line new)
   pub short : length (held_line new) ≤ longest_line (held_line new)
   pub same : new.interruptions ≡ old.interruptions
+
+-- no line is held whole, or one that is longer than some may be, and all is as it was
+pub record KeepsAll (old new : Held) : Type 0 where
+  pub none : IfSome (position (λ b. b == 10) (held_bytes old)) (λ at. 66_000 < at)
+  pub same : new ≡ old
 
 -- the bytes to come, where the device tells what it has left
 abbrev pub ahead : Held → Option (List ℕ) → Option (List ℕ)

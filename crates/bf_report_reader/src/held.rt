@@ -41,7 +41,7 @@ pub(crate) struct Held {
 }
 
 impl Held {
-    ghost use Rattle.bf_report_reader.specs.Held.{held_bytes, held_line, ahead, Tallies, Breaks, TakesLine};
+    ghost use Rattle.bf_report_reader.specs.Held.{held_bytes, held_line, ahead, Tallies, Breaks, TakesLine, KeepsAll};
 
     pub fn new(alloc: Global) -> Result<Held, OutOfMemory>
         ensures { IfOk result (λ held. (held_bytes held ≡ []) × (held.interruptions ≡ 0)) }
@@ -127,7 +127,7 @@ impl Held {
 
     /// Takes a line off that is held whole, where its line feed comes soon enough for any line. Says whether it could.
     pub fn take_line(&mut self) -> bool
-        ensures { MatchBool result (TakesLine self.old self.new) (self.new ≡ self.old) }
+        ensures { MatchBool result (TakesLine self.old self.new) (KeepsAll self.old self.new) }
     {
         match line_feed_in(self.bytes()) {
             Some(at) if at <= LONGEST_LINE => {
