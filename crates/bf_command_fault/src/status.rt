@@ -5,7 +5,7 @@ ghost use Rattle.bf_command_fault.specs.Status.{code_of, of_runs};
 /// How the program ends.
 #[derive(Clone, Copy, Debug, PartialEq, Eq)]
 pub enum Status {
-    /// Every run is a success, or help was asked for.
+    /// What was asked for was done, and every run of it is a success.
     Success = 0,
     /// Some run failed.
     Failed = 1,

@@ -2,15 +2,14 @@
 ghost use Rattle.std.specs.Prelude.{◌≡◌, ℕ, ◌≤◌, ◌<◌, ◌↔◌, length, vec_len, IsTrue, IsSome, IfSome, IfNone, Some, IfOk, IfErr, OnOk};
 ghost use Rattle.std.specs.List.{list_all};
 ghost use Rattle.std.specs.FinMap as map;
-ghost use Rattle.bf_core.specs.Terms.{Event as EventTerm, Ledger as Look, Dag as DagTerm, pool_size};
-ghost use Rattle.bf_core.specs.Events.{cell_at, row_of, entry_in, goes_on as goes_on_now, occupied, HasEnded, is_closed};
+ghost use Rattle.bf_core.specs.Terms.{Event as EventTerm, Ledger as Look, pool_size};
+ghost use Rattle.bf_core.specs.Events.{cell_at, row_of, entry_in, occupied, HasEnded, is_closed};
 ghost use Rattle.bf_core.specs.Agreement.{Holds, Agrees, IsOutcome, AreRunStates};
-ghost use Rattle.bf_core.specs.Cores.{IsThere, IsJournal, IsReplay, MayCome, deciding};
+ghost use Rattle.bf_core.specs.Cores.{IsThere, IsJournal, IsReplay, MayCome};
 ghost use Rattle.bf_core.specs.Clocks.{IsTimely};
 ghost use Rattle.bf_core.specs.Few.{AreFew};
 ghost use Rattle.bf_core.specs.Checks.{AreStatesOf};
 
-use crate::deciding::{gate, goes_on};
 use crate::ended::{Ended, run_state};
 use crate::event::Event;
 use crate::machine::Core;
@@ -48,15 +47,6 @@ impl<'a> Core<'a> {
         ensures agrees { (ledger : Look) → Holds ledger (entry_in self.now.state.ledger) → Agrees self.now.dag self.now.state ledger }
     {
         self.state.cell(run, task)
-    }
-
-    /// The event that decides a task, where it may be decided now: by its expansion, or without.
-    pub fn deciding(&self, run: u32, task: u32) -> Event
-        requires { task < length self.now.dag.tasks }
-        ensures { result ≡ deciding (goes_on_now self.now.dag self.now.state run task) run task }
-    {
-        let verdict = gate(self.plan, &self.state, run, task);
-        Event::deciding(goes_on(self.plan.dag(), task, verdict), run, task)
     }
 
     /// The moment for which a try waits, where that is later than what the clock shows. The clock may come to it.

@@ -121,7 +121,7 @@ impl<'a> Core<'a> {
         is_settled(&self.state, run, task)
     }
 
-    /// The instance that a name speaks of, where it is there.
+    /// The instance that stands at the place of a name's map index, whichever of its tries the name is of.
     pub fn instance(&self, name: JobName) -> Option<&Instance>
         ensures { option_copied result ≡ instance_of (cell_at self.now.state name.run name.task) (place_in self.now.dag name) }
     {

@@ -2,7 +2,7 @@
 ghost use Rattle.std.specs.Prelude.{◌≡◌, ◌<◌, ◌≤◌, length, slice_index_or};
 ghost use Rattle.std.specs.List.{list_any};
 ghost use Rattle.bf_core.specs.Recursion.{is_leaf as leaf, fails_run, run_fails as fails, run_state_of};
-ghost use Rattle.bf_core.specs.Events.{value_in, value_or_blocked, cell_at};
+ghost use Rattle.bf_core.specs.Events.{value_in, value_or_blocked};
 ghost use Rattle.bf_core.specs.Words.{is_failed_instance, instances_fail};
 ghost use Rattle.bf_core.specs.declared.state.Cell.{Cell as CellTerm};
 

@@ -1,7 +1,7 @@
 //! The end of a try, and any event at all.
-ghost use Rattle.std.specs.Prelude.{◌≡◌, ◌<◌, ◌^◌, ◌+◌, length, OnOk, OnErr, IfOk, IfErr};
-ghost use Rattle.bf_core.specs.Terms.{task_of, demand_of, Phase, JobName as JobNameTerm, Entry as EntryTerm};
-ghost use Rattle.bf_core.specs.Events.{IsPresent, cell_at, instance_of, given_in};
+ghost use Rattle.std.specs.Prelude.{◌≡◌, ◌<◌, ◌^◌, ◌+◌, OnOk, OnErr, IfOk, IfErr};
+ghost use Rattle.bf_core.specs.Terms.{Phase};
+ghost use Rattle.bf_core.specs.Events.{IsPresent};
 ghost use Rattle.bf_core.specs.Cores.{HasCome, IsRefusal, MayCome};
 ghost use Rattle.bf_core.specs.Tries.{IsEnding, IsRetry};
 

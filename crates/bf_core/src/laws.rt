@@ -1,6 +1,6 @@
 //! What holds of every backfill, whatever the order of its events. These functions do nothing: their contracts are
 //! the laws, over the definitions alone.
-ghost use Rattle.std.specs.Prelude.{◌≡◌, ◌<◌, ℕ, List, length};
+ghost use Rattle.std.specs.Prelude.{◌≡◌, ◌<◌, ℕ, List};
 ghost use Rattle.std.specs.FinMap as map;
 ghost use Rattle.bf_core.specs.Terms.{Dag, Limits, Entry, Event, name_cmp, IsSound, AreAlike};
 ghost use Rattle.bf_core.specs.Events.{WithinPools, IsLegal, replay, start, entry_in, HasEnded};

@@ -1,5 +1,5 @@
 //! What tasks pull from the cells of their run.
-ghost use Rattle.std.specs.Prelude.{◌≡◌, ◌<◌, List, length, map, IfOk, option_copied, option_and_then};
+ghost use Rattle.std.specs.Prelude.{◌≡◌, ◌<◌, List, map, IfOk, option_copied, option_and_then};
 ghost use Rattle.std.specs.List.{filter_map};
 ghost use Rattle.bf_core.specs.Terms.{pull as pull_of};
 ghost use Rattle.bf_core.specs.Deciding.{pull_seen};

@@ -1,8 +1,7 @@
 //! What is seen of a cell.
-ghost use Rattle.std.specs.Prelude.{◌≡◌, ◌<◌, ◌≤◌, ◌+◌, ◌^◌, length, IsSome, is_some};
+ghost use Rattle.std.specs.Prelude.{◌≡◌, ◌<◌, ◌≤◌, ◌+◌, ◌^◌, length, is_some};
 ghost use Rattle.std.specs.List.{list_all};
-ghost use Rattle.bf_rule.specs.Verdicts.{total};
-ghost use Rattle.bf_core.specs.Events.{instance_of, change_instance, begun, ended, counts_of_instance, counts_of_instances, counts_of_cell, value_in};
+ghost use Rattle.bf_core.specs.Events.{counts_of_instance, counts_of_instances, counts_of_cell, value_in};
 ghost use Rattle.bf_core.specs.Deciding.{one_of, past_ruling};
 ghost use Rattle.bf_core.specs.Few.{IsFew};
 ghost use Rattle.bf_core.specs.Words.{is_finished, passed, ran_ruling};

@@ -55,7 +55,7 @@ pub struct Agenda {
 
 impl Model for Agenda {
     ghost use Rattle.std.specs.Prelude.{map};
-    ghost use Rattle.std.specs.BinaryHeap.{heap_items, heap_len, heap_capacity, IsHeap};
+    ghost use Rattle.std.specs.BinaryHeap.{heap_items, heap_capacity, IsHeap};
     ghost use Rattle.bf_due.specs.Agendas.{Steps, reverse_cmp};
     ghost use Rattle.bf_due.specs.contracts.agenda.Step as t;
     ghost use Rattle.std.specs.Coded.{codes};

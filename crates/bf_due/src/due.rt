@@ -1,10 +1,9 @@
 //! The steps that are due.
-ghost use Rattle.std.specs.Prelude.{◌≡◌, ◌<◌, ◌≤◌, ◌+◌, ℕ, ◌↔◌, [], length, IsTrue, OnOk, IfOk, true, false};
+ghost use Rattle.std.specs.Prelude.{◌≡◌, ◌<◌, ◌≤◌, ◌+◌, ◌↔◌, [], length, IsTrue, OnOk, IfOk, true};
 ghost use Rattle.bf_graph.specs.Ranks.{Ranking};
 ghost use Rattle.bf_check.specs.Plans.{shape_of};
 ghost use Rattle.bf_core.specs.Events.{next_run};
 ghost use Rattle.bf_core.specs.Cores.{Backfill, IsReplay, IsThere, MayCome, moved};
-ghost use Rattle.bf_due.specs.declared.agenda.Step.{Step as StepTerm};
 ghost use Rattle.bf_due.specs.Steps.{IsNextStep};
 ghost use Rattle.bf_due.specs.Cursors.{AreReached};
 ghost use Rattle.bf_due.specs.Dues.{HasAdded, HasRoomFor, IsOfRunBelow, IsUpToDate, SpeaksOfTask};
@@ -172,7 +171,7 @@ impl Due {
         })
     }
 
-    /// Makes room for what one more event may make possible. A refusal leaves what is kept as it was.
+    /// Makes room for what one more event may make possible. Refused or not, what is kept stays up to date.
     pub fn make_room(&mut self, core: &Core<'_>, event: &Event) -> Result<(), OutOfMemory>
         ensures kept { (b : Backfill) → IsUpToDate b self.old → IsUpToDate b self.new }
         ensures room { OnOk result (HasRoomFor core.now self.new) }

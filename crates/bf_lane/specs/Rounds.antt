@@ -1,4 +1,4 @@
--- What one step of an row does to its lanes.
+-- What one step of a row does to its lanes.
 use Rattle.std.specs.Prelude.{◌≡◌, ◌++◌, ◌∷◌, ℕ, List, [], Some, slice_get, slice_set}
 use Rattle.bf_try.specs.Asked.{Asked}
 use Rattle.bf_lane.specs.declared.messages.Job.TheVariants.{Run}

@@ -1,6 +1,6 @@
 //! The scheduler's end of a lane.
 ghost use Rattle.std.specs.Prelude.{◌≡◌, ◌++◌, ◌∷◌, [], true, false, IfOk, IfSome, IfNone};
-ghost use Rattle.crossbeam_queue.specs.Passes.{view, IsPassOf, IsSamePass};
+ghost use Rattle.crossbeam_queue.specs.Passes.{view, IsPassOf};
 ghost use Rattle.bf_lane.specs.Relay.{log};
 ghost use Rattle.bf_lane.specs.Lanes.{IsClosed, IsAllowedBy};
 ghost use Rattle.bf_lane.specs.Open.{IsFresh, scheduled, awaits, Fulfils, StartsWith};

@@ -1,8 +1,8 @@
 //! The worker at the other end of a lane.
-ghost use Rattle.std.specs.Prelude.{◌≡◌, ◌++◌, ◌∷◌, [], true, false, List, All, MatchOption, Some};
+ghost use Rattle.std.specs.Prelude.{◌≡◌, ◌++◌, ◌∷◌, [], true, false, Some};
 ghost use Rattle.crossbeam_queue.specs.Passes.{view, IsPassOf, IsSamePass};
 ghost use Rattle.bf_lane.specs.Relay.{log};
-ghost use Rattle.bf_lane.specs.Lanes.{asked, answered, all_runs, asked_by, IsAllowedBy, Answers};
+ghost use Rattle.bf_lane.specs.Lanes.{answered, asked_by, IsAllowedBy, Answers};
 ghost use Rattle.bf_lane.specs.Service.{HasServed};
 ghost use Rattle.bf_lane.specs.Open.{Fulfils};
 ghost use Rattle.bf_lane.specs.declared.messages.Job.{Job};

@@ -7,7 +7,7 @@
 //!
 //! Where there is a launcher, the words of a command are handed to it: it is started, and they are its arguments.
 //!
-//! Between the runner and the machine stands the trait `Starter`, so that a test can put something else there. Its two
+//! Between the runner and the machine stands the trait `Starter`, whose one form is the machine. Its two
 //! relations say what may be heard of the words that it is handed; so a runner's contract says that the words which are
 //! started for a try are those of its command, behind the path of the launcher where there is one.
 //!

@@ -1,5 +1,5 @@
 //! The try that begins next.
-ghost use Rattle.std.specs.Prelude.{◌≡◌, ◌<◌, ◌≤◌, ◌+◌, length, slice_index, Some};
+ghost use Rattle.std.specs.Prelude.{◌≡◌, ◌<◌, ◌≤◌, ◌+◌, length, Some};
 ghost use Rattle.bf_core.specs.Cores.{IsThere};
 ghost use Rattle.bf_core.specs.Events.{cell_at, instance_of};
 ghost use Rattle.bf_ready.specs.Choices.{IsNextTry};

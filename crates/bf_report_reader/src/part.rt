@@ -1,5 +1,5 @@
 //! What the lines behind that of an instance tell of what its tries were given.
-ghost use Rattle.std.specs.Prelude.{◌≡◌, ◌++◌, ◌∷◌, IfOk, IfSome, codes};
+ghost use Rattle.std.specs.Prelude.{◌≡◌, ◌++◌, ◌∷◌, IfOk, IfSome};
 ghost use Rattle.bf_value.specs.Json.{text_of as text_by};
 ghost use Rattle.bf_report.specs.Report.{pulled_word};
 ghost use Rattle.bf_report_reader.specs.Reads.{Spells, Finds};

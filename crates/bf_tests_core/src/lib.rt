@@ -3,8 +3,6 @@
 #![tactic(auto)]
 
 #[cfg(test)]
-mod commands;
-#[cfg(test)]
 mod deciding;
 #[cfg(test)]
 mod events;
@@ -20,3 +18,5 @@ mod steps;
 mod tables;
 #[cfg(test)]
 mod tries;
+#[cfg(test)]
+mod words_of_a_command;

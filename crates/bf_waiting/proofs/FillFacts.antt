@@ -6,7 +6,7 @@ use Rattle.bf_waiting.specs.declared.batches.Batch.{Batch}
 use Rattle.bf_waiting.specs.declared.delays.Delay.{Delay}
 use Rattle.bf_waiting.specs.declared.waiting.Waiting.{Waiting}
 use Rattle.bf_waiting.specs.Classes.{HasBatch, Waits, delay_of}
-use Rattle.bf_waiting.specs.Filling.{AreFilled, IsEarlier, KeepsEarlier}
+use Rattle.bf_waiting.specs.Filling.{AreFilled, IsLater, KeepsEarlier}
 use Rattle.bf_waiting.specs.Keeping.{Anywhere, HasDelayed, HasTakenUp, IsCleaned, IsLive, KeepsWaiting}
 use Rattle.bf_waiting.specs.Kept.{AreKept}
 use Rattle.bf_waiting.specs.Standings.{IsDelayedAt, IsReadyAt}
@@ -14,7 +14,7 @@ use Rattle.bf_waiting.proofs.Each.{reclassed, set-cases}
 use Rattle.bf_waiting.proofs.Places.{not-beyond}
 
 -- before the next task there are those before this one, and this one
-last-task : (j u k t : ℕ) → IsEarlier j (u + 1) k t → IsEarlier j u k t ⊎ ((k ≡ j) × (t ≡ u))
+last-task : (j u k t : ℕ) → IsLater j (u + 1) k t → IsLater j u k t ⊎ ((k ≡ j) × (t ≡ u))
 last-task j u k t h = elim h [ inl l ↦ inl (inl l) | inr e ↦ elim (below-or t u e.1) [ inl l ↦ inl (inr (e.0, l)) | inr same ↦ inr (e.0, same) ] ]
 
 module _ (b : Backfill) (weights class_of : List ℕ) where
@@ -59,7 +59,7 @@ module _ (b : Backfill) (weights class_of : List ℕ) where
     live = keeps.live;
   }
     where
-      earlier : (k t : ℕ) → IsEarlier (j + 1) 0 k t → t < length b.dag.tasks → IsEarlier j u k t
+      earlier : (k t : ℕ) → IsLater (j + 1) 0 k t → t < length b.dag.tasks → IsLater j u k t
       earlier k t early task = elim early [ inl l ↦ elim (below-or k j l) [ inl less ↦ inl less | inr same ↦ inr (same, omega (arith, task, end)) ] | inr e ↦ absurd (omega (arith, e.1)) ]
 
   -- after the last run all are kept
@@ -87,7 +87,7 @@ module _ (b : Backfill) (weights class_of : List ℕ) where
       nothing : {X : Type 0} → {xs : List X} → xs ≡ [] → (x : X) → Contains xs x → ⊥
       nothing e x h = let none : Contains [] x = subst (λ (ys : List _). Contains ys x) e h in omega (arith, none.1)
 
-      never : (k t : ℕ) → IsEarlier 0 0 k t → ⊥
+      never : (k t : ℕ) → IsLater 0 0 k t → ⊥
       never k t early = elim early [ inl l ↦ omega (arith, l) | inr e ↦ omega (arith, e.1) ]
 
 -- ---- all classes

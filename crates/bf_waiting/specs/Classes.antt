@@ -14,7 +14,7 @@ pub record Waits : Type 0 where
 abbrev pub IsRoomy : Heap Batch → Heap Delay → Type 0
 IsRoomy batches delays = length batches.items + length delays.items ≤ batches.room
 
--- there is room for one more instance that waits
+-- there is room for one more batch, and for one more delay
 pub record HasRoom (c : Waits) : Type 0 where
   pub to_begin : length c.batches.items + length c.delays.items + 1 ≤ c.batches.room
   pub to_delay : length c.delays.items + 1 ≤ c.delays.room

@@ -16,16 +16,16 @@ use Rattle.bf_waiting.specs.Standings.{IsDelayedAt, IsReadyAt}
 abbrev pub Before : ℕ → ℕ → Type 0
 Before p i = i < p
 
--- the task t in the run k comes before the task u in the run j
-abbrev pub IsEarlier : ℕ → ℕ → ℕ → ℕ → Type 0
-IsEarlier j u k t = (k < j) ⊎ ((k ≡ j) × (t < u))
+-- the task u in the run j comes after the task t in the run k
+abbrev pub IsLater : ℕ → ℕ → ℕ → ℕ → Type 0
+IsLater j u k t = (k < j) ⊎ ((k ≡ j) × (t < u))
 
 -- the class is kept for the backfill, as far as the tasks go that come before the task u in the run j
 pub record KeepsEarlier (b : Backfill) (weights class_of : List ℕ) (j u class : ℕ) (c : Waits) : Type 0 where
   pub batches : (x : Batch) → Contains c.batches.items x → IsOfClass weights class_of class x
-  pub ready : (k t i : ℕ) → IsEarlier j u k t → slice_index class_of t ≡ class → IsReadyAt b k t i → HasBatch c.batches.items k t i
+  pub ready : (k t i : ℕ) → IsLater j u k t → slice_index class_of t ≡ class → IsReadyAt b k t i → HasBatch c.batches.items k t i
   pub delays : (d : Delay) → Contains c.delays.items d → (slice_index class_of d.task ≡ class) × IsDelayedAt b d.run d.task d.place d.moment.0
-  pub delayed : (k t i : ℕ) (m : ℤ) → IsEarlier j u k t → slice_index class_of t ≡ class → IsDelayedAt b k t i m → Contains c.delays.items (delay_of k t i m)
+  pub delayed : (k t i : ℕ) (m : ℤ) → IsLater j u k t → slice_index class_of t ≡ class → IsDelayedAt b k t i m → Contains c.delays.items (delay_of k t i m)
   pub live : IsLive b c.batches.items
 
 -- a class takes up the task u in the run j, where that is of it

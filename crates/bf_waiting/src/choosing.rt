@@ -1,5 +1,5 @@
 //! The try that begins next, and the moment that is waited for.
-ghost use Rattle.std.specs.Prelude.{◌≡◌, ◌<◌, ℕ, length, slice_get, IfSome, IfNone, IsTrue, ◌↔◌, None, Some, Contains};
+ghost use Rattle.std.specs.Prelude.{◌≡◌, ◌<◌, length, slice_get, IfSome, IfNone, IsTrue, ◌↔◌, None, Some, Contains};
 ghost use Rattle.bf_core.specs.Events.{has_room as has_room_now};
 ghost use Rattle.bf_core.specs.Cores.{Backfill};
 ghost use Rattle.bf_waiting.specs.Choices.{IsNextMoment, IsNextTry};

@@ -1,5 +1,5 @@
 //! The tasks that wait for the same slots.
-ghost use Rattle.std.specs.Prelude.{◌≡◌, ◌≤◌, ◌+◌, ◌≤ℤ◌, ◌<ℤ◌, [], ◌∷◌, ℕ, List, length, Contains, slice_get, slice_index, IfSome, IfNone, OnOk};
+ghost use Rattle.std.specs.Prelude.{◌≡◌, ◌≤◌, ◌+◌, ◌≤ℤ◌, ◌<ℤ◌, [], ◌∷◌, Contains, slice_get, IfSome, IfNone, OnOk};
 ghost use Rattle.std.specs.List.Sorted.{IsPermutation};
 ghost use Rattle.bf_waiting.specs.Classes.{AreReleased, HasRoom, IsRoomy, batch_of, batch_to};
 ghost use Rattle.bf_waiting.specs.Heaps.{Leads};

@@ -3,7 +3,7 @@ ghost use Rattle.std.specs.Prelude.{◌≡◌, ◌<◌, ◌+◌, ℕ, [], length
 ghost use Rattle.bf_check.specs.Sound.{demand_of};
 ghost use Rattle.bf_waiting.specs.Choices.{AreWeights};
 ghost use Rattle.bf_waiting.specs.Filling.{AreClassedTo, AreEmpty, AreFilled, TakesIn};
-ghost use Rattle.bf_waiting.specs.Keeping.{Anywhere, At, HasDelayed, HasTakenUp, IsCleaned};
+ghost use Rattle.bf_waiting.specs.Keeping.{Anywhere, At, HasDelayed};
 ghost use Rattle.bf_waiting.specs.Kept.{IsClassOf, KeepsTries};
 
 use crate::class::Class;

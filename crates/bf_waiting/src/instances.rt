@@ -1,5 +1,5 @@
 //! The instances of a task in a run, and how they stand.
-ghost use Rattle.std.specs.Prelude.{◌≡◌, ◌<◌, ◌≤◌, ◌↔◌, IsTrue, IfSome, IfNone, length, Some};
+ghost use Rattle.std.specs.Prelude.{◌≡◌, ◌<◌, ◌≤◌, ◌↔◌, IsTrue, length, Some};
 ghost use Rattle.bf_core.specs.Events.{cell_at, instance_of};
 ghost use Rattle.bf_core.specs.Few.{IsFew};
 ghost use Rattle.bf_waiting.specs.Standings.{instances_in as instances_within, IsReadyAt, Stands};

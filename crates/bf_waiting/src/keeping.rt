@@ -62,7 +62,7 @@ impl Class {
         clean(&mut self.batches, core);
     }
 
-    /// Takes up all instances that a task has in a run, of which none is delayed.
+    /// Takes up all instances that a task has in a run, as one batch; those of them that are delayed aren't ready in it.
     pub(crate) fn take_up(&mut self, core: &Core<'_>, weights: &[u32], run: u32, task: u32)
         requires { HasRoom self.old }
         ensures task { self.new.task ≡ self.old.task }

@@ -1,5 +1,5 @@
 //! The tries that wait, kept over the events of a backfill.
-ghost use Rattle.std.specs.Prelude.{◌≡◌, ◌<◌, ℕ, Bool, length, slice_get, slice_index, IfSome, IfNone, MatchOption, OnOk};
+ghost use Rattle.std.specs.Prelude.{◌≡◌, ◌<◌, Bool, length, slice_index, IfSome, IfNone, MatchOption, OnOk};
 ghost use Rattle.bf_value.specs.declared.name.JobName.{JobName as NameTerm};
 ghost use Rattle.bf_xcom.specs.declared.values.Outcome.{Outcome as OutcomeTerm};
 ghost use Rattle.bf_core.specs.declared.event.Event.{Event as EventTerm};
