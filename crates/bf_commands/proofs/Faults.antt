@@ -128,8 +128,10 @@ module _ (graph : List ℕ) (file : Option (List ℕ)) (table : List ℕ) (from 
   pub dry_range : (entries : List TableEntry) → table_of table ≡ Ok entries → (fault : CommandFault) → IsRangeFault graph file from to fault → IsFaultOfDry graph file table from to fault
   dry_range entries says = range_cases (IsFaultOfDry graph file table from to) graph file from to (λ fault is. (record { entries = entries; says = says }, is)) tt
 
-  pub dry_wanting_in : (r : Result Bool CommandFault) → IfErr r IsWantingWorkers → IfErr r (IsFaultOfDry graph file table from to)
-  dry_wanting_in r = IfErr-weaker r _ _ (workers_cases (IsFaultOfDry graph file table from to) refl tt (λ n. tt))
+  pub dry_stop_in : (entries : List TableEntry) → table_of table ≡ Ok entries → (found : List Interval) → HasListing graph file from to (Ok found) → (r : Result Bool CommandFault)
+      → IfErr r IsWantingWorkers → IfErr r (IsFaultOfDry graph file table from to)
+  dry_stop_in entries says found listing r =
+      IfErr-weaker r _ _ (workers_cases (IsFaultOfDry graph file table from to) (found, record { entries = entries; says = says }, listing, refl) tt (λ n. tt))
 
 module _ (may_lose : Losing) (graph : List ℕ) (file : Option (List ℕ)) (from to : ℤ) where
   pub run_stop_in : (plan : Checked) → IsPlanOf graph file plan → (found : List Interval) → HasListing graph file from to (Ok found) → (r : Result Bool CommandFault)

@@ -31,8 +31,8 @@ use Rattle.bf_command_fault.specs.declared.fault.CommandFault.TheVariants.{Clear
 use Rattle.bf_command_fault.specs.declared.stop.StopFault.{StopFault}
 use Rattle.bf_commands.specs.Graphs.{IsFaultIn, IsGraph}
 use Rattle.bf_commands.specs.Lists.{HasListing}
-use Rattle.bf_commands.specs.OverTable.{IsTableFault, IsWantingWorkers, answering}
-use Rattle.bf_commands.specs.Programs.{Hearing, IsStopOrWanting, Losing}
+use Rattle.bf_commands.specs.OverTable.{IsTableFault, IsWanting, IsWantingWorkers, answering}
+use Rattle.bf_commands.specs.Programs.{Hearing, IsStop, IsStopOrWanting, Losing}
 use Rattle.bf_commands.specs.Reported.{IsReportOf}
 
 -- the answers of the table where there is one, and else what is heard of the programs of a try's words
@@ -112,22 +112,31 @@ pub record IsUnclearable (graph : List ℕ) (file table : Option (List ℕ)) (re
   pub report_says : IsReadAs report was
   pub fault_is : clear_fault ready.dag ready.found was (seed ∷ []) ≡ Some fault
 
+-- where a table answers, a worker can't be started; else the backfill stops as one of programs does
+abbrev pub IsStopBy : Losing → Option (List TableEntry) → Dag → List Interval → StopFault → Type 0
+IsStopBy may_lose (Some entries) dag intervals stop = stop ≡ StopFault.CannotStart
+IsStopBy may_lose None dag intervals stop = IsStop may_lose dag intervals stop
+
+-- the fault is the first: the seed isn't cleared in the report for this; or it is, and the backfill stops; or memory or the device is wanting
+abbrev pub IsFaultAgain : Losing → Option (List TableEntry) → Dag → List Interval → Report → Seed → CommandFault → Type 0
+IsFaultAgain may_lose answers dag intervals was seed (NotCleared fault) = clear_fault dag intervals was (seed ∷ []) ≡ Some fault
+IsFaultAgain may_lose answers dag intervals was seed (Stopped stop) = (clear_fault dag intervals was (seed ∷ []) ≡ None) × IsStopBy may_lose answers dag intervals stop
+IsFaultAgain may_lose answers dag intervals was seed fault = IsWanting fault
+
+-- they have none, the bytes say a report, the seed is cleared in it, and the backfill that goes on from it stops
+pub record StopsClearing (may_lose : Losing) (graph : List ℕ) (file table : Option (List ℕ)) (report : List ℕ) (from to : ℤ) (seed : Seed) (stop : StopFault) : Type 0 where
+  pub ready : IsReady graph file table from to
+  pub was : Report
+  pub report_says : IsReadAs report was
+  pub not_refused : clear_fault ready.dag ready.found was (seed ∷ []) ≡ None
+  pub stops : IsStopBy may_lose ready.answers ready.dag ready.found stop
+
+-- ---- for private clauses
+
 -- where a table answers, a worker can't be started; else the backfill stops as one of programs does; or memory or the device is wanting
 abbrev pub IsStopOrWantingBy : Losing → Option (List TableEntry) → Dag → List Interval → CommandFault → Type 0
 IsStopOrWantingBy may_lose (Some entries) dag intervals fault = IsWantingWorkers fault
 IsStopOrWantingBy may_lose None dag intervals fault = IsStopOrWanting may_lose dag intervals fault
-
--- they have none, and the backfill stops
-pub record StopsClearing (may_lose : Losing) (graph : List ℕ) (file table : Option (List ℕ)) (from to : ℤ) (stop : StopFault) : Type 0 where
-  pub ready : IsReady graph file table from to
-  pub stops : IsStopOrWantingBy may_lose ready.answers ready.dag ready.found (Stopped stop)
-
--- ---- for private clauses
-
--- the seed isn't cleared in the report; or the backfill stops; or memory or the device is wanting
-abbrev pub IsFaultAgain : Losing → Option (List TableEntry) → Dag → List Interval → Report → Seed → CommandFault → Type 0
-IsFaultAgain may_lose answers dag intervals was seed (NotCleared fault) = clear_fault dag intervals was (seed ∷ []) ≡ Some fault
-IsFaultAgain may_lose answers dag intervals was seed fault = IsStopOrWantingBy may_lose answers dag intervals fault
 
 -- the fault is that of the table's bytes, where there are some
 abbrev pub IsFaultOfNamed : Option (List ℕ) → CommandFault → Type 0

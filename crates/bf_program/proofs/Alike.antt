@@ -107,5 +107,5 @@ module _ (read held : List ℕ) (one two : Option (List ℕ)) (alike : AreAlike 
     dry_fault from to (Table fault) is = (is.0, graph_of is.0 is.1, sym same ∙ is.2)
     dry_fault from to (Range fault) is = (a_table is.0, listing_of from to _ is.1)
     dry_fault from to (CannotWrite n) is = tt
-    dry_fault from to (Stopped stop) is = is
+    dry_fault from to (Stopped stop) is = (is.0, a_table is.1, listing_of from to _ is.2, is.3)
     dry_fault from to fault is = fault_in fault is

@@ -18,7 +18,6 @@ use Rattle.bf_command_fault.specs.declared.fault.CommandFault.TheVariants.{Read,
 use Rattle.bf_commands.specs.declared.range.MomentRange.{MomentRange}
 use Rattle.bf_commands.specs.Cleared.{IsFaultAgain, IsFaultBefore, IsPrepared, IsReadAs, IsReady, IsReportAfter}
 use Rattle.bf_commands.specs.Programs.{Hearing, Losing, launched, launched_lost}
-use Rattle.bf_commands.proofs.ClearFaults.{may_stop}
 use Rattle.bf_commands.proofs.Faults.{unwritten_leaves}
 use Rattle.bf_program.specs.Commands.{AreReadable, Files, IsClearAnswer, IsClearFault, IsHeld, IsHeldIfNamed, IsNoLonger, IsReadable, MeansRange, MeansSeed, OfFilesAndNamedTable, clear_paths, table_named}
 use Rattle.bf_program.specs.Files.{AreAlike, IsFaultAfterFile, IsOfBytes, IsPreparingFault, IsReadingFault, IsReportAfterFile, IsReportFault}
@@ -115,8 +114,8 @@ module _ (may_lose : Losing) (files : Files) (asked : ClearAsked) (range : Momen
       clear_again OutOfMemory is = (range, means, seed, means_seed, tt)
       clear_again (CannotWrite n) is = (range, means, seed, means_seed, (readable, report_readable))
       clear_again (Stopped stop) is =
-          (range, means, seed, means_seed, (readable, report_readable, λ graph held other are holds reported told short. (record { ready = ready graph held other are holds; stops = is })))
-      clear_again fault is = absurd (may_stop (launched_lost asked.launcher may_lose) dag found answers fault is)
+          (range, means, seed, means_seed, (readable, report_readable, λ graph held other are holds reported told short. (record { ready = ready graph held other are holds; was = was; report_says = says reported told short; not_refused = is.0; stops = is.1 })))
+      clear_again fault is = absurd is
 
       clear_answer : (may_hear : Hearing) (text : List ℕ) (success : Bool) → IsReportAfter (launched asked.launcher may_hear) answers dag found was seed text success → IsClearAnswer may_hear files asked text (of_runs success)
       clear_answer may_hear text success is = record {

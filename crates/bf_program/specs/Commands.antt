@@ -285,7 +285,7 @@ IsFaultOfClear may_lose files asked range seed (BadReport fault) = OfReadClearFi
 IsFaultOfClear may_lose files asked range seed (NotCleared fault) = OfReadClearFiles files asked (λ graph zone table report.
     IsUnclearable graph zone table report range.from.nanosecond range.to.nanosecond seed fault)
 IsFaultOfClear may_lose files asked range seed (Stopped stop) = OfReadClearFiles files asked (λ graph zone table report.
-    StopsClearing (launched_lost asked.launcher may_lose) graph zone table range.from.nanosecond range.to.nanosecond stop)
+    StopsClearing (launched_lost asked.launcher may_lose) graph zone table report range.from.nanosecond range.to.nanosecond seed stop)
 IsFaultOfClear may_lose files asked range seed (CannotWrite n) = AreReadable files (clear_paths asked.graph (table_named asked)) × IsReadable (files (string_bytes asked.report))
 IsFaultOfClear may_lose files asked range seed OutOfMemory = Unit {0}
 IsFaultOfClear may_lose files asked range seed fault = AreReadable files (clear_paths asked.graph (table_named asked))

@@ -1,6 +1,6 @@
 use Rattle.std.proofs.Common.{sym, subst}
 use Rattle.bf_report_reader.specs.Written.{AreOfRuns}
-use Rattle.bf_commands.proofs.Faults.{dry_range, dry_table, dry_wanting_in, range_leaves, reported_in, table_leaves}
+use Rattle.bf_commands.proofs.Faults.{dry_range, dry_stop_in, dry_table, range_leaves, reported_in, table_leaves}
 use Rattle.bf_commands.proofs.ListedIntervals.{of_runs}
 use Rattle.bf_commands.proofs.Results.{handed_on, leaves_as, sends_as}
 use Rattle.bf_commands.proofs.dry.run_dry.Goals as goal
@@ -30,6 +30,6 @@ returns g c =
     let is = reported_in c.in_ok-timed.ensures.plan (c.in_ok-found.ensures.ok c.args.graph.now _ c.in_ok-timed.ensures.zone) c.deref.ensures.value c.in_ok-table.ensures.ok in
     record {
       ok = sends_as is _ _ _ c.run_over_by.ensures.ok;
-      fault = dry_wanting_in c.args.graph.now _ c.args.table.now _ _ _ c.run_over_by.ensures.wanting;
+      fault = dry_stop_in c.args.graph.now _ c.args.table.now _ _ _ c.in_ok-table.ensures.ok _ (c.in_ok-found.ensures.ok c.args.graph.now _ c.in_ok-timed.ensures.zone) _ c.run_over_by.ensures.wanting;
       left = leaves_as is _ _ _ _ c.run_over_by.ensures.left;
     }

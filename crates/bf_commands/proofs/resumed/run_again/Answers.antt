@@ -1,3 +1,5 @@
+use Rattle.bf_commands.specs.Programs.{launched_lost}
+use Rattle.bf_commands.proofs.ClearFaults.{again_stop_in}
 use Rattle.bf_commands.proofs.FromKept.{reported_after}
 use Rattle.bf_commands.proofs.Results.{leaves_as, sends_as}
 use Rattle.bf_commands.proofs.resumed.run_again.Goals as goal
@@ -7,3 +9,8 @@ returns-clause-ok g c = sends_as (reported_after c.in_ok-kept.ensures.ok c.in_ok
 
 pub returns-clause-left : goal.returns-clause-left
 returns-clause-left g c = leaves_as (reported_after c.in_ok-kept.ensures.ok c.in_ok-kept.ensures.kept) _ _ _ _ c.write_resumed.ensures.left
+
+pub returns-clause-fault : goal.returns-clause-fault
+returns-clause-fault g c =
+    again_stop_in (launched_lost c.args.crew.now.launcher (g.RT.Starter.may_lose c.args.crew.now.rt.now)) c.args.plan.now.dag c.args.intervals.now c.args.report.now c.args.seed c.in_ok-kept.ensures.ok
+    c.args.answers _ c.write_resumed.ensures.stop
