@@ -1,8 +1,7 @@
 -- Backfills over a table.
-use Rattle.std.proofs.Common.{◌≡◌, ◌<◌, ◌+◌, ◌/◌, ◌%◌, ◌++◌, ℕ, zero, suc, ℤ, pos, negsuc, ◌<ℤ◌, Bool, List, [], ◌∷◌, length, map, take, All, sym, ap, ◌∙◌, subst, arith, rules, get_or}
+use Rattle.std.proofs.Common.{◌≡◌, ◌/◌, ◌%◌, ℕ, zero, suc, ℤ, pos, negsuc, ◌<ℤ◌, Bool, List, [], ◌∷◌, length, map, All, sym, ap, ◌∙◌, subst, arith, rules}
 use Rattle.std.specs.Prelude.{AllPairs}
 use Rattle.std.proofs.lemmas.Int.{ints}
-use Rattle.std.proofs.lemmas.List.{map-append, take_more}
 use Rattle.jiff.specs.declared.timestamp.Timestamp.{Timestamp}
 use Rattle.bf_check.specs.declared.plan.Dag.{Dag}
 use Rattle.bf_interval.specs.declared.interval.Interval.{Interval}
@@ -89,12 +88,3 @@ of_run_at at years whole = record {
 
     rising : AllPairs (λ i j. i.start.nanosecond <ℤ j.start.nanosecond) (intervals_at at)
     rising = search rules
-
--- so with one interval more
-taken_more : (intervals : List Interval) (i : ℕ) (x : Interval) → i < length intervals → x ≡ get_or intervals i x → take i intervals ++ x ∷ [] ≡ take (i + 1) intervals
-taken_more intervals i x within is = sym (take_more intervals i x within ∙ ap (λ y. take i intervals ++ y ∷ []) (sym is))
-
-pub starts_more : (intervals : List Interval) (i : ℕ) (x : Interval) (starts : List Timestamp) → i < length intervals → x ≡ get_or intervals i x → starts ≡ map (λ j. j.start) (take i intervals) →
-    starts ++ x.start ∷ [] ≡ map (λ j. j.start) (take (i + 1) intervals)
-starts_more intervals i x starts within is so_far =
-    ap (λ xs. xs ++ x.start ∷ []) so_far ∙ (sym (map-append (λ (j : Interval). j.start) (take i intervals) (x ∷ [])) ∙ ap (map (λ (j : Interval). j.start)) (taken_more intervals i x within is))

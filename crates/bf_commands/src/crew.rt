@@ -45,10 +45,7 @@ impl<'m, RT> Crew<'m, RT> {
     pub(crate) fn launcher(&self) -> Option<&str>
         ensures { option_map (λ s. s.now) result ≡ option_map string_bytes self.now.launcher }
     {
-        match &self.launcher {
-            Some(path) => Some(path.as_str()),
-            None => None,
-        }
+        self.launcher.as_deref()
     }
 }
 

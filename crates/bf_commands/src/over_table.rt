@@ -30,11 +30,12 @@ use std::time::Clock;
 fn starts_of(alloc: Global, intervals: &[Interval]) -> Result<Vec<Timestamp>, OutOfMemory>
     ensures { IfOk result (λ starts. starts.items ≡ map (λ i. i.start) intervals.now) }
 {
-    let mut starts = Vec::with_capacity(alloc, intervals.len())?;
-    for interval in intervals {
-        starts.push(interval.start)?;
-    }
-    Ok(starts)
+    Ok(
+        intervals
+            .iter()
+            .map(|interval| interval.start)
+            .collect(alloc)?,
+    )
 }
 
 /// A table's answers to the tries of runs over these data intervals.

@@ -1,5 +1,5 @@
 -- What the command `clear` comes to, by what was read of its files.
-use Rattle.std.proofs.Common.{◌≡◌, ◌≢◌, ◌≤◌, ℕ, ℤ, Bool, List, length, Option, Some, None, option_map, string_bytes, refl, sym, ◌∙◌, subst, inl, inr}
+use Rattle.std.proofs.Common.{◌≡◌, ℕ, ℤ, Bool, List, Option, Some, option_map, string_bytes, refl, sym, ◌∙◌, subst, inl, inr}
 use Rattle.bf_check.specs.declared.plan.Dag.{Dag}
 use Rattle.bf_interval.specs.declared.interval.Interval.{Interval}
 use Rattle.bf_try.specs.declared.table.TableEntry.{TableEntry}
@@ -19,13 +19,13 @@ use Rattle.bf_commands.specs.declared.range.MomentRange.{MomentRange}
 use Rattle.bf_commands.specs.Cleared.{IsFaultAgain, IsFaultBefore, IsPrepared, IsReadAs, IsReady, IsReportAfter}
 use Rattle.bf_commands.specs.Programs.{Hearing, Losing, launched, launched_lost}
 use Rattle.bf_commands.proofs.Faults.{unwritten_leaves}
-use Rattle.bf_program.specs.Commands.{AreReadable, Files, IsClearAnswer, IsClearFault, IsHeld, IsHeldIfNamed, IsNoLonger, IsReadable, MeansRange, MeansSeed, OfFilesAndNamedTable, clear_paths, table_named}
+use Rattle.bf_program.specs.Commands.{AreReadable, Files, IsClearAnswer, IsClearFault, IsHeld, IsHeldIfNamed, IsNoLonger, IsReadable, IsUntold, MeansRange, MeansSeed, OfFilesAndNamedTable, clear_paths, table_named}
 use Rattle.bf_program.specs.Files.{AreAlike, IsFaultAfterFile, IsOfBytes, IsPreparingFault, IsReadingFault, IsReportAfterFile, IsReportFault}
 use Rattle.bf_program.proofs.Alike.{fault_in, graph_of, listing_of}
 use Rattle.bf_program.proofs.Exits.{reading_cases}
 
 -- why a report isn't read
-pub read_fault : (path : List ℕ) (file : Option (Option (List ℕ))) → file ≢ Some None → (fault : ReportFault) → ((held : List ℕ) → file ≡ Some (Some held) → length held ≤ 9_223_372_036_854_775_806 → Tells held fault)
+pub read_fault : (path : List ℕ) (file : Option (Option (List ℕ))) → IsReadable file → (fault : ReportFault) → ((held : List ℕ) → IsHeld file held → IsNoLonger held → Tells held fault)
     → IsReportFault path file (of_report fault)
 read_fault path file readable report.OutOfMemory tells = tt
 read_fault path file readable fault tells = (readable, tells)
@@ -104,7 +104,7 @@ module _ (may_lose : Losing) (files : Files) (asked : ClearAsked) (range : Momen
         (range, means, seed, means_seed, (readable, is.0, λ graph held other are holds reported told short. (ready graph held other are holds, is.1 reported told short)))
     clear_report OutOfMemory is = (range, means, seed, means_seed, tt)
     clear_report (CannotRead path) is =
-        (range, means, seed, means_seed, inr (readable, is.0, subst (λ (p : List ℕ). (bytes : List ℕ) → files p ≢ Some (Some bytes)) (sym is.0) is.1, ready))
+        (range, means, seed, means_seed, inr (readable, is.0, subst (λ (p : List ℕ). IsUntold (files p)) (sym is.0) is.1, ready))
     clear_report fault is = absurd is
 
     module _ (report_readable : IsReadable (files (string_bytes asked.report))) (was : Reported) (says : (held : List ℕ) → IsHeld (files (string_bytes asked.report)) held → IsNoLonger held → IsReadAs held was) where

@@ -22,7 +22,7 @@ use Rattle.bf_commands.specs.Graphs.{IsFaultIn, IsSizeOf}
 use Rattle.bf_commands.specs.Lists.{IsFaultOfList, IsListIn}
 use Rattle.bf_commands.specs.OneRun.{IsFaultOfSingle, IsReportAt}
 use Rattle.bf_commands.specs.Programs.{Hearing, Losing, IsFaultOfRun, IsRunReport, launched, launched_lost}
-use Rattle.bf_program.specs.Commands.{AreReadable, Files, IsCheckAnswer, IsCheckFault, IsDryAnswer, IsDryFault, IsListAnswer, IsListFault, IsRunAnswer, IsRunFault, IsSingleAnswer, IsSingleFault, Means, MeansRange, OfFiles, OfFilesAndTable, graph_paths, run_paths, size_text}
+use Rattle.bf_program.specs.Commands.{AreReadable, Files, IsCheckAnswer, IsCheckFault, IsDryAnswer, IsDryFault, IsListAnswer, IsListFault, IsRunAnswer, IsRunFault, IsSingleAnswer, IsSingleFault, Means, MeansRange, OfFiles, OfFilesAndTable, graph_paths, size_text, table_paths}
 use Rattle.bf_program.specs.Files.{AreAlike}
 use Rattle.bf_program.proofs.Alike.{dry_fault, fault_in, list_fault, list_of, report_at, report_in, run_fault, run_report, single_fault, size_of}
 
@@ -34,8 +34,8 @@ pub record AreGraphBytes (files : Files) (asked : GraphAsked) (graph : List ℕ)
   pub alike : OfFiles files asked (λ held zone_held. AreAlike graph held zone zone_held)
 
 -- so it is with the table behind them
-pub record AreRunBytes (files : Files) (asked : GraphAsked) (path graph table : List ℕ) (zone : Option (List ℕ)) : Type 0 where
-  pub readable : AreReadable files (run_paths asked path)
+pub record AreBytesWithTable (files : Files) (asked : GraphAsked) (path graph table : List ℕ) (zone : Option (List ℕ)) : Type 0 where
+  pub readable : AreReadable files (table_paths asked path)
   pub alike : OfFilesAndTable files asked path (λ held zone_held other. AreAlike graph held zone zone_held × (table_of table ≡ table_of other))
 
 -- what was lent is what was read
@@ -43,9 +43,9 @@ pub lent_graph : {files : Files} {asked : GraphAsked} {lent read : List ℕ} {le
     → OfFiles files asked (λ graph held. AreAlike read graph zone held) → AreGraphBytes files asked lent lent_zone
 lent_graph same same_zone readable alike = rw (same, same_zone) (record { readable = readable; alike = alike })
 
-pub lent_run : {files : Files} {asked : GraphAsked} {path lent read lent_table table : List ℕ} {lent_zone zone : Option (List ℕ)} → lent ≡ read → lent_table ≡ table → lent_zone ≡ zone → AreReadable files (run_paths asked path)
-    → OfFilesAndTable files asked path (λ graph held other. AreAlike read graph zone held × (table_of table ≡ table_of other)) → AreRunBytes files asked path lent lent_table lent_zone
-lent_run same same_table same_zone readable alike = rw (same, same_table, same_zone) (record { readable = readable; alike = alike })
+pub lent_with_table : {files : Files} {asked : GraphAsked} {path lent read lent_table table : List ℕ} {lent_zone zone : Option (List ℕ)} → lent ≡ read → lent_table ≡ table → lent_zone ≡ zone → AreReadable files (table_paths asked path)
+    → OfFilesAndTable files asked path (λ graph held other. AreAlike read graph zone held × (table_of table ≡ table_of other)) → AreBytesWithTable files asked path lent lent_table lent_zone
+lent_with_table same same_table same_zone readable alike = rw (same, same_table, same_zone) (record { readable = readable; alike = alike })
 
 -- ---- `check`
 
@@ -92,7 +92,7 @@ module _ {files : Files} (asked : ListAsked) (range : MomentRange) (means : Mean
 -- ---- `single`
 
 module _ {files : Files} (asked : SingleAsked) (at : Timestamp) (means : Means (string_bytes asked.at) at) {read table : List ℕ} {zone : Option (List ℕ)}
-    (bytes : AreRunBytes files asked.graph (string_bytes asked.table) read table zone) where
+    (bytes : AreBytesWithTable files asked.graph (string_bytes asked.table) read table zone) where
   pub single_answer : (text : List ℕ) (success : Bool) → IsReportAt read zone table at text success → IsSingleAnswer files asked text (of_runs success)
   single_answer text success is = record {
     at = at;
@@ -112,7 +112,7 @@ module _ {files : Files} (asked : SingleAsked) (at : Timestamp) (means : Means (
 -- ---- `dry`
 
 module _ {files : Files} (asked : DryAsked) (range : MomentRange) (means : MeansRange asked.range range) {read table : List ℕ} {zone : Option (List ℕ)}
-    (bytes : AreRunBytes files asked.graph (string_bytes asked.table) read table zone) where
+    (bytes : AreBytesWithTable files asked.graph (string_bytes asked.table) read table zone) where
   pub dry_answer : (text : List ℕ) (success : Bool) → IsReportIn read zone table range.from.nanosecond range.to.nanosecond text success → IsDryAnswer files asked text (of_runs success)
   dry_answer text success is = record {
     range = range;

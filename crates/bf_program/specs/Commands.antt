@@ -109,8 +109,8 @@ abbrev pub graph_paths : GraphAsked → List (List ℕ)
 graph_paths asked = string_bytes asked.graph ∷ named_paths (option_map string_bytes asked.zone_file)
 
 -- and of the table behind them
-abbrev pub run_paths : GraphAsked → List ℕ → List (List ℕ)
-run_paths asked table = graph_paths asked ++ table ∷ []
+abbrev pub table_paths : GraphAsked → List ℕ → List (List ℕ)
+table_paths asked table = graph_paths asked ++ table ∷ []
 
 -- and of the table behind them, where one is named
 abbrev pub clear_paths : GraphAsked → Option (List ℕ) → List (List ℕ)
@@ -160,7 +160,7 @@ pub record IsSingleAnswer (files : Files) (asked : SingleAsked) (text : List ℕ
   pub means : Means (string_bytes asked.at) at
   pub succeeded : Bool
   pub status_is : status ≡ of_runs succeeded
-  pub readable : AreReadable files (run_paths asked.graph (string_bytes asked.table))
+  pub readable : AreReadable files (table_paths asked.graph (string_bytes asked.table))
   pub text_is : OfFilesAndTable files asked.graph (string_bytes asked.table) (λ graph zone table. IsReportAt graph zone table at text succeeded)
 
 -- the report of a run for each data interval of the range over the table, and whether each is a success
@@ -169,7 +169,7 @@ pub record IsDryAnswer (files : Files) (asked : DryAsked) (text : List ℕ) (sta
   pub means : MeansRange asked.range range
   pub succeeded : Bool
   pub status_is : status ≡ of_runs succeeded
-  pub readable : AreReadable files (run_paths asked.graph (string_bytes asked.table))
+  pub readable : AreReadable files (table_paths asked.graph (string_bytes asked.table))
   pub text_is : OfFilesAndTable files asked.graph (string_bytes asked.table) (λ graph zone table.
       IsReportIn graph zone table range.from.nanosecond range.to.nanosecond text succeeded)
 
@@ -252,13 +252,13 @@ IsListFault files asked fault = (range : MomentRange) × MeansRange asked.range 
 -- the moment comes first: the text is none; or it means one, and the fault is the first of the files, the graph, the table and the moment
 abbrev pub IsSingleFault : Files → SingleAsked → CommandFault → Type 0
 IsSingleFault files asked BadMoment = IsNoMoment (string_bytes asked.at)
-IsSingleFault files asked fault = (at : Timestamp) × Means (string_bytes asked.at) at × IsFaultOfFiles files (run_paths asked.graph (string_bytes asked.table))
+IsSingleFault files asked fault = (at : Timestamp) × Means (string_bytes asked.at) at × IsFaultOfFiles files (table_paths asked.graph (string_bytes asked.table))
     (OfFilesAndTable files asked.graph (string_bytes asked.table) (λ graph zone table. IsFaultOfSingle graph zone table at fault)) fault
 
 -- moments come first: a text is no moment; or they mean a range, and the fault is the first of the files, the graph, the table and the range
 abbrev pub IsDryFault : Files → DryAsked → CommandFault → Type 0
 IsDryFault files asked BadMoment = IsNoMoment (string_bytes asked.range.from) ⊎ IsNoMoment (string_bytes asked.range.to)
-IsDryFault files asked fault = (range : MomentRange) × MeansRange asked.range range × IsFaultOfFiles files (run_paths asked.graph (string_bytes asked.table))
+IsDryFault files asked fault = (range : MomentRange) × MeansRange asked.range range × IsFaultOfFiles files (table_paths asked.graph (string_bytes asked.table))
     (OfFilesAndTable files asked.graph (string_bytes asked.table) (λ graph zone table.
     IsFaultOfDry graph zone table range.from.nanosecond range.to.nanosecond fault)) fault
 

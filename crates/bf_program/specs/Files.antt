@@ -1,5 +1,5 @@
 -- What is read of files, for private clauses.
-use Rattle.std.specs.Prelude.{◌≡◌, ◌≢◌, ◌≤◌, ◌⊎◌, ℕ, Bool, List, length, Option, Some, None, option_map, Vec}
+use Rattle.std.specs.Prelude.{◌≡◌, ◌⊎◌, ℕ, Bool, List, Option, option_map, Vec}
 use Rattle.std.specs.Global.{Global}
 use Rattle.jiff.specs.Types.{TimeZone}
 use Rattle.bf_read.specs.Reading.{graph_in}
@@ -17,9 +17,9 @@ use Rattle.bf_command_fault.specs.declared.fault.CommandFault.TheVariants.{OutOf
 use Rattle.bf_commands.specs.declared.range.MomentRange.{MomentRange}
 use Rattle.bf_commands.specs.Cleared.{IsFaultAgain, IsFaultBefore, IsReadAs, IsReportAfter}
 use Rattle.bf_commands.specs.Programs.{Hearing, Losing}
-use Rattle.bf_program.specs.Commands.{AreReadable, Files, IsFirstUntold, IsHeld, IsNoLonger, IsReadable, OfFilesAndNamedTable, clear_paths}
+use Rattle.bf_program.specs.Commands.{AreReadable, Files, IsFirstUntold, IsHeld, IsNoLonger, IsReadable, IsUntold, OfFilesAndNamedTable, clear_paths}
 
--- the bytes of a zone file, where one was read
+-- the bytes of a file, where one was read
 abbrev pub bytes_of : Option (Vec ℕ Global) → Option (List ℕ)
 bytes_of read = option_map (λ v. v.items) read
 
@@ -55,8 +55,8 @@ IsPreparingFault files asked path range fault =
 
 -- the report's file can't be read, or it holds no report; or memory is wanting
 abbrev pub IsReportFault : List ℕ → Option (Option (List ℕ)) → CommandFault → Type 0
-IsReportFault path file (CannotRead p) = (p ≡ path) × ((held : List ℕ) → file ≢ Some (Some held))
-IsReportFault path file (BadReport fault) = (file ≢ Some None) × ((held : List ℕ) → file ≡ Some (Some held) → length held ≤ 9_223_372_036_854_775_806 → Tells held fault)
+IsReportFault path file (CannotRead p) = (p ≡ path) × IsUntold file
+IsReportFault path file (BadReport fault) = IsReadable file × ((held : List ℕ) → IsHeld file held → IsNoLonger held → Tells held fault)
 IsReportFault path file OutOfMemory = Unit {0}
 IsReportFault path file _ = ⊥
 

@@ -48,10 +48,7 @@ impl ClearFiles {
     fn table(&self) -> Option<&[u8]>
         ensures { option_map (λ s. s.now) result ≡ bytes_of self.now.table }
     {
-        match &self.table {
-            Some(bytes) => Some(bytes.as_slice()),
-            None => None,
-        }
+        self.table.as_deref()
     }
 }
 

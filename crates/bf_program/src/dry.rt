@@ -5,7 +5,7 @@ ghost use Rattle.bf_command_fault.specs.Refusal.{Leaves, Sends};
 ghost use Rattle.bf_command_fault.specs.declared.status.Status.{Status as StatusTerm};
 ghost use Rattle.bf_program.specs.Commands.{IsDryAnswer, IsDryFault};
 
-use crate::input::{range_of, run_files};
+use crate::input::{files_with_table, range_of};
 use crate::source::Source;
 use bf_command_fault::{CommandFault, Status};
 use bf_command_line::DryAsked;
@@ -33,7 +33,7 @@ pub fn dry_answered<RT: Screen + Threads + Wait + Clock + Sync, S: Source, W: Wr
         (W.written out.old) (W.written out.new)) }
 {
     let range = range_of(&asked.range)?;
-    let files = run_files(alloc, asked.graph, asked.table, files)?;
+    let files = files_with_table(alloc, asked.graph, asked.table, files)?;
     let graph = &files.graph;
     let crew = Crew {
         rt,

@@ -3,7 +3,7 @@ ghost use Rattle.std.specs.Prelude.{◌≡◌, ◌<◌, ◌^◌, ◌⊎◌, ℕ,
 ghost use Rattle.bf_read.specs.Reading.{graph_in};
 ghost use Rattle.bf_try.specs.Tables.{table_of};
 ghost use Rattle.bf_commands.specs.Cleared.{IsReadAs};
-ghost use Rattle.bf_program.specs.Commands.{AreReadable, IsHeld, IsNoLonger, IsNoMoment, IsReadable, IsHeldIfNamed, Means, MeansRange, OfFiles, OfFilesAndTable, graph_paths, run_paths, named_paths};
+ghost use Rattle.bf_program.specs.Commands.{AreReadable, IsHeld, IsNoLonger, IsNoMoment, IsReadable, IsHeldIfNamed, Means, MeansRange, OfFiles, OfFilesAndTable, graph_paths, named_paths, table_paths};
 ghost use Rattle.bf_program.specs.Files.{AreAlike, IsReadingFault, IsReportFault, MeanAlike, bytes_of};
 ghost use Rattle.bf_program.specs.Source.{IsWholeUpTo};
 
@@ -143,10 +143,7 @@ impl GraphFiles {
     pub(crate) fn zone_file(&self) -> Option<&[u8]>
         ensures { option_map (λ s. s.now) result ≡ bytes_of self.now.zone_file }
     {
-        match &self.zone_file {
-            Some(bytes) => Some(bytes.as_slice()),
-            None => None,
-        }
+        self.zone_file.as_deref()
     }
 }
 
@@ -168,26 +165,26 @@ pub(crate) fn graph_files<S: Source>(
 
 /// The files of a backfill over a table.
 #[derive(Drop)]
-pub(crate) struct RunFiles {
+pub(crate) struct FilesWithTable {
     pub(crate) graph: GraphFiles,
     pub(crate) table: Vec<u8>,
 }
 
 /// Reads the graph file, the zone file where one is named, and then the table.
-pub(crate) fn run_files<S: Source>(
+pub(crate) fn files_with_table<S: Source>(
     alloc: Global,
     asked: GraphAsked,
     table: String,
     files: &mut S,
-) -> Result<RunFiles, CommandFault>
+) -> Result<FilesWithTable, CommandFault>
     ensures alike { IfOk result (λ f. OfFilesAndTable (S.file files.old) asked (string_bytes table) (λ graph zone held.
         AreAlike f.graph.graph.items graph (bytes_of f.graph.zone_file) zone × (table_of f.table.items ≡ table_of held))) }
-    ensures readable { OnOk result (AreReadable (S.file files.old) (run_paths asked (string_bytes table))) }
-    ensures fault { IfErr result (IsReadingFault (S.file files.old) (run_paths asked (string_bytes table))) }
+    ensures readable { OnOk result (AreReadable (S.file files.old) (table_paths asked (string_bytes table))) }
+    ensures fault { IfErr result (IsReadingFault (S.file files.old) (table_paths asked (string_bytes table))) }
 {
     let graph = graph_files(alloc, asked, files)?;
     let table = table_bytes(alloc, table, files)?;
-    Ok(RunFiles { graph, table })
+    Ok(FilesWithTable { graph, table })
 }
 
 /// The moment of a text.

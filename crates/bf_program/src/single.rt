@@ -5,7 +5,7 @@ ghost use Rattle.bf_command_fault.specs.Refusal.{Leaves, Sends};
 ghost use Rattle.bf_command_fault.specs.declared.status.Status.{Status as StatusTerm};
 ghost use Rattle.bf_program.specs.Commands.{IsSingleAnswer, IsSingleFault};
 
-use crate::input::{moment_of, run_files};
+use crate::input::{files_with_table, moment_of};
 use crate::source::Source;
 use bf_command_fault::{CommandFault, Status};
 use bf_command_line::SingleAsked;
@@ -29,7 +29,7 @@ pub fn single_answered<S: Source, W: Write>(
         (W.written out.old) (W.written out.new)) }
 {
     let at = moment_of(asked.at.as_str())?;
-    let files = run_files(alloc, asked.graph, asked.table, files)?;
+    let files = files_with_table(alloc, asked.graph, asked.table, files)?;
     let graph = &files.graph;
     let succeeded = run_single(
         alloc,

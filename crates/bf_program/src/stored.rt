@@ -15,8 +15,9 @@ struct StoredFile {
     bytes: Vec<u8>,
 }
 
-/// Files in memory, for tests. Contracts see the list of paths and contents; of two files with one path the
-/// first is read, and a path without a file can't be read.
+/// Files in memory, which tell what they hold: that a source can do so and keep the clauses of `Source` is proved of them.
+/// Contracts see the list of paths and contents; of two files with one path the first is read, and a path without a file
+/// can't be read.
 #[derive(Drop)]
 pub struct StoredFiles {
     alloc: Global,

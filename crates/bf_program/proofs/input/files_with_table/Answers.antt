@@ -1,5 +1,5 @@
 use Rattle.std.proofs.Common.{◌∙◌}
-use Rattle.bf_program.proofs.input.run_files.Goals as goal
+use Rattle.bf_program.proofs.input.files_with_table.Goals as goal
 
 pub returns-clause-alike : goal.returns-clause-alike
 returns-clause-alike g c = λ graph held zone are told.
