@@ -9,13 +9,30 @@ use Rattle.bf_process.specs.Words.{HoldsOfTry, IsLost, MayGiveUp}
 use Rattle.bf_interval.specs.declared.interval.Interval.{Interval}
 use Rattle.bf_core.specs.Events.{entry_in}
 use Rattle.bf_core.specs.declared.ended.Ended.{Ended}
-use Rattle.bf_commands.specs.Programs.{Hearing, IsEndedBy, IsReportBy, Losing}
+use Rattle.bf_core.specs.declared.fault.BackfillFault.{BackfillFault}
+use Rattle.bf_exec.specs.Faults.{MayFail}
+use Rattle.bf_command_fault.specs.declared.fault.CommandFault.{CommandFault}
+use Rattle.bf_command_fault.specs.declared.fault.CommandFault.TheVariants.{OutOfMemory, Stopped}
+use Rattle.bf_command_fault.specs.declared.stop.StopFault.{StopFault}
+use Rattle.bf_commands.specs.Programs.{Hearing, IsEndedBy, IsGivenUp, IsReportBy, IsStopOfOrWanting, IsToldOf, Losing}
 use Rattle.bf_commands.specs.Reported.{IsReportOf}
 
 -- the report over the ledger of a backfill with programs that has ended
 pub reported : {may_hear : Hearing} {dag : Dag} {intervals : List Interval} {ended : Ended} → IsEndedBy may_hear dag intervals ended
     → (text : List ℕ) (success : Bool) → IsReportOf dag intervals (entry_in ended.state.ledger) text success → IsReportBy may_hear dag intervals text success
 reported {ended = ended} is text success reports = record { ledger = ended.state.ledger; tries = is.outcome.tries; graded = is.graded; reported = reports }
+
+-- what is told of a fault that may be tells of a stop that may be
+module _ (may_give_up : JobName → Given → Type 0) (dag : Dag) where
+  told_given_up : (name : JobName) (told : CommandFault) → (given : Given) × may_give_up name given → IsGivenUp dag name told → IsStopOfOrWanting may_give_up dag told
+  told_given_up name (Stopped (StopFault.GaveUp task index attempt)) may is = (name, may.0, may.1, is.0, is.1, is.2)
+  told_given_up name OutOfMemory may is = tt
+  told_given_up name told may is = absurd is
+
+  pub told_stop : (fault : BackfillFault) (told : CommandFault) → MayFail may_give_up fault → IsToldOf dag fault told → IsStopOfOrWanting may_give_up dag told
+  told_stop BackfillFault.OutOfMemory told may is = rw is tt
+  told_stop BackfillFault.Start told may is = rw is tt
+  told_stop (BackfillFault.Runner name) told may is = told_given_up name told may is
 
 -- a try that is given up has its task
 pub given-up-there : (may_lose : Losing) (dag : Dag) (intervals : List Interval) (name : JobName) (given : Given) → MayGiveUp may_lose dag intervals name given → name.task < length dag.tasks

@@ -1,16 +1,18 @@
 -- The faults of a backfill that goes on from a report.
-use Rattle.std.proofs.Common.{◌≡◌, ℕ, ℤ, Bool, List, [], ◌∷◌, Option, Some, None, Result, Ok, IfErr, option_map, refl, ◌∙◌, ap}
+use Rattle.std.proofs.Common.{ℕ, ℤ, Bool, List, Option, Some, None, Result, Ok, IfErr, option_map, refl, ◌∙◌, ap}
 use Rattle.std.proofs.lemmas.Result.{IfErr-weaker}
 use Rattle.bf_check.specs.Checked.{Checked}
 use Rattle.bf_check.specs.declared.plan.Dag.{Dag}
 use Rattle.bf_interval.specs.declared.interval.Interval.{Interval}
 use Rattle.bf_try.specs.declared.table.TableEntry.{TableEntry}
 use Rattle.bf_try.specs.Tables.{table_of}
+use Rattle.bf_try.specs.Tries.{Look}
+use Rattle.bf_process.specs.Words.{MayGiveUp}
+use Rattle.bf_kept.specs.Kept.{MayGiveUpAnew}
 use Rattle.bf_report.specs.declared.report.Report.{Report}
 use Rattle.bf_dependents.specs.declared.seeds.Seed.{Seed}
-use Rattle.bf_clear.specs.Matching.{clear_fault}
 use Rattle.bf_command_fault.specs.declared.fault.CommandFault.{CommandFault}
-use Rattle.bf_commands.specs.Cleared.{AreAnswersIn, IsFaultAgain, IsFaultBefore, IsFaultOfNamed, IsPrepared, IsStopOrWantingBy}
+use Rattle.bf_commands.specs.Cleared.{AreAnswersIn, IsFaultAgain, IsFaultBefore, IsFaultOfNamed, IsKeptOf, IsPrepared, IsStopOrWantingFrom}
 use Rattle.bf_commands.specs.Graphs.{IsPlanOf}
 use Rattle.bf_commands.specs.Lists.{HasListing, IsRangeFault}
 use Rattle.bf_commands.specs.Programs.{Losing}
@@ -32,11 +34,12 @@ module _ (graph : List ℕ) (file table : Option (List ℕ)) (from to : ℤ) whe
 
 -- ---- the faults of what comes after it
 
-module _ (may_lose : Losing) (dag : Dag) (intervals : List Interval) (was : Report) (seed : Seed) (cleared : clear_fault dag intervals was (seed ∷ []) ≡ None) where
-  stops_again : (answers : Option (List TableEntry)) (fault : CommandFault) → IsStopOrWantingBy may_lose answers dag intervals fault → IsFaultAgain may_lose answers dag intervals was seed fault
-  stops_again None = stop_cases (IsFaultAgain may_lose None dag intervals was seed) may_lose dag intervals (λ stop is. (cleared, is)) tt (λ n. tt)
-  stops_again (Some entries) = workers_cases (IsFaultAgain may_lose (Some entries) dag intervals was seed) (cleared, refl) tt (λ n. tt)
+module _ (may_lose : Losing) (dag : Dag) (intervals : List Interval) (was : Report) (seed : Seed) (kept : Look) (is_kept : IsKeptOf dag intervals was seed kept) where
+  stops_again : (answers : Option (List TableEntry)) (fault : CommandFault) → IsStopOrWantingFrom kept may_lose answers dag intervals fault → IsFaultAgain may_lose answers dag intervals was seed fault
+  stops_again None =
+      stop_cases (IsFaultAgain may_lose None dag intervals was seed) (MayGiveUpAnew kept (MayGiveUp may_lose dag intervals)) dag (λ stop is. (kept, is_kept, is)) tt (λ n. tt)
+  stops_again (Some entries) = workers_cases (IsFaultAgain may_lose (Some entries) dag intervals was seed) (kept, is_kept, refl) tt (λ n. tt)
 
-  pub again_stop_in : (answers : Option (List TableEntry)) (r : Result Bool CommandFault) → IfErr r (IsStopOrWantingBy may_lose answers dag intervals)
+  pub again_stop_in : (answers : Option (List TableEntry)) (r : Result Bool CommandFault) → IfErr r (IsStopOrWantingFrom kept may_lose answers dag intervals)
       → IfErr r (IsFaultAgain may_lose answers dag intervals was seed)
   again_stop_in answers r = IfErr-weaker r _ _ (stops_again answers)

@@ -2,6 +2,8 @@
 use Rattle.std.proofs.Common.{◌≡◌, ℕ, ℤ, List, Bool, Option, Result, Ok, Err, IfErr, refl}
 use Rattle.std.proofs.lemmas.Result.{IfErr-weaker}
 use Rattle.jiff.specs.declared.timestamp.Timestamp.{Timestamp}
+use Rattle.bf_value.specs.declared.name.JobName.{JobName}
+use Rattle.bf_xcom.specs.declared.values.Given.{Given}
 use Rattle.bf_read.specs.declared.draft.Draft.{Draft}
 use Rattle.bf_read.specs.declared.fault.ReadFault.{ReadFault}
 use Rattle.bf_read.specs.declared.fault.ReadFault.TheVariants as read
@@ -16,6 +18,7 @@ use Rattle.bf_interval.specs.declared.fault.IntervalFault.{IntervalFault}
 use Rattle.bf_interval.specs.declared.fault.IntervalFault.TheVariants as interval
 use Rattle.bf_interval.specs.declared.interval.Interval.{Interval}
 use Rattle.bf_interval.specs.Years.{IsInYears}
+use Rattle.bf_process.specs.Words.{MayGiveUp}
 use Rattle.bf_try.specs.declared.table.TableEntry.{TableEntry}
 use Rattle.bf_try.specs.declared.table.TableFault.{TableFault}
 use Rattle.bf_try.specs.Tables.{table_of}
@@ -31,7 +34,7 @@ use Rattle.bf_commands.specs.Graphs.{IsFaultIn, IsFileOf, IsPlanOf}
 use Rattle.bf_commands.specs.Lists.{HasListing, IsFaultOfList, IsRangeFault}
 use Rattle.bf_commands.specs.OneRun.{IsFaultOfSingle, IsReportAt, intervals_at}
 use Rattle.bf_commands.specs.OverTable.{IsReportOver, IsTableFault, IsWanting, IsWantingWorkers}
-use Rattle.bf_commands.specs.Programs.{Hearing, IsFaultOfRun, IsReportBy, IsRunReport, IsStop, IsStopOrWanting, Losing}
+use Rattle.bf_commands.specs.Programs.{Hearing, IsFaultOfRun, IsReportBy, IsRunReport, IsStopOf, IsStopOfOrWanting, IsStopOrWanting, Losing}
 
 -- ---- the whole
 
@@ -86,10 +89,10 @@ module _ (P : CommandFault → Type 0) where
   workers_cases start memory write fault is = wanting_cases memory write fault is
 
   -- a backfill with programs stops, or something is wanting
-  pub stop_cases : (may_lose : Losing) (dag : Dag) (found : List Interval) → ((stop : StopFault) → IsStop may_lose dag found stop → P (Stopped stop)) → P OutOfMemory → ((n : ℕ) → P (CannotWrite n))
-      → (fault : CommandFault) → IsStopOrWanting may_lose dag found fault → P fault
-  stop_cases may_lose dag found stops memory write (Stopped stop) is = stops stop is
-  stop_cases may_lose dag found stops memory write fault is = wanting_cases memory write fault is
+  pub stop_cases : (may_give_up : JobName → Given → Type 0) (dag : Dag) → ((stop : StopFault) → IsStopOf may_give_up dag stop → P (Stopped stop)) → P OutOfMemory → ((n : ℕ) → P (CannotWrite n))
+      → (fault : CommandFault) → IsStopOfOrWanting may_give_up dag fault → P fault
+  stop_cases may_give_up dag stops memory write (Stopped stop) is = stops stop is
+  stop_cases may_give_up dag stops memory write fault is = wanting_cases memory write fault is
 
   -- a table has a fault, or memory is wanting
   pub table_cases : (table : List ℕ) → ((fault : TableFault) → table_of table ≡ Err fault → P (Table fault)) → P OutOfMemory → (fault : CommandFault) → IsTableFault table fault → P fault
@@ -137,7 +140,7 @@ module _ (may_lose : Losing) (graph : List ℕ) (file : Option (List ℕ)) (from
   pub run_stop_in : (plan : Checked) → IsPlanOf graph file plan → (found : List Interval) → HasListing graph file from to (Ok found) → (r : Result Bool CommandFault)
       → IfErr r (IsStopOrWanting may_lose plan.dag found) → IfErr r (IsFaultOfRun may_lose graph file from to)
   run_stop_in plan said found listing r =
-      IfErr-weaker r _ _ (stop_cases (IsFaultOfRun may_lose graph file from to) may_lose plan.dag found (λ stop is. (said.draft, found, said.graph_is, listing, rw said.dag at is)) tt (λ n. tt))
+      IfErr-weaker r _ _ (stop_cases (IsFaultOfRun may_lose graph file from to) (MayGiveUp may_lose plan.dag found) plan.dag (λ stop is. (said.draft, found, said.graph_is, listing, rw said.dag at is)) tt (λ n. tt))
 
 -- what is wanting, where programs run
 pub wanting_stop : (may_lose : Losing) (dag : Dag) (found : List Interval) (r : Result Bool CommandFault) → IfErr r IsWanting → IfErr r (IsStopOrWanting may_lose dag found)

@@ -16,8 +16,8 @@ use Rattle.bf_try.specs.Tries.{Look, AreAlike}
 use Rattle.bf_core.specs.Agreement.{AreRunStates, HoldsItsTries, IsOutcome}
 use Rattle.bf_core.specs.Events.{entry_in}
 use Rattle.bf_core.specs.declared.ended.Ended.{Ended}
-use Rattle.bf_process.specs.Words.{MayAnswer}
-use Rattle.bf_kept.specs.Kept.{AreGradedAnew}
+use Rattle.bf_process.specs.Words.{MayAnswer, MayGiveUp}
+use Rattle.bf_kept.specs.Kept.{AreGradedAnew, MayGiveUpAnew}
 use Rattle.bf_report.specs.declared.report.Report.{Report}
 use Rattle.bf_report.specs.Report.{report_text}
 use Rattle.bf_report_reader.specs.Rules.{IsShownReport}
@@ -32,7 +32,7 @@ use Rattle.bf_command_fault.specs.declared.stop.StopFault.{StopFault}
 use Rattle.bf_commands.specs.Graphs.{IsFaultIn, IsGraph}
 use Rattle.bf_commands.specs.Lists.{HasListing}
 use Rattle.bf_commands.specs.OverTable.{IsTableFault, IsWanting, IsWantingWorkers, answering}
-use Rattle.bf_commands.specs.Programs.{Hearing, IsStop, IsStopOrWanting, Losing}
+use Rattle.bf_commands.specs.Programs.{Hearing, IsStopOf, IsStopOfOrWanting, Losing}
 use Rattle.bf_commands.specs.Reported.{IsReportOf}
 
 -- the answers of the table where there is one, and else what is heard of the programs of a try's words
@@ -112,15 +112,15 @@ pub record IsUnclearable (graph : List ℕ) (file table : Option (List ℕ)) (re
   pub report_says : IsReadAs report was
   pub fault_is : clear_fault ready.dag ready.found was (seed ∷ []) ≡ Some fault
 
--- where a table answers, a worker can't be started; else the backfill stops as one of programs does
-abbrev pub IsStopBy : Losing → Option (List TableEntry) → Dag → List Interval → StopFault → Type 0
-IsStopBy may_lose (Some entries) dag intervals stop = stop ≡ StopFault.CannotStart
-IsStopBy may_lose None dag intervals stop = IsStop may_lose dag intervals stop
+-- where a table answers, a worker can't be started; else the backfill stops as one of programs does, but at no try that is kept
+abbrev pub IsStopFrom : Look → Losing → Option (List TableEntry) → Dag → List Interval → StopFault → Type 0
+IsStopFrom kept may_lose (Some entries) dag intervals stop = stop ≡ StopFault.CannotStart
+IsStopFrom kept may_lose None dag intervals stop = IsStopOf (MayGiveUpAnew kept (MayGiveUp may_lose dag intervals)) dag stop
 
 -- the fault is the first: the seed isn't cleared in the report for this; or it is, and the backfill stops; or memory or the device is wanting
 abbrev pub IsFaultAgain : Losing → Option (List TableEntry) → Dag → List Interval → Report → Seed → CommandFault → Type 0
 IsFaultAgain may_lose answers dag intervals was seed (NotCleared fault) = clear_fault dag intervals was (seed ∷ []) ≡ Some fault
-IsFaultAgain may_lose answers dag intervals was seed (Stopped stop) = (clear_fault dag intervals was (seed ∷ []) ≡ None) × IsStopBy may_lose answers dag intervals stop
+IsFaultAgain may_lose answers dag intervals was seed (Stopped stop) = (kept : Look) × IsKeptOf dag intervals was seed kept × IsStopFrom kept may_lose answers dag intervals stop
 IsFaultAgain may_lose answers dag intervals was seed fault = IsWanting fault
 
 -- they have none, the bytes say a report, the seed is cleared in it, and the backfill that goes on from it stops
@@ -128,15 +128,20 @@ pub record StopsClearing (may_lose : Losing) (graph : List ℕ) (file table : Op
   pub ready : IsReady graph file table from to
   pub was : Report
   pub report_says : IsReadAs report was
-  pub not_refused : clear_fault ready.dag ready.found was (seed ∷ []) ≡ None
-  pub stops : IsStopBy may_lose ready.answers ready.dag ready.found stop
+  pub kept : Look
+  pub kept_is : IsKeptOf ready.dag ready.found was seed kept
+  pub stops : IsStopFrom kept may_lose ready.answers ready.dag ready.found stop
 
 -- ---- for private clauses
 
--- where a table answers, a worker can't be started; else the backfill stops as one of programs does; or memory or the device is wanting
-abbrev pub IsStopOrWantingBy : Losing → Option (List TableEntry) → Dag → List Interval → CommandFault → Type 0
-IsStopOrWantingBy may_lose (Some entries) dag intervals fault = IsWantingWorkers fault
-IsStopOrWantingBy may_lose None dag intervals fault = IsStopOrWanting may_lose dag intervals fault
+-- the backfill with programs that goes on from what is kept stops, at no try that is kept; or memory or the device is wanting
+abbrev pub IsStopOrWantingAnew : Look → Losing → Dag → List Interval → CommandFault → Type 0
+IsStopOrWantingAnew kept may_lose dag intervals fault = IsStopOfOrWanting (MayGiveUpAnew kept (MayGiveUp may_lose dag intervals)) dag fault
+
+-- where a table answers, a worker can't be started; else it stops as one of programs does; or memory or the device is wanting
+abbrev pub IsStopOrWantingFrom : Look → Losing → Option (List TableEntry) → Dag → List Interval → CommandFault → Type 0
+IsStopOrWantingFrom kept may_lose (Some entries) dag intervals fault = IsWantingWorkers fault
+IsStopOrWantingFrom kept may_lose None dag intervals fault = IsStopOrWantingAnew kept may_lose dag intervals fault
 
 -- the fault is that of the table's bytes, where there are some
 abbrev pub IsFaultOfNamed : Option (List ℕ) → CommandFault → Type 0

@@ -16,9 +16,10 @@ use Rattle.bf_core.specs.Agreement.{AreRunStates, HoldsItsTries, IsOutcome}
 use Rattle.bf_core.specs.Answered.{AreGraded}
 use Rattle.bf_core.specs.Events.{entry_in}
 use Rattle.bf_core.specs.declared.ended.Ended.{Ended}
+use Rattle.bf_core.specs.declared.fault.BackfillFault.{BackfillFault}
 use Rattle.bf_process.specs.Words.{MayAnswer, MayGiveUp, lost_through, through}
 use Rattle.bf_command_fault.specs.declared.fault.CommandFault.{CommandFault}
-use Rattle.bf_command_fault.specs.declared.fault.CommandFault.TheVariants.{Range, CannotWrite, Stopped}
+use Rattle.bf_command_fault.specs.declared.fault.CommandFault.TheVariants.{OutOfMemory, Range, CannotWrite, Stopped}
 use Rattle.bf_command_fault.specs.declared.stop.StopFault.{StopFault}
 use Rattle.bf_commands.specs.Graphs.{IsGraph, IsFaultIn}
 use Rattle.bf_commands.specs.Lists.{HasListing}
@@ -57,11 +58,15 @@ pub record IsRunReport (may_hear : Hearing) (graph : List ℕ) (file : Option (L
   pub listing : HasListing graph file from to (Ok found)
   pub reported : IsReportBy may_hear (dag_of draft) found text success
 
+-- a worker can't be started; or a try was given up that may be, and this is its task, its index and its number
+abbrev pub IsStopOf : (JobName → Given → Type 0) → Dag → StopFault → Type 0
+IsStopOf may_give_up dag StopFault.CannotStart = Unit {0}
+IsStopOf may_give_up dag (StopFault.GaveUp task index attempt) =
+    (name : JobName) × (given : Given) × may_give_up name given × (task ≡ (task_of dag name.task).id) × (index ≡ name.index) × (attempt ≡ name.attempt)
+
 -- a worker can't be started; or the program of this try can't be waited for
 abbrev pub IsStop : Losing → Dag → List Interval → StopFault → Type 0
-IsStop may_lose dag intervals StopFault.CannotStart = Unit {0}
-IsStop may_lose dag intervals (StopFault.GaveUp task index attempt) =
-    (name : JobName) × (given : Given) × MayGiveUp may_lose dag intervals name given × (task ≡ (task_of dag name.task).id) × (index ≡ name.index) × (attempt ≡ name.attempt)
+IsStop may_lose dag intervals stop = IsStopOf (MayGiveUp may_lose dag intervals) dag stop
 
 -- the fault is the first: those of the graph go before those of the range; then the backfill stops; or memory or the device is wanting
 abbrev pub IsFaultOfRun : Losing → List ℕ → Option (List ℕ) → ℤ → ℤ → CommandFault → Type 0
@@ -79,6 +84,22 @@ pub record IsEndedBy (may_hear : Hearing) (dag : Dag) (intervals : List Interval
   pub graded : AreGraded (MayAnswer may_hear dag intervals) dag (entry_in ended.state.ledger)
 
 -- the backfill stops; or memory or the device is wanting
+abbrev pub IsStopOfOrWanting : (JobName → Given → Type 0) → Dag → CommandFault → Type 0
+IsStopOfOrWanting may_give_up dag (Stopped stop) = IsStopOf may_give_up dag stop
+IsStopOfOrWanting may_give_up dag fault = IsWanting fault
+
+-- so it is where the programs of tries are run
 abbrev pub IsStopOrWanting : Losing → Dag → List Interval → CommandFault → Type 0
-IsStopOrWanting may_lose dag intervals (Stopped stop) = IsStop may_lose dag intervals stop
-IsStopOrWanting may_lose dag intervals fault = IsWanting fault
+IsStopOrWanting may_lose dag intervals fault = IsStopOfOrWanting (MayGiveUp may_lose dag intervals) dag fault
+
+-- this try is told as given up; or memory is wanting
+abbrev pub IsGivenUp : Dag → JobName → CommandFault → Type 0
+IsGivenUp dag name (Stopped (StopFault.GaveUp task index attempt)) = (task ≡ (task_of dag name.task).id) × (index ≡ name.index) × (attempt ≡ name.attempt)
+IsGivenUp dag name OutOfMemory = Unit {0}
+IsGivenUp dag name fault = ⊥
+
+-- what is told of what stopped a backfill
+abbrev pub IsToldOf : Dag → BackfillFault → CommandFault → Type 0
+IsToldOf dag BackfillFault.OutOfMemory told = told ≡ OutOfMemory
+IsToldOf dag BackfillFault.Start told = told ≡ Stopped StopFault.CannotStart
+IsToldOf dag (BackfillFault.Runner name) told = IsGivenUp dag name told

@@ -6,7 +6,7 @@ ghost use Rattle.bf_core.specs.Cores.{IsJournal};
 ghost use Rattle.bf_core.specs.Events.{entry_in};
 ghost use Rattle.bf_exec.specs.Accounts.{KeepsWorkers};
 ghost use Rattle.bf_exec.specs.Faults.{MayFail};
-ghost use Rattle.bf_kept.specs.Kept.{AreFit};
+ghost use Rattle.bf_kept.specs.Kept.{AreFit, MayGiveUpAnew};
 ghost use Rattle.bf_commands.specs.Cleared.{IsEndedFrom};
 
 use crate::progress::Progress;
@@ -102,6 +102,7 @@ impl<'m, RT: Screen + Threads + Wait + Clock + Sync> Crew<'m, RT> {
         ensures journal { IfOk result (λ ended. IsJournal plan.now.dag plan.now.limits (length intervals.now) ended.journal ended.state) }
         ensures workers { IfOk result (λ ended. KeepsWorkers plan.now.dag (length intervals.now) self.now.workers ended.journal) }
         ensures err { IfErr result (MayFail (R.may_give_up keeping.now.runner.now)) }
+        ensures given_up { IfErr result (MayFail (MayGiveUpAnew (K.kept keeping.now.kept.now) (R.may_give_up keeping.now.runner.now))) }
     {
         let observer = self.observer(plan, intervals.len());
         let mut watch = Watch { clock, observer };

@@ -7,9 +7,9 @@ ghost use Rattle.bf_try.specs.Tables.{answer_of};
 ghost use Rattle.bf_device.specs.Device.{HasHalted};
 ghost use Rattle.bf_report_reader.specs.Written.{AreOfRuns};
 ghost use Rattle.bf_command_fault.specs.Refusal.{Leaves, Sends};
-ghost use Rattle.bf_commands.specs.Cleared.{IsEndedFrom, IsFaultAgain, IsReportAfter, IsReportFrom, IsStopOrWantingBy, MayAnswerBy};
+ghost use Rattle.bf_commands.specs.Cleared.{IsEndedFrom, IsFaultAgain, IsReportAfter, IsReportFrom, IsStopOrWantingAnew, IsStopOrWantingFrom, MayAnswerBy};
 ghost use Rattle.bf_commands.specs.OverTable.{IsUnsent, IsWantingWorkers, answering};
-ghost use Rattle.bf_commands.specs.Programs.{IsStopOrWanting, launched, launched_lost};
+ghost use Rattle.bf_commands.specs.Programs.{launched, launched_lost};
 
 use crate::crew::Crew;
 use crate::over_table::{runner_over, stopped_over, wanting_alone};
@@ -92,7 +92,7 @@ fn resumed_by_programs<RT: Starter + Screen + Threads + Wait + Clock + Sync>(
     requires fit { AreFit plan.now.dag (kept_in kept.now) }
     ensures ended { IfOk result (IsEndedFrom (kept_in kept.now) (MayAnswerBy (launched crew.now.launcher (RT.may_hear crew.now.rt.now)) None plan.now.dag intervals.now) plan.now.dag intervals.now) }
     ensures journal { IfOk result (λ ended. IsJournal plan.now.dag plan.now.limits (length intervals.now) ended.journal ended.state) }
-    ensures stop { IfErr result (IsStopOrWanting (launched_lost crew.now.launcher (RT.may_lose crew.now.rt.now)) plan.now.dag intervals.now) }
+    ensures stop { IfErr result (IsStopOrWantingAnew (kept_in kept.now) (launched_lost crew.now.launcher (RT.may_lose crew.now.rt.now)) plan.now.dag intervals.now) }
     ensures unsent { IfErr result IsUnsent }
 {
     let runner = ProcessRunner::new(crew.rt, crew.alloc, plan, intervals, crew.launcher());
@@ -119,7 +119,7 @@ fn resumed<RT: Starter + Screen + Threads + Wait + Clock + Sync>(
     requires fit { AreFit plan.now.dag (kept_in kept.now) }
     ensures ended { IfOk result (IsEndedFrom (kept_in kept.now) (MayAnswerBy (launched crew.now.launcher (RT.may_hear crew.now.rt.now)) answers plan.now.dag intervals.now) plan.now.dag intervals.now) }
     ensures journal { IfOk result (λ ended. IsJournal plan.now.dag plan.now.limits (length intervals.now) ended.journal ended.state) }
-    ensures stop { IfErr result (IsStopOrWantingBy (launched_lost crew.now.launcher (RT.may_lose crew.now.rt.now)) answers plan.now.dag intervals.now) }
+    ensures stop { IfErr result (IsStopOrWantingFrom (kept_in kept.now) (launched_lost crew.now.launcher (RT.may_lose crew.now.rt.now)) answers plan.now.dag intervals.now) }
     ensures unsent { IfErr result IsUnsent }
 {
     match answers {
@@ -141,7 +141,7 @@ fn write_resumed<RT: Starter + Screen + Threads + Wait + Clock + Sync, W: Write>
     requires fit { AreFit plan.now.dag (kept_in kept.now) }
     ensures ok { IfOk result (λ success. Sends (λ text. IsReportFrom (kept_in kept.now) (MayAnswerBy (launched crew.now.launcher (RT.may_hear crew.now.rt.now)) answers plan.now.dag intervals.now) plan.now.dag intervals.now text success)
         (W.written out.old) (W.written out.new)) }
-    ensures stop { IfErr result (IsStopOrWantingBy (launched_lost crew.now.launcher (RT.may_lose crew.now.rt.now)) answers plan.now.dag intervals.now) }
+    ensures stop { IfErr result (IsStopOrWantingFrom (kept_in kept.now) (launched_lost crew.now.launcher (RT.may_lose crew.now.rt.now)) answers plan.now.dag intervals.now) }
     ensures left { IfErr result (Leaves (HasHalted (W.failures out.old) (W.failures out.new)
         (W.interruptions out.old) (W.interruptions out.new))
         (λ text. (success : Bool) × IsReportFrom (kept_in kept.now) (MayAnswerBy (launched crew.now.launcher (RT.may_hear crew.now.rt.now)) answers plan.now.dag intervals.now) plan.now.dag intervals.now text success)

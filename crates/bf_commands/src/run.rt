@@ -8,7 +8,7 @@ ghost use Rattle.bf_device.specs.Device.{HasHalted};
 ghost use Rattle.bf_report_reader.specs.Written.{AreOfRuns};
 ghost use Rattle.bf_command_fault.specs.Refusal.{Leaves, Sends};
 ghost use Rattle.bf_commands.specs.OverTable.{IsUnsent};
-ghost use Rattle.bf_commands.specs.Programs.{IsEndedBy, IsFaultOfRun, IsReportBy, IsRunReport, IsStopOrWanting, launched, launched_lost};
+ghost use Rattle.bf_commands.specs.Programs.{IsEndedBy, IsFaultOfRun, IsGivenUp, IsReportBy, IsRunReport, IsStopOrWanting, IsToldOf, launched, launched_lost};
 
 use crate::crew::Crew;
 use crate::plan::dated_plan_in;
@@ -35,7 +35,7 @@ fn given_up<RT: Starter>(
     name: JobName,
 ) -> CommandFault
     requires { (given : GivenTerm) × MayGiveUp (launched_lost crew.now.launcher (RT.may_lose crew.now.rt.now)) plan.now.dag intervals.now name given }
-    ensures stop { IsStopOrWanting (launched_lost crew.now.launcher (RT.may_lose crew.now.rt.now)) plan.now.dag intervals.now result }
+    ensures told { IsGivenUp plan.now.dag name result }
     ensures unsent { IsUnsent result }
 {
     match plan.dag().task(name.task).id.copy(crew.alloc) {
@@ -56,7 +56,7 @@ pub(crate) fn stopped_by_programs<RT: Starter>(
     fault: &BackfillFault,
 ) -> CommandFault
     requires { MayFail (MayGiveUp (launched_lost crew.now.launcher (RT.may_lose crew.now.rt.now)) plan.now.dag intervals.now) fault.now }
-    ensures stop { IsStopOrWanting (launched_lost crew.now.launcher (RT.may_lose crew.now.rt.now)) plan.now.dag intervals.now result }
+    ensures told { IsToldOf plan.now.dag fault.now result }
     ensures unsent { IsUnsent result }
 {
     match fault {

@@ -114,7 +114,7 @@ module _ (may_lose : Losing) (files : Files) (asked : ClearAsked) (range : Momen
       clear_again OutOfMemory is = (range, means, seed, means_seed, tt)
       clear_again (CannotWrite n) is = (range, means, seed, means_seed, (readable, report_readable))
       clear_again (Stopped stop) is =
-          (range, means, seed, means_seed, (readable, report_readable, λ graph held other are holds reported told short. (record { ready = ready graph held other are holds; was = was; report_says = says reported told short; not_refused = is.0; stops = is.1 })))
+          (range, means, seed, means_seed, (readable, report_readable, λ graph held other are holds reported told short. (record { ready = ready graph held other are holds; was = was; report_says = says reported told short; kept = is.0; kept_is = is.1; stops = is.2 })))
       clear_again fault is = absurd is
 
       clear_answer : (may_hear : Hearing) (text : List ℕ) (success : Bool) → IsReportAfter (launched asked.launcher may_hear) answers dag found was seed text success → IsClearAnswer may_hear files asked text (of_runs success)

@@ -1,3 +1,8 @@
+use Rattle.bf_process.specs.Words.{MayGiveUp}
+use Rattle.bf_kept.specs.Kept.{MayGiveUpAnew}
+use Rattle.bf_clear.specs.Keeping.{kept_in}
+use Rattle.bf_commands.specs.Programs.{launched_lost}
+use Rattle.bf_commands.proofs.ByPrograms.{told_stop}
 use Rattle.bf_commands.proofs.Over.{shown_of_runs}
 use Rattle.bf_commands.proofs.Sharing.{shared}
 use Rattle.bf_commands.proofs.resumed.resumed_by_programs.Goals as goal
@@ -10,3 +15,9 @@ stopped_by_programs-requires g c = rw (c.new-runner.ensures, c.launcher.ensures)
 
 pub new-runner-requires : goal.new-runner-requires
 new-runner-requires g c = shown_of_runs c.args.intervals.now c.requires.of_runs
+
+pub returns-in-Err-clause-stop : goal.returns-in-Err-clause-stop
+returns-in-Err-clause-stop g c =
+    let may : _ = rw (c.new-runner.ensures, c.launcher.ensures) at (c.in-Err.ensures {u = tt}).given_up in
+    told_stop (MayGiveUpAnew (kept_in c.args.kept.now) (MayGiveUp (launched_lost c.args.crew.now.launcher (g.RT.Starter.may_lose c.args.crew.now.rt.now)) c.args.plan.now.dag c.args.intervals.now)) c.args.plan.now.dag _ _ may
+    c.stopped_by_programs.ensures.told

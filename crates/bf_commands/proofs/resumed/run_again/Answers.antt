@@ -1,3 +1,4 @@
+use Rattle.bf_clear.specs.Keeping.{kept_in}
 use Rattle.bf_commands.specs.Programs.{launched_lost}
 use Rattle.bf_commands.proofs.ClearFaults.{again_stop_in}
 use Rattle.bf_commands.proofs.FromKept.{reported_after}
@@ -12,5 +13,5 @@ returns-clause-left g c = leaves_as (reported_after c.in_ok-kept.ensures.ok c.in
 
 pub returns-clause-fault : goal.returns-clause-fault
 returns-clause-fault g c =
-    again_stop_in (launched_lost c.args.crew.now.launcher (g.RT.Starter.may_lose c.args.crew.now.rt.now)) c.args.plan.now.dag c.args.intervals.now c.args.report.now c.args.seed c.in_ok-kept.ensures.ok
-    c.args.answers _ c.write_resumed.ensures.stop
+    again_stop_in (launched_lost c.args.crew.now.launcher (g.RT.Starter.may_lose c.args.crew.now.rt.now)) c.args.plan.now.dag c.args.intervals.now c.args.report.now c.args.seed (kept_in c.in_ok-kept.kept)
+    (record { not_refused = c.in_ok-kept.ensures.ok; are_kept = c.in_ok-kept.ensures.kept }) c.args.answers _ c.write_resumed.ensures.stop

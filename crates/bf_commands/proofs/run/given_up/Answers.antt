@@ -11,8 +11,8 @@ task-requires g c =
     let there : c.args.name.task < length c.args.plan.now.dag.tasks = given-up-there (launched_lost c.args.crew.now.launcher (g.RT.Starter.may_lose c.args.crew.now.rt.now)) c.args.plan.now.dag c.args.intervals.now c.args.name c.requires.0 c.requires.1 in
     subst (λ (d : Dag). c.args.name.task < length d.tasks) (sym c.dag.ensures.dag) there
 
-pub returns-in-Ok-clause-stop : goal.returns-in-Ok-clause-stop
-returns-in-Ok-clause-stop g c =
+pub returns-in-Ok-clause-told : goal.returns-in-Ok-clause-told
+returns-in-Ok-clause-told g c =
     let fits : SFits w32 c.args.name.index = search rules in
     let same : c.in-Ok.task ≡ (task_of c.args.plan.now.dag c.args.name.task).id = search rules in
-    (c.args.name, c.requires.0, c.requires.1, same, to_z-of_z w32 c.args.name.index fits, refl)
+    (same, to_z-of_z w32 c.args.name.index fits, refl)
