@@ -3,7 +3,6 @@ ghost use Rattle.std.specs.Prelude.{◌≡◌};
 ghost use Rattle.bf_check.specs.Refusals.{number as number_of, check_number};
 
 use bf_value::{OutOfMemory, Sequence, Text};
-use std::alloc::AllocFailed;
 use std::error::Error;
 use std::fmt;
 
@@ -149,17 +148,6 @@ impl From<OutOfMemory> for CheckFault {
     ghost from_gives = { λ _ e. e ≡ NoMemory };
 
     fn from(_e: OutOfMemory) -> CheckFault {
-        CheckFault::OutOfMemory
-    }
-}
-
-impl<T: Drop> From<AllocFailed<T>> for CheckFault {
-    ghost use Rattle.std.specs.Prelude.{◌≡◌};
-    ghost use Rattle.bf_check.specs.declared.fault.CheckFault.TheVariants.{OutOfMemory as NoMemory};
-
-    ghost from_gives = { λ _ e. e ≡ NoMemory };
-
-    fn from(_e: AllocFailed<T>) -> CheckFault {
         CheckFault::OutOfMemory
     }
 }

@@ -60,7 +60,7 @@ fn is_one_of(ids: &Ids, tasks: &[u32], id: &str) -> bool
 
 /// Whether these are all ids of some of these tasks.
 fn are_some_of(ids: &Ids, tasks: &[u32], pulled: &[Text]) -> bool
-    ensures { IsTrue result → (id : List ℕ) → Contains pulled.now id → HasTask ids.now tasks.now id }
+    ensures { IsTrue result ↔ ((id : List ℕ) → Contains pulled.now id → HasTask ids.now tasks.now id) }
 {
     for id in pulled {
         if !is_one_of(ids, tasks, id.as_str()) {

@@ -25,10 +25,7 @@ fn pull_of(pulled: &[Text], id: &str) -> u32
     requires { length pulled.now ≤ most_pulls }
     ensures { result ≡ unwrap_or (position (bytes_eq id.now) pulled.now) 0 }
 {
-    match place_of(pulled, id) {
-        Some(place) => place as u32,
-        None => 0,
-    }
+    place_of(pulled, id).unwrap_or(0) as u32
 }
 
 fn word_of(pulled: &[Text], word: WordDraft) -> Word

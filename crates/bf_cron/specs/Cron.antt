@@ -181,7 +181,7 @@ has_bytes text = not (length text == 0)
 abbrev pub fields_of : List ℕ → List (List ℕ)
 fields_of text = filter has_bytes (slice_split is_blank text)
 
--- what a preset stands for
+-- what a preset stands for; of another text, itself
 abbrev pub preset : List ℕ → List ℕ
 preset text =
     if bytes_eq text (codes "@hourly") then codes "0 * * * *"

@@ -50,7 +50,7 @@ fn minute_number(at: DateTime) -> u8
 
 impl CronSpec {
     /// The schedule of a text: five fields or a preset (the crate's page). `Bad` comes exactly where the text is
-    /// neither.
+    /// neither, want of memory aside.
     pub fn read(alloc: Global, text: &str) -> Result<CronSpec, CronFault>
         ensures { IsRead (schedule_of text.now) result }
     {
@@ -59,10 +59,7 @@ impl CronSpec {
         let [minute, hour, day, month, weekday] = fields.as_slice() else {
             return Err(CronFault::Bad);
         };
-        match reading::spec(minute, hour, day, month, weekday) {
-            Some(spec) => Ok(spec),
-            None => Err(CronFault::Bad),
-        }
+        reading::spec(minute, hour, day, month, weekday).ok_or(CronFault::Bad)
     }
 
     /// Whether the schedule has the date. Where both day and weekday are restricted either suffices, else both must
@@ -117,12 +114,8 @@ impl CronSpec {
         ensures value { result ≡ spec_matches self.now at }
         ensures rule { (s : Schedule) → Keeps self.now s → spec_matches self.now at ≡ matches s at }
     {
-        if !self.has_minute(minute_number(at)) {
-            return false;
-        }
-        if !self.has_hour(hour_number(at)) {
-            return false;
-        }
-        self.has_date(at.date())
+        self.has_minute(minute_number(at))
+            && self.has_hour(hour_number(at))
+            && self.has_date(at.date())
     }
 }

@@ -70,25 +70,6 @@ early-verdict rule c p =
 same-verdict : (rule : Rule) (c d : Counts) → fires rule c ≡ fires rule d → 0 < c.unfinished → 0 < d.unfinished → verdict rule c ≡ verdict rule d
 same-verdict rule c d same p q = early-verdict rule c p ∙ (ap (λ (b : Bool). if b then Verdict.Run else Verdict.Wait) same ∙ sym (early-verdict rule d q))
 
-unfinished-fires : (rule : Rule) (c : Counts) → fires rule (record c { unfinished = 1 }) ≡ fires rule c
-unfinished-fires Rule.Always c = refl
-unfinished-fires _ c = refl
-
--- with one more unfinished the verdict waits just where the rule doesn't find what it looks for
-pub fires-not : (rule : Rule) (c : Counts) → verdict rule (record c { unfinished = 1 }) ≡ Verdict.Wait → fires rule c ≡ false
-fires-not rule c e = go (fires rule c) (sym (early-verdict rule (record c { unfinished = 1 }) (omega arith) ∙ ap (λ (b : Bool). if b then Verdict.Run else Verdict.Wait) (unfinished-fires rule c)) ∙ e)
-  where
-    go : (b : Bool) → (if b then Verdict.Run else Verdict.Wait) ≡ Verdict.Wait → b ≡ false
-    go true h = cc
-    go false h = refl
-
-pub fires-so : (rule : Rule) (c : Counts) → (verdict rule (record c { unfinished = 1 }) ≡ Verdict.Wait → ⊥) → fires rule c ≡ true
-fires-so rule c n = go (fires rule c) (early-verdict rule (record c { unfinished = 1 }) (omega arith) ∙ ap (λ (b : Bool). if b then Verdict.Run else Verdict.Wait) (unfinished-fires rule c))
-  where
-    go : (b : Bool) → verdict rule (record c { unfinished = 1 }) ≡ (if b then Verdict.Run else Verdict.Wait) → b ≡ true
-    go true h = refl
-    go false h = absurd (n h)
-
 -- ---- a cell
 
 or-same : (a : Bool) → (a || a) ≡ a

@@ -1,11 +1,10 @@
 //! What has come of a task by an event, and which rules look for it.
 ghost use Rattle.std.specs.Prelude.{◌≡◌};
-ghost use Rattle.bf_rule.specs.Verdicts.{fires as fires_by};
 ghost use Rattle.bf_core.specs.Cores.{IsThere};
 ghost use Rattle.bf_due.specs.Stirring.{decided_at, ended_at, finished_in, heard_of_cell, stirs as stirs_by};
 
 use bf_core::{Cell, Core, Phase};
-use bf_rule::{Counts, Rule, Verdict, verdict};
+use bf_rule::{Counts, Rule, fires};
 use bf_try::Outcome;
 use bf_value::JobName;
 
@@ -74,23 +73,9 @@ impl News {
     }
 }
 
-/// Whether a rule finds what it looks for among these, whatever comes of others.
-fn fires(rule: Rule, counts: Counts) -> bool
-    ensures { result ≡ fires_by rule counts }
-{
-    let so_far = Counts {
-        unfinished: 1,
-        ..counts
-    };
-    match verdict(rule, &so_far) {
-        Verdict::Wait => false,
-        Verdict::Run | Verdict::Skip | Verdict::UpstreamFailed | Verdict::Blocked => true,
-    }
-}
-
 /// Whether a rule looks for what these have, and not for nothing.
 pub fn stirs(rule: Rule, counts: Counts) -> bool
     ensures { result ≡ stirs_by rule counts }
 {
-    fires(rule, counts) && !fires(rule, Counts::NONE)
+    fires(rule, &counts) && !fires(rule, &Counts::NONE)
 }

@@ -1,7 +1,8 @@
 -- What is looked up in a graph.
-use Rattle.std.specs.Prelude.{◌≡◌, ◌↔◌, ◌<◌, ℕ, List, length, Contains}
+use Rattle.std.specs.Prelude.{◌≡◌, ◌↔◌, ◌<◌, ℕ, List, [], length, Contains}
+use Rattle.std.specs.List.{slice_index_or}
 use Rattle.std.specs.List.Sorted.{IsStrictlyIncreasing}
-use Rattle.bf_graph.specs.Edges.{upstreams_of, IsUpstream}
+use Rattle.bf_graph.specs.Edges.{IsUpstream}
 
 -- the numbers with a property, rising, each once
 pub record IsRisingListOf (P : ℕ → Type 0) (ts : List ℕ) : Type 0 where
@@ -12,14 +13,18 @@ pub record IsRisingListOf (P : ℕ → Type 0) (ts : List ℕ) : Type 0 where
 abbrev pub IsLeaf : List (List ℕ) → ℕ → Type 0
 IsLeaf ups t = (t < length ups) × ((d : ℕ) → IsUpstream ups t d → ⊥)
 
+-- the downstreams of a task
+abbrev pub downstreams_of : List (List ℕ) → ℕ → List ℕ
+downstreams_of downs t = slice_index_or downs t []
+
 -- the tasks of which each is a direct upstream
 pub record AreDownstreams (ups downs : List (List ℕ)) : Type 0 where
   pub len : length downs ≡ length ups
-  pub each : (t : ℕ) → t < length ups → IsRisingListOf (IsUpstream ups t) (upstreams_of downs t)
+  pub each : (t : ℕ) → t < length ups → IsRisingListOf (IsUpstream ups t) (downstreams_of downs t)
 
 -- ---- while they are found
 
 -- the tasks below n of which each is a direct upstream
 pub record AreDownstreamsBelow (ups : List (List ℕ)) (n : ℕ) (downs : List (List ℕ)) : Type 0 where
   pub len : length downs ≡ length ups
-  pub each : (t : ℕ) → t < length ups → IsRisingListOf (λ d. (d < n) × IsUpstream ups t d) (upstreams_of downs t)
+  pub each : (t : ℕ) → t < length ups → IsRisingListOf (λ d. (d < n) × IsUpstream ups t d) (downstreams_of downs t)

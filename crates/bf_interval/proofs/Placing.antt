@@ -1,5 +1,5 @@
 -- A number put into its place among numbers that rise.
-use Rattle.std.proofs.Common.{◌≡◌, ◌⊎◌, ℕ, ◌+◌, ◌-◌, ◌<◌, ◌≤◌, List, length, get_or, ap, ◌∙◌, sym, arith, inl, inr, Err}
+use Rattle.std.proofs.Common.{◌≡◌, ◌⊎◌, ℕ, ◌+◌, ◌-◌, ◌<◌, ◌≤◌, List, length, get_or, ap, ◌∙◌, sym, arith, inl, inr, Ok, Err}
 use Rattle.std.specs.List.{Contains, insert}
 use Rattle.std.specs.List.Sorted.{IsStrictlyIncreasing, IsBinarySearchResult}
 use Rattle.std.specs.Ordering.{nat_cmp}
@@ -44,11 +44,25 @@ rising_insert xs ys x place rising at new k small =
       ]
     ]
 
+pub rises : (xs : List ℕ) → IsStrictlyIncreasing xs → (i j : ℕ) → i ≤ j → j < length xs → get_or xs i 0 ≤ get_or xs j 0
+rises xs rising i j l small = elim (cases_eq i j) as (λ _. get_or xs i 0 ≤ get_or xs j 0) [
+  | inl e ↦ omega (arith, ap (λ k. get_or xs k 0) e)
+  | inr n ↦ omega (arith, AllPairs-from_increasing xs rising i j 0 (omega arith) small)
+]
+
 pub place_found : (xs : List ℕ) (x place : ℕ) → IsStrictlyIncreasing xs → IsBinarySearchResult (λ y. nat_cmp y x) xs (Err place) → IsPlace xs x place
 place_found xs x place rising found =
-    let pairs = AllPairs-from_increasing xs rising in
-    let at = searched xs x (Err place) found (λ i j l small. elim (cases_eq i j) as (λ _. get_or xs i 0 ≤ get_or xs j 0) [ inl e ↦ omega (arith, ap (λ k. get_or xs k 0) e) | inr n ↦ omega (arith, pairs i j 0 (omega arith) small) ]) in
+    let at = searched xs x (Err place) found (rises xs rising) in
     record { inside = at.0; below = at.1; above = at.2 }
+
+-- all up to the place where it is found are at most that number, and all behind are greater
+pub found_at : (xs : List ℕ) (x place : ℕ) → IsStrictlyIncreasing xs → IsBinarySearchResult (λ y. nat_cmp y x) xs (Ok place)
+    → ((k : ℕ) → k < place + 1 → get_or xs k 0 ≤ x) × ((k : ℕ) → place + 1 ≤ k → k < length xs → x < get_or xs k 0)
+found_at xs x place rising found =
+    let at = searched xs x (Ok place) found (rises xs rising) in (
+      λ k before. omega (arith, at.1, rises xs rising k place (omega arith) at.0),
+      λ k behind small. omega (arith, at.1, AllPairs-from_increasing xs rising place k 0 (omega arith) small),
+    )
 
 adds_insert : (xs ys : List ℕ) (x place : ℕ) → IsPlace xs x place → IsInserted xs x place ys → Adds x xs ys
 adds_insert xs ys x place at new = record {

@@ -9,6 +9,7 @@ use Rattle.jiff.specs.Types.{TimeZone}
 use Rattle.bf_cron.specs.declared.spec.CronSpec.{CronSpec}
 use Rattle.bf_interval.specs.Search.{Collects, AreFirst, AreEnough, IsSettled}
 use Rattle.bf_interval.proofs.Margins.{from_low, before_day}
+use Rattle.bf_interval.proofs.Placing.{rises}
 
 -- the first n numbers
 pub record IsCut (xs : List ℕ) (n : ℕ) (ys : List ℕ) : Type 0 where
@@ -61,6 +62,20 @@ enough_settled spec zone from to day n xs ys done cut = elim done.enough as (λ 
   | inl past ↦ inl (n - 1, get_or xs (n - 1) 0, omega (arith, done.some, cut.len), cut.same (n - 1) _ (omega (arith, done.some)) ∙ get_or_default xs (n - 1) _ 0 (omega (arith, done.some, cut.inside)), past)
   | inr many ↦ inr (inl (omega (arith, cut.len)))
 ]
+
+-- where the first number above `to`, or the 4,098th, is no earlier than what later minutes may give, none is settled
+pub none_settled : (xs : List ℕ) (to day place last earliest : ℕ) → IsStrictlyIncreasing xs → earliest + 266_399 ≡ day * 86_400 → ((k : ℕ) → k < place → get_or xs k 0 ≤ to)
+    → last ≤ place → last ≤ 4_097 → (last < length xs → earliest ≤ get_or xs last 0) → (n : ℕ) → IsSettled xs to day n → ⊥
+none_settled xs to day place last earliest rising from before above few late n done =
+    let behind : last ≤ n - 1 = elim (cases_lt (n - 1) last) as (λ _. last ≤ n - 1) [
+      | inl l ↦ elim done.enough as (λ _. last ≤ n - 1) [
+        | inl past ↦ absurd (omega (arith, past, before (n - 1) (omega (arith, l, above))))
+        | inr many ↦ absurd (omega (arith, l, many, few))
+      ]
+      | inr g ↦ g
+    ] in
+    let within : n - 1 < length xs = omega (arith, done.some, done.inside) in
+    omega (arith, rises xs rising last (n - 1) behind within, done.early, from, late (omega (arith, behind, within)))
 
 -- where all minutes were looked at nothing is missing
 pub first_whole : (spec : CronSpec) (zone : TimeZone) (from day : ℕ) (xs : List ℕ) → day ≡ 87_295 → IsStrictlyIncreasing xs → Collects spec zone (from / 86_400 * 1_440) (day * 1_440) from xs → AreFirst spec zone from xs

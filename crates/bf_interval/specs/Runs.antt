@@ -9,7 +9,7 @@ pub record IsSecondTo2208 (n : ℤ) : Type 0 where
   pub is : n ≡ pos (second * 1_000_000_000)
   pub to_2208 : second ≤ 7_542_115_199
 
--- a run's data interval starts in the years, doesn't end before, and its moments are whole seconds up to 2208
+-- a run's data interval starts in the years, doesn't end before it starts, and its moments are whole seconds up to 2208
 pub record IsOfRun (i : Interval) : Type 0 where
   pub in_years : IsInYears i.start.nanosecond
   pub in_order : i.start.nanosecond ≤ℤ i.end.nanosecond

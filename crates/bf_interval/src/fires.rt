@@ -1,5 +1,5 @@
 //! The search for fires. They are kept as seconds since 1970-01-01T00:00:00Z.
-ghost use Rattle.std.specs.Prelude.{◌≡◌, ℕ, ◌+◌, ◌*◌, ◌<◌, ◌≤◌, pos, ◌<ℤ◌, MatchOption, OnOk, IfSome, IfOk};
+ghost use Rattle.std.specs.Prelude.{◌≡◌, ℕ, ◌+◌, ◌*◌, ◌<◌, ◌≤◌, pos, ◌<ℤ◌, MatchOption, OnOk, IfSome, IfNone, IfOk};
 ghost use Rattle.std.specs.List.Sorted.{IsStrictlyIncreasing};
 ghost use Rattle.jiff.specs.Words.{picked_instant, plain_zone};
 ghost use Rattle.bf_cron.specs.Minutes.{IsMinute, IsCivilMinute, minutes};
@@ -124,7 +124,8 @@ fn add_day(
 fn settled(found: &[u64], to: u64, day: u64) -> Option<usize>
     requires rising { IsStrictlyIncreasing found.now }
     requires day { day < 87_295 }
-    ensures { IfSome result (IsSettled found.now to day) }
+    ensures some { IfSome result (IsSettled found.now to day) }
+    ensures none { IfNone result ((n : ℕ) → IsSettled found.now to day n → ⊥) }
 {
     let earliest = (day * DAY).checked_sub(DAYS_BEFORE_1970 * DAY + GREATEST_OFFSET)?;
     let last = place_above(found, to).min(MOST_RUNS + 1);

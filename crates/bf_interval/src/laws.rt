@@ -1,5 +1,5 @@
 //! What holds of the definitions.
-ghost use Rattle.std.specs.Prelude.{◌≡◌, ◌≢◌, ◌+◌, ◌≤◌, ℕ, ℤ, List, length, All, Some, slice_get, Result, Ok, Err};
+ghost use Rattle.std.specs.Prelude.{◌≡◌, ◌≢◌, ◌+◌, ◌≤◌, ℕ, ℤ, List, All, Some, slice_get, Result, Ok, Err};
 ghost use Rattle.jiff.specs.Types.{TimeZone};
 ghost use Rattle.bf_cron.specs.declared.spec.CronSpec.{CronSpec};
 ghost use Rattle.bf_cron.specs.Cron.{IsRead, schedule_of};

@@ -1,5 +1,5 @@
 //! Numbers that rise.
-ghost use Rattle.std.specs.Prelude.{◌≡◌, ◌<◌, OnOk, OnErr, length, slice_index};
+ghost use Rattle.std.specs.Prelude.{◌≡◌, ℕ, ◌<◌, ◌≤◌, OnOk, OnErr, length, get_or};
 ghost use Rattle.std.specs.List.Sorted.{IsStrictlyIncreasing};
 ghost use Rattle.bf_interval.specs.Search.{Adds};
 
@@ -24,7 +24,9 @@ pub fn put(numbers: &mut Vec<u64>, number: u64) -> Result<(), AllocError>
 /// The place of the first number above `limit`, which is the length where none is.
 pub fn place_above(numbers: &[u64], limit: u64) -> usize
     requires { IsStrictlyIncreasing numbers.now }
-    ensures { result < length numbers.now → limit < slice_index numbers.now result }
+    ensures within { result ≤ length numbers.now }
+    ensures below { (i : ℕ) → i < result → get_or numbers.now i 0 ≤ limit }
+    ensures above { (i : ℕ) → result ≤ i → i < length numbers.now → limit < get_or numbers.now i 0 }
 {
     match numbers.binary_search(&limit) {
         Ok(place) => place + 1,

@@ -1,18 +1,11 @@
 //! Items of an expansion.
 ghost use Rattle.std.specs.Prelude.{◌≡◌, IfOk};
 ghost use Rattle.std.specs.List.{filter_map};
-ghost use Rattle.bf_value.specs.Views.{xvals_of};
 ghost use Rattle.bf_mapped.specs.Items.{items_of};
 
 use crate::source::{Items, SourceValues};
-use bf_value::{OutOfMemory, Sequence, Values, Xval};
+use bf_value::{OutOfMemory, Sequence, Xval};
 use std::alloc::Global;
-
-fn listed_items(values: Values) -> Vec<Xval>
-    ensures { result.items ≡ xvals_of values }
-{
-    values.into_vec()
-}
 
 /// Leaves out those that pushed nothing.
 fn pushed_items(alloc: Global, pushed: Sequence<Option<Xval>>) -> Result<Vec<Xval>, OutOfMemory>
@@ -35,7 +28,7 @@ pub fn items(alloc: Global, source: SourceValues) -> Result<Items, OutOfMemory>
 {
     match source {
         SourceValues::Pushed(Some(Xval::List(values))) => {
-            Ok(Items::List(Sequence::from_vec(listed_items(values))))
+            Ok(Items::List(Sequence::from_vec(values.into_vec())))
         }
         SourceValues::Each(pushed) => {
             let items = pushed_items(alloc, pushed)?;

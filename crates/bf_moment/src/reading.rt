@@ -90,7 +90,7 @@ fn moment_of(at: DateTime) -> Timestamp
 }
 
 /// The moment that a text spells, as `2024-01-31T06:05:09Z` or, for midnight in UTC, `2024-01-31`. There is no
-/// hour 24 and no second 60. A moment in the last 26 hours of the year 9999, which are past the last `Timestamp`,
+/// hour 24 and no second 60. A moment in the last 25:59:59 of the year 9999, which are past the last `Timestamp`,
 /// counts as that one.
 pub fn moment_in(text: &str) -> Option<Timestamp>
     ensures found { IfSome result (λ t. (n : ℤ) × (Spells text.now n × (t.nanosecond ≡ nearest n))) }
@@ -104,8 +104,5 @@ pub fn moment_in(text: &str) -> Option<Timestamp>
 pub fn is_long_moment(text: &str) -> bool
     ensures { result ≡ is_long text.now }
 {
-    if text.len() != 20 {
-        return false;
-    }
-    clock_in(text.as_bytes()).is_some()
+    text.len() == 20 && clock_in(text.as_bytes()).is_some()
 }

@@ -1,5 +1,5 @@
 //! Pools and their slots.
-ghost use Rattle.std.specs.Prelude.{◌≡◌, ◌+◌, ◌-◌, ◌<◌, ◌≤◌, ◌↔◌, ℕ, length, IsOk, OnOk, OnErr, IfOk, replicate};
+ghost use Rattle.std.specs.Prelude.{◌≡◌, ◌+◌, ◌-◌, ◌<◌, ◌≤◌, ◌↔◌, ℕ, length, IsOk, OnOk, OnErr, IfOk};
 ghost use Rattle.bf_pool.specs.Slots.{size_of, occupied_of, HasOccupied};
 
 use bf_check::Plan;

@@ -17,6 +17,9 @@ pub enum WordDraft {
     Item,
 }
 
+/// The pool of tasks that name none.
+pub const DEFAULT_POOL: &str = "default_pool";
+
 /// A pool, as a graph file gives it.
 #[derive(Debug, Drop)]
 pub struct PoolDraft {
@@ -61,7 +64,7 @@ pub struct Draft {
 }
 
 /// How many upstreams the tasks have.
-pub(crate) fn edges_of(tasks: &[TaskDraft]) -> usize
+pub(crate) fn edge_count(tasks: &[TaskDraft]) -> usize
     requires { edges tasks.now ≤ most_edges }
     ensures { result ≡ edges tasks.now }
 {
@@ -73,6 +76,6 @@ impl Draft {
     pub fn edge_count(&self) -> usize
         ensures { result ≡ edges self.now.tasks }
     {
-        edges_of(self.tasks.as_slice())
+        edge_count(self.tasks.as_slice())
     }
 }

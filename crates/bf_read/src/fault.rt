@@ -13,7 +13,8 @@ use std::fmt;
 pub enum ReadFault {
     /// The bytes are no UTF-8, or no JSON.
     NotJson,
-    /// A value of the wrong type, one that is missing, or an object with an unknown key.
+    /// A value of the wrong type, one that is missing, an object with an unknown key, a name of no kind, weight rule or context
+    /// variable, or a word that is none.
     Shape(Path),
     /// A text that is no id.
     BadName(Path),

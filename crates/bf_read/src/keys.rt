@@ -1,7 +1,5 @@
 //! The keys of a graph file.
 ghost use Rattle.std.specs.Prelude.{◌≡◌};
-ghost use Rattle.std.specs.List.{list_any};
-ghost use Rattle.std.specs.Str.{bytes_eq};
 ghost use Rattle.bf_read.specs.Keys.{graph_key_name, task_key_name, is_graph_key as graph_key, is_task_key as task_key};
 
 /// A key of the object of the whole file.

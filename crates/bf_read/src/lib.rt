@@ -29,7 +29,7 @@ mod tasks;
 mod texts;
 
 pub use command::pulls_of;
-pub use draft::{Draft, PoolDraft, TaskDraft, WordDraft};
+pub use draft::{DEFAULT_POOL, Draft, PoolDraft, TaskDraft, WordDraft};
 pub use fault::ReadFault;
 pub use fields::is_id;
 pub use keys::{GraphKey, TaskKey};

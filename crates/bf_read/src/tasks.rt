@@ -6,13 +6,13 @@ ghost use Rattle.serde_json.specs.Events.{items_len};
 ghost use Rattle.serde_json.specs.View.{view, items_view};
 ghost use Rattle.bf_read.specs.Gives.{Gives};
 ghost use Rattle.bf_read.specs.Ids.{is_id};
-ghost use Rattle.bf_read.specs.Drafts.{edge_count, pulled_in, AreDistinct, AreTasks, MayFollow};
+ghost use Rattle.bf_read.specs.Drafts.{edge_count as edges, pulled_in, AreDistinct, AreTasks, MayFollow};
 ghost use Rattle.bf_read.specs.Fields.{member_of, task_member, limit as limited};
 ghost use Rattle.bf_read.specs.Reading.{fresh as new, place_at as place, work_at as work, demand_at as demand, task_at as task, tasks_from, tasks_at as tasks};
 ghost use Rattle.bf_read.specs.Limits.{most_edges, most_tasks, most_words, most_pulls, most_retries, longest_retry_delay, most_slots, greatest_weight};
 
 use crate::command::command_at;
-use crate::draft::{TaskDraft, WordDraft, edges_of};
+use crate::draft::{DEFAULT_POOL, TaskDraft, WordDraft, edge_count};
 use crate::fault::ReadFault;
 use crate::fields::{
     Field, ObjectKind, TaskObject, count_at, expand_at, flag_at, id_at, items_at, limit, object_at,
@@ -78,18 +78,21 @@ fn fresh(tasks: &[TaskDraft], id: Text) -> Result<Text, ReadFault>
 
 #[tactic(auto, unfolding(crate::specs::Reading::place_at))]
 fn place_of(alloc: Global, tasks: &[TaskDraft], task: TaskObject) -> Result<TaskPlace, ReadFault>
-    requires { edge_count tasks.now ≤ most_edges }
+    requires { edges tasks.now ≤ most_edges }
     ensures exact { Gives (λ p. p) result (place tasks.now (task_member task.entry.n (view task.entry.value.now))) }
     ensures fresh { IfOk result (λ p. list_any (λ task. bytes_eq p.id task.id) tasks.now ≡ false) }
     ensures id { IfOk result (λ p. is_id p.id ≡ true) }
     ensures distinct { IfOk result (λ p. AreDistinct p.upstreams) }
-    ensures few { IfOk result (λ p. edge_count tasks.now + length p.upstreams ≤ most_edges) }
+    ensures few { IfOk result (λ p. edges tasks.now + length p.upstreams ≤ most_edges) }
 {
     let id = id_at(alloc, task.at(TaskKey::Id))?;
     let id = fresh(tasks, id)?;
     let field = task.at(TaskKey::Upstream);
     let upstreams = upstreams_at(alloc, field)?;
-    limit(field.path, upstreams.len() <= MOST_EDGES - edges_of(tasks))?;
+    limit(
+        field.path,
+        upstreams.len() <= MOST_EDGES - edge_count(tasks),
+    )?;
     Ok(TaskPlace {
         id,
         upstreams: Sequence::from_vec(upstreams),
@@ -131,7 +134,7 @@ fn demand_of(alloc: Global, task: TaskObject) -> Result<TaskDemand, ReadFault>
     ensures few_slots { IfOk result (λ d. d.slots ≤ most_slots) }
     ensures light { IfOk result (λ d. d.weight ≤ greatest_weight) }
 {
-    let pool = text_or(alloc, "default_pool", task.at(TaskKey::Pool))?;
+    let pool = text_or(alloc, DEFAULT_POOL, task.at(TaskKey::Pool))?;
     let slots = count_at(1, 1, MOST_SLOTS, task.at(TaskKey::PoolSlots))?;
     let weight = count_at(1, 0, GREATEST_WEIGHT, task.at(TaskKey::PriorityWeight))?;
     let weight_rule = weight_rule_at(task.at(TaskKey::WeightRule))?;
@@ -151,7 +154,7 @@ fn task_of(
     n: u32,
     value: &Value,
 ) -> Result<TaskDraft, ReadFault>
-    requires { edge_count tasks.now ≤ most_edges }
+    requires { edges tasks.now ≤ most_edges }
     ensures exact { Gives (λ t. t) result (task tasks.now n (view value.now)) }
     ensures follows { IfOk result (MayFollow tasks.now) }
 {

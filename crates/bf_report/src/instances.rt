@@ -9,7 +9,7 @@ ghost use Rattle.bf_report.specs.Values.{IsSoundValue, IsSoundOutcome, AreSoundP
 use crate::report::{InstanceReport, Pull};
 use bf_check::Dag;
 use bf_core::{Instance, Phase};
-use bf_value::{OutOfMemory, Sequence, Xval};
+use bf_value::{OutOfMemory, Sequence, Xval, copy_option};
 use bf_xcom::{Outcome, TaskResult};
 use std::alloc::Global;
 
@@ -38,13 +38,10 @@ fn copy_of(alloc: Global, value: &Option<Xval>) -> Result<Option<Xval>, OutOfMem
     ensures value { IfOk result (λ v. v ≡ value.now) }
     ensures sound { IfOk result IsSoundValue }
 {
-    match value {
-        Some(value) => {
-            value.known();
-            Ok(Some(value.copy(alloc)?))
-        }
-        None => Ok(None),
+    if let Some(value) = value {
+        value.known();
     }
+    copy_option(alloc, value.as_ref())
 }
 
 fn pull_of(alloc: Global, dag: &Dag, task: u32, value: &Option<Xval>) -> Result<Pull, OutOfMemory>

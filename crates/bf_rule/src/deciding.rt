@@ -1,7 +1,6 @@
 //! Verdicts.
 ghost use Rattle.std.specs.Prelude.{◌≡◌, ◌+◌, ◌<◌, ◌^◌, if◌then◌else◌};
 ghost use Rattle.bf_rule.specs.Verdicts.{verdict_of, add, failures as failures_of, finished as finished_of, total as total_of, fires as fires_by, table as table_of};
-ghost use Rattle.bf_rule.specs.declared.rule.Verdict.{Verdict as VerdictTerm};
 
 use crate::rule::{Counts, Rule, Verdict};
 
@@ -50,7 +49,8 @@ impl Counts {
     }
 }
 
-fn fires(rule: Rule, counts: &Counts) -> bool
+/// Whether a rule finds what it looks for among these, whatever comes of others.
+pub fn fires(rule: Rule, counts: &Counts) -> bool
     ensures { result ≡ fires_by rule counts.now }
 {
     match rule {
@@ -81,11 +81,7 @@ fn table(rule: Rule, counts: &Counts) -> Verdict
         Rule::OneSuccess if counts.success > 0 => Verdict::Run,
         Rule::OneSuccess if u64::from(counts.skipped) == finished => Verdict::Skip,
         Rule::OneSuccess => Verdict::UpstreamFailed,
-        Rule::OneFailed => run_or(failures > 0, Verdict::Skip),
-        Rule::OneDone => run_or(
-            u64::from(counts.success) + u64::from(counts.failed) > 0,
-            Verdict::Skip,
-        ),
+        Rule::OneFailed | Rule::OneDone => run_or(fires(rule, counts), Verdict::Skip),
         Rule::NoneFailed => run_or(failures == 0, Verdict::UpstreamFailed),
         Rule::NoneFailedMinOneSuccess if failures > 0 => Verdict::UpstreamFailed,
         Rule::NoneFailedMinOneSuccess => run_or(counts.success > 0, Verdict::Skip),

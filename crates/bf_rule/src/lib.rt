@@ -9,5 +9,5 @@ mod deciding;
 mod rule;
 
 pub use branching::{followed, names_downstreams};
-pub use deciding::verdict;
+pub use deciding::{fires, verdict};
 pub use rule::{Counts, Rule, Verdict};

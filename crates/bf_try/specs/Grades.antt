@@ -55,14 +55,11 @@ grade_value dag task value = if may_push dag task value then Outcome.Success val
 abbrev pub grade_line : Dag → ℕ → List ℕ → Outcome
 grade_line dag task line = if is_utf8 line then grade_value dag task (value_of_line line) else Outcome.Failed
 
--- the status by which a try says that it is skipped (Airflow's BashOperator has the same)
-abbrev pub skip_status : ℤ
-skip_status = pos 99
-
 abbrev pub is_status : ℕ → ℤ → Bool
 is_status status (pos number) = number == status
 is_status status (negsuc number) = false
 
+-- by status 99 a try says that it is skipped (as Airflow's BashOperator does)
 abbrev pub grade_status : Dag → ℕ → ℤ → List ℕ → Outcome
 grade_status dag task status line =
     if is_status 99 status then Outcome.Skipped

@@ -25,7 +25,7 @@ abbrev pub number_named : List (List ℕ) → Option (List ℕ) → Option (Opti
 number_named ids None = Some None
 number_named ids (Some named) = option_map Some (position (bytes_eq named) ids)
 
--- the date that is named; none where it is not of the long form
+-- the date that is named; none where it has not the length of the long form
 abbrev pub date_named : Option (List ℕ) → Option (Option (List ℕ))
 date_named None = Some None
 date_named (Some named) = if length named == 20 then Some (Some named) else None

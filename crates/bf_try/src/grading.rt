@@ -46,10 +46,7 @@ fn is_list_of_items(value: &Option<Xval>) -> bool
 fn is_source_of(source: u32, expand: Option<u32>) -> bool
     ensures { result ≡ is_source expand source }
 {
-    match expand {
-        Some(other) => other == source,
-        None => false,
-    }
+    expand == Some(source)
 }
 
 #[tactic(auto, unfolding(bf_check::specs::Plans::task_of))]

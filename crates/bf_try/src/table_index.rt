@@ -1,8 +1,7 @@
 //! Which entry of a table comes first of those that name the same.
-ghost use Rattle.std.specs.Prelude.{◌≡◌, ◌≤◌, ◌<◌, None, Some, length, option_copied, option_map, slice_index_or, IfOk, IfSome};
+ghost use Rattle.std.specs.Prelude.{◌≡◌, ◌≤◌, ◌<◌, None, Some, IfOk};
 ghost use Rattle.std.specs.BTreeMap as tree;
-ghost use Rattle.std.specs.List.{list_any};
-ghost use Rattle.bf_try.specs.TableIndex.{date_named, keys_with_date, keys_with_index, keys_with_task, earlier as earlier_of, first_of_key, first_of_keys, keys_for as keys_of, number_named, pattern_cmp, pattern_in, pattern_of_try, IsIndexOf};
+ghost use Rattle.bf_try.specs.TableIndex.{date_named, keys_with_date, keys_with_index, keys_with_task, earlier as earlier_of, first_of_keys, keys_for as keys_of, number_named, pattern_cmp, pattern_in, pattern_of_try, IsIndexOf};
 
 use crate::table::TableEntry;
 use bf_graph::Graph;
@@ -61,15 +60,9 @@ fn named_date(named: &Option<Text>) -> Option<Option<[u8; 20]>>
 fn pattern_of(graph: &Graph, entry: &TableEntry) -> Option<Pattern>
     ensures { result ≡ pattern_in graph.now.ids entry.now }
 {
-    let Some(task) = named_number(graph, &entry.task) else {
-        return None;
-    };
-    let Some(date) = named_date(&entry.run) else {
-        return None;
-    };
     Some(Pattern {
-        task,
-        date,
+        task: named_number(graph, &entry.task)?,
+        date: named_date(&entry.run)?,
         index: entry.index,
         attempt: entry.attempt,
     })

@@ -2,7 +2,8 @@
 //! contracts see as lists.
 //!
 //! A value is what a task pushes by the last line of its output. `read_line` reads it from that line, and
-//! `text_of` writes it as compact JSON, which reads back as the same value: as a line, and by `read_text`.
+//! `text_of` writes it as compact JSON, which `read_text` reads back as the same value, and so does `read_line`, but for null, which
+//! pushes nothing as a line, and for lists that nest deeper than 64.
 #![tactic(auto)]
 
 mod line;

@@ -17,7 +17,7 @@ impl Xval {
         room_after(limit, self).is_some()
     }
 
-    /// Whether lists nest at most so deep. A value that is no list has depth 0, and one without a list
+    /// Whether lists nest at most so deep. A value that is no list has depth 0, and a list without a list
     /// in it depth 1.
     #[cycle(nested)]
     pub fn is_nested_within(&self, deepest: usize) -> bool

@@ -98,7 +98,6 @@ impl Batches {
         ensures none { IfNone result (self.new.items ≡ self.old.items) }
         ensures room { self.new.room ≡ self.old.room }
     {
-        let top = self.heap.pop()?;
-        Some(top)
+        self.heap.pop()
     }
 }

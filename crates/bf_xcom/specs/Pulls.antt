@@ -40,6 +40,6 @@ abbrev pub source_values : Task → TaskValue → SourceValues
 source_values source (Ran results) = if is_some source.expand then SourceValues.Each (map pushed results) else SourceValues.Pushed (pushed_alone results)
 source_values source _ = SourceValues.Absent
 
--- the items of an expansion, if they are not missing
+-- the items of an expansion, which may be missing
 abbrev pub items : Task → TaskValue → Items
 items source value = items_of (source_values source value)

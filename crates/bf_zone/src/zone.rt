@@ -56,10 +56,7 @@ fn rule_in(text: &str) -> Option<TimeZone<'static>>
     if let Some(offset) = offset_in(text.as_bytes()) {
         return Some(TimeZone::fixed(offset));
     }
-    match TimeZone::posix(text) {
-        Ok(zone) => Some(zone),
-        Err(_) => None,
-    }
+    TimeZone::posix(text).ok()
 }
 
 impl Zone {

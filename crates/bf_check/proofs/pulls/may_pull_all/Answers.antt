@@ -12,7 +12,7 @@ pub returns-then-are_some_of-clause-all : goal.returns-then-are_some_of-clause-a
 returns-then-are_some_of-clause-all c = λ _ id one.
     let within : c.args.task < length c.args.settling.now = omega (arith, c.requires.within, c.requires.same) in
     let read = upstreams_read _ _ _ _ within c.index-settling-task.is c.as_slice-direct.ensures.value in
-    direct_leads _ _ _ _ read id (c.are_some_of.ensures (search rules) id one)
+    direct_leads _ _ _ _ read id (c.are_some_of.ensures.0 (search rules) id one)
 
 pub loop-id-preserved : goal.loop-id-preserved
 loop-id-preserved c =

@@ -10,14 +10,14 @@ use Rattle.bf_interval.proofs.fires.first_fires.Goals.{then-has_date+in_ok-add_d
 pub returns-in-Some-clause-first : goal.returns-in-Some-clause-first
 returns-in-Some-clause-first c =
     let P : List ℕ → Type 0 = λ xs. IsSettled xs c.args.to c.loop-day.day c.in-Some.count in
-    let done = subst P c.deref.ensures.value c.in-Some.ensures in
+    let done = subst P c.deref.ensures.value c.in-Some.ensures.some in
     first_settled c.args.spec.now _ _ c.args.to c.loop-day.day c.in-Some.count c.loop-day.found.items _ c.loop-day.invariant.rising c.loop-day.invariant.found done
     (record { inside = done.inside; len = omega (arith, c.truncate.ensures.len, done.inside); same = c.truncate.ensures.by_index })
 
 pub returns-in-Some-clause-enough : goal.returns-in-Some-clause-enough
 returns-in-Some-clause-enough c =
     let P : List ℕ → Type 0 = λ xs. IsSettled xs c.args.to c.loop-day.day c.in-Some.count in
-    let done = subst P c.deref.ensures.value c.in-Some.ensures in
+    let done = subst P c.deref.ensures.value c.in-Some.ensures.some in
     enough_settled c.args.spec.now _ _ c.args.to c.loop-day.day c.in-Some.count c.loop-day.found.items _ done
     (record { inside = done.inside; len = omega (arith, c.truncate.ensures.len, done.inside); same = c.truncate.ensures.by_index })
 
