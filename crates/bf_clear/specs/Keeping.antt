@@ -6,11 +6,11 @@ use Rattle.bf_xcom.specs.declared.values.Given.{Given}
 use Rattle.bf_xcom.specs.declared.values.Outcome.{Outcome}
 use Rattle.bf_try.specs.declared.answers.Raw.{Raw}
 use Rattle.bf_try.specs.declared.ledger.Entry.{Entry}
-use Rattle.bf_try.specs.Grades.{fits}
+use Rattle.bf_try.specs.Grades.{fits, GradesTo}
 use Rattle.bf_try.specs.Tries.{Look}
 use Rattle.bf_report.specs.declared.report.InstanceReport.{InstanceReport}
 use Rattle.bf_report.specs.declared.report.Report.{Report}
-use Rattle.bf_kept.specs.Kept.{GradesTo, IsAnsweredBy}
+use Rattle.bf_kept.specs.Kept.{IsAnsweredBy}
 use Rattle.bf_dependents.specs.declared.place.Place.{Place}
 use Rattle.bf_dependents.specs.Dependents.{IsBeside}
 use Rattle.bf_clear.specs.Entries.{entry_of_try, told}

@@ -5,7 +5,7 @@ ghost use Rattle.bf_command_line.specs.CommandLine.{answered_app, backfill_app, 
 ghost use Rattle.bf_command_line.specs.Drafts.{IsDraftOf};
 
 use crate::draft::Draft;
-use crate::workers::MOST;
+use crate::workers::MOST_WORKERS;
 use clap::error::ErrorKind;
 use clap::{Arg, ArgAction, Command, Error, value_parser};
 use std::alloc::{AllocError, Global};
@@ -134,7 +134,7 @@ fn workers<'a>(alloc: Global) -> Arg<'a>
         "N",
         "How many tries may run at once, 1 to 64; 1 where this isn't given",
     )
-    .value_parser(value_parser!(u32).range(1..=i64::from(MOST)))
+    .value_parser(value_parser!(u32).range(1..=i64::from(MOST_WORKERS)))
 }
 
 fn progress<'a>(alloc: Global) -> Arg<'a>

@@ -4,7 +4,7 @@ ghost use Rattle.std.specs.Prelude.{◌≡◌, ◌≤◌, IfNone, IfSome};
 use std::marker::Model;
 
 /// The most workers that there may be.
-pub(crate) const MOST: u32 = 64;
+pub(crate) const MOST_WORKERS: u32 = 64;
 
 /// A number of workers: 1 to 64.
 #[derive(Drop)]
@@ -35,7 +35,7 @@ impl Workers {
         ensures some { IfSome result (λ w. w ≡ count) }
         ensures none { IfNone result (¬ ((1 ≤ count) × (count ≤ 64))) }
     {
-        if 1 <= count && count <= MOST {
+        if 1 <= count && count <= MOST_WORKERS {
             Some(Workers { count })
         } else {
             None

@@ -15,7 +15,7 @@ use Rattle.bf_core.specs.Answered.{AreGraded}
 use Rattle.bf_core.specs.Events.{entry_in}
 use Rattle.bf_core.specs.declared.ended.Ended.{Ended}
 use Rattle.bf_moment.specs.Moment.{IsShown, IsWhole}
-use Rattle.bf_report.specs.Dated.{IsShownInterval}
+use Rattle.bf_interval.specs.Intervals.{IsShownInterval}
 use Rattle.bf_report_reader.specs.Written.{AreOfRuns}
 use Rattle.bf_commands.specs.OneRun.{intervals_at}
 use Rattle.bf_commands.specs.OverTable.{AreAnswered, IsOver, IsReportOver, answering}

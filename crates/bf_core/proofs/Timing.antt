@@ -7,9 +7,9 @@ use Rattle.std.specs.FinMap as map
 use Rattle.std.specs.Ordering.{eq_by_cmp, is_eq}
 use Rattle.std.specs.Cmp.{eq_by_cmp_equiv}
 use Rattle.bf_value.specs.Names.{name_cmp_total, name_cmp-IsAntisymmetric}
-use Rattle.bf_core.specs.Terms.{Clock, Dag, Entry, Event, JobName, Ledger, Limits, State, name_cmp, demand_of}
-use Rattle.bf_core.specs.Events.{after, entry_in}
-use Rattle.bf_core.specs.Clocks.{AreTimely, IsTimely, KeepsTime, clock_after, clock_of, after_end, is_made_again, last_moment, next_try, start_clock}
+use Rattle.bf_core.specs.Terms.{Clock, Dag, Entry, Event, JobName, Ledger, Limits, State, name_cmp, demand_of, task_of}
+use Rattle.bf_core.specs.Events.{after, entry_in, is_made_again}
+use Rattle.bf_core.specs.Clocks.{AreTimely, IsTimely, KeepsTime, clock_after, clock_of, after_end, last_moment, next_try, start_clock}
 
 -- ---- names
 
@@ -145,7 +145,7 @@ keeps-time dag limits c s Event.Open timely is = is
 keeps-time dag limits c s (Event.Settle k t) timely is = is
 keeps-time dag limits c s (Event.Expand k t) timely is = is
 keeps-time dag limits c s (Event.Begin n) timely is = begin-keeps c (entry_in s.ledger) is n
-keeps-time dag limits c s (Event.End n o) timely is = end-keeps-time c s.ledger is n _ (is_made_again dag n o) (demand_of limits n.task).retry_delay
+keeps-time dag limits c s (Event.End n o) timely is = end-keeps-time c s.ledger is n _ (is_made_again (task_of dag n.task).retries n.attempt o) (demand_of limits n.task).retry_delay
 keeps-time dag limits c s (Event.Close k) timely is = is
 keeps-time dag limits c s (Event.Tick m) timely is = record { begun = omega (arith, ints, is.begun, timely.0); within = timely.1; bounded = is.bounded; after_one = is.after_one }
 

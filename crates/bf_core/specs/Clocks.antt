@@ -1,8 +1,9 @@
 -- The clock beside the state: what it shows, the moments for which tries wait, and which events it lets come.
-use Rattle.std.specs.Prelude.{◌≡◌, ℕ, suc, nat_le, Bool, ◌&&◌, if◌then◌else◌, List, [], ◌∷◌, Option, None, Some, IsSome, ℤ, pos, ◌+ℤ◌, ◌≤ℤ◌, ◌<ℤ◌, int_lt}
+use Rattle.std.specs.Prelude.{◌≡◌, ℕ, suc, Bool, if◌then◌else◌, List, [], ◌∷◌, Option, None, Some, IsSome, ℤ, pos, ◌+ℤ◌, ◌≤ℤ◌, ◌<ℤ◌, int_lt}
 use Rattle.std.specs.Int.{int_min}
 use Rattle.std.specs.FinMap as map
-use Rattle.bf_core.specs.Terms.{Clock, Dag, Event, JobName, Ledger, Limits, Outcome, demand_of, is_failed, task_of}
+use Rattle.bf_core.specs.Terms.{Clock, Dag, Event, JobName, Ledger, Limits, demand_of, task_of}
+use Rattle.bf_core.specs.Events.{is_made_again}
 
 abbrev pub last_moment : ℤ
 last_moment = pos 253_402_300_799
@@ -14,10 +15,6 @@ start_clock = record { time = pos 0; moments = map.empty }
 -- the next try of the same instance
 abbrev pub next_try : JobName → JobName
 next_try name = record { run = name.run; task = name.task; index = name.index; attempt = suc name.attempt }
-
--- the try that ended so is made again
-abbrev pub is_made_again : Dag → JobName → Outcome → Bool
-is_made_again dag name outcome = is_failed outcome && nat_le name.attempt (task_of dag name.task).retries
 
 -- the name waits for the moment, where that is later
 abbrev pub waiting_for : Clock → JobName → ℤ → Clock
@@ -31,7 +28,7 @@ after_end clock next again delay = if again then waiting_for clock next (int_min
 abbrev pub clock_after : Dag → Limits → Clock → Event → Clock
 clock_after dag limits clock (Event.Tick moment) = record { time = moment; moments = clock.moments }
 clock_after dag limits clock (Event.Begin name) = record { time = clock.time; moments = map.remove clock.moments name }
-clock_after dag limits clock (Event.End name outcome) = after_end clock (next_try name) (is_made_again dag name outcome) (demand_of limits name.task).retry_delay
+clock_after dag limits clock (Event.End name outcome) = after_end clock (next_try name) (is_made_again (task_of dag name.task).retries name.attempt outcome) (demand_of limits name.task).retry_delay
 clock_after dag limits clock Event.Open = clock
 clock_after dag limits clock (Event.Settle run task) = clock
 clock_after dag limits clock (Event.Expand run task) = clock

@@ -1,8 +1,8 @@
 -- What is at hand when a try begins, and when one ends; and what either makes of its instance.
 use Rattle.std.specs.Prelude.{◌≡◌, ◌<◌, ◌+◌, ◌^◌, length}
 use Rattle.bf_core.specs.Terms.{Demand, Event, Instance, JobName, Outcome, Phase, demand_of, task_of}
-use Rattle.bf_core.specs.Events.{IsEnabled, IsPresent, begun, cell_at, ended, given_in, place_in}
-use Rattle.bf_core.specs.Clocks.{IsTimely, is_made_again, next_try}
+use Rattle.bf_core.specs.Events.{IsEnabled, IsPresent, begun, cell_at, ended, given_in, is_made_again, place_in}
+use Rattle.bf_core.specs.Clocks.{IsTimely, next_try}
 use Rattle.bf_core.specs.Cores.{Backfill}
 use Rattle.bf_core.specs.declared.clock.Retry.{Retry}
 use Rattle.bf_core.specs.declared.ending.Ending.{Ending}
@@ -18,7 +18,7 @@ pub record IsBeginning (backfill : Backfill) (name : JobName) (demand : Demand) 
 -- the next try of the same instance, whether it is made, and how long it waits
 pub record IsRetry (backfill : Backfill) (name : JobName) (outcome : Outcome) (retry : Retry) : Type 0 where
   pub next_is : retry.next ≡ next_try name
-  pub again_is : retry.again ≡ is_made_again backfill.dag name outcome
+  pub again_is : retry.again ≡ is_made_again (task_of backfill.dag name.task).retries name.attempt outcome
   pub delay_is : retry.delay ≡ (demand_of backfill.limits name.task).retry_delay
 
 -- the try may end so; its entry, what it took, its task's retries, the place of its instance, and its next try

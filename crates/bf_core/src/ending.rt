@@ -10,7 +10,7 @@ use crate::clock::{Retry, note_end};
 use crate::event::{Event, Illegal};
 use crate::machine::Core;
 use crate::places::{next_try, place_of};
-use crate::trying::Change;
+use crate::trying::{Change, is_retried};
 use bf_check::Demand;
 use bf_try::{Entry, Outcome, fits};
 use bf_value::JobName;
@@ -56,7 +56,7 @@ impl<'a> Core<'a> {
         let task = self.plan.dag().task(name.task);
         Retry {
             next: next_try(name),
-            again: matches!(outcome, Outcome::Failed) && name.attempt <= task.retries,
+            again: is_retried(task.retries, name.attempt, outcome),
             delay: self.plan.demand(name.task).retry_delay,
         }
     }

@@ -1,6 +1,6 @@
 //! What a try does to its instance.
 ghost use Rattle.std.specs.Prelude.{◌≡◌, ◌<◌, ◌^◌, ◌+◌, length, IsSome};
-ghost use Rattle.bf_core.specs.Events.{put, row_of, cell_at, instance_of, change_instance};
+ghost use Rattle.bf_core.specs.Events.{put, row_of, cell_at, instance_of, change_instance, is_made_again};
 ghost use Rattle.bf_core.specs.Tries.{changed, IsCountable};
 
 use crate::state::{Cell, Instance, Phase, State};
@@ -14,6 +14,13 @@ pub(crate) enum Change {
     End { retries: u32, outcome: Outcome },
 }
 
+/// Whether a try that ended so is made again, where its task has that many retries.
+pub(crate) fn is_retried(retries: u32, attempt: u32, outcome: &Outcome) -> bool
+    ensures { result ≡ is_made_again retries attempt outcome.now }
+{
+    matches!(outcome, Outcome::Failed) && attempt <= retries
+}
+
 impl Instance {
     fn change(&mut self, change: Change)
         requires { IsCountable change }
@@ -22,7 +29,7 @@ impl Instance {
         match change {
             Change::Begin => self.phase = Phase::Running,
             Change::End { retries, outcome } => {
-                if matches!(outcome, Outcome::Failed) && self.attempt <= retries {
+                if is_retried(retries, self.attempt, &outcome) {
                     self.attempt += 1;
                     self.phase = Phase::Waiting;
                 } else {

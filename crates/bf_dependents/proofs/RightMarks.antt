@@ -19,7 +19,16 @@ use Rattle.bf_check.specs.Sound.{IsOneOf}
 use Rattle.bf_check.proofs.PlanLemmas.{is_upstream}
 use Rattle.bf_dependents.specs.declared.place.Place.{Place}
 use Rattle.bf_dependents.specs.Dependents.{IsDependent, AreMarks, AreDependents}
-use Rattle.bf_dependents.specs.Marks.{is_place, follows, marks_before, AreMarksFor, AreMarksForTo, AreMarksTo, ArePast, AreSeeded, IsSeedRow, WasDependent}
+use Rattle.bf_dependents.specs.Marks.{is_place, follows, marks_before, AreMarksFor, ArePast, AreSeeded, IsSeedRow, WasDependent}
+
+-- so far the marks are right of the tasks before place i of the order
+pub record AreMarksTo (dag : Dag) (seeds : List Place) (k : ℕ) (order : List ℕ) (i : ℕ) (marks : List Bool) : Type 0 where
+  pub len : length marks ≡ length dag.tasks
+  pub right : (j t : ℕ) → j < i → slice_get order j ≡ Some t → (is_marked marks t ≡ true) ↔ IsDependent dag seeds k t
+
+-- whatever seeds these rows are of, so far the marks are right
+abbrev pub AreMarksForTo : Dag → List Bool → List Bool → List ℕ → ℕ → List Bool → Type 0
+AreMarksForTo dag seeded before order i marks = (seeds : List Place) (k : ℕ) → IsSeedRow seeds (length dag.tasks) k seeded → ArePast dag seeds k before → AreMarksTo dag seeds k order i marks
 
 same-or-before : (j n : ℕ) → j < n + 1 → (j ≡ n) ⊎ (j < n)
 same-or-before j n l = let low : j ≤ n = omega (arith, l) in eq-or-lt_of_le low

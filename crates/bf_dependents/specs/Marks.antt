@@ -1,5 +1,5 @@
 -- Marks while they are made. For private clauses.
-use Rattle.std.specs.Prelude.{◌≡◌, ◌<◌, ◌==◌, ◌&&◌, ◌||◌, ◌↔◌, nat_lt, if◌then◌else◌, ℕ, zero, suc, Bool, true, false, List, [], length, Some, slice_get, slice_set}
+use Rattle.std.specs.Prelude.{◌≡◌, ◌<◌, ◌==◌, ◌&&◌, ◌||◌, ◌↔◌, nat_lt, if◌then◌else◌, ℕ, zero, suc, Bool, true, false, List, [], length, slice_set}
 use Rattle.std.specs.List.{list_any}
 use Rattle.bf_graph.specs.Reach.{is_marked, row_at}
 use Rattle.bf_check.specs.declared.plan.Dag.{Dag}
@@ -42,11 +42,6 @@ abbrev pub follows : Dag → ℕ → List Bool → List Bool → List Bool → B
 follows dag t seeded before marks =
     is_marked seeded t || (((task_of dag t).depends_on_past && is_marked before t) || list_any (is_marked marks) (task_of dag t).upstreams)
 
--- so far the marks are right of the tasks before place i of the order
-pub record AreMarksTo (dag : Dag) (seeds : List Place) (k : ℕ) (order : List ℕ) (i : ℕ) (marks : List Bool) : Type 0 where
-  pub len : length marks ≡ length dag.tasks
-  pub right : (j t : ℕ) → j < i → slice_get order j ≡ Some t → (is_marked marks t ≡ true) ↔ IsDependent dag seeds k t
-
 -- the marks of the run before k; of none before the first
 abbrev pub marks_before : List (List Bool) → ℕ → List Bool
 marks_before rows zero = []
@@ -59,10 +54,6 @@ WasDependent dag seeds (suc k) t = IsDependent dag seeds k t
 
 abbrev pub ArePast : Dag → List Place → ℕ → List Bool → Type 0
 ArePast dag seeds k before = (t : ℕ) → t < length dag.tasks → (is_marked before t ≡ true) ↔ WasDependent dag seeds k t
-
--- whatever seeds these rows are of, so far the marks are right
-abbrev pub AreMarksForTo : Dag → List Bool → List Bool → List ℕ → ℕ → List Bool → Type 0
-AreMarksForTo dag seeded before order i marks = (seeds : List Place) (k : ℕ) → IsSeedRow seeds (length dag.tasks) k seeded → ArePast dag seeds k before → AreMarksTo dag seeds k order i marks
 
 -- whatever seeds these rows are of, the marks are right
 abbrev pub AreMarksFor : Dag → List Bool → List Bool → List Bool → Type 0

@@ -15,23 +15,23 @@ pub record Steps : Type 0 where
 
 -- a heap in this order has the first step on top
 abbrev pub reverse_cmp : Reverse Step → Reverse Step → Ordering
-reverse_cmp x y = by_step.ghosts.cmp y.0 x.0
+reverse_cmp one other = by_step.ghosts.cmp other.0 one.0
 
 -- the event that the step is
 abbrev pub event_of : Step → Event
-event_of (Step.Close k) = Event.Close k
+event_of (Step.Close run) = Event.Close run
 event_of Step.Open = Event.Open
-event_of (Step.Settle x) = Event.Settle x.run x.task
-event_of (Step.Expand x) = Event.Expand x.run x.task
+event_of (Step.Settle turn) = Event.Settle turn.run turn.task
+event_of (Step.Expand turn) = Event.Expand turn.run turn.task
 
--- x comes before y, or is y: by run, by rank and in the order of the file
+-- the turn comes before the other, or is it: by run, by rank and in the order of the file
 abbrev pub TurnComes : Turn → Turn → Type 0
-TurnComes x y = (x.run < y.run) ⊎ ((x.run ≡ y.run) × ((x.rank < y.rank) ⊎ ((x.rank ≡ y.rank) × (x.task ≤ y.task))))
+TurnComes turn other = (turn.run < other.run) ⊎ ((turn.run ≡ other.run) × ((turn.rank < other.rank) ⊎ ((turn.rank ≡ other.rank) × (turn.task ≤ other.task))))
 
--- x comes before y, or is y: by kind, and then as their turns do
+-- the step comes before the other, or is it: by kind, and then as their turns do
 abbrev pub Comes : Step → Step → Type 0
-Comes (Step.Close j) (Step.Close k) = j ≤ k
+Comes (Step.Close run) (Step.Close other) = run ≤ other
 Comes Step.Open Step.Open = Unit {0}
-Comes (Step.Settle x) (Step.Settle y) = TurnComes x y
-Comes (Step.Expand x) (Step.Expand y) = TurnComes x y
-Comes x y = kind_of (event_of x) < kind_of (event_of y)
+Comes (Step.Settle turn) (Step.Settle other) = TurnComes turn other
+Comes (Step.Expand turn) (Step.Expand other) = TurnComes turn other
+Comes step other = kind_of (event_of step) < kind_of (event_of other)

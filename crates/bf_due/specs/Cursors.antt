@@ -12,41 +12,41 @@ use Rattle.bf_core.specs.Events.{cell_at, instance_of, value_in}
 use Rattle.bf_core.specs.Cores.{Backfill}
 use Rattle.bf_due.specs.declared.progress.Progress.{Progress}
 
--- nothing more of the upstream is waited for in the run k: it is settled, or it is early and the upstream is no branch
+-- nothing more of the upstream is waited for in the run: it is settled, or it is early and the upstream is no branch
 abbrev pub lets : Bool → Dag → State → ℕ → ℕ → Bool
-lets early dag s k u = is_some (value_in (cell_at s k u)) || (early && not (is_branch (task_of dag u)))
+lets early dag state run upstream = is_some (value_in (cell_at state run upstream)) || (early && not (is_branch (task_of dag upstream)))
 
--- so it is with the first n upstreams of the task t
+-- so it is with so many upstreams of the task, from the first on
 abbrev pub ArePassed : Bool → Dag → State → ℕ → ℕ → ℕ → Type 0
-ArePassed early dag s k t n = (i : ℕ) → i < n → i < length (task_of dag t).upstreams → lets early dag s k (slice_index (task_of dag t).upstreams i) ≡ true
+ArePassed early dag state run task count = (place : ℕ) → place < count → place < length (task_of dag task).upstreams → lets early dag state run (slice_index (task_of dag task).upstreams place) ≡ true
 
--- and not with the upstream at place i
+-- and not with the upstream at the place
 abbrev pub Awaits : Bool → Dag → State → ℕ → ℕ → ℕ → Type 0
-Awaits early dag s k t i = (i < length (task_of dag t).upstreams) × (lets early dag s k (slice_index (task_of dag t).upstreams i) ≡ false)
+Awaits early dag state run task place = (place < length (task_of dag task).upstreams) × (lets early dag state run (slice_index (task_of dag task).upstreams place) ≡ false)
 
 -- the task need not wait for all of its upstreams
 abbrev pub is_early : Dag → ℕ → Bool
-is_early dag t = not (is_waiting (task_of dag t).rule)
+is_early dag task = not (is_waiting (task_of dag task).rule)
 
 abbrev pub IsFinished : Phase → Type 0
-IsFinished (Phase.Finished o) = Unit {0}
-IsFinished p = ⊥
+IsFinished (Phase.Finished outcome) = Unit {0}
+IsFinished phase = ⊥
 
--- the cell has an instance at place i, and it has finished
+-- the cell has an instance at the place, and it has finished
 abbrev pub HasFinished : Cell → ℕ → Type 0
-HasFinished c i = (x : Instance) × (instance_of c i ≡ Some x) × IsFinished x.phase
+HasFinished cell place = (instance : Instance) × (instance_of cell place ≡ Some instance) × IsFinished instance.phase
 
--- the first n instances of the cell are there, and have finished
+-- so many instances of the cell, from the first on, are there and have finished
 abbrev pub AreFinished : Cell → ℕ → Type 0
-AreFinished c n = (i : ℕ) → i < n → HasFinished c i
+AreFinished cell count = (place : ℕ) → place < count → HasFinished cell place
 
--- what is noted of the run k is right
-pub record IsReached (b : Backfill) (k : ℕ) (row : Progress) : Type 0 where
-  pub passed : (t : ℕ) → ArePassed (is_early b.dag t) b.dag b.state k t (slice_index row.passed.items t)
-  pub upstreams : (t : ℕ) → ArePassed false b.dag b.state k t (slice_index row.settled_upstreams.items t)
-  pub finished : (t : ℕ) → AreFinished (cell_at b.state k t) (slice_index row.finished.items t)
-  pub settled : (t : ℕ) → t < row.settled → is_some (value_in (cell_at b.state k t)) ≡ true
+-- what is noted of the run is right
+pub record IsReached (backfill : Backfill) (run : ℕ) (row : Progress) : Type 0 where
+  pub passed : (task : ℕ) → ArePassed (is_early backfill.dag task) backfill.dag backfill.state run task (slice_index row.passed.items task)
+  pub upstreams : (task : ℕ) → ArePassed false backfill.dag backfill.state run task (slice_index row.settled_upstreams.items task)
+  pub finished : (task : ℕ) → AreFinished (cell_at backfill.state run task) (slice_index row.finished.items task)
+  pub settled : (task : ℕ) → task < row.settled → is_some (value_in (cell_at backfill.state run task)) ≡ true
 
 -- the same, of the row of each run
 abbrev pub AreReached : Backfill → List Progress → Type 0
-AreReached b rows = (k : ℕ) (row : Progress) → slice_get rows k ≡ Some row → IsReached b k row
+AreReached backfill rows = (run : ℕ) (row : Progress) → slice_get rows run ≡ Some row → IsReached backfill run row

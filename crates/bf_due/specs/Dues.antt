@@ -25,118 +25,118 @@ pub record Kept : Type 0 where
 
 -- the rank that the step is ordered by is its task's
 abbrev pub IsRanked : Dag → Step → Type 0
-IsRanked dag (Step.Settle x) = IsRank (shape_of dag).upstreams x.task x.rank
-IsRanked dag (Step.Expand x) = IsRank (shape_of dag).upstreams x.task x.rank
-IsRanked dag x = Unit {0}
+IsRanked dag (Step.Settle turn) = IsRank (shape_of dag).upstreams turn.task turn.rank
+IsRanked dag (Step.Expand turn) = IsRank (shape_of dag).upstreams turn.task turn.rank
+IsRanked dag step = Unit {0}
 
 -- the step may come
 abbrev pub IsDue : Backfill → Step → Type 0
-IsDue b x = IsRanked b.dag x × MayCome b (event_of x)
+IsDue backfill step = IsRanked backfill.dag step × MayCome backfill (event_of step)
 
 -- each step that may come is on the agenda, and the first on it may come
-pub record IsUpToDate (b : Backfill) (kept : Kept) : Type 0 where
-  pub replayed : IsReplay b
-  pub ranking : Ranking (shape_of b.dag).upstreams
-  pub holds : (x : Step) → IsDue b x → Contains kept.steps x
-  pub ranked : (x : Step) → Contains kept.steps x → IsRanked b.dag x
-  pub live : IfSome (slice_get kept.steps 0) (λ x. MayCome b (event_of x))
-  pub reached : AreReached b kept.progress
+pub record IsUpToDate (backfill : Backfill) (kept : Kept) : Type 0 where
+  pub replayed : IsReplay backfill
+  pub ranking : Ranking (shape_of backfill.dag).upstreams
+  pub holds : (step : Step) → IsDue backfill step → Contains kept.steps step
+  pub ranked : (step : Step) → Contains kept.steps step → IsRanked backfill.dag step
+  pub live : IfSome (slice_get kept.steps 0) (λ step. MayCome backfill (event_of step))
+  pub reached : AreReached backfill kept.progress
 
 -- ---- what an event may make possible
 
--- a step of the task t in the run k
+-- a step of the task in the run
 abbrev pub IsOfTask : ℕ → ℕ → Step → Type 0
-IsOfTask k t (Step.Settle x) = (x.run ≡ k) × (x.task ≡ t)
-IsOfTask k t (Step.Expand x) = (x.run ≡ k) × (x.task ≡ t)
-IsOfTask k t x = ⊥
+IsOfTask run task (Step.Settle turn) = (turn.run ≡ run) × (turn.task ≡ task)
+IsOfTask run task (Step.Expand turn) = (turn.run ≡ run) × (turn.task ≡ task)
+IsOfTask run task step = ⊥
 
--- a step of the task t in the run of the news, to which they matter
+-- a step of the task in the run of the news, to which they matter
 abbrev pub IsStirred : Dag → State → News → ℕ → Step → Type 0
-IsStirred dag s n t x = IsOfTask n.run t x × (matters dag s n t ≡ true)
+IsStirred dag state news task step = IsOfTask news.run task step × (matters dag state news task ≡ true)
 
--- so it is with one of the first m of these tasks
+-- so it is with one of these tasks, of so many from the first on
 abbrev pub IsOfFirst : Dag → State → News → List ℕ → ℕ → Step → Type 0
-IsOfFirst dag s n ts m x = (i : ℕ) × (i < m) × IsStirred dag s n (slice_index ts i) x
+IsOfFirst dag state news tasks count step = (place : ℕ) × (place < count) × IsStirred dag state news (slice_index tasks place) step
 
--- a step of a task in the run k below n
+-- a step of a task below the bound, in the run
 abbrev pub IsBelow : ℕ → ℕ → Step → Type 0
-IsBelow k n (Step.Settle x) = (x.run ≡ k) × (x.task < n)
-IsBelow k n (Step.Expand x) = (x.run ≡ k) × (x.task < n)
-IsBelow k n x = ⊥
+IsBelow run bound (Step.Settle turn) = (turn.run ≡ run) × (turn.task < bound)
+IsBelow run bound (Step.Expand turn) = (turn.run ≡ run) × (turn.task < bound)
+IsBelow run bound step = ⊥
 
--- the close of the run k
+-- the close of the run
 abbrev pub IsCloseOf : ℕ → Step → Type 0
-IsCloseOf k (Step.Close j) = j ≡ k
-IsCloseOf k x = ⊥
+IsCloseOf run (Step.Close closed) = closed ≡ run
+IsCloseOf run step = ⊥
 
 -- the opening of a run
 abbrev pub IsOpening : Step → Type 0
 IsOpening Step.Open = Unit {0}
-IsOpening x = ⊥
+IsOpening step = ⊥
 
--- a step of the run k
+-- a step of the run
 abbrev pub IsOfRun : ℕ → Step → Type 0
-IsOfRun k (Step.Close j) = j ≡ k
-IsOfRun k Step.Open = ⊥
-IsOfRun k (Step.Settle x) = x.run ≡ k
-IsOfRun k (Step.Expand x) = x.run ≡ k
+IsOfRun run (Step.Close closed) = closed ≡ run
+IsOfRun run Step.Open = ⊥
+IsOfRun run (Step.Settle turn) = turn.run ≡ run
+IsOfRun run (Step.Expand turn) = turn.run ≡ run
 
--- a step of a run below n
+-- a step of a run below the bound
 abbrev pub IsOfRunBelow : ℕ → Step → Type 0
-IsOfRunBelow n (Step.Close j) = j < n
-IsOfRunBelow n Step.Open = ⊥
-IsOfRunBelow n (Step.Settle x) = x.run < n
-IsOfRunBelow n (Step.Expand x) = x.run < n
+IsOfRunBelow bound (Step.Close run) = run < bound
+IsOfRunBelow bound Step.Open = ⊥
+IsOfRunBelow bound (Step.Settle turn) = turn.run < bound
+IsOfRunBelow bound (Step.Expand turn) = turn.run < bound
 
--- the task t is below the one of the news, and they matter to it
+-- the task is below the one of the news, and they matter to it
 abbrev pub IsBelowNews : Dag → State → News → ℕ → ℕ → Type 0
-IsBelowNews dag s n k t = (k ≡ n.run) × IsUpstream (shape_of dag).upstreams n.task t × (matters dag s n t ≡ true)
+IsBelowNews dag state news run task = (run ≡ news.run) × IsUpstream (shape_of dag).upstreams news.task task × (matters dag state news task ≡ true)
 
--- the task t in the run k is the one of the news in the next run, and that one is settled now
+-- the task in the run is the one of the news in the next run, and that one is settled now
 abbrev pub IsBehindNews : State → News → ℕ → ℕ → Type 0
-IsBehindNews s n k t = (k ≡ n.run + 1) × (t ≡ n.task) × (is_settled s n.run n.task ≡ true)
+IsBehindNews state news run task = (run ≡ news.run + 1) × (task ≡ news.task) × (is_settled state news.run news.task ≡ true)
 
--- the news may let the task t be decided in the run k: it is below theirs, or the same in the next run
+-- the news may let the task be decided in the run: it is below theirs, or the same in the next run
 abbrev pub Hears : Dag → State → News → ℕ → ℕ → Type 0
-Hears dag s n k t = IsBelowNews dag s n k t ⊎ IsBehindNews s n k t
+Hears dag state news run task = IsBelowNews dag state news run task ⊎ IsBehindNews state news run task
 
 -- a step of the tasks below the one of the news to which they matter, or the close of its run
 abbrev pub IsUnder : Dag → State → News → Step → Type 0
-IsUnder dag s n (Step.Close k) = k ≡ n.run
-IsUnder dag s n Step.Open = ⊥
-IsUnder dag s n (Step.Settle x) = IsBelowNews dag s n x.run x.task
-IsUnder dag s n (Step.Expand x) = IsBelowNews dag s n x.run x.task
+IsUnder dag state news (Step.Close run) = run ≡ news.run
+IsUnder dag state news Step.Open = ⊥
+IsUnder dag state news (Step.Settle turn) = IsBelowNews dag state news turn.run turn.task
+IsUnder dag state news (Step.Expand turn) = IsBelowNews dag state news turn.run turn.task
 
 -- a step that the news may make possible
 abbrev pub IsAround : Dag → State → News → Step → Type 0
-IsAround dag s n (Step.Close k) = k ≡ n.run
-IsAround dag s n Step.Open = ⊥
-IsAround dag s n (Step.Settle x) = Hears dag s n x.run x.task
-IsAround dag s n (Step.Expand x) = Hears dag s n x.run x.task
+IsAround dag state news (Step.Close run) = run ≡ news.run
+IsAround dag state news Step.Open = ⊥
+IsAround dag state news (Step.Settle turn) = Hears dag state news turn.run turn.task
+IsAround dag state news (Step.Expand turn) = Hears dag state news turn.run turn.task
 
 -- the run that was opened last, or the first while none is
 abbrev pub newest : State → ℕ
-newest s = next_run s - 1
+newest state = next_run state - 1
 
 -- the event that led to this state may have made the step possible
 abbrev pub Concerns : Dag → State → Event → Step → Type 0
-Concerns dag s Event.Open x = IsOfRun (newest s) x
-Concerns dag s (Event.Settle j u) x = IsAround dag s (decided_at s j u) x
-Concerns dag s (Event.Expand j u) x = IsAround dag s (decided_at s j u) x
-Concerns dag s (Event.Begin n) x = ⊥
-Concerns dag s (Event.End n o) x = IsAround dag s (ended_at dag s n) x
-Concerns dag s (Event.Close k) x = IsOpening x
-Concerns dag s (Event.Tick m) x = ⊥
+Concerns dag state Event.Open step = IsOfRun (newest state) step
+Concerns dag state (Event.Settle run task) step = IsAround dag state (decided_at state run task) step
+Concerns dag state (Event.Expand run task) step = IsAround dag state (decided_at state run task) step
+Concerns dag state (Event.Begin name) step = ⊥
+Concerns dag state (Event.End name outcome) step = IsAround dag state (ended_at dag state name) step
+Concerns dag state (Event.Close run) step = IsOpening step
+Concerns dag state (Event.Tick moment) step = ⊥
 
 -- the task that the event decides, or of which a try ends, is there
 abbrev pub SpeaksOfTask : Dag → State → Event → Type 0
-SpeaksOfTask dag s Event.Open = Unit {0}
-SpeaksOfTask dag s (Event.Settle j u) = IsThere dag s j u
-SpeaksOfTask dag s (Event.Expand j u) = IsThere dag s j u
-SpeaksOfTask dag s (Event.Begin n) = Unit {0}
-SpeaksOfTask dag s (Event.End n o) = IsThere dag s n.run n.task
-SpeaksOfTask dag s (Event.Close k) = Unit {0}
-SpeaksOfTask dag s (Event.Tick m) = Unit {0}
+SpeaksOfTask dag state Event.Open = Unit {0}
+SpeaksOfTask dag state (Event.Settle run task) = IsThere dag state run task
+SpeaksOfTask dag state (Event.Expand run task) = IsThere dag state run task
+SpeaksOfTask dag state (Event.Begin name) = Unit {0}
+SpeaksOfTask dag state (Event.End name outcome) = IsThere dag state name.run name.task
+SpeaksOfTask dag state (Event.Close run) = Unit {0}
+SpeaksOfTask dag state (Event.Tick moment) = Unit {0}
 
 -- ---- room
 
@@ -146,30 +146,30 @@ HasRoom dag steps room = length steps + (length dag.tasks + 2) ≤ room
 
 -- so it is with what is kept, which has a row for each run
 abbrev pub HasRoomFor : Backfill → Kept → Type 0
-HasRoomFor b kept = HasRoom b.dag kept.steps kept.room × (b.runs ≤ length kept.progress)
+HasRoomFor backfill kept = HasRoom backfill.dag kept.steps kept.room × (backfill.runs ≤ length kept.progress)
 
 -- ---- while it is kept
 
 -- each of these steps is ordered by its task's rank
 abbrev pub AreRanked : Dag → List Step → Type 0
-AreRanked dag steps = (x : Step) → Contains steps x → IsRanked dag x
+AreRanked dag steps = (step : Step) → Contains steps step → IsRanked dag step
 
 -- of these steps those that may come now were added
-pub record HasAdded (b : Backfill) (These : Step → Type 0) (old new : List Step) : Type 0 where
-  pub kept : (x : Step) → Contains old x → Contains new x
-  pub added : (x : Step) → These x → IsDue b x → Contains new x
-  pub ranked : AreRanked b.dag old → AreRanked b.dag new
+pub record HasAdded (backfill : Backfill) (These : Step → Type 0) (old new : List Step) : Type 0 where
+  pub kept : (step : Step) → Contains old step → Contains new step
+  pub added : (step : Step) → These step → IsDue backfill step → Contains new step
+  pub ranked : AreRanked backfill.dag old → AreRanked backfill.dag new
 
 -- first steps were taken out that may not come now
-pub record IsCleaned (b : Backfill) (old new : List Step) : Type 0 where
-  pub kept : (x : Step) → Contains old x → MayCome b (event_of x) → Contains new x
-  pub fewer : (x : Step) → Contains new x → Contains old x
-  pub live : IfSome (slice_get new 0) (λ x. MayCome b (event_of x))
+pub record IsCleaned (backfill : Backfill) (old new : List Step) : Type 0 where
+  pub kept : (step : Step) → Contains old step → MayCome backfill (event_of step) → Contains new step
+  pub fewer : (step : Step) → Contains new step → Contains old step
+  pub live : IfSome (slice_get new 0) (λ step. MayCome backfill (event_of step))
 
--- what was noted of the run k is still right, where it was, and of these steps those that may come now were added
+-- what was noted of the run is still right, where it was, and of these steps those that may come now were added
 abbrev pub Asks : Backfill → ℕ → (Step → Type 0) → Progress → Progress → List Step → List Step → Type 0
-Asks b k These before after old new = IsReached b k before → IsReached b k after × HasAdded b These old new
+Asks backfill run These before after old new = IsReached backfill run before → IsReached backfill run after × HasAdded backfill These old new
 
 -- so it is with what was noted of all runs
 abbrev pub AsksAll : Backfill → (Step → Type 0) → List Progress → List Progress → List Step → List Step → Type 0
-AsksAll b These before after old new = AreReached b before → AreReached b after × HasAdded b These old new
+AsksAll backfill These before after old new = AreReached backfill before → AreReached backfill after × HasAdded backfill These old new

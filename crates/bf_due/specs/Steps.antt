@@ -8,45 +8,45 @@ use Rattle.bf_core.specs.Cores.{Backfill, MayCome}
 
 -- the kinds of events in the order in which they come
 abbrev pub kind_of : Event → ℕ
-kind_of (Event.Close k) = 0
+kind_of (Event.Close run) = 0
 kind_of Event.Open = 1
-kind_of (Event.Settle k t) = 2
-kind_of (Event.Expand k t) = 3
-kind_of (Event.Begin n) = 4
-kind_of (Event.End n o) = 5
-kind_of (Event.Tick m) = 6
+kind_of (Event.Settle run task) = 2
+kind_of (Event.Expand run task) = 3
+kind_of (Event.Begin name) = 4
+kind_of (Event.End name outcome) = 5
+kind_of (Event.Tick moment) = 6
 
 -- a step comes by itself: a close, an open, a settle or an expand
 abbrev pub IsStep : Event → Type 0
-IsStep e = kind_of e < 4
+IsStep event = kind_of event < 4
 
--- the task t stands before u, or is u: by rank, and then in the order of the file
+-- the task stands before the other, or is it: by rank, and then in the order of the file
 abbrev pub StandsBefore : Dag → ℕ → ℕ → Type 0
-StandsBefore dag t u = (q r : ℕ) → IsRank (shape_of dag).upstreams t q → IsRank (shape_of dag).upstreams u r → (q < r) ⊎ ((q ≡ r) × (t ≤ u))
+StandsBefore dag task other = (rank other_rank : ℕ) → IsRank (shape_of dag).upstreams task rank → IsRank (shape_of dag).upstreams other other_rank → (rank < other_rank) ⊎ ((rank ≡ other_rank) × (task ≤ other))
 
--- the task t in the run j comes before u in k, or is it: by run, and in a run as the tasks stand
+-- the task in its run comes before the other in its own, or is it: by run, and in a run as the tasks stand
 abbrev pub IsEarlier : Dag → ℕ → ℕ → ℕ → ℕ → Type 0
-IsEarlier dag j t k u = (j < k) ⊎ ((j ≡ k) × StandsBefore dag t u)
+IsEarlier dag run task other_run other = (run < other_run) ⊎ ((run ≡ other_run) × StandsBefore dag task other)
 
--- the step e comes before f, or is f: by kind, then by run, by rank and in the order of the file
+-- the step comes before the other, or is it: by kind, then by run, by rank and in the order of the file
 abbrev pub ComesBefore : Dag → Event → Event → Type 0
-ComesBefore dag (Event.Close j) (Event.Close k) = j ≤ k
+ComesBefore dag (Event.Close run) (Event.Close other_run) = run ≤ other_run
 ComesBefore dag Event.Open Event.Open = Unit {0}
-ComesBefore dag (Event.Settle j t) (Event.Settle k u) = IsEarlier dag j t k u
-ComesBefore dag (Event.Expand j t) (Event.Expand k u) = IsEarlier dag j t k u
-ComesBefore dag e f = kind_of e < kind_of f
+ComesBefore dag (Event.Settle run task) (Event.Settle other_run other) = IsEarlier dag run task other_run other
+ComesBefore dag (Event.Expand run task) (Event.Expand other_run other) = IsEarlier dag run task other_run other
+ComesBefore dag event other = kind_of event < kind_of other
 
 -- the first of the steps that may come
-pub record IsFirstStep (b : Backfill) (e : Event) : Type 0 where
-  pub is_step : IsStep e
-  pub may_come : MayCome b e
-  pub first : (f : Event) → IsStep f → MayCome b f → ComesBefore b.dag e f
+pub record IsFirstStep (backfill : Backfill) (event : Event) : Type 0 where
+  pub is_step : IsStep event
+  pub may_come : MayCome backfill event
+  pub first : (other : Event) → IsStep other → MayCome backfill other → ComesBefore backfill.dag event other
 
 -- no step may come
 abbrev pub NoStep : Backfill → Type 0
-NoStep b = (f : Event) → IsStep f → ¬ (MayCome b f)
+NoStep backfill = (other : Event) → IsStep other → ¬ (MayCome backfill other)
 
 -- the first step, where one may come
 abbrev pub IsNextStep : Backfill → Option Event → Type 0
-IsNextStep b None = NoStep b
-IsNextStep b (Some e) = IsFirstStep b e
+IsNextStep backfill None = NoStep backfill
+IsNextStep backfill (Some event) = IsFirstStep backfill event

@@ -20,7 +20,7 @@ use Rattle.bf_due.specs.declared.news.News.{News}
 
 -- an instance in this phase counts as what it has come to, and as nothing while it hasn't finished
 abbrev pub finished_in : Phase → Counts
-finished_in (Phase.Finished o) = one_of o
+finished_in (Phase.Finished outcome) = one_of outcome
 finished_in Phase.Waiting = none_counted
 finished_in Phase.Running = none_counted
 
@@ -30,20 +30,20 @@ heard_of_cell Cell.Undecided = none_counted
 heard_of_cell Cell.Blocked = one_blocked
 heard_of_cell Cell.Skipped = one_skipped
 heard_of_cell Cell.UpstreamFailed = one_upstream_failed
-heard_of_cell (Cell.Ran xs) = none_counted
+heard_of_cell (Cell.Ran instances) = none_counted
 
 -- of an instance of which a try has ended
 abbrev pub heard_of_instance : Option Instance → Counts
 heard_of_instance None = none_counted
-heard_of_instance (Some x) = finished_in x.phase
+heard_of_instance (Some instance) = finished_in instance.phase
 
--- the news of the task u in the run k, which was decided
+-- the news of the task in the run, which was decided
 abbrev pub decided_at : State → ℕ → ℕ → News
-decided_at s k u = record { run = k; task = u; counts = heard_of_cell (cell_at s k u) }
+decided_at state run task = record { run = run; task = task; counts = heard_of_cell (cell_at state run task) }
 
 -- the news of a task of which this try has ended
 abbrev pub ended_at : Dag → State → JobName → News
-ended_at dag s n = record { run = n.run; task = n.task; counts = heard_of_instance (instance_of (cell_at s n.run n.task) (place_in dag n)) }
+ended_at dag state name = record { run = name.run; task = name.task; counts = heard_of_instance (instance_of (cell_at state name.run name.task) (place_in dag name)) }
 
 -- ---- to whom they matter
 
@@ -52,20 +52,20 @@ abbrev pub stirs : Rule → Counts → Bool
 stirs rule counts = fires rule counts && not (fires rule none_counted)
 
 abbrev pub is_settled : State → ℕ → ℕ → Bool
-is_settled s k u = is_some (value_in (cell_at s k u))
+is_settled state run task = is_some (value_in (cell_at state run task))
 
--- each upstream of the task t is settled in the run k
+-- each upstream of the task is settled in the run
 abbrev pub all_settled : Dag → State → ℕ → ℕ → Bool
-all_settled dag s k t = list_all (is_settled s k) (task_of dag t).upstreams
+all_settled dag state run task = list_all (is_settled state run) (task_of dag task).upstreams
 
--- the task t, below the one of the news, looks at more of it than at counts: it waits for it, or is expanded, or follows a branch
+-- the task, below this upstream, looks at more of it than at counts: it waits for it, or is expanded, or follows a branch
 abbrev pub looks_beyond : Dag → ℕ → ℕ → Bool
-looks_beyond dag u t = is_waiting (task_of dag t).rule || (is_some (task_of dag t).expand || is_branch (task_of dag u))
+looks_beyond dag upstream task = is_waiting (task_of dag task).rule || (is_some (task_of dag task).expand || is_branch (task_of dag upstream))
 
--- the task t doesn't wait for its previous run: it does not depend on it, or there is none, or it is settled there
+-- the task doesn't wait for its previous run: it does not depend on it, or there is none, or it is settled there
 abbrev pub knows_past : Dag → State → ℕ → ℕ → Bool
-knows_past dag s k t = not (task_of dag t).depends_on_past || ((k == 0) || is_some (before_in s k t))
+knows_past dag state run task = not (task_of dag task).depends_on_past || ((run == 0) || is_some (before_in state run task))
 
--- the news may let the task t be decided, which is below theirs: nothing else came of the run
+-- the news may let the task be decided, which is below theirs: nothing else came of the run
 abbrev pub matters : Dag → State → News → ℕ → Bool
-matters dag s n t = looks_beyond dag n.task t || ((stirs (task_of dag t).rule n.counts && knows_past dag s n.run t) || all_settled dag s n.run t)
+matters dag state news task = looks_beyond dag news.task task || ((stirs (task_of dag task).rule news.counts && knows_past dag state news.run task) || all_settled dag state news.run task)

@@ -1,6 +1,7 @@
 -- Which halts and faults may be.
 use Rattle.std.specs.Prelude.{◌≡◌}
 use Rattle.bf_core.specs.Terms.{Given, JobName}
+use Rattle.bf_core.specs.Answered.{MayFault}
 use Rattle.bf_core.specs.declared.fault.BackfillFault.{BackfillFault}
 use Rattle.bf_exec.specs.declared.halt.Halt.{Halt}
 
@@ -10,11 +11,10 @@ MayHalt may_give_up Halt.OutOfMemory = Unit {0}
 MayHalt may_give_up (Halt.Runner n) = (given : Given) × may_give_up n given
 MayHalt may_give_up Halt.Stranger = Unit {0}
 
--- memory may be wanting, the try that is named may be given up, and a worker may not be started
+-- it may be as with one worker, or a worker may not be started
 abbrev pub MayFail : (JobName → Given → Type 0) → BackfillFault → Type 0
-MayFail may_give_up BackfillFault.OutOfMemory = Unit {0}
-MayFail may_give_up (BackfillFault.Runner n) = (given : Given) × may_give_up n given
 MayFail may_give_up BackfillFault.Start = Unit {0}
+MayFail may_give_up fault = MayFault may_give_up fault
 
 -- the fault that a halt is; none is a stranger's
 abbrev pub IsFaultOf : Halt → BackfillFault → Type 0

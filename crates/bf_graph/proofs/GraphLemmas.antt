@@ -9,7 +9,8 @@ use Rattle.std.proofs.lemmas.List.Folds.{list_any_none}
 use Rattle.std.proofs.Math.ListN.{get_or-map as get_or-map_default}
 use Rattle.std.proofs.Math.Seq.{get_or-append_seam}
 use Rattle.indexmap.specs.IndexSet.{insert_key}
-use Rattle.bf_graph.specs.Shape.{texts, AreDistinct, HasRanks}
+use Rattle.bf_value.specs.Distinct.{AreDistinct}
+use Rattle.bf_graph.specs.Shape.{texts, HasRanks}
 use Rattle.bf_graph.specs.Edges.{lists, AreInRange, IsRank}
 use Rattle.bf_graph.specs.Ranks.{rank_at, AreRanks, AreBelow, AreFound, AllRanked}
 

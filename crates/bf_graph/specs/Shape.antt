@@ -1,7 +1,8 @@
 -- The shape of a graph, which is what contracts see of it.
-use Rattle.std.specs.Prelude.{◌≡◌, ◌≢◌, ℕ, ◌<◌, ◌≤◌, ◌+◌, ◌^◌, Bool, List, length, AllPairs, map, String, string_bytes, Vec}
+use Rattle.std.specs.Prelude.{◌≡◌, ℕ, ◌<◌, ◌≤◌, ◌+◌, ◌^◌, Bool, List, length, map, String, string_bytes, Vec}
 use Rattle.std.specs.List.{slice_index_or}
 use Rattle.std.specs.declared.alloc.Global.{Global}
+use Rattle.bf_value.specs.Distinct.{AreDistinct}
 use Rattle.bf_graph.specs.Edges.{lists, AreInRange, IsRank}
 use Rattle.bf_graph.specs.Reach.{rows_of, HasRows}
 use Rattle.bf_graph.specs.Lookups.{IsRisingListOf, IsLeaf, AreDownstreams}
@@ -14,10 +15,6 @@ pub record Shape : Type 0 where
 -- the bytes of each text
 abbrev pub texts : List (String Global) → List (List ℕ)
 texts ss = map string_bytes ss
-
--- no two are equal
-abbrev pub AreDistinct : List (List ℕ) → Type 0
-AreDistinct ids = AllPairs (λ a b. a ≢ b) ids
 
 -- the ids of the tasks of a graph
 pub record AreIds (ids : List (List ℕ)) : Type 0 where

@@ -3,7 +3,8 @@ ghost use Rattle.std.specs.Prelude.{◌≡◌, ◌↔◌, ℕ, ◌<◌, ◌+◌,
 ghost use Rattle.std.specs.Str.{bytes_eq};
 ghost use Rattle.std.specs.List.Sorted.{IsPermutation, IsSorted};
 ghost use Rattle.bf_graph.specs.Edges.{lists, upstreams_of, AreInRange, IsUpstream, IsRank, IsAcyclic};
-ghost use Rattle.bf_graph.specs.Shape.{texts, AreDistinct};
+ghost use Rattle.bf_value.specs.Distinct.{AreDistinct};
+ghost use Rattle.bf_graph.specs.Shape.{texts};
 ghost use Rattle.bf_graph.specs.Ranks.{Ranking};
 ghost use Rattle.bf_graph.specs.Climbs.{AreAllFound};
 ghost use Rattle.bf_graph.specs.Reach.{Reaches};

@@ -1,7 +1,8 @@
 //! Ids of tasks, numbered.
 ghost use Rattle.std.specs.Prelude.{◌≡◌, ◌<◌, ◌+◌, ◌^◌, length, position, slice_get, Some, IfOk};
 ghost use Rattle.std.specs.Str.{bytes_eq};
-ghost use Rattle.bf_graph.specs.Shape.{texts, AreDistinct};
+ghost use Rattle.bf_value.specs.Distinct.{AreDistinct};
+ghost use Rattle.bf_graph.specs.Shape.{texts};
 
 use bf_value::OutOfMemory;
 use indexmap::IndexSet;

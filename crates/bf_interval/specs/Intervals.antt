@@ -2,6 +2,7 @@
 use Rattle.std.specs.Prelude.{ℕ, ◌+◌, ◌<◌, ◌≤◌, ℤ, ◌<ℤ◌, ◌≤ℤ◌, List, length, map, Contains, All, AllPairs, ◌⊎◌, Option, Some, None, Result, Ok, Err, codes}
 use Rattle.jiff.specs.Types.{TimeZone}
 use Rattle.bf_cron.specs.declared.spec.CronSpec.{CronSpec}
+use Rattle.bf_moment.specs.Moment.{IsShown}
 use Rattle.bf_interval.specs.Years.{IsInYears}
 use Rattle.bf_interval.specs.Fires.{IsInterval}
 use Rattle.bf_interval.specs.declared.interval.Interval.{Interval}
@@ -11,6 +12,10 @@ use Rattle.bf_interval.specs.declared.fault.IntervalFault.TheVariants.{OutsideYe
 -- start and end, in nanoseconds since 1970
 abbrev pub ends : Interval → ℤ × ℤ
 ends i = (i.start.nanosecond, i.end.nanosecond)
+
+-- both moments have years of four digits
+abbrev pub IsShownInterval : Interval → Type 0
+IsShownInterval interval = IsShown interval.start.nanosecond × IsShown interval.end.nanosecond
 
 -- a data interval whose start lies in the range
 abbrev pub StartsIn : CronSpec → TimeZone → ℤ → ℤ → ℤ × ℤ → Type 0

@@ -1,12 +1,11 @@
 -- Which tries are kept, and what is answered from them.
-use Rattle.std.specs.Prelude.{◌≡◌, ◌⊎◌, ℕ, true, Option, Some, None}
+use Rattle.std.specs.Prelude.{◌≡◌, ◌⊎◌, true, Option, Some, None}
 use Rattle.bf_value.specs.declared.name.JobName.{JobName}
 use Rattle.bf_check.specs.declared.plan.Dag.{Dag}
 use Rattle.bf_xcom.specs.declared.values.Given.{Given}
-use Rattle.bf_xcom.specs.declared.values.Outcome.{Outcome}
 use Rattle.bf_try.specs.declared.answers.Raw.{Raw}
 use Rattle.bf_try.specs.declared.ledger.Entry.{Entry}
-use Rattle.bf_try.specs.Grades.{fits, grade_of}
+use Rattle.bf_try.specs.Grades.{fits, grade_of, GradesTo}
 use Rattle.bf_try.specs.Tries.{Look}
 
 -- an entry with this name and this Given is kept
@@ -16,10 +15,6 @@ IsKept kept n given e = (kept n ≡ Some e) × (e.given ≡ given)
 -- no entry with this name and this Given is kept
 abbrev pub IsNew : Look → JobName → Given → Type 0
 IsNew kept n given = (e : Entry) → IsKept kept n given e → ⊥
-
--- wherever the outcome fits, it is the grade of the answer
-abbrev pub GradesTo : Raw → Outcome → Type 0
-GradesTo raw outcome = (dag : Dag) (task : ℕ) → fits dag task outcome ≡ true → grade_of dag task raw ≡ outcome
 
 -- the answer of a kept try: the outcome that is kept is its grade
 pub record IsKeptAnswer (kept : Look) (n : JobName) (given : Given) (raw : Raw) : Type 0 where

@@ -14,7 +14,18 @@ use Rattle.bf_lane.specs.declared.messages.Answer.{Answer}
 use Rattle.bf_lane.specs.declared.relay.Log.{Log}
 use Rattle.bf_lane.specs.Relay.{log}
 use Rattle.bf_lane.specs.Lanes.{asked, asked_by, answered, all_runs, IsAllowedBy, Answers}
-use Rattle.bf_lane.specs.Service.{IsServing, HasServed}
+use Rattle.bf_lane.specs.Service.{HasServed}
+
+-- so far each try that it took has its answer
+pub record IsServing {Q A B C : Type 0} (may_answer : JobName → Given → Raw → Type 0) (may_give_up : JobName → Given → Type 0)
+    (jobs : Slotted (Option Job) (Doing Job (Log Job)) Q A) (results : Slotted (Option Answer) (Doing Answer (Log Answer)) B C)
+    (takes : Pass Job (Log Job)) (sends : Pass Answer (Log Answer)) : Type 0 where
+  pub of_jobs : IsPassOf jobs takes
+  pub of_results : IsPassOf results sends
+  pub runs : all_runs (view takes).taken ≡ true
+  pub took : view takes ≡ log false true [] (view takes).taken
+  pub sent : view sends ≡ log true false (view sends).put []
+  pub answers : Answers may_answer may_give_up (view takes).taken (view sends).put
 
 pub asked-append : (xs ys : List Job) → asked (xs ++ ys) ≡ asked xs ++ asked ys
 asked-append [] ys = refl

@@ -3,7 +3,6 @@ use Rattle.std.specs.Prelude.{◌≡◌, ℕ, pos, List, [], ◌∷◌, Option, 
 use Rattle.bf_value.specs.declared.name.JobName.{JobName}
 use Rattle.bf_check.specs.declared.plan.Task.{Task}
 use Rattle.bf_check.specs.declared.plan.Dag.{Dag}
-use Rattle.bf_moment.specs.Moment.{IsShown}
 use Rattle.bf_interval.specs.declared.interval.Interval.{Interval}
 use Rattle.bf_xcom.specs.declared.context.JobContext.{JobContext}
 use Rattle.bf_xcom.specs.declared.values.Given.{Given}
@@ -12,10 +11,6 @@ use Rattle.bf_try.specs.declared.answers.Exit.{Exit}
 use Rattle.bf_try.specs.declared.answers.Line.{Line}
 use Rattle.bf_try.specs.declared.answers.Raw.{Raw}
 use Rattle.bf_process.specs.Output.{not_started}
-
--- both moments have years of four digits
-abbrev pub IsShownInterval : Interval → Type 0
-IsShownInterval interval = IsShown interval.start.nanosecond × IsShown interval.end.nanosecond
 
 -- what contracts see of a runner: what starts its programs, the tasks, the runs' data intervals, and the path of its launcher
 pub record Programs (S : Type 0) : Type 0 where

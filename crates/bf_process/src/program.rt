@@ -74,13 +74,10 @@ fn heard_of<P: OpenProcess>(alloc: Global, child: &mut Child<P>) -> Result<Raw, 
     let Ok(status) = child.wait() else {
         return Err(RunnerFault::GaveUp);
     };
-    match line {
-        Ok(line) => Ok(Raw {
-            exit: exit_of(status),
-            line,
-        }),
-        Err(OutOfMemory) => Err(RunnerFault::OutOfMemory),
-    }
+    Ok(Raw {
+        exit: exit_of(status),
+        line: line?,
+    })
 }
 
 /// Starts a program with these arguments, and answers what is heard of it.
@@ -90,9 +87,7 @@ pub(crate) fn run_program<P: Processes>(
     program: &str,
     arguments: &[String],
 ) -> Result<Raw, RunnerFault> {
-    let Ok(mut command) = command_of(alloc, program, arguments) else {
-        return Err(RunnerFault::OutOfMemory);
-    };
+    let mut command = command_of(alloc, program, arguments)?;
     match command.spawn(processes) {
         Ok(mut child) => heard_of(alloc, &mut child),
         Err(error) => match error.kind() {

@@ -1,7 +1,8 @@
 //! The runner of tries as programs.
 ghost use Rattle.std.specs.Prelude.{◌≡◌, All, IfOk, IfErr, option_map};
 ghost use Rattle.bf_graph.specs.Shape.{texts};
-ghost use Rattle.bf_process.specs.Words.{IsShownInterval, IsContext, IsHeard, IsLost, HoldsOfWords, MayAnswer, MayGiveUp, lost_through, through};
+ghost use Rattle.bf_interval.specs.Intervals.{IsShownInterval};
+ghost use Rattle.bf_process.specs.Words.{IsContext, IsHeard, IsLost, HoldsOfWords, MayAnswer, MayGiveUp, lost_through, through};
 
 use crate::program::not_started;
 use crate::starter::Starter;
@@ -29,7 +30,8 @@ impl<'s, 'p, 'i, 'l, S> Model for ProcessRunner<'s, 'p, 'i, 'l, S> {
     ghost use Rattle.std.specs.Prelude.{All, option_map};
     ghost use Rattle.std.specs.Coded.{codes};
     ghost use Rattle.bf_check.specs.contracts.plan.Dag as d;
-    ghost use Rattle.bf_process.specs.Words.{IsShownInterval, Programs};
+    ghost use Rattle.bf_interval.specs.Intervals.{IsShownInterval};
+    ghost use Rattle.bf_process.specs.Words.{Programs};
 
     ghost Value = { Programs S };
 

@@ -6,7 +6,8 @@ use Rattle.std.specs.Cmp.Lexicographic.{bytes_decides}
 use Rattle.std.proofs.lemmas.List.Elements.{filter_agree, filter_passes}
 use Rattle.std.proofs.lemmas.List.Kept.{AllPairs-cons, AllPairs-filter}
 use Rattle.std.proofs.lemmas.List.Folds.{list_any-append}
-use Rattle.bf_read.specs.Drafts.{distinct, AreDistinct}
+use Rattle.bf_value.specs.Distinct.{AreDistinct}
+use Rattle.bf_read.specs.Drafts.{distinct}
 
 -- a text that is none of these
 abbrev pub is_new : List (List ℕ) → List ℕ → Bool

@@ -5,6 +5,7 @@ use Rattle.std.specs.Cmp.Lexicographic.{slice_cmp}
 use Rattle.std.specs.Ordering.{nat_cmp}
 use Rattle.std.specs.declared.cmp.Ordering.TheVariants.{Less}
 use Rattle.std.specs.Str.{bytes_eq}
+use Rattle.bf_value.specs.Distinct.{AreDistinct}
 use Rattle.bf_read.specs.Ids.{is_id}
 use Rattle.bf_read.specs.Limits.{most_tasks, most_edges, most_words, most_pulls, most_retries, longest_retry_delay, most_slots, greatest_weight, most_active_runs}
 use Rattle.bf_read.specs.declared.draft.PoolDraft.{PoolDraft}
@@ -28,10 +29,6 @@ pulled_in words = distinct (filter_map pulled_by words)
 -- how many upstreams the tasks have
 abbrev pub edge_count : List TaskDraft → ℕ
 edge_count tasks = sum_by (λ task. length task.upstreams) tasks
-
--- no text stands there twice
-abbrev pub AreDistinct : List (List ℕ) → Type 0
-AreDistinct texts = AllPairs (λ a b. a ≢ b) texts
 
 -- no two tasks have one id
 abbrev pub HaveDistinctIds : List TaskDraft → Type 0

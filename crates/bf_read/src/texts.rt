@@ -2,7 +2,8 @@
 ghost use Rattle.std.specs.Prelude.{◌≡◌, map, IfOk};
 ghost use Rattle.serde_json.specs.View.{items_view};
 ghost use Rattle.bf_read.specs.Gives.{Gives};
-ghost use Rattle.bf_read.specs.Drafts.{distinct as distinct_texts, AreDistinct};
+ghost use Rattle.bf_value.specs.Distinct.{AreDistinct};
+ghost use Rattle.bf_read.specs.Drafts.{distinct as distinct_texts};
 ghost use Rattle.bf_read.specs.Fields.{member_of, texts_in as texts, upstreams_at as upstreams};
 
 use crate::fault::ReadFault;

@@ -14,8 +14,8 @@ use Rattle.bf_core.specs.Checks.{HasRows}
 use Rattle.bf_core.specs.Cores.{Backfill, IsReplay, MayCome}
 use Rattle.bf_core.proofs.Enabling.{present-there}
 use Rattle.bf_ready.specs.Choices.{IsPreferred, NameComesBefore, IsNextTry}
-use Rattle.bf_ready.specs.Looks.{AreWeights, IsBest, IsTryAt, IsTryBefore, IsTryBelow, IsTryOf, better_of, instances_in}
-use Rattle.bf_ready.proofs.Present.{one-named, named-so, below-count, last-task, one-more-task, last-run, one-more-run}
+use Rattle.bf_ready.specs.Looks.{AreWeights, IsBest, IsTryAt, IsTryBefore, IsTryOf, better_of, instances_in}
+use Rattle.bf_ready.proofs.Present.{IsTryBelow, one-named, named-so, below-count, last-task, one-more-task, last-run, one-more-run}
 
 -- the best of some tries is the best of others, where all that may begin of the one are of the other
 pub best-of : (b : Backfill) (P Q : JobName → Type 0) → ((m : JobName) → P m → Q m) → ((m : JobName) → Q m → MayCome b (Event.Begin m) → P m) → (o : Option JobName) → IsBest b P o → IsBest b Q o

@@ -13,7 +13,11 @@ use Rattle.bf_core.specs.Cores.{Backfill, IsReplay}
 use Rattle.bf_core.proofs.Kept.{replay-invariant}
 use Rattle.bf_core.proofs.Stuck.{placed-in}
 use Rattle.bf_waiting.proofs.Taking.{held-in}
-use Rattle.bf_ready.specs.Looks.{IsTryAt, IsTryBelow, IsTryBefore, IsTryOf, instances_in}
+use Rattle.bf_ready.specs.Looks.{IsTryAt, IsTryBefore, IsTryOf, instances_in}
+
+-- the same, of an instance before place i
+abbrev pub IsTryBelow : Dag → ℕ → ℕ → ℕ → JobName → Type 0
+IsTryBelow dag k t i m = IsTryOf k t m × (place_in dag m < i)
 
 -- ---- names
 

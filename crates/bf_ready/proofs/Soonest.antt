@@ -14,8 +14,8 @@ use Rattle.bf_core.specs.Clocks.{IsReached, IsTimely}
 use Rattle.bf_core.specs.Cores.{Backfill, IsReplay, MayCome, WaitsLater}
 use Rattle.bf_core.proofs.Enabling.{present-there}
 use Rattle.bf_ready.specs.Choices.{IsNextMoment}
-use Rattle.bf_ready.specs.Looks.{IsLeast, IsSoonest, IsTryAt, IsTryBefore, IsTryBelow, IsTryOf, sooner_of, instances_in}
-use Rattle.bf_ready.proofs.Present.{present-named, one-named, named-so, phase-at, below-count, last-place, one-more-place, last-task, one-more-task, last-run, one-more-run}
+use Rattle.bf_ready.specs.Looks.{IsLeast, IsSoonest, IsTryAt, IsTryBefore, IsTryOf, sooner_of, instances_in}
+use Rattle.bf_ready.proofs.Present.{IsTryBelow, present-named, one-named, named-so, phase-at, below-count, last-place, one-more-place, last-task, one-more-task, last-run, one-more-run}
 
 -- the soonest of some tries is the soonest of others, where all that wait later of the one are of the other
 soonest-of : (b : Backfill) (P Q : JobName → Type 0) → ((n : JobName) → P n → Q n) → ((n : JobName) → Q n → WaitsLater b n → P n) → (o : Option ℤ) → IsSoonest b P o → IsSoonest b Q o

@@ -10,42 +10,38 @@ pub use Rattle.bf_waiting.specs.Standings.{instances_in}
 pub use Rattle.bf_waiting.specs.Looks.{sooner_of}
 use Rattle.bf_ready.specs.Choices.{IsPreferred}
 
--- a try of the task t in the run k
+-- a try of the task in the run
 abbrev pub IsTryOf : ℕ → ℕ → JobName → Type 0
-IsTryOf k t m = (m.run ≡ k) × (m.task ≡ t)
+IsTryOf run task name = (name.run ≡ run) × (name.task ≡ task)
 
--- the same, of the instance at place i
+-- the same, of the instance at the place
 abbrev pub IsTryAt : Dag → ℕ → ℕ → ℕ → JobName → Type 0
-IsTryAt dag k t i m = IsTryOf k t m × (place_in dag m ≡ i)
+IsTryAt dag run task place name = IsTryOf run task name × (place_in dag name ≡ place)
 
--- the same, of an instance before place i
-abbrev pub IsTryBelow : Dag → ℕ → ℕ → ℕ → JobName → Type 0
-IsTryBelow dag k t i m = IsTryOf k t m × (place_in dag m < i)
-
--- a try of a run before k, or in the run k of a task before t
+-- a try of a run before this one, or in it of a task before this one
 abbrev pub IsTryBefore : ℕ → ℕ → JobName → Type 0
-IsTryBefore k t m = (m.run < k) ⊎ ((m.run ≡ k) × (m.task < t))
+IsTryBefore run task name = (name.run < run) ⊎ ((name.run ≡ run) × (name.task < task))
 
 -- of these tries the first that may begin
 abbrev pub IsBest : Backfill → (JobName → Type 0) → Option JobName → Type 0
-IsBest b These None = (m : JobName) → These m → ¬ (MayCome b (Event.Begin m))
-IsBest b These (Some n) = These n × MayCome b (Event.Begin n) × ((m : JobName) → These m → MayCome b (Event.Begin m) → IsPreferred b.dag b.limits n m)
+IsBest backfill These None = (other : JobName) → These other → ¬ (MayCome backfill (Event.Begin other))
+IsBest backfill These (Some name) = These name × MayCome backfill (Event.Begin name) × ((other : JobName) → These other → MayCome backfill (Event.Begin other) → IsPreferred backfill.dag backfill.limits name other)
 
 -- the second where it weighs more, else the first
 abbrev pub better_of : List ℕ → Option JobName → Option JobName → Option JobName
 better_of weights None found = found
-better_of weights (Some b) None = Some b
-better_of weights (Some b) (Some f) = if nat_lt (slice_index weights b.task) (slice_index weights f.task) then Some f else Some b
+better_of weights (Some best) None = Some best
+better_of weights (Some best) (Some other) = if nat_lt (slice_index weights best.task) (slice_index weights other.task) then Some other else Some best
 
 -- a try of these waits for the moment, and none of these for an earlier one that is still to come
-pub record IsLeast (b : Backfill) (These : JobName → Type 0) (m : ℤ) : Type 0 where
+pub record IsLeast (backfill : Backfill) (These : JobName → Type 0) (moment : ℤ) : Type 0 where
   pub name : JobName
   pub is_one : These name
-  pub waits : WaitsLater b name
-  pub is_moment : waits.moment ≡ m
-  pub least : (n : JobName) → These n → (w : WaitsLater b n) → m ≤ℤ w.moment
+  pub waits : WaitsLater backfill name
+  pub is_moment : waits.moment ≡ moment
+  pub least : (other : JobName) → These other → (later : WaitsLater backfill other) → moment ≤ℤ later.moment
 
 -- the least of the later moments for which these tries wait
 abbrev pub IsSoonest : Backfill → (JobName → Type 0) → Option ℤ → Type 0
-IsSoonest b These None = (n : JobName) → These n → ¬ (WaitsLater b n)
-IsSoonest b These (Some m) = IsLeast b These m
+IsSoonest backfill These None = (name : JobName) → These name → ¬ (WaitsLater backfill name)
+IsSoonest backfill These (Some moment) = IsLeast backfill These moment

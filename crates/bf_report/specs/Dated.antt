@@ -21,7 +21,6 @@ use Rattle.bf_report.specs.declared.report.InstanceReport.{InstanceReport}
 use Rattle.bf_report.specs.declared.report.TaskReport.{TaskReport}
 use Rattle.bf_report.specs.declared.report.RunReport.{RunReport}
 use Rattle.bf_report.specs.declared.report.Report.{Report}
-use Rattle.bf_moment.specs.Moment.{IsShown}
 
 -- what came of the pulls from these tasks, each under its task's id
 abbrev pub pulls_of : Dag → List ℕ → List (Option Xval) → List Pull
@@ -86,7 +85,3 @@ pub record IsDated (dag : Dag) (intervals : List Interval) (ledger : Look) (repo
   pub dag_id : report.dag_id ≡ dag.id
   pub tasks : report.tasks ≡ ids_shown dag intervals
   pub runs : AreDated dag ledger 0 intervals report.runs
-
--- both moments have years of four digits
-abbrev pub IsShownInterval : Interval → Type 0
-IsShownInterval interval = IsShown interval.start.nanosecond × IsShown interval.end.nanosecond

@@ -3,7 +3,8 @@ ghost use Rattle.std.specs.Prelude.{◌≡◌, ◌≤◌, ◌<◌, length, map, 
 ghost use Rattle.bf_check.specs.Sound.{IsSound};
 ghost use Rattle.bf_core.specs.Events.{entry_in, cell_at};
 ghost use Rattle.bf_core.specs.Agreement.{IsOutcome, AreRunStates};
-ghost use Rattle.bf_report.specs.Dated.{reported, reported_instances, reports_from, AreDated, IsDated, IsShownInterval, ids_shown};
+ghost use Rattle.bf_interval.specs.Intervals.{IsShownInterval};
+ghost use Rattle.bf_report.specs.Dated.{reported, reported_instances, reports_from, AreDated, IsDated, ids_shown};
 ghost use Rattle.bf_report.specs.Values.{AreSoundInstances, IsSoundTask, AreSoundTasks, AreSoundRuns, HasSoundValues};
 
 use crate::instances::instance_reports;

@@ -1,6 +1,7 @@
 //! Reports.
-ghost use Rattle.std.specs.Prelude.{◌≡◌, ◌++◌, ◌∷◌, [], Some, None, IfOk, OnOk, option_copied};
+ghost use Rattle.std.specs.Prelude.{◌≡◌, ℕ, ◌++◌, ◌∷◌, [], Some, None, IfOk, OnOk, option_copied};
 ghost use Rattle.bf_moment.specs.Moment.{IsShown};
+ghost use Rattle.bf_report.specs.Told.{told_by};
 
 use bf_interval::Interval;
 use bf_value::{OutOfMemory, Sequence, Text, Xval};
@@ -38,6 +39,25 @@ enum Kept {
     Failed,
     Skipped,
     Told(Box<Told>),
+}
+
+impl Kept {
+    #[inline(always)]
+    fn told(
+        alloc: Global,
+        outcome: Outcome,
+        item: Option<Xval>,
+        pulls: Sequence<Pull>,
+    ) -> Result<Kept, OutOfMemory>
+        ensures { IfOk result (λ kept. (tries : ℕ) → told_by tries kept ≡ record { result = record { outcome = outcome; tries = tries }; item = item; pulls = pulls }) }
+    {
+        let told = Told {
+            outcome,
+            item,
+            pulls,
+        };
+        Ok(Kept::Told(Box::new(alloc, told)?))
+    }
 }
 
 /// An instance with at least one try: what came of it, and what all its tries were given, which is its item, for an
@@ -80,14 +100,10 @@ impl InstanceReport {
             Outcome::Success(None) => Kept::Success,
             Outcome::Failed => Kept::Failed,
             Outcome::Skipped => Kept::Skipped,
-            Outcome::Success(Some(value)) => Kept::Told(Box::new(
-                alloc,
-                Told {
-                    outcome: Outcome::Success(Some(value)),
-                    item: None,
-                    pulls: Sequence::new(alloc),
-                },
-            )?),
+            Outcome::Success(Some(value)) => {
+                let outcome = Outcome::Success(Some(value));
+                Kept::told(alloc, outcome, None, Sequence::new(alloc))?
+            }
         };
         Ok(InstanceReport { tries, kept })
     }
@@ -105,12 +121,7 @@ impl InstanceReport {
             return InstanceReport::bare(alloc, ended);
         }
         let TaskResult { outcome, tries } = ended;
-        let told = Told {
-            outcome,
-            item,
-            pulls,
-        };
-        let kept = Kept::Told(Box::new(alloc, told)?);
+        let kept = Kept::told(alloc, outcome, item, pulls)?;
         Ok(InstanceReport { tries, kept })
     }
 
@@ -193,12 +204,7 @@ impl InstanceReport {
             return Ok(());
         }
         let TaskResult { outcome, .. } = self.result(alloc)?;
-        let told = Told {
-            outcome,
-            item: Some(item),
-            pulls: Sequence::new(alloc),
-        };
-        self.kept = Kept::Told(Box::new(alloc, told)?);
+        self.kept = Kept::told(alloc, outcome, Some(item), Sequence::new(alloc))?;
         Ok(())
     }
 
@@ -212,12 +218,7 @@ impl InstanceReport {
         let mut pulls = Sequence::new(alloc);
         pulls.push(pull)?;
         let TaskResult { outcome, .. } = self.result(alloc)?;
-        let told = Told {
-            outcome,
-            item: None,
-            pulls,
-        };
-        self.kept = Kept::Told(Box::new(alloc, told)?);
+        self.kept = Kept::told(alloc, outcome, None, pulls)?;
         Ok(())
     }
 }

@@ -25,8 +25,18 @@ use Rattle.bf_report_reader.specs.declared.open.OpenRun.{OpenRun}
 use Rattle.bf_report_reader.specs.declared.beginning.Beginning.{Beginning}
 use Rattle.bf_report_reader.specs.Parts.{part_text}
 use Rattle.bf_report_reader.specs.Rules.{IsOpenInstance, IsOpenTask, IsOpenRun, IsRuled}
-use Rattle.bf_report_reader.specs.Beginning.{task_with, open_task, tasks_in, open_count, count, closed, last_run, runs_of, run_count, tells_item, most_told, has_item, takes, with_told, untold, is_given, is_whole_in, is_whole, starts_before, is_text, is_new, is_next_in, is_next, ids_with, is_further, is_further_task, goes_on_in, goes_on, takes_task, takes_in, put_task, put_open, further, put_further, told, put_part, may_begin, with_run, with_task, with_open, with_further, with_part, with_entry, IsCountedIn, IsCounted, GrowsBy, entry_line}
+use Rattle.bf_report_reader.specs.Entries.{entry_text}
+use Rattle.bf_report_reader.specs.Beginning.{task_with, open_task, tasks_in, open_count, count, closed, last_run, runs_of, run_count, tells_item, most_told, has_item, takes, with_told, untold, is_given, is_whole_in, is_whole, starts_before, is_text, is_new, is_next_in, is_next, ids_with, is_further, is_further_task, goes_on_in, goes_on, takes_task, takes_in, put_task, put_open, further, put_further, told, put_part, may_begin, with_run, with_task, with_open, with_further, with_part, with_entry, IsCountedIn, IsCounted, opening_text, so_far}
 use Rattle.bf_report_reader.proofs.Words.{id_utf8}
+
+-- the line of a task
+abbrev pub entry_line : List ℕ → Entry → List ℕ
+entry_line id e = (id ++ 32 ∷ entry_text e) ++ 10 ∷ []
+
+-- a beginning has come from another by a line
+pub record GrowsBy (old : Beginning) (text : List ℕ) (new : Beginning) : Type 0 where
+  pub counted : IsCounted new
+  pub read : opening_text (so_far new) ≡ opening_text (so_far old) ++ text
 
 -- ---- lists
 

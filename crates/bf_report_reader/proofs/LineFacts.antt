@@ -14,7 +14,8 @@ use Rattle.bf_report_reader.specs.Faults.{IsInLine, longest_line, lines_in, IsOp
 use Rattle.bf_report_reader.specs.declared.beginning.Beginning.{Beginning}
 use Rattle.bf_report_reader.specs.Beginning.{so_far, opening_text}
 use Rattle.bf_report_reader.specs.Steps.{ReadsOn, MayStand}
-use Rattle.bf_report_reader.specs.Extensions.{SaysHead, head_of, IsKnown}
+use Rattle.bf_report_reader.specs.Extensions.{SaysHead, IsKnown}
+use Rattle.bf_report_reader.proofs.Paths.{head_of}
 use Rattle.bf_report_reader.proofs.Chains.{Keeps, Goes, IsNextOf, known_goes, no_such_line, no_long_line}
 use Rattle.bf_report_reader.proofs.Reports.{head_goes, opens, opens_nothing}
 

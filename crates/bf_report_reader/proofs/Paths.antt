@@ -9,7 +9,7 @@ use Rattle.std.proofs.lemmas.Bool.{cases_Bool}
 use Rattle.std.proofs.lemmas.Bool.Decides.{nat_tests}
 use Rattle.std.proofs.lemmas.Int.{ints}
 use Rattle.bf_read.specs.Ids.{is_id}
-use Rattle.bf_graph.specs.Shape.{AreDistinct}
+use Rattle.bf_value.specs.Distinct.{AreDistinct}
 use Rattle.bf_value.specs.declared.xval.Xval.{Xval}
 use Rattle.bf_xcom.specs.declared.values.TaskResult.{TaskResult}
 use Rattle.bf_report.specs.declared.report.Version.{Version}
@@ -30,8 +30,11 @@ use Rattle.bf_report_reader.specs.Runs.{run_words}
 use Rattle.bf_report_reader.specs.Rules.{MayHaveItem, IsShownInstance, IsShownTask, IsShownRun, Rise, IsShownReport}
 use Rattle.bf_report_reader.specs.Beginning.{task_with, tasks_in, count, closed, runs_of, run_count, so_far, tells_item, most_told, has_item, untold, is_given_task, is_whole, may_begin, is_text, is_next_in, ids_with, with_entry, with_part}
 use Rattle.bf_report_reader.specs.Steps.{Follows}
-use Rattle.bf_report_reader.specs.Extensions.{head_of, start, Leads, Extends}
+use Rattle.bf_report_reader.specs.Extensions.{start, Leads, Extends}
 use Rattle.bf_report_reader.proofs.Growth.{count_is}
+
+abbrev pub head_of : Report → Version × List ℕ
+head_of report = (report.version, report.dag_id)
 
 -- ---- paths
 

@@ -29,14 +29,14 @@ use Rattle.bf_report_reader.specs.Runs.{run_words}
 use Rattle.bf_report_reader.specs.Rules.{IsShownReport}
 use Rattle.bf_report_reader.specs.Beginning.{count, so_far, opening_text, is_given_task, is_given_in, is_given, is_whole_in, is_next_in, ids_with, takes_task, takes_in, put_task, put_part, with_entry, IsCountedIn, room}
 use Rattle.bf_report_reader.specs.Steps.{IsNext}
-use Rattle.bf_report_reader.specs.Extensions.{head_words, SaysHead, head_of, start, Extends, IsKnown}
+use Rattle.bf_report_reader.specs.Extensions.{head_words, SaysHead, start, Extends, IsKnown}
 use Rattle.bf_report_reader.specs.Faults.{IsInLine, AreLines, Begins, IsOpening, IsReportText, IsFromOutside, Tells}
 use Rattle.bf_report_reader.proofs.Splits.{cut_once, none_stands, tails}
 use Rattle.bf_report_reader.proofs.Words.{id_lacks, id_short, version_plain, at_least}
 use Rattle.bf_report_reader.proofs.Ruled.{report_ruled}
 use Rattle.bf_report_reader.proofs.StepFacts.{entry_next, part_next}
 use Rattle.bf_report_reader.proofs.Chains.{Keeps, Goes, IsNextOf, known_goes, not_yet, end_of, keeps_next, one_report}
-use Rattle.bf_report_reader.proofs.Paths.{starts, text_true}
+use Rattle.bf_report_reader.proofs.Paths.{head_of, starts, text_true}
 
 -- ---- the head line
 

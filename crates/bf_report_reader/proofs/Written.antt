@@ -14,7 +14,7 @@ use Rattle.bf_value.specs.Views.{plain_of}
 use Rattle.bf_value.proofs.TextLemmas.{value_of_line-text_of}
 use Rattle.bf_value.proofs.TextLemmas.{IsUtf8-text_of}
 use Rattle.bf_read.specs.Ids.{is_id}
-use Rattle.bf_graph.specs.Shape.{AreDistinct}
+use Rattle.bf_value.specs.Distinct.{AreDistinct}
 use Rattle.bf_interval.specs.declared.interval.Interval.{Interval}
 use Rattle.bf_interval.specs.Runs.{IsSecondTo2208, IsOfRun}
 use Rattle.bf_check.specs.declared.plan.Task.{Task}

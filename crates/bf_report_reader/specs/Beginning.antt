@@ -18,47 +18,46 @@ use Rattle.bf_report_reader.specs.declared.part.GivenPart.{GivenPart}
 use Rattle.bf_report_reader.specs.Open.{OpenTask}
 use Rattle.bf_report_reader.specs.declared.open.OpenRun.{OpenRun}
 use Rattle.bf_report_reader.specs.declared.beginning.Beginning.{Beginning}
-use Rattle.bf_report_reader.specs.Entries.{entry_text}
 
 -- ---- what was read
 
 -- the task of these instances: the ones before the last, where it is expanded, and the last
 abbrev pub task_with : Option (List InstanceReport) → InstanceReport → TaskReport
-task_with None x = TaskReport.Ran x
-task_with (Some xs) x = TaskReport.Mapped (xs ++ x ∷ [])
+task_with None instance = TaskReport.Ran instance
+task_with (Some instances) instance = TaskReport.Mapped (instances ++ instance ∷ [])
 
 -- the task that may have more lines
 abbrev pub open_task : Option OpenTask → List TaskReport
 open_task None = []
-open_task (Some t) = task_with t.before t.instance ∷ []
+open_task (Some task) = task_with task.before task.instance ∷ []
 
 -- the tasks of a run so far, and how many they are
 abbrev pub tasks_in : OpenRun → List TaskReport
-tasks_in o = o.run.tasks ++ open_task o.task
+tasks_in open_run = open_run.run.tasks ++ open_task open_run.task
 
 abbrev pub open_count : Option OpenTask → ℕ
 open_count None = 0
-open_count (Some t) = 1
+open_count (Some task) = 1
 
 abbrev pub count : OpenRun → ℕ
-count o = length o.run.tasks + open_count o.task
+count open_run = length open_run.run.tasks + open_count open_run.task
 
 abbrev pub closed : OpenRun → RunReport
-closed o = record o.run { tasks = tasks_in o }
+closed open_run = record open_run.run { tasks = tasks_in open_run }
 
 abbrev pub last_run : Option OpenRun → List RunReport
 last_run None = []
-last_run (Some o) = closed o ∷ []
+last_run (Some open_run) = closed open_run ∷ []
 
 abbrev pub runs_of : Beginning → List RunReport
-runs_of b = b.runs ++ last_run b.run
+runs_of beginning = beginning.runs ++ last_run beginning.run
 
 abbrev pub so_far : Beginning → Report
-so_far b = record { version = b.version; dag_id = b.dag_id; tasks = b.tasks; runs = runs_of b }
+so_far beginning = record { version = beginning.version; dag_id = beginning.dag_id; tasks = beginning.tasks; runs = runs_of beginning }
 
 -- the lines that were read
 abbrev pub opening_text : Report → List ℕ
-opening_text r = head_line r.version r.dag_id ++ flat_map (run_text r.tasks) r.runs
+opening_text report = head_line report.version report.dag_id ++ flat_map (run_text report.tasks) report.runs
 
 -- ---- what an instance was given
 
@@ -77,54 +76,54 @@ abbrev pub has_item : Bool → Option Xval → Bool
 has_item is_told item = is_some item || not is_told
 
 abbrev pub lacks_no_item : Version → OpenTask → Bool
-lacks_no_item version t = has_item (tells_item version (is_some t.before)) t.instance.item
+lacks_no_item version task = has_item (tells_item version (is_some task.before)) task.instance.item
 
 -- an item where one is lacking, or a pull behind it, which is none of those before
 abbrev pub takes : Version → Bool → InstanceReport → GivenPart → Bool
-takes version complete x (GivenPart.Item item) = not complete
-takes version complete x (GivenPart.Pull pull) = (complete && nat_lt (length x.pulls) (most_told version)) && not (list_any (λ p. bytes_eq p.task pull.task) x.pulls)
+takes version complete instance (GivenPart.Item item) = not complete
+takes version complete instance (GivenPart.Pull pull) = (complete && nat_lt (length instance.pulls) (most_told version)) && not (list_any (λ earlier. bytes_eq earlier.task pull.task) instance.pulls)
 
 -- the instance with a further part of what it was given
 abbrev pub with_told : InstanceReport → GivenPart → InstanceReport
-with_told x (GivenPart.Item item) = record x { item = Some item }
-with_told x (GivenPart.Pull pull) = record x { pulls = x.pulls ++ pull ∷ [] }
+with_told instance (GivenPart.Item item) = record instance { item = Some item }
+with_told instance (GivenPart.Pull pull) = record instance { pulls = instance.pulls ++ pull ∷ [] }
 
 -- an instance of which its own line was read
 abbrev pub untold : TaskResult → InstanceReport
-untold r = record { result = r; item = None; pulls = [] }
+untold result = record { result = result; item = None; pulls = [] }
 
 -- ---- what may stand next
 
 abbrev pub run_count : Beginning → ℕ
-run_count b = length b.runs + length (last_run b.run)
+run_count beginning = length beginning.runs + length (last_run beginning.run)
 
 -- the instance that was read last has its item, where one is told
 abbrev pub is_given_task : Version → Option OpenTask → Bool
 is_given_task version None = true
-is_given_task version (Some t) = lacks_no_item version t
+is_given_task version (Some task) = lacks_no_item version task
 
 abbrev pub is_given_in : Version → Option OpenRun → Bool
 is_given_in version None = true
-is_given_in version (Some o) = is_given_task version o.task
+is_given_in version (Some open_run) = is_given_task version open_run.task
 
 abbrev pub is_given : Beginning → Bool
-is_given b = is_given_in b.version b.run
+is_given beginning = is_given_in beginning.version beginning.run
 
 -- each run has all tasks
 abbrev pub is_whole_in : Option OpenRun → List (List ℕ) → Bool
 is_whole_in None tasks = true
-is_whole_in (Some o) tasks = count o == length tasks
+is_whole_in (Some open_run) tasks = count open_run == length tasks
 
 abbrev pub is_whole : Beginning → Bool
-is_whole b = is_given b && is_whole_in b.run b.tasks
+is_whole beginning = is_given beginning && is_whole_in beginning.run beginning.tasks
 
 abbrev pub starts_before : Option OpenRun → Interval → Bool
-starts_before None i = true
-starts_before (Some o) i = int_lt o.run.interval.start.nanosecond i.start.nanosecond
+starts_before None interval = true
+starts_before (Some open_run) interval = int_lt open_run.run.interval.start.nanosecond interval.start.nanosecond
 
 -- a run with this data interval
 abbrev pub may_begin : Beginning → Interval → Bool
-may_begin b i = (is_whole b && nat_lt (run_count b) 4_096) && starts_before b.run i
+may_begin beginning interval = (is_whole beginning && nat_lt (run_count beginning) 4_096) && starts_before beginning.run interval
 
 -- the task of that number has this id
 abbrev pub is_text : Option (List ℕ) → List ℕ → Bool
@@ -138,31 +137,31 @@ is_new tasks id = (is_id id && nat_lt (length tasks) 2_000) && not (list_any (λ
 -- in the first run a task that isn't there yet, in the others the next one
 abbrev pub is_next_in : List RunReport → List (List ℕ) → Option OpenRun → List ℕ → Bool
 is_next_in runs tasks None id = false
-is_next_in [] tasks (Some o) id = is_new tasks id
-is_next_in (r ∷ rs) tasks (Some o) id = is_text (slice_get tasks (count o)) id
+is_next_in [] tasks (Some open_run) id = is_new tasks id
+is_next_in (first ∷ rest) tasks (Some open_run) id = is_text (slice_get tasks (count open_run)) id
 
 abbrev pub is_next : Beginning → List ℕ → Bool
-is_next b id = is_given b && is_next_in b.runs b.tasks b.run id
+is_next beginning id = is_given beginning && is_next_in beginning.runs beginning.tasks beginning.run id
 
 abbrev pub ids_with : List RunReport → List (List ℕ) → List ℕ → List (List ℕ)
 ids_with [] tasks id = tasks ++ id ∷ []
-ids_with (r ∷ rs) tasks id = tasks
+ids_with (first ∷ rest) tasks id = tasks
 
 -- the next instance of the expanded task that stands last
 abbrev pub is_further : Option (List InstanceReport) → ℕ → Bool
 is_further None index = false
-is_further (Some xs) index = length xs + 1 == index
+is_further (Some instances) index = length instances + 1 == index
 
 abbrev pub is_further_task : Option OpenTask → ℕ → Bool
 is_further_task None index = false
-is_further_task (Some t) index = is_further t.before index
+is_further_task (Some task) index = is_further task.before index
 
 abbrev pub goes_on_in : List (List ℕ) → Option OpenRun → List ℕ → ℕ → Bool
 goes_on_in tasks None id index = false
-goes_on_in tasks (Some o) id index = is_further_task o.task index && is_text (slice_get tasks (length o.run.tasks)) id
+goes_on_in tasks (Some open_run) id index = is_further_task open_run.task index && is_text (slice_get tasks (length open_run.run.tasks)) id
 
 abbrev pub goes_on : Beginning → List ℕ → ℕ → Bool
-goes_on b id index = is_given b && goes_on_in b.tasks b.run id index
+goes_on beginning id index = is_given beginning && goes_on_in beginning.tasks beginning.run id index
 
 -- a task without a try
 abbrev pub never_report : Untried → TaskReport
@@ -172,88 +171,79 @@ never_report Untried.UpstreamFailed = TaskReport.UpstreamFailed
 
 -- a task by its first instance
 abbrev pub opened_by : Bool → TaskResult → OpenTask
-opened_by false r = record { before = None; instance = untold r }
-opened_by true r = record { before = Some []; instance = untold r }
+opened_by false result = record { before = None; instance = untold result }
+opened_by true result = record { before = Some []; instance = untold result }
 
 -- a part of what the instance that was read last was given
 abbrev pub takes_task : Version → Option OpenTask → GivenPart → Bool
 takes_task version None part = false
-takes_task version (Some t) part = takes version (lacks_no_item version t) t.instance part
+takes_task version (Some task) part = takes version (lacks_no_item version task) task.instance part
 
 abbrev pub takes_in : Version → Option OpenRun → GivenPart → Bool
 takes_in version None part = false
-takes_in version (Some o) part = takes_task version o.task part
+takes_in version (Some open_run) part = takes_task version open_run.task part
 
 -- ---- what is read then
 
 abbrev pub put_task : Option OpenRun → TaskReport → Option OpenRun
 put_task None task = None
-put_task (Some o) task = Some (record { run = record o.run { tasks = tasks_in o ++ task ∷ [] }; task = None })
+put_task (Some open_run) task = Some (record { run = record open_run.run { tasks = tasks_in open_run ++ task ∷ [] }; task = None })
 
 abbrev pub put_open : Option OpenRun → OpenTask → Option OpenRun
-put_open None t = None
-put_open (Some o) t = Some (record { run = closed o; task = Some t })
+put_open None task = None
+put_open (Some open_run) task = Some (record { run = closed open_run; task = Some task })
 
 abbrev pub further : OpenTask → TaskResult → OpenTask
-further t r = record { before = option_map (λ xs. xs ++ t.instance ∷ []) t.before; instance = untold r }
+further task result = record { before = option_map (λ instances. instances ++ task.instance ∷ []) task.before; instance = untold result }
 
 abbrev pub put_further : Option OpenRun → TaskResult → Option OpenRun
-put_further None r = None
-put_further (Some o) r = Some (record o { task = option_map (λ t. further t r) o.task })
+put_further None result = None
+put_further (Some open_run) result = Some (record open_run { task = option_map (λ task. further task result) open_run.task })
 
 abbrev pub told : OpenTask → GivenPart → OpenTask
-told t part = record t { instance = with_told t.instance part }
+told task part = record task { instance = with_told task.instance part }
 
 abbrev pub put_part : Option OpenRun → GivenPart → Option OpenRun
 put_part None part = None
-put_part (Some o) part = Some (record o { task = option_map (λ t. told t part) o.task })
+put_part (Some open_run) part = Some (record open_run { task = option_map (λ task. told task part) open_run.task })
 
 abbrev pub with_run : Beginning → RunReport → Option Beginning
-with_run b run =
-    if may_begin b run.interval then Some (record b { runs = runs_of b; run = Some (record { run = run; task = None }) }) else None
+with_run beginning run =
+    if may_begin beginning run.interval then Some (record beginning { runs = runs_of beginning; run = Some (record { run = run; task = None }) }) else None
 
 abbrev pub with_task : Beginning → List ℕ → TaskReport → Option Beginning
-with_task b id task = if is_next b id then Some (record b { tasks = ids_with b.runs b.tasks id; run = put_task b.run task }) else None
+with_task beginning id task = if is_next beginning id then Some (record beginning { tasks = ids_with beginning.runs beginning.tasks id; run = put_task beginning.run task }) else None
 
 abbrev pub with_open : Beginning → List ℕ → OpenTask → Option Beginning
-with_open b id t = if is_next b id then Some (record b { tasks = ids_with b.runs b.tasks id; run = put_open b.run t }) else None
+with_open beginning id task = if is_next beginning id then Some (record beginning { tasks = ids_with beginning.runs beginning.tasks id; run = put_open beginning.run task }) else None
 
 abbrev pub with_further : Beginning → List ℕ → ℕ → TaskResult → Option Beginning
-with_further b id index r = if goes_on b id index then Some (record b { run = put_further b.run r }) else None
+with_further beginning id index result = if goes_on beginning id index then Some (record beginning { run = put_further beginning.run result }) else None
 
 -- what a line tells of what the last instance was given
 abbrev pub with_part : Beginning → GivenPart → Option Beginning
-with_part b part = if takes_in b.version b.run part then Some (record b { run = put_part b.run part }) else None
+with_part beginning part = if takes_in beginning.version beginning.run part then Some (record beginning { run = put_part beginning.run part }) else None
 
 -- what a line says of a task
 unfoldable pub with_entry : Beginning → List ℕ → Entry → Option Beginning
-with_entry b id (Entry.Never u) = with_task b id (never_report u)
-with_entry b id (Entry.Tried None r) = with_open b id (opened_by false r)
-with_entry b id (Entry.Tried (Some zero) r) = with_open b id (opened_by true r)
-with_entry b id (Entry.Tried (Some (suc n)) r) = with_further b id (suc n) r
+with_entry beginning id (Entry.Never untried) = with_task beginning id (never_report untried)
+with_entry beginning id (Entry.Tried None result) = with_open beginning id (opened_by false result)
+with_entry beginning id (Entry.Tried (Some zero) result) = with_open beginning id (opened_by true result)
+with_entry beginning id (Entry.Tried (Some (suc before)) result) = with_further beginning id (suc before) result
 
 -- ---- what is known of a beginning
 
 -- in the first run each task has its id, in the others there are no more tasks than ids
 abbrev pub IsCountedIn : List RunReport → List (List ℕ) → Option OpenRun → Type 0
 IsCountedIn [] tasks None = tasks ≡ []
-IsCountedIn [] tasks (Some o) = count o ≡ length tasks
-IsCountedIn (r ∷ rs) tasks None = ⊥
-IsCountedIn (r ∷ rs) tasks (Some o) = count o ≤ length tasks
+IsCountedIn [] tasks (Some open_run) = count open_run ≡ length tasks
+IsCountedIn (first ∷ rest) tasks None = ⊥
+IsCountedIn (first ∷ rest) tasks (Some open_run) = count open_run ≤ length tasks
 
 abbrev pub IsCounted : Beginning → Type 0
-IsCounted b = IsCountedIn b.runs b.tasks b.run
+IsCounted beginning = IsCountedIn beginning.runs beginning.tasks beginning.run
 
 -- ---- lines
-
--- the line of a task
-abbrev pub entry_line : List ℕ → Entry → List ℕ
-entry_line id e = (id ++ 32 ∷ entry_text e) ++ 10 ∷ []
-
--- a beginning has come from another by a line
-pub record GrowsBy (old : Beginning) (text : List ℕ) (new : Beginning) : Type 0 where
-  pub counted : IsCounted new
-  pub read : opening_text (so_far new) ≡ opening_text (so_far old) ++ text
 
 -- how many lines may come at most, by a generous count
 abbrev pub item_room : Option Xval → ℕ
@@ -261,22 +251,22 @@ item_room None = 1
 item_room (Some item) = 0
 
 abbrev pub instance_room : InstanceReport → ℕ
-instance_room x = item_room x.item + (16 - length x.pulls)
+instance_room instance = item_room instance.item + (16 - length instance.pulls)
 
 abbrev pub before_room : Option (List InstanceReport) → ℕ
 before_room None = 0
-before_room (Some xs) = (1_024 - length xs) * 20
+before_room (Some instances) = (1_024 - length instances) * 20
 
 abbrev pub task_room : Option OpenTask → ℕ
 task_room None = 0
-task_room (Some t) = before_room t.before + instance_room t.instance
+task_room (Some task) = before_room task.before + instance_room task.instance
 
 abbrev pub open_room : Option OpenRun → ℕ
 open_room None = 0
-open_room (Some o) = (2_000 - count o) * 30_000 + task_room o.task
+open_room (Some open_run) = (2_000 - count open_run) * 30_000 + task_room open_run.task
 
 abbrev pub room : Beginning → ℕ
-room b = (4_096 - run_count b) * 70_000_000 + open_room b.run
+room beginning = (4_096 - run_count beginning) * 70_000_000 + open_room beginning.run
 
 abbrev pub IsSmall : Beginning → Type 0
-IsSmall b = length b.tasks ≤ 2_000
+IsSmall beginning = length beginning.tasks ≤ 2_000

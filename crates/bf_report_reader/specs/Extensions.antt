@@ -17,9 +17,6 @@ head_words head = codes "@backfill" ++ 32 ∷ (version_word head.0 ++ 32 ∷ hea
 abbrev pub SaysHead : List ℕ → Version × List ℕ → Type 0
 SaysHead text head = (is_id head.1 ≡ true) × (text ≡ head_words head)
 
-abbrev pub head_of : Report → Version × List ℕ
-head_of report = (report.version, report.dag_id)
-
 -- a report of which only the head was read
 abbrev pub start : Version × List ℕ → Beginning
 start head = record { version = head.0; dag_id = head.1; tasks = []; runs = []; run = None }
@@ -27,16 +24,16 @@ start head = record { version = head.0; dag_id = head.1; tasks = []; runs = []; 
 -- by so many lines the one becomes the other
 abbrev pub Leads : ℕ → Beginning → Beginning → Type 0
 Leads zero old new = old ≡ new
-Leads (suc n) old new = (text : List ℕ) × (next : Beginning) × Follows old text next × Leads n next new
+Leads (suc more) old new = (text : List ℕ) × (next : Beginning) × Follows old text next × Leads more next new
 
 -- the lines that are left lead to this report
-pub record Extends (b : Beginning) (report : Report) : Type 0 where
+pub record Extends (beginning : Beginning) (report : Report) : Type 0 where
   pub lines : ℕ
   pub last : Beginning
-  pub leads : Leads lines b last
+  pub leads : Leads lines beginning last
   pub whole : is_whole last ≡ true
   pub is : so_far last ≡ report
 
 -- each report whose text begins so goes on from here
 abbrev pub IsKnown : Beginning → Type 0
-IsKnown b = (report : Report) (more : List ℕ) → IsShownReport report → report_text report ≡ opening_text (so_far b) ++ more → Extends b report
+IsKnown beginning = (report : Report) (more : List ℕ) → IsShownReport report → report_text report ≡ opening_text (so_far beginning) ++ more → Extends beginning report

@@ -11,7 +11,7 @@ use Rattle.bf_report_reader.specs.Rules.{IsShownReport}
 
 -- text within one line
 abbrev pub IsInLine : List ℕ → Type 0
-IsInLine text = list_any (λ b. b == 10) text ≡ false
+IsInLine text = list_any (λ byte. byte == 10) text ≡ false
 
 -- how many bytes the line of a pull may have that begins so, or any other line
 abbrev pub longest_line : List ℕ → ℕ
@@ -19,7 +19,7 @@ longest_line line = if bytes_eq (take 6 line) (codes "@pull ") then 68_000_000 e
 
 -- how many lines end in a text
 abbrev pub lines_in : List ℕ → ℕ
-lines_in text = count_by (λ b. b == 10) text
+lines_in text = count_by (λ byte. byte == 10) text
 
 -- nothing, or text that ends in a line feed
 abbrev pub AreLines : List ℕ → Type 0
@@ -108,8 +108,8 @@ Came LineEnd.TooMuch old new text = Consumes old new text × (length text ≡ lo
 
 -- why no line of that number came off these bytes
 abbrev pub StopsAt : ReportFault → ℕ → List ℕ → Type 0
-StopsAt (ReportFault.BadLine n) number bytes = ⊥
-StopsAt (ReportFault.TooLong n) number bytes = (n ≡ number) × ((piece : List ℕ) × (rest : List ℕ) × (bytes ≡ piece ++ rest) × IsInLine piece × (length piece ≡ longest_line piece + 1))
+StopsAt (ReportFault.BadLine said) number bytes = ⊥
+StopsAt (ReportFault.TooLong said) number bytes = (said ≡ number) × ((piece : List ℕ) × (rest : List ℕ) × (bytes ≡ piece ++ rest) × IsInLine piece × (length piece ≡ longest_line piece + 1))
 StopsAt ReportFault.Truncated number bytes = IsInLine bytes × (length bytes ≤ longest_line bytes)
 StopsAt ReportFault.Io number bytes = Unit {0}
 StopsAt ReportFault.OutOfMemory number bytes = Unit {0}

@@ -7,11 +7,11 @@ use Rattle.bf_report_reader.specs.Faults.{IsInLine, longest_line}
 
 -- the bytes that were read and not used yet
 abbrev pub held_bytes : Held → List ℕ
-held_bytes h = drop h.start (take h.end h.room.items)
+held_bytes held = drop held.start (take held.end held.room.items)
 
 -- the line before them that was taken off whole
 abbrev pub held_line : Held → List ℕ
-held_line h = drop h.line_start (take h.line_end h.room.items)
+held_line held = drop held.line_start (take held.line_end held.room.items)
 
 -- a line was taken off whole, with its line feed
 pub record TakesLine (old new : Held) : Type 0 where
@@ -22,12 +22,12 @@ pub record TakesLine (old new : Held) : Type 0 where
 
 -- no line is held whole, or one that is longer than some may be, and all is as it was
 pub record KeepsAll (old new : Held) : Type 0 where
-  pub none : IfSome (position (λ b. b == 10) (held_bytes old)) (λ at. 66_000 < at)
+  pub none : IfSome (position (λ byte. byte == 10) (held_bytes old)) (λ at. 66_000 < at)
   pub same : new ≡ old
 
 -- the bytes to come, where the device tells what it has left
 abbrev pub ahead : Held → Option (List ℕ) → Option (List ℕ)
-ahead h left = prepend_known (held_bytes h) left
+ahead held left = prepend_known (held_bytes held) left
 
 -- since there were `base` interruptions and `failed` failures it was interrupted that often, and didn't fail
 abbrev pub IsTallied : ℕ → ℕ → ℕ → ℕ → ℕ → Type 0

@@ -17,19 +17,19 @@ at_last change all = put_last change (parted all)
 
 -- the last instance of the task is told a part of what it was given
 abbrev pub told_instances : GivenPart → List InstanceReport → List InstanceReport
-told_instances part xs = at_last (λ x. with_told x part) xs
+told_instances part instances = at_last (λ instance. with_told instance part) instances
 
 abbrev pub told_task : GivenPart → TaskReport → TaskReport
 told_task part TaskReport.NoStatus = TaskReport.NoStatus
 told_task part TaskReport.Skipped = TaskReport.Skipped
 told_task part TaskReport.UpstreamFailed = TaskReport.UpstreamFailed
-told_task part (TaskReport.Ran x) = TaskReport.Ran (with_told x part)
-told_task part (TaskReport.Mapped xs) = TaskReport.Mapped (told_instances part xs)
+told_task part (TaskReport.Ran instance) = TaskReport.Ran (with_told instance part)
+told_task part (TaskReport.Mapped instances) = TaskReport.Mapped (told_instances part instances)
 
 -- the task with a further instance, where it is expanded
 abbrev pub further_task : TaskResult → TaskReport → TaskReport
-further_task r TaskReport.NoStatus = TaskReport.NoStatus
-further_task r TaskReport.Skipped = TaskReport.Skipped
-further_task r TaskReport.UpstreamFailed = TaskReport.UpstreamFailed
-further_task r (TaskReport.Ran x) = TaskReport.Ran x
-further_task r (TaskReport.Mapped xs) = TaskReport.Mapped (xs ++ untold r ∷ [])
+further_task result TaskReport.NoStatus = TaskReport.NoStatus
+further_task result TaskReport.Skipped = TaskReport.Skipped
+further_task result TaskReport.UpstreamFailed = TaskReport.UpstreamFailed
+further_task result (TaskReport.Ran instance) = TaskReport.Ran instance
+further_task result (TaskReport.Mapped instances) = TaskReport.Mapped (instances ++ untold result ∷ [])

@@ -2,7 +2,7 @@
 use Rattle.std.specs.Prelude.{◌≡◌, ◌≤◌, ◌<◌, ◌<ℤ◌, ℕ, Bool, true, false, List, [], ◌∷◌, length, map, Option, Some, None, is_some}
 use Rattle.std.specs.List.{AllByRecursion}
 use Rattle.bf_read.specs.Ids.{is_id}
-use Rattle.bf_graph.specs.Shape.{AreDistinct}
+use Rattle.bf_value.specs.Distinct.{AreDistinct}
 use Rattle.bf_value.specs.declared.xval.Xval.{Xval}
 use Rattle.bf_report.specs.declared.report.Version.{Version}
 use Rattle.bf_report.specs.declared.report.Pull.{Pull}
@@ -30,19 +30,19 @@ pub record AreToldPulls (version : Version) (pulls : List Pull) : Type 0 where
   pub each : AllByRecursion IsToldPull pulls
 
 -- in version 2 an instance has an item exactly where its task is expanded, and in version 1 none
-pub record IsShownInstance (version : Version) (expanded : Bool) (x : InstanceReport) : Type 0 where
-  pub result : IsShownResult x.result
-  pub item : MayHaveItem (tells_item version expanded) x.item
-  pub complete : has_item (tells_item version expanded) x.item ≡ true
-  pub pulls : AreToldPulls version x.pulls
+pub record IsShownInstance (version : Version) (expanded : Bool) (instance : InstanceReport) : Type 0 where
+  pub result : IsShownResult instance.result
+  pub item : MayHaveItem (tells_item version expanded) instance.item
+  pub complete : has_item (tells_item version expanded) instance.item ≡ true
+  pub pulls : AreToldPulls version instance.pulls
 
 -- an expanded task has 1 to 1,024 instances
 abbrev pub IsShownTask : Version → TaskReport → Type 0
 IsShownTask version TaskReport.NoStatus = Unit {0}
 IsShownTask version TaskReport.Skipped = Unit {0}
 IsShownTask version TaskReport.UpstreamFailed = Unit {0}
-IsShownTask version (TaskReport.Ran x) = IsShownInstance version false x
-IsShownTask version (TaskReport.Mapped xs) = (1 ≤ length xs) × (length xs ≤ 1_024) × AllByRecursion (IsShownInstance version true) xs
+IsShownTask version (TaskReport.Ran instance) = IsShownInstance version false instance
+IsShownTask version (TaskReport.Mapped instances) = (1 ≤ length instances) × (length instances ≤ 1_024) × AllByRecursion (IsShownInstance version true) instances
 
 -- a run of so many tasks
 pub record IsShownRun (version : Version) (tasks : ℕ) (run : RunReport) : Type 0 where
@@ -53,48 +53,48 @@ pub record IsShownRun (version : Version) (tasks : ℕ) (run : RunReport) : Type
 -- each run starts after the one before
 abbrev pub Rise : List RunReport → Type 0
 Rise [] = Unit {0}
-Rise (a ∷ []) = Unit {0}
-Rise (a ∷ b ∷ rs) = (a.interval.start.nanosecond <ℤ b.interval.start.nanosecond) × Rise (b ∷ rs)
+Rise (first ∷ []) = Unit {0}
+Rise (first ∷ second ∷ rest) = (first.interval.start.nanosecond <ℤ second.interval.start.nanosecond) × Rise (second ∷ rest)
 
 -- a report that can be read back; its text has no ids where it has no run
-pub record IsShownReport (r : Report) : Type 0 where
-  pub dag_id : is_id r.dag_id ≡ true
-  pub ids : AllByRecursion (λ id. is_id id ≡ true) r.tasks
-  pub distinct : AreDistinct r.tasks
-  pub few_tasks : length r.tasks ≤ 2_000
-  pub runs : AllByRecursion (IsShownRun r.version (length r.tasks)) r.runs
-  pub few_runs : length r.runs ≤ 4_096
-  pub rise : Rise r.runs
-  pub known : r.runs ≡ [] → r.tasks ≡ []
+pub record IsShownReport (report : Report) : Type 0 where
+  pub dag_id : is_id report.dag_id ≡ true
+  pub ids : AllByRecursion (λ id. is_id id ≡ true) report.tasks
+  pub distinct : AreDistinct report.tasks
+  pub few_tasks : length report.tasks ≤ 2_000
+  pub runs : AllByRecursion (IsShownRun report.version (length report.tasks)) report.runs
+  pub few_runs : length report.runs ≤ 4_096
+  pub rise : Rise report.runs
+  pub known : report.runs ≡ [] → report.tasks ≡ []
 
 -- ---- as far as it was read
 
 -- the instances before the one that was read last
 abbrev pub AreShownBefore : Version → Option (List InstanceReport) → Type 0
 AreShownBefore version None = Unit {0}
-AreShownBefore version (Some xs) = (length xs < 1_024) × AllByRecursion (IsShownInstance version true) xs
+AreShownBefore version (Some instances) = (length instances < 1_024) × AllByRecursion (IsShownInstance version true) instances
 
 -- the instance that was read last, which has no pulls before its item
-pub record IsOpenInstance (version : Version) (expanded : Bool) (x : InstanceReport) : Type 0 where
-  pub result : IsShownResult x.result
-  pub item : MayHaveItem (tells_item version expanded) x.item
-  pub pulls : AreToldPulls version x.pulls
-  pub in_order : has_item (tells_item version expanded) x.item ≡ false → x.pulls ≡ []
+pub record IsOpenInstance (version : Version) (expanded : Bool) (instance : InstanceReport) : Type 0 where
+  pub result : IsShownResult instance.result
+  pub item : MayHaveItem (tells_item version expanded) instance.item
+  pub pulls : AreToldPulls version instance.pulls
+  pub in_order : has_item (tells_item version expanded) instance.item ≡ false → instance.pulls ≡ []
 
 abbrev pub IsOpenTask : Version → Option OpenTask → Type 0
 IsOpenTask version None = Unit {0}
-IsOpenTask version (Some t) = AreShownBefore version t.before × IsOpenInstance version (is_some t.before) t.instance
+IsOpenTask version (Some task) = AreShownBefore version task.before × IsOpenInstance version (is_some task.before) task.instance
 
 -- the run whose tasks are read
 abbrev pub IsOpenRun : Version → Option OpenRun → Type 0
 IsOpenRun version None = Unit {0}
-IsOpenRun version (Some o) = IsRunInterval o.run.interval × AllByRecursion (IsShownTask version) o.run.tasks × IsOpenTask version o.task
+IsOpenRun version (Some open_run) = IsRunInterval open_run.run.interval × AllByRecursion (IsShownTask version) open_run.run.tasks × IsOpenTask version open_run.task
 
-pub record IsRuled (b : Beginning) : Type 0 where
-  pub dag_id : is_id b.dag_id ≡ true
-  pub ids : AllByRecursion (λ id. is_id id ≡ true) b.tasks
-  pub distinct : AreDistinct b.tasks
-  pub runs : AllByRecursion (IsShownRun b.version (length b.tasks)) b.runs
-  pub last : IsOpenRun b.version b.run
-  pub few_runs : run_count b ≤ 4_096
-  pub rise : Rise (runs_of b)
+pub record IsRuled (beginning : Beginning) : Type 0 where
+  pub dag_id : is_id beginning.dag_id ≡ true
+  pub ids : AllByRecursion (λ id. is_id id ≡ true) beginning.tasks
+  pub distinct : AreDistinct beginning.tasks
+  pub runs : AllByRecursion (IsShownRun beginning.version (length beginning.tasks)) beginning.runs
+  pub last : IsOpenRun beginning.version beginning.run
+  pub few_runs : run_count beginning ≤ 4_096
+  pub rise : Rise (runs_of beginning)

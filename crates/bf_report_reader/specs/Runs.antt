@@ -8,25 +8,25 @@ use Rattle.bf_xcom.specs.declared.values.RunState.{RunState}
 use Rattle.bf_report.specs.Report.{run_state_word}
 
 -- a moment of whole seconds from 1970 to 2208
-pub record IsReportMoment (t : Timestamp) : Type 0 where
-  pub shown : IsShown t.nanosecond
-  pub whole : IsWhole t.nanosecond
-  pub from_1970 : pos 0 ≤ℤ t.nanosecond
-  pub to_2208 : t.nanosecond ≤ℤ pos 7_542_115_199_000_000_000
+pub record IsReportMoment (moment : Timestamp) : Type 0 where
+  pub shown : IsShown moment.nanosecond
+  pub whole : IsWhole moment.nanosecond
+  pub from_1970 : pos 0 ≤ℤ moment.nanosecond
+  pub to_2208 : moment.nanosecond ≤ℤ pos 7_542_115_199_000_000_000
 
 abbrev pub spelled_moment : Timestamp → List ℕ
-spelled_moment t = moment_text t.nanosecond
+spelled_moment moment = moment_text moment.nanosecond
 
 -- a run starts from 1970 to 2199, and doesn't end before
-pub record IsRunInterval (i : Interval) : Type 0 where
-  pub start : IsReportMoment i.start
-  pub end : IsReportMoment i.end
-  pub in_years : IsInYears i.start.nanosecond
-  pub in_order : i.start.nanosecond ≤ℤ i.end.nanosecond
+pub record IsRunInterval (interval : Interval) : Type 0 where
+  pub start : IsReportMoment interval.start
+  pub end : IsReportMoment interval.end
+  pub in_years : IsInYears interval.start.nanosecond
+  pub in_order : interval.start.nanosecond ≤ℤ interval.end.nanosecond
 
 -- start, end and state, separated by one space
 abbrev pub run_words : Interval × RunState → List ℕ
-run_words p = moment_text p.0.start.nanosecond ++ 32 ∷ (moment_text p.0.end.nanosecond ++ 32 ∷ run_state_word p.1)
+run_words words = moment_text words.0.start.nanosecond ++ 32 ∷ (moment_text words.0.end.nanosecond ++ 32 ∷ run_state_word words.1)
 
 abbrev pub IsRunWords : Interval × RunState → Type 0
-IsRunWords p = IsRunInterval p.0
+IsRunWords words = IsRunInterval words.0

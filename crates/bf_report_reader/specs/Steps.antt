@@ -41,11 +41,11 @@ Follows old text new = AddsEntry old text new ⊎ (AddsRun old text new ⊎ Adds
 
 -- the line is the end of the report
 abbrev pub MayEnd : Beginning → List ℕ → Type 0
-MayEnd b text = (text ≡ codes "@end" ++ 32 ∷ decimal (length (runs_of b))) × (is_whole b ≡ true)
+MayEnd beginning text = (text ≡ codes "@end" ++ 32 ∷ decimal (length (runs_of beginning))) × (is_whole beginning ≡ true)
 
 -- the line may stand next
 abbrev pub MayStand : Beginning → List ℕ → Type 0
-MayStand b text = ((new : Beginning) × Follows b text new) ⊎ MayEnd b text
+MayStand beginning text = ((new : Beginning) × Follows beginning text new) ⊎ MayEnd beginning text
 
 -- the report has grown by the line
 pub record IsNext (old : Beginning) (text : List ℕ) (new : Beginning) : Type 0 where
@@ -66,13 +66,13 @@ Steps Step.Refused old text new = ¬ (MayStand old text)
 abbrev pub EntrySteps : Step → Beginning → List ℕ → List ℕ → Beginning → Type 0
 EntrySteps Step.Taken old id text new = IsNext old (id ++ 32 ∷ text) new
 EntrySteps Step.End old id text new = ⊥
-EntrySteps Step.Refused old id text new = (e : Entry) (other : Beginning) → IsEntry e → text ≡ entry_text e → ¬ (with_entry old id e ≡ Some other)
+EntrySteps Step.Refused old id text new = (entry : Entry) (other : Beginning) → IsEntry entry → text ≡ entry_text entry → ¬ (with_entry old id entry ≡ Some other)
 
 -- the report may end by this number of runs
 abbrev pub EndsBy : Step → Beginning → List ℕ → Type 0
-EndsBy Step.Taken b text = ⊥
-EndsBy Step.End b text = MayEnd b (codes "@end" ++ 32 ∷ text)
-EndsBy Step.Refused b text = ¬ (MayEnd b (codes "@end" ++ 32 ∷ text))
+EndsBy Step.Taken beginning text = ⊥
+EndsBy Step.End beginning text = MayEnd beginning (codes "@end" ++ 32 ∷ text)
+EndsBy Step.Refused beginning text = ¬ (MayEnd beginning (codes "@end" ++ 32 ∷ text))
 
 -- between these the bytes came by which the text has grown
 abbrev pub ReadsOn : Option (List ℕ) → Option (List ℕ) → List ℕ → List ℕ → Type 0

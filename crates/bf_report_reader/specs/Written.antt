@@ -7,4 +7,4 @@ use Rattle.bf_interval.specs.Runs.{IsOfRun}
 pub record AreOfRuns (intervals : List Interval) : Type 0 where
   pub few : length intervals ≤ 4_096
   pub each : All IsOfRun intervals
-  pub rising : AllPairs (λ i j. i.start.nanosecond <ℤ j.start.nanosecond) intervals
+  pub rising : AllPairs (λ interval later. interval.start.nanosecond <ℤ later.start.nanosecond) intervals

@@ -14,7 +14,8 @@ use Rattle.bf_value.specs.Views.{xvals_of}
 use Rattle.bf_graph.specs.Edges.{upstreams_of, IsUpstream}
 use Rattle.bf_graph.specs.Ranks.{Ranking}
 use Rattle.bf_graph.specs.Reach.{IsPath, Reaches}
-use Rattle.bf_graph.specs.Shape.{Shape, AreDistinct}
+use Rattle.bf_value.specs.Distinct.{AreDistinct}
+use Rattle.bf_graph.specs.Shape.{Shape}
 use Rattle.bf_graph.proofs.PathLemmas.{task_within}
 use Rattle.bf_rule.specs.Branches.{name_in, names_in, id_of, is_direct_downstream, is_named, followed_to, followed, followed_by_name}
 

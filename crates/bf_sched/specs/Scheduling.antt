@@ -20,7 +20,7 @@ pub record Schedule : Type 0 where
 
 -- the schedule after one more event
 abbrev pub moved_on : Schedule → Event → Schedule
-moved_on s e = record s { backfill = moved s.backfill e }
+moved_on schedule event = record schedule { backfill = moved schedule.backfill event }
 
 -- ---- what comes next
 
@@ -32,7 +32,7 @@ pub record HasStepped (old new : Schedule) : Type 0 where
 
 -- the ticket of a try that begins has its name, and what its instance is given
 abbrev pub IsTicketOf : Backfill → JobName → Asked → Type 0
-IsTicketOf b n ticket = (ticket.name ≡ n) × (ticket.given ≡ given_in (cell_at b.state n.run n.task) (place_in b.dag n))
+IsTicketOf backfill name ticket = (ticket.name ≡ name) × (ticket.given ≡ given_in (cell_at backfill.state name.run name.task) (place_in backfill.dag name))
 
 -- no step may come; the first try has begun, and this is its ticket
 pub record HasBegun (old : Schedule) (ticket : Asked) (new : Schedule) : Type 0 where
@@ -52,7 +52,7 @@ pub record MustWait (old new : Schedule) : Type 0 where
 -- no try runs, and nothing may come but a tick; this is the first moment for which a try waits
 pub record WaitsUntil (old : Schedule) (moment : ℤ) (new : Schedule) : Type 0 where
   pub idle : running_now old.backfill.state ≡ 0
-  pub none_comes : (e : Event) → IsMove e → ¬ (MayCome old.backfill e)
+  pub none_comes : (event : Event) → IsMove event → ¬ (MayCome old.backfill event)
   pub is_first : IsFirstMoment old.backfill moment
   pub new_is : new ≡ old
 
@@ -76,15 +76,15 @@ HasTicked old moment came new = HasComeTo old.backfill moment came new.backfill 
 
 -- the end of the try of an answer, with the answer's grade
 abbrev pub end_of : Backfill → Answered → Event
-end_of b done = Event.End done.name (grade_of b.dag done.name.task done.raw)
+end_of backfill done = Event.End done.name (grade_of backfill.dag done.name.task done.raw)
 
 -- where the try runs, its answer has what was given to it
 abbrev pub IsSameGiven : Backfill → Answered → Type 0
-IsSameGiven b done = IsPresent b.dag b.state done.name Phase.Running → given_in (cell_at b.state done.name.run done.name.task) (place_in b.dag done.name) ≡ done.given
+IsSameGiven backfill done = IsPresent backfill.dag backfill.state done.name Phase.Running → given_in (cell_at backfill.state done.name.run done.name.task) (place_in backfill.dag done.name) ≡ done.given
 
 -- the try runs, and its answer has what was given to it
 abbrev pub MayFinish : Backfill → Answered → Type 0
-MayFinish b done = MayCome b (end_of b done) × IsSameGiven b done
+MayFinish backfill done = MayCome backfill (end_of backfill done) × IsSameGiven backfill done
 
 -- the try has ended with the grade of its answer
 abbrev pub HasFinished : Schedule → Answered → Schedule → Type 0
@@ -92,14 +92,14 @@ HasFinished old done new = MayFinish old.backfill done × (new ≡ moved_on old 
 
 -- an answer is refused as the end of its try is; or it is a stranger, for what was given to its try is another
 abbrev pub IsRefused : Backfill → Answered → Illegal → Type 0
-IsRefused b done fault =
-    IsRefusal b (end_of b done) fault
-    ⊎ ((fault ≡ Illegal.Stranger) × IsPresent b.dag b.state done.name Phase.Running × (given_in (cell_at b.state done.name.run done.name.task) (place_in b.dag done.name) ≢ done.given))
+IsRefused backfill done fault =
+    IsRefusal backfill (end_of backfill done) fault
+    ⊎ ((fault ≡ Illegal.Stranger) × IsPresent backfill.dag backfill.state done.name Phase.Running × (given_in (cell_at backfill.state done.name.run done.name.task) (place_in backfill.dag done.name) ≢ done.given))
 
 -- ---- what a scheduler keeps
 
-pub record IsScheduler (b : Backfill) (workers running : ℕ) : Type 0 where
+pub record IsScheduler (backfill : Backfill) (workers running : ℕ) : Type 0 where
   pub some : 1 ≤ workers
   pub few : workers ≤ 64
-  pub counted : running ≡ running_now b.state
+  pub counted : running ≡ running_now backfill.state
   pub within : running ≤ workers

@@ -1,5 +1,5 @@
 -- What a raw answer is worth: the outcome of a try, from how its program ended and its last line.
-use Rattle.std.specs.Prelude.{ℕ, ◌==◌, ℤ, pos, negsuc, nat_le, length, Bool, true, false, not, ◌&&◌, ◌||◌, if◌then◌else◌, List, Option, None, Some, is_some}
+use Rattle.std.specs.Prelude.{ℕ, ◌==◌, ◌≡◌, ℤ, pos, negsuc, nat_le, length, Bool, true, false, not, ◌&&◌, ◌||◌, if◌then◌else◌, List, Option, None, Some, is_some}
 use Rattle.std.specs.List.{list_any}
 use Rattle.std.specs.Str.{is_utf8}
 use Rattle.bf_value.specs.Json.{deepest, text_of, value_of_line}
@@ -92,3 +92,7 @@ unfoldable pub fits : Dag → ℕ → Outcome → Bool
 fits dag task (Outcome.Success value) = is_value_of_lines value && may_push dag task value
 fits dag task Outcome.Failed = true
 fits dag task Outcome.Skipped = true
+
+-- wherever the outcome fits, it is the grade of the answer
+abbrev pub GradesTo : Raw → Outcome → Type 0
+GradesTo raw outcome = (dag : Dag) (task : ℕ) → fits dag task outcome ≡ true → grade_of dag task raw ≡ outcome

@@ -7,7 +7,7 @@ ghost use Rattle.bf_try.specs.declared.answers.Raw.{Raw as RawTerm};
 ghost use Rattle.std.specs.List.{list_any};
 ghost use Rattle.bf_rule.specs.Branches.{names_downstreams as names_downstreams_in};
 ghost use Rattle.bf_check.specs.Plans.{task_of, shape_of, is_branch as branch};
-ghost use Rattle.bf_try.specs.Grades.{grade_of, grade_line as line_grade, fits as fits_in, gives_items as items_given, HasSoundValue, is_list_of_items as list_of_items, is_short as short, is_source, is_value_of_lines as of_lines, may_push as pushable};
+ghost use Rattle.bf_try.specs.Grades.{grade_of, grade_line as line_grade, fits as fits_in, gives_items as items_given, GradesTo, HasSoundValue, is_list_of_items as list_of_items, is_short as short, is_source, is_value_of_lines as of_lines, may_push as pushable};
 
 use crate::answers::{Exit, Line, Raw, copied};
 use bf_check::{Dag, Plan};
@@ -187,7 +187,7 @@ fn line_for(alloc: Global, pushed: &Option<Xval>) -> Result<Sequence<u8>, OutOfM
 /// An answer whose grade is this outcome, for a try of each task that the outcome fits: so what fits is just what `grade`
 /// could give.
 pub fn answer_for(alloc: Global, outcome: &Outcome) -> Result<Raw, OutOfMemory>
-    ensures { IfOk result (λ raw. (dag : DagTerm) (task : ℕ) → fits_in dag task outcome.now ≡ true → grade_of dag task raw ≡ outcome.now) }
+    ensures { IfOk result (λ raw. GradesTo raw outcome.now) }
 {
     match outcome {
         Outcome::Success(pushed) => Ok(Raw::with_code(0, line_for(alloc, pushed)?)),

@@ -2,6 +2,7 @@
 ghost use Rattle.std.specs.Prelude.{◌≡◌, IfOk, IfErr};
 
 use crate::tickets::{Done, Ticket};
+use bf_value::OutOfMemory;
 use thiserror::Error;
 
 /// Why a runner gave no answer.
@@ -11,6 +12,16 @@ pub enum RunnerFault {
     GaveUp,
     #[error("out of memory")]
     OutOfMemory,
+}
+
+impl From<OutOfMemory> for RunnerFault {
+    ghost use Rattle.bf_try.specs.declared.runner.RunnerFault.TheVariants.{OutOfMemory as NoMemory};
+
+    ghost from_gives = { λ _ e. e ≡ NoMemory };
+
+    fn from(_e: OutOfMemory) -> RunnerFault {
+        RunnerFault::OutOfMemory
+    }
 }
 
 /// Runs tries. Its two relations say which answers may come, and which tries it may give up; they are a promise of

@@ -6,3 +6,4 @@ pub mod Line
 pub mod Codes
 pub mod Same
 pub mod Names
+pub mod Distinct

@@ -17,9 +17,20 @@ use Rattle.bf_waiting.specs.declared.batches.Batch.{Batch}
 use Rattle.bf_waiting.specs.declared.delays.Delay.{Delay}
 use Rattle.bf_waiting.specs.Classes.{HasBatch, HasRoom, Waits, delay_of}
 use Rattle.bf_waiting.specs.Keeping.{IsLive, KeepsOver, KeepsWaiting}
-use Rattle.bf_waiting.specs.Kept.{AreEachKept, AreKept, IsClassOf, IsKeptAt}
+use Rattle.bf_waiting.specs.Kept.{AreKept, IsClassOf}
 use Rattle.bf_waiting.proofs.Holding.{untouched}
 use Rattle.bf_waiting.proofs.Moving.{IsOfTask, same?}
+
+-- the class at place j is that of the same task, and was kept over the event
+pub record IsKeptAt (e : Event) (now : Backfill) (weights : List ℕ) (j : ℕ) (old : Waits) (classes : List Waits) : Type 0 where
+  pub class : Waits
+  pub is_there : slice_get classes j ≡ Some class
+  pub same_task : class.task ≡ old.task
+  pub keeps : (class_of : List ℕ) → KeepsOver e now weights class_of j old class
+
+-- each of them was
+abbrev pub AreEachKept : Event → Backfill → List ℕ → List Waits → List Waits → Type 0
+AreEachKept e now weights old new = (j : ℕ) (c : Waits) → slice_get old j ≡ Some c → IsKeptAt e now weights j c new
 
 module _ {X : Type 0} where
   pub set-cases : (xs : List X) (i : ℕ) (y : X) (j : ℕ) (z : X) → slice_get (slice_set xs i y) j ≡ Some z → ((j ≡ i) × (z ≡ y)) ⊎ (¬ (j ≡ i) × (slice_get xs j ≡ Some z))

@@ -10,7 +10,17 @@ use Rattle.bf_core.proofs.Members.{contains-first, contains-rest, contains-cases
 use Rattle.bf_waiting.specs.declared.batches.Batch.{Batch}
 use Rattle.bf_waiting.specs.declared.delays.Delay.{Delay}
 use Rattle.bf_waiting.specs.Classes.{AreReleased, batch_of}
-use Rattle.bf_waiting.specs.Heaps.{HasGained, HasLost, Leads, batch_cmp, delay_cmp}
+use Rattle.bf_waiting.specs.Heaps.{Leads, batch_cmp, delay_cmp}
+
+-- new holds what old holds, and x
+pub record HasGained {X : Type 0} (old : List X) (x : X) (new : List X) : Type 0 where
+  pub kept : (y : X) → Contains old y → Contains new y
+  pub gained : Contains new x
+  pub no_more : (y : X) → Contains new y → (y ≡ x) ⊎ Contains old y
+
+-- old holds what new holds, and x
+abbrev pub HasLost : {X : Type 0} → List X → X → List X → Type 0
+HasLost old x new = HasGained new x old
 
 module _ {X : Type 0} where
   pub gained : (x : X) (old new : List X) → IsPermutation (x ∷ old) new → HasGained old x new

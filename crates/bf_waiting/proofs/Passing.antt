@@ -8,10 +8,9 @@ use Rattle.std.proofs.lemmas.Bool.Decides.{nat_tests}
 use Rattle.bf_core.specs.Cores.{Backfill}
 use Rattle.bf_waiting.specs.declared.batches.Batch.{Batch}
 use Rattle.bf_waiting.specs.Classes.{Covers, HasBatch}
-use Rattle.bf_waiting.specs.Heaps.{HasGained}
 use Rattle.bf_waiting.specs.Keeping.{ArePassed}
 use Rattle.bf_waiting.specs.Standings.{IsReadyAt}
-use Rattle.bf_waiting.proofs.HeapFacts.{gained, lost}
+use Rattle.bf_waiting.proofs.HeapFacts.{HasGained, gained, lost}
 
 -- another place than the first is a later one
 pub not-first : (found : Option ℕ) (f p : ℕ) → false ≡ option_eq nat_eq found (Some f) → found ≡ Some p → f ≤ p → f < p

@@ -1,5 +1,5 @@
 -- Instances that a class takes up.
-use Rattle.std.proofs.Common.{◌≡◌, ◌⊎◌, ℕ, ◌+◌, ◌-◌, ◌<◌, ◌≤◌, ℤ, List, ◌∷◌, Contains, length, slice_get, Some, refl, sym, ap, subst, inl, inr, arith}
+use Rattle.std.proofs.Common.{◌≡◌, ℕ, ◌+◌, ◌-◌, ◌<◌, ◌≤◌, ℤ, List, ◌∷◌, Contains, length, slice_get, Some, refl, sym, ap, subst, inl, inr, arith}
 use Rattle.std.specs.List.Sorted.{IsPermutation}
 use Rattle.std.proofs.lemmas.Option.{slice_get_within}
 use Rattle.bf_core.specs.declared.state.Cell.{Cell}
@@ -11,11 +11,10 @@ use Rattle.bf_waiting.specs.declared.batches.Batch.{Batch}
 use Rattle.bf_waiting.specs.declared.delays.Delay.{Delay}
 use Rattle.bf_waiting.specs.Classes.{batch_of, batch_to, delay_of}
 use Rattle.bf_waiting.specs.Filling.{Before}
-use Rattle.bf_waiting.specs.Heaps.{HasGained}
 use Rattle.bf_waiting.specs.Keeping.{Anywhere, At, HasDelayed, HasTakenUp}
 use Rattle.bf_waiting.specs.Standings.{IsDelayedAt, IsReadyAt, Stands, instances_in}
 use Rattle.bf_waiting.specs.declared.instances.Standing.{Standing}
-use Rattle.bf_waiting.proofs.HeapFacts.{gained}
+use Rattle.bf_waiting.proofs.HeapFacts.{HasGained, gained}
 
 pub held-in : (c : Cell) (i : ℕ) (x : Instance) → instance_of c i ≡ Some x → slice_get (instances_in c) i ≡ Some x
 held-in (Cell.Ran xs) i x e = e

@@ -12,42 +12,42 @@ use Rattle.bf_core.specs.Events.{place_in}
 
 -- the total weight of each task
 abbrev pub AreWeights : Dag → Limits → List ℕ → Type 0
-AreWeights dag limits weights = (t : ℕ) → t < length dag.tasks → slice_index weights t ≡ total_weight_of dag limits t
+AreWeights dag limits weights = (task : ℕ) → task < length dag.tasks → slice_index weights task ≡ total_weight_of dag limits task
 
 -- by run, then in the order of the file, then by map index
 abbrev pub NameComesBefore : Dag → JobName → JobName → Type 0
-NameComesBefore dag m n = (m.run < n.run) ⊎ ((m.run ≡ n.run) × ((m.task < n.task) ⊎ ((m.task ≡ n.task) × (place_in dag m ≤ place_in dag n))))
+NameComesBefore dag name other = (name.run < other.run) ⊎ ((name.run ≡ other.run) × ((name.task < other.task) ⊎ ((name.task ≡ other.task) × (place_in dag name ≤ place_in dag other))))
 
--- m weighs more than n, or as much and comes before n, or is n
+-- it weighs more than the other, or as much and comes before it, or is it
 abbrev pub IsPreferred : Dag → Limits → JobName → JobName → Type 0
-IsPreferred dag limits m n =
-    (total_weight_of dag limits n.task < total_weight_of dag limits m.task)
-    ⊎ ((total_weight_of dag limits n.task ≡ total_weight_of dag limits m.task) × NameComesBefore dag m n)
+IsPreferred dag limits name other =
+    (total_weight_of dag limits other.task < total_weight_of dag limits name.task)
+    ⊎ ((total_weight_of dag limits other.task ≡ total_weight_of dag limits name.task) × NameComesBefore dag name other)
 
 -- of the tries that may begin now the one of the greatest total weight, and of several the first
-pub record IsFirstTry (b : Backfill) (n : JobName) : Type 0 where
-  pub may_begin : MayCome b (Event.Begin n)
-  pub first : (m : JobName) → MayCome b (Event.Begin m) → IsPreferred b.dag b.limits n m
+pub record IsFirstTry (backfill : Backfill) (name : JobName) : Type 0 where
+  pub may_begin : MayCome backfill (Event.Begin name)
+  pub first : (other : JobName) → MayCome backfill (Event.Begin other) → IsPreferred backfill.dag backfill.limits name other
 
 -- none may begin now: each that waits lacks room in its pool, or waits for a later moment
 abbrev pub NoTry : Backfill → Type 0
-NoTry b = (m : JobName) → ¬ (MayCome b (Event.Begin m))
+NoTry backfill = (name : JobName) → ¬ (MayCome backfill (Event.Begin name))
 
 -- the first try, where one may begin
 abbrev pub IsNextTry : Backfill → Option JobName → Type 0
-IsNextTry b None = NoTry b
-IsNextTry b (Some n) = IsFirstTry b n
+IsNextTry backfill None = NoTry backfill
+IsNextTry backfill (Some name) = IsFirstTry backfill name
 
 -- ---- moments
 
 -- a try waits for the moment, and none for an earlier one that is still to come
-pub record IsFirstMoment (b : Backfill) (m : ℤ) : Type 0 where
+pub record IsFirstMoment (backfill : Backfill) (moment : ℤ) : Type 0 where
   pub name : JobName
-  pub waits : WaitsLater b name
-  pub is_moment : waits.moment ≡ m
-  pub least : (n : JobName) (w : WaitsLater b n) → m ≤ℤ w.moment
+  pub waits : WaitsLater backfill name
+  pub is_moment : waits.moment ≡ moment
+  pub least : (other : JobName) (later : WaitsLater backfill other) → moment ≤ℤ later.moment
 
 -- the least of the later moments for which tries wait, where one waits for a moment
 abbrev pub IsNextMoment : Backfill → Option ℤ → Type 0
-IsNextMoment b None = (n : JobName) → ¬ (WaitsLater b n)
-IsNextMoment b (Some m) = IsFirstMoment b m
+IsNextMoment backfill None = (name : JobName) → ¬ (WaitsLater backfill name)
+IsNextMoment backfill (Some moment) = IsFirstMoment backfill moment

@@ -15,36 +15,36 @@ abbrev pub IsRoomy : Heap Batch → Heap Delay → Type 0
 IsRoomy batches delays = length batches.items + length delays.items ≤ batches.room
 
 -- there is room for one more batch, and for one more delay
-pub record HasRoom (c : Waits) : Type 0 where
-  pub to_begin : length c.batches.items + length c.delays.items + 1 ≤ c.batches.room
-  pub to_delay : length c.delays.items + 1 ≤ c.delays.room
+pub record HasRoom (class : Waits) : Type 0 where
+  pub to_begin : length class.batches.items + length class.delays.items + 1 ≤ class.batches.room
+  pub to_delay : length class.delays.items + 1 ≤ class.delays.room
 
--- the batch has the instance at place i of the task t in the run k
-pub record Covers (x : Batch) (k t i : ℕ) : Type 0 where
-  pub run : x.run.0 ≡ k
-  pub task : x.task.0 ≡ t
-  pub from : x.first.0 ≤ i
-  pub to : i ≤ x.last
+-- the batch has the instance at the place of the task t in the run k
+pub record Covers (batch : Batch) (k t place : ℕ) : Type 0 where
+  pub run : batch.run.0 ≡ k
+  pub task : batch.task.0 ≡ t
+  pub from : batch.first.0 ≤ place
+  pub to : place ≤ batch.last
 
 -- one of the batches has it
 abbrev pub HasBatch : List Batch → ℕ → ℕ → ℕ → Type 0
-HasBatch items k t i = (x : Batch) × Contains items x × Covers x k t i
+HasBatch items run task place = (batch : Batch) × Contains items batch × Covers batch run task place
 
--- the batch of the one instance at place i of the task t in the run k
+-- the batch of the one instance at the place of the task in the run
 abbrev pub batch_of : List ℕ → ℕ → ℕ → ℕ → Batch
-batch_of weights k t i = record { weight = slice_index weights t; run = record { 0 = k }; task = record { 0 = t }; first = record { 0 = i }; last = i }
+batch_of weights run task place = record { weight = slice_index weights task; run = record { 0 = run }; task = record { 0 = task }; first = record { 0 = place }; last = place }
 
--- the batch of the instances of the task t in the run k to that at place i
+-- the batch of the instances of the task in the run to that at the place
 abbrev pub batch_to : List ℕ → ℕ → ℕ → ℕ → Batch
-batch_to weights k t i = record { weight = slice_index weights t; run = record { 0 = k }; task = record { 0 = t }; first = record { 0 = 0 }; last = i }
+batch_to weights run task place = record { weight = slice_index weights task; run = record { 0 = run }; task = record { 0 = task }; first = record { 0 = 0 }; last = place }
 
--- the instance at place i waits for the moment m
+-- the instance at the place waits for the moment
 abbrev pub delay_of : ℕ → ℕ → ℕ → ℤ → Delay
-delay_of k t i m = record { moment = record { 0 = m }; run = k; task = t; place = i }
+delay_of run task place moment = record { moment = record { 0 = moment }; run = run; task = task; place = place }
 
 -- delays went over to the batches, none of a moment later than now
 pub record AreReleased (now : ℤ) (weights : List ℕ) (batches : List Batch) (delays : List Delay) (new_batches : List Batch) (new_delays : List Delay) : Type 0 where
-  pub kept : (x : Batch) → Contains batches x → Contains new_batches x
-  pub no_more : (x : Batch) → Contains new_batches x → Contains batches x ⊎ ((d : Delay) × Contains delays d × (x ≡ batch_of weights d.run d.task d.place))
-  pub fewer : (d : Delay) → Contains new_delays d → Contains delays d
-  pub either : (d : Delay) → Contains delays d → Contains new_delays d ⊎ ((d.moment.0 ≤ℤ now) × Contains new_batches (batch_of weights d.run d.task d.place))
+  pub kept : (batch : Batch) → Contains batches batch → Contains new_batches batch
+  pub no_more : (batch : Batch) → Contains new_batches batch → Contains batches batch ⊎ ((delay : Delay) × Contains delays delay × (batch ≡ batch_of weights delay.run delay.task delay.place))
+  pub fewer : (delay : Delay) → Contains new_delays delay → Contains delays delay
+  pub either : (delay : Delay) → Contains delays delay → Contains new_delays delay ⊎ ((delay.moment.0 ≤ℤ now) × Contains new_batches (batch_of weights delay.run delay.task delay.place))

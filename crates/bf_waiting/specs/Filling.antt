@@ -12,39 +12,39 @@ use Rattle.bf_waiting.specs.Keeping.{IsLive, IsOfClass}
 use Rattle.bf_waiting.specs.Kept.{IsClassOf}
 use Rattle.bf_waiting.specs.Standings.{IsDelayedAt, IsReadyAt}
 
--- the instances at places before p
+-- the places before a bound
 abbrev pub Before : ℕ → ℕ → Type 0
-Before p i = i < p
+Before bound place = place < bound
 
--- the task u in the run j comes after the task t in the run k
+-- the task in its run comes after the other in its own
 abbrev pub IsLater : ℕ → ℕ → ℕ → ℕ → Type 0
-IsLater j u k t = (k < j) ⊎ ((k ≡ j) × (t < u))
+IsLater run task other_run other = (other_run < run) ⊎ ((other_run ≡ run) × (other < task))
 
--- the class is kept for the backfill, as far as the tasks go that come before the task u in the run j
-pub record KeepsEarlier (b : Backfill) (weights class_of : List ℕ) (j u class : ℕ) (c : Waits) : Type 0 where
-  pub batches : (x : Batch) → Contains c.batches.items x → IsOfClass weights class_of class x
-  pub ready : (k t i : ℕ) → IsLater j u k t → slice_index class_of t ≡ class → IsReadyAt b k t i → HasBatch c.batches.items k t i
-  pub delays : (d : Delay) → Contains c.delays.items d → (slice_index class_of d.task ≡ class) × IsDelayedAt b d.run d.task d.place d.moment.0
-  pub delayed : (k t i : ℕ) (m : ℤ) → IsLater j u k t → slice_index class_of t ≡ class → IsDelayedAt b k t i m → Contains c.delays.items (delay_of k t i m)
-  pub live : IsLive b c.batches.items
+-- the class is kept for the backfill, as far as the tasks go that come before the task in the run
+pub record KeepsEarlier (backfill : Backfill) (weights class_of : List ℕ) (run task class : ℕ) (waits : Waits) : Type 0 where
+  pub batches : (batch : Batch) → Contains waits.batches.items batch → IsOfClass weights class_of class batch
+  pub ready : (earlier_run earlier place : ℕ) → IsLater run task earlier_run earlier → slice_index class_of earlier ≡ class → IsReadyAt backfill earlier_run earlier place → HasBatch waits.batches.items earlier_run earlier place
+  pub delays : (delay : Delay) → Contains waits.delays.items delay → (slice_index class_of delay.task ≡ class) × IsDelayedAt backfill delay.run delay.task delay.place delay.moment.0
+  pub delayed : (earlier_run earlier place : ℕ) (moment : ℤ) → IsLater run task earlier_run earlier → slice_index class_of earlier ≡ class → IsDelayedAt backfill earlier_run earlier place moment → Contains waits.delays.items (delay_of earlier_run earlier place moment)
+  pub live : IsLive backfill waits.batches.items
 
--- a class takes up the task u in the run j, where that is of it
+-- a class takes up the task in the run, where that is of it
 abbrev pub TakesIn : Backfill → List ℕ → ℕ → ℕ → Waits → Waits → Type 0
-TakesIn b weights j u old new = (class_of : List ℕ) (class : ℕ) → slice_index class_of u ≡ class → KeepsEarlier b weights class_of j u class old → KeepsEarlier b weights class_of j (u + 1) class new
+TakesIn backfill weights run task old new = (class_of : List ℕ) (class : ℕ) → slice_index class_of task ≡ class → KeepsEarlier backfill weights class_of run task class old → KeepsEarlier backfill weights class_of run (task + 1) class new
 
 -- each class is
-pub record AreFilled (b : Backfill) (w : Waiting) (j u : ℕ) : Type 0 where
-  pub weighted : AreWeights b.dag b.limits w.weights.items
-  pub one_each : length w.class_of.items ≡ length b.dag.tasks
-  pub classed : (t : ℕ) → t < length b.dag.tasks → IsClassOf b.dag b.limits w.classes.items (slice_index w.class_of.items t) t
-  pub filled : (i : ℕ) (c : Waits) → slice_get w.classes.items i ≡ Some c → KeepsEarlier b w.weights.items w.class_of.items j u i c
+pub record AreFilled (backfill : Backfill) (waiting : Waiting) (run task : ℕ) : Type 0 where
+  pub weighted : AreWeights backfill.dag backfill.limits waiting.weights.items
+  pub one_each : length waiting.class_of.items ≡ length backfill.dag.tasks
+  pub classed : (other : ℕ) → other < length backfill.dag.tasks → IsClassOf backfill.dag backfill.limits waiting.classes.items (slice_index waiting.class_of.items other) other
+  pub filled : (number : ℕ) (class : Waits) → slice_get waiting.classes.items number ≡ Some class → KeepsEarlier backfill waiting.weights.items waiting.class_of.items run task number class
 
 -- the classes have tasks that are there, and hold nothing
 abbrev pub AreEmpty : Dag → List Waits → Type 0
-AreEmpty dag classes = (i : ℕ) (c : Waits) → slice_get classes i ≡ Some c → (c.task < length dag.tasks) × (c.batches.items ≡ []) × (c.delays.items ≡ [])
+AreEmpty dag classes = (number : ℕ) (class : Waits) → slice_get classes number ≡ Some class → (class.task < length dag.tasks) × (class.batches.items ≡ []) × (class.delays.items ≡ [])
 
--- the first n tasks have a class each
-pub record AreClassedTo (dag : Dag) (limits : Limits) (n : ℕ) (class_of : List ℕ) (classes : List Waits) : Type 0 where
-  pub count : length class_of ≡ n
-  pub classed : (t : ℕ) → t < n → IsClassOf dag limits classes (slice_index class_of t) t
+-- so many tasks, from the first on, have a class each
+pub record AreClassedTo (dag : Dag) (limits : Limits) (tasks : ℕ) (class_of : List ℕ) (classes : List Waits) : Type 0 where
+  pub count : length class_of ≡ tasks
+  pub classed : (task : ℕ) → task < tasks → IsClassOf dag limits classes (slice_index class_of task) task
   pub empty : AreEmpty dag classes

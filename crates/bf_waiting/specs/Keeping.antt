@@ -11,62 +11,62 @@ use Rattle.bf_waiting.specs.Classes.{HasBatch, Waits, delay_of}
 use Rattle.bf_waiting.specs.Standings.{IsDelayedAt, IsReadyAt}
 
 -- the task of the batch is of the class, and its weight is the task's
-pub record IsOfClass (weights class_of : List ℕ) (class : ℕ) (x : Batch) : Type 0 where
-  pub weighs : x.weight ≡ slice_index weights x.task.0
-  pub belongs : slice_index class_of x.task.0 ≡ class
+pub record IsOfClass (weights class_of : List ℕ) (class : ℕ) (batch : Batch) : Type 0 where
+  pub weighs : batch.weight ≡ slice_index weights batch.task.0
+  pub belongs : slice_index class_of batch.task.0 ≡ class
 
 -- the greatest of the batches begins with an instance that is ready
 abbrev pub IsLive : Backfill → List Batch → Type 0
-IsLive b items = IfSome (slice_get items 0) (λ x. IsReadyAt b x.run.0 x.task.0 x.first.0)
+IsLive backfill items = IfSome (slice_get items 0) (λ batch. IsReadyAt backfill batch.run.0 batch.task.0 batch.first.0)
 
 -- instances of the batches are passed over, none of them ready
-pub record ArePassed (b : Backfill) (old new : List Batch) : Type 0 where
-  pub kept : (k t i : ℕ) → IsReadyAt b k t i → HasBatch old k t i → HasBatch new k t i
-  pub part : (x : Batch) → Contains new x → (y : Batch) × Contains old y × (x.weight ≡ y.weight) × (x.task.0 ≡ y.task.0)
+pub record ArePassed (backfill : Backfill) (old new : List Batch) : Type 0 where
+  pub kept : (run task place : ℕ) → IsReadyAt backfill run task place → HasBatch old run task place → HasBatch new run task place
+  pub part : (batch : Batch) → Contains new batch → (whole : Batch) × Contains old whole × (batch.weight ≡ whole.weight) × (batch.task.0 ≡ whole.task.0)
 
 -- so that the greatest of the batches is live
-pub record IsCleaned (b : Backfill) (old new : List Batch) : Type 0 where
-  pub passed : ArePassed b old new
-  pub live : IsLive b new
+pub record IsCleaned (backfill : Backfill) (old new : List Batch) : Type 0 where
+  pub passed : ArePassed backfill old new
+  pub live : IsLive backfill new
 
 -- what the class holds of a backfill: batches with each of its instances that is ready, and just those that are delayed
-pub record HoldsWaiting (b : Backfill) (weights class_of : List ℕ) (class : ℕ) (c : Waits) : Type 0 where
-  pub batches : (x : Batch) → Contains c.batches.items x → IsOfClass weights class_of class x
-  pub ready : (k t i : ℕ) → slice_index class_of t ≡ class → IsReadyAt b k t i → HasBatch c.batches.items k t i
-  pub delays : (d : Delay) → Contains c.delays.items d → (slice_index class_of d.task ≡ class) × IsDelayedAt b d.run d.task d.place d.moment.0
-  pub delayed : (k t i : ℕ) (m : ℤ) → slice_index class_of t ≡ class → IsDelayedAt b k t i m → Contains c.delays.items (delay_of k t i m)
+pub record HoldsWaiting (backfill : Backfill) (weights class_of : List ℕ) (class : ℕ) (waits : Waits) : Type 0 where
+  pub batches : (batch : Batch) → Contains waits.batches.items batch → IsOfClass weights class_of class batch
+  pub ready : (run task place : ℕ) → slice_index class_of task ≡ class → IsReadyAt backfill run task place → HasBatch waits.batches.items run task place
+  pub delays : (delay : Delay) → Contains waits.delays.items delay → (slice_index class_of delay.task ≡ class) × IsDelayedAt backfill delay.run delay.task delay.place delay.moment.0
+  pub delayed : (run task place : ℕ) (moment : ℤ) → slice_index class_of task ≡ class → IsDelayedAt backfill run task place moment → Contains waits.delays.items (delay_of run task place moment)
 
 -- the same, and its greatest batch is live
-pub record KeepsWaiting (b : Backfill) (weights class_of : List ℕ) (class : ℕ) (c : Waits) : Type 0 where
-  pub holds : HoldsWaiting b weights class_of class c
-  pub live : IsLive b c.batches.items
+pub record KeepsWaiting (backfill : Backfill) (weights class_of : List ℕ) (class : ℕ) (waits : Waits) : Type 0 where
+  pub holds : HoldsWaiting backfill weights class_of class waits
+  pub live : IsLive backfill waits.batches.items
 
 -- a class that is kept for a backfill is kept so for the one after the event
 abbrev pub KeepsOver : Event → Backfill → List ℕ → List ℕ → ℕ → Waits → Waits → Type 0
-KeepsOver e now weights class_of class old new =
-    (b : Backfill) → MayCome b e → now ≡ moved b e → IsReplay b → KeepsWaiting b weights class_of class old → KeepsWaiting now weights class_of class new
+KeepsOver event now weights class_of class old new =
+    (backfill : Backfill) → MayCome backfill event → now ≡ moved backfill event → IsReplay backfill → KeepsWaiting backfill weights class_of class old → KeepsWaiting now weights class_of class new
 
 -- ---- what a class takes up
 
--- the instances at all places, and the one at place p
+-- the instances at all places, and the one at a place
 abbrev pub Anywhere : ℕ → Type 0
-Anywhere i = Unit {0}
+Anywhere place = Unit {0}
 
 abbrev pub At : ℕ → ℕ → Type 0
-At p i = i ≡ p
+At place here = here ≡ place
 
--- batches with those of the instances of the task t in the run k that are ready, of those of These
-pub record HasTakenUp (b : Backfill) (weights : List ℕ) (k t : ℕ) (These : ℕ → Type 0) (old new : List Batch) : Type 0 where
-  pub kept : (x : Batch) → Contains old x → Contains new x
-  pub no_more : (x : Batch) → Contains new x → Contains old x ⊎ ((x.weight ≡ slice_index weights t) × (x.task.0 ≡ t))
-  pub ready : (i : ℕ) → These i → IsReadyAt b k t i → HasBatch new k t i
+-- batches with those of the instances of the task in the run that are ready, of those of These
+pub record HasTakenUp (backfill : Backfill) (weights : List ℕ) (run task : ℕ) (These : ℕ → Type 0) (old new : List Batch) : Type 0 where
+  pub kept : (batch : Batch) → Contains old batch → Contains new batch
+  pub no_more : (batch : Batch) → Contains new batch → Contains old batch ⊎ ((batch.weight ≡ slice_index weights task) × (batch.task.0 ≡ task))
+  pub ready : (place : ℕ) → These place → IsReadyAt backfill run task place → HasBatch new run task place
 
 -- and those that are delayed
-pub record HasDelayed (b : Backfill) (k t : ℕ) (These : ℕ → Type 0) (old new : List Delay) : Type 0 where
-  pub kept : (d : Delay) → Contains old d → Contains new d
-  pub no_more : (d : Delay) → Contains new d → Contains old d ⊎ ((d.task ≡ t) × IsDelayedAt b d.run d.task d.place d.moment.0)
-  pub delayed : (i : ℕ) (m : ℤ) → These i → IsDelayedAt b k t i m → Contains new (delay_of k t i m)
+pub record HasDelayed (backfill : Backfill) (run task : ℕ) (These : ℕ → Type 0) (old new : List Delay) : Type 0 where
+  pub kept : (delay : Delay) → Contains old delay → Contains new delay
+  pub no_more : (delay : Delay) → Contains new delay → Contains old delay ⊎ ((delay.task ≡ task) × IsDelayedAt backfill delay.run delay.task delay.place delay.moment.0)
+  pub delayed : (place : ℕ) (moment : ℤ) → These place → IsDelayedAt backfill run task place moment → Contains new (delay_of run task place moment)
 
--- the name is of the instance at place i of the task t in the run k
+-- the name is of the instance at the place of the task in the run
 abbrev pub IsOfPlace : Dag → JobName → ℕ → ℕ → ℕ → Type 0
-IsOfPlace dag n k t i = (n.run ≡ k) × (n.task ≡ t) × (place_in dag n ≡ i)
+IsOfPlace dag name run task place = (name.run ≡ run) × (name.task ≡ task) × (place_in dag name ≡ place)

@@ -13,26 +13,26 @@ use Rattle.bf_waiting.specs.declared.instances.Standing.{Standing}
 
 -- the instances of a cell
 abbrev pub instances_in : Cell → List Instance
-instances_in (Cell.Ran xs) = xs
-instances_in c = []
+instances_in (Cell.Ran instances) = instances
+instances_in cell = []
 
--- the instance at place i of the task t in the run k waits, and for nothing but room in its pool
-pub record IsReadyAt (b : Backfill) (k t i : ℕ) : Type 0 where
+-- the instance at the place of the task in the run waits, and for nothing but room in its pool
+pub record IsReadyAt (backfill : Backfill) (run task place : ℕ) : Type 0 where
   pub held : Instance
-  pub is_held : instance_of (cell_at b.state k t) i ≡ Some held
+  pub is_held : instance_of (cell_at backfill.state run task) place ≡ Some held
   pub waits : held.phase ≡ Phase.Waiting
-  pub timely : IsTimely b.clock (Event.Begin (name_of b.dag k t i held.attempt))
+  pub timely : IsTimely backfill.clock (Event.Begin (name_of backfill.dag run task place held.attempt))
 
--- the instance at place i of the task t in the run k waits for the moment m, which is later than now
-pub record IsDelayedAt (b : Backfill) (k t i : ℕ) (m : ℤ) : Type 0 where
+-- the instance at the place of the task in the run waits for the moment, which is later than now
+pub record IsDelayedAt (backfill : Backfill) (run task place : ℕ) (moment : ℤ) : Type 0 where
   pub held : Instance
-  pub is_held : instance_of (cell_at b.state k t) i ≡ Some held
+  pub is_held : instance_of (cell_at backfill.state run task) place ≡ Some held
   pub waits : held.phase ≡ Phase.Waiting
-  pub is_moment : map.get b.clock.moments (name_of b.dag k t i held.attempt) ≡ Some m
-  pub is_later : b.clock.time <ℤ m
+  pub is_moment : map.get backfill.clock.moments (name_of backfill.dag run task place held.attempt) ≡ Some moment
+  pub is_later : backfill.clock.time <ℤ moment
 
 -- so the instance stands
 abbrev pub Stands : Backfill → ℕ → ℕ → ℕ → Standing → Type 0
-Stands b k t i Standing.Away = ¬ (IsReadyAt b k t i) × ((m : ℤ) → ¬ (IsDelayedAt b k t i m))
-Stands b k t i Standing.Ready = IsReadyAt b k t i × ((m : ℤ) → ¬ (IsDelayedAt b k t i m))
-Stands b k t i (Standing.Delayed m) = ¬ (IsReadyAt b k t i) × IsDelayedAt b k t i m × ((o : ℤ) → IsDelayedAt b k t i o → o ≡ m)
+Stands backfill run task place Standing.Away = ¬ (IsReadyAt backfill run task place) × ((moment : ℤ) → ¬ (IsDelayedAt backfill run task place moment))
+Stands backfill run task place Standing.Ready = IsReadyAt backfill run task place × ((moment : ℤ) → ¬ (IsDelayedAt backfill run task place moment))
+Stands backfill run task place (Standing.Delayed moment) = ¬ (IsReadyAt backfill run task place) × IsDelayedAt backfill run task place moment × ((other : ℤ) → IsDelayedAt backfill run task place other → other ≡ moment)

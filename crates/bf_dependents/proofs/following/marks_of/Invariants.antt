@@ -1,4 +1,4 @@
-use Rattle.bf_dependents.specs.Marks.{AreMarksForTo}
+use Rattle.bf_dependents.proofs.RightMarks.{AreMarksForTo}
 use Rattle.bf_dependents.proofs.following.marks_of.Given as goal
 
 abbrev pub invariant-loop-task : goal.invariant-loop-task

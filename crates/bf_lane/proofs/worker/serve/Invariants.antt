@@ -1,4 +1,4 @@
-use Rattle.bf_lane.specs.Service.{IsServing}
+use Rattle.bf_lane.proofs.Serving.{IsServing}
 use Rattle.bf_lane.proofs.worker.serve.Given as goal
 
 abbrev pub invariant-loop : goal.invariant-loop

@@ -1,5 +1,5 @@
 use Rattle.std.proofs.Common.{sym, subst}
-use Rattle.bf_read.specs.Drafts.{AreDistinct}
+use Rattle.bf_value.specs.Distinct.{AreDistinct}
 use Rattle.bf_read.proofs.DistinctLemmas.{distinct-AreDistinct}
 use Rattle.bf_read.proofs.texts.upstreams_at.Goals as goal
 

@@ -1,4 +1,5 @@
-use Rattle.bf_ready.specs.Looks.{IsSoonest, IsTryBelow}
+use Rattle.bf_ready.specs.Looks.{IsSoonest}
+use Rattle.bf_ready.proofs.Present.{IsTryBelow}
 use Rattle.bf_ready.proofs.moments.soonest_of_task.Given as goal
 
 abbrev pub invariant-loop-place : goal.invariant-loop-place

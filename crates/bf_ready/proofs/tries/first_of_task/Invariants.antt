@@ -1,5 +1,6 @@
 use Rattle.std.proofs.Common.{None}
-use Rattle.bf_ready.specs.Looks.{IsBest, IsTryBelow}
+use Rattle.bf_ready.specs.Looks.{IsBest}
+use Rattle.bf_ready.proofs.Present.{IsTryBelow}
 use Rattle.bf_ready.proofs.tries.first_of_task.Given as goal
 
 abbrev pub invariant-loop-place : goal.invariant-loop-place

@@ -2,7 +2,7 @@ use Rattle.std.proofs.Common.{List, Vec, ℕ, Bool, Global, string_bytes, length
 use Rattle.std.proofs.lemmas.List.{length-map}
 use Rattle.bf_graph.specs.Edges.{lists, AreInRange}
 use Rattle.bf_graph.specs.Lookups.{AreDownstreams}
-use Rattle.bf_graph.specs.Shape.{AreDistinct}
+use Rattle.bf_value.specs.Distinct.{AreDistinct}
 use Rattle.bf_graph.proofs.AcyclicLemmas.{no_cycle}
 use Rattle.bf_graph.proofs.ReachLemmas.{has_rows}
 use Rattle.bf_graph.proofs.GraphLemmas.{sound_ranks}

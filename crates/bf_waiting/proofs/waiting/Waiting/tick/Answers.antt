@@ -3,8 +3,7 @@ use Rattle.std.proofs.lemmas.Int.{to_z-of_z}
 use Rattle.bf_core.specs.declared.event.Event.{Event}
 use Rattle.bf_waiting.specs.Classes.{Waits}
 use Rattle.bf_waiting.specs.Keeping.{KeepsOver}
-use Rattle.bf_waiting.specs.Kept.{AreEachKept}
-use Rattle.bf_waiting.proofs.Each.{AreKeptTo, each-kept, got, one-more, ticked-over, whole}
+use Rattle.bf_waiting.proofs.Each.{AreEachKept, AreKeptTo, each-kept, got, one-more, ticked-over, whole}
 use Rattle.bf_waiting.proofs.waiting.Waiting.tick.Goals as goal
 
 pub loop-class-preserved : goal.loop-class-preserved
