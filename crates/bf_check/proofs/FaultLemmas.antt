@@ -1,17 +1,19 @@
 -- Which of the faults of a draft is answered.
-use Rattle.std.proofs.Common.{◌≡◌, inl, inr, ℕ, suc, ◌<◌, ◌≤◌, ◌==◌, List, true, Option, Some, None, if◌then◌else◌, refl, sym, ap, ◌∙◌, subst, arith}
-use Rattle.std.specs.List.{find}
-use Rattle.std.proofs.lemmas.Bool.{cases_lt}
+use Rattle.std.proofs.Common.{◌≡◌, ℕ, suc, ◌<◌, ◌≤◌, ◌==◌, List, [], ◌∷◌, length, map, get_or, slice_get, Bool, true, false, true≢false, Option, option_map, Some, None, if◌then◌else◌, refl, sym, ap, ◌∙◌, arith}
+use Rattle.std.specs.List.{position, zip}
+use Rattle.std.proofs.lemmas.List.{length-map}
+use Rattle.std.proofs.lemmas.List.Quantifiers.{position-Some}
+use Rattle.std.proofs.lemmas.Option.{slice_get-get_or, slice_get-map, slice_get_within}
+use Rattle.std.proofs.lemmas.Slice.Zip.{length-zip}
 use Rattle.bf_graph.specs.Edges.{IsAcyclic}
 use Rattle.bf_read.specs.declared.draft.Draft.{Draft}
 use Rattle.bf_read.specs.declared.draft.TaskDraft.{TaskDraft}
 use Rattle.bf_check.specs.declared.fault.TaskFault.{TaskFault}
 use Rattle.bf_check.specs.declared.fault.TaskFault.TheVariants.{UnknownUpstream, UnknownPool, SlotsBeyondPool, BadRule, PullNotSettled, ExpandSource, ExpandRule, BranchMisuse}
 use Rattle.bf_check.specs.Checking.{shape_in}
-use Rattle.bf_check.specs.declared.refusing.Look.{Look}
-use Rattle.bf_check.specs.Looks.{fault_of, has}
-use Rattle.bf_check.specs.Refusals.{number, Has, NoneHas, IsFirst, HasNoneBelow}
-use Rattle.bf_check.proofs.ListLemmas.{none_passes, first_passing}
+use Rattle.bf_check.specs.Looks.{IsPlaceOfFirst}
+use Rattle.bf_check.specs.Refusals.{number, Has, NoneHas, HasNoneBelow, HasNoFault}
+use Rattle.bf_check.proofs.ListLemmas.{item_at, none_passing, pair_at, some_same}
 
 -- ---- numbers
 
@@ -41,19 +43,20 @@ fault_at-number BranchMisuse = refl
 pub one_number : (a b : TaskFault) → number a ≡ number b → a ≡ b
 one_number a b e = let both : Some a ≡ Some b = sym (fault_at-number a) ∙ ap fault_at e ∙ fault_at-number b in cc
 
+-- no fault of a task has the number of the cycle
+beside_cycle : (fault : TaskFault) → 7 < suc (number fault) → 7 < number fault
+beside_cycle UnknownUpstream h = absurd (omega (arith, h))
+beside_cycle UnknownPool h = omega arith
+beside_cycle SlotsBeyondPool h = omega arith
+beside_cycle BadRule h = omega arith
+beside_cycle PullNotSettled h = omega arith
+beside_cycle ExpandSource h = omega arith
+beside_cycle ExpandRule h = omega arith
+beside_cycle BranchMisuse h = omega arith
+
 -- ---- below a number
 
 module _ (draft : Draft) where
-  -- none is below the next number where none is below this and no task has this
-  pub with_fault : (fault : TaskFault) → HasNoneBelow draft (number fault) → (7 < suc (number fault) → 7 < number fault) → NoneHas draft fault → HasNoneBelow draft (suc (number fault))
-  with_fault fault below next none = record { tasks = by; edges = λ h. below.edges (next h) }
-    where
-      by : (other : TaskFault) → number other < suc (number fault) → NoneHas draft other
-      by other h = elim (cases_lt (number other) (number fault)) [
-        | inl less ↦ below.tasks other less
-        | inr more ↦ subst (NoneHas draft) (one_number fault other (omega (arith, h, more))) none
-      ]
-
   pub with_edges : HasNoneBelow draft 7 → IsAcyclic (shape_in draft.tasks).upstreams → HasNoneBelow draft 8
   with_edges below acyclic = record { tasks = by; edges = λ h. acyclic }
     where
@@ -81,52 +84,80 @@ module _ (draft : Draft) where
       by ExpandRule h = absurd (omega (arith, h, most))
       by BranchMisuse h = absurd (omega (arith, h, most))
 
--- ---- what is looked for
+-- ---- the first task with a fault
 
-module _ (draft : Draft) where
-  -- a task has what is looked for exactly where it has the fault
-  seen : (look : Look) (t : ℕ) (task : TaskDraft) → Has draft (fault_of look) t task → has draft look task ≡ true
-  seen Look.UnknownUpstream t task is = is
-  seen Look.UnknownPool t task is = is
-  seen Look.SlotsBeyondPool t task is = is
-  seen Look.BadRule t task is = is
-  seen Look.ExpandSource t task is = is
-  seen Look.ExpandRule t task is = is
-  seen Look.BranchMisuse t task is = is
+module _ (draft : Draft) (fault : TaskFault) where
+  -- a test of what was found of each task tells which tasks have the fault
+  pub record Tells {Y : Type 0} (q : Y → Bool) (ys : List Y) : Type 0 where
+    pub one_each : length ys ≡ length draft.tasks
+    pub has : (t : ℕ) (task : TaskDraft) (y : Y) → slice_get draft.tasks t ≡ Some task → slice_get ys t ≡ Some y → q y ≡ true → Has draft fault t task
+    pub has_not : (t : ℕ) (task : TaskDraft) (y : Y) → slice_get draft.tasks t ≡ Some task → slice_get ys t ≡ Some y → q y ≡ false → ¬ (Has draft fault t task)
 
-  right : (look : Look) (t : ℕ) (task : TaskDraft) → has draft look task ≡ true → Has draft (fault_of look) t task
-  right Look.UnknownUpstream t task is = is
-  right Look.UnknownPool t task is = is
-  right Look.SlotsBeyondPool t task is = is
-  right Look.BadRule t task is = is
-  right Look.ExpandSource t task is = is
-  right Look.ExpandRule t task is = is
-  right Look.BranchMisuse t task is = is
+  pub first_told : {Y : Type 0} (q : Y → Bool) (ys : List Y) → Tells q ys → IsPlaceOfFirst draft fault (position q ys)
+  first_told q [] tells = λ t task there. let within = slice_get_within draft.tasks t task there in absurd (omega (arith, within, tells.one_each))
+  first_told {Y} q (d ∷ rest) tells = go (position q ys) refl
+    where
+      ys : List Y
+      ys = d ∷ rest
 
-  -- no look has the number of the cycle
-  beside_cycle : (look : Look) → 7 < suc (number (fault_of look)) → 7 < number (fault_of look)
-  beside_cycle Look.UnknownUpstream h = absurd (omega (arith, h))
-  beside_cycle Look.UnknownPool h = omega arith
-  beside_cycle Look.SlotsBeyondPool h = omega arith
-  beside_cycle Look.BadRule h = omega arith
-  beside_cycle Look.ExpandSource h = omega arith
-  beside_cycle Look.ExpandRule h = omega arith
-  beside_cycle Look.BranchMisuse h = omega arith
+      passes_not : (s : ℕ) (other : TaskDraft) → s < length ys → slice_get draft.tasks s ≡ Some other → q (get_or ys s d) ≡ false → ¬ (Has draft fault s other)
+      passes_not s other h there fails = tells.has_not s other (get_or ys s d) there (slice_get-get_or ys s d h) fails
 
-  -- where the look finds none, no task has the fault
-  pub none_found : (look : Look) → HasNoneBelow draft (number (fault_of look)) → find (has draft look) draft.tasks ≡ None → HasNoneBelow draft (suc (number (fault_of look)))
-  none_found look below e = with_fault draft (fault_of look) below (beside_cycle look) (λ t task there is. let fails = none_passes (has draft look) draft.tasks e t task there in let passes = seen look t task is in absurd (cc))
+      go : (place : Option ℕ) → position q ys ≡ place → IsPlaceOfFirst draft fault place
+      go None e = λ t task there.
+          let within = slice_get_within draft.tasks t task there in
+          let low : t < length ys = omega (arith, within, tells.one_each) in
+          passes_not t task low there (none_passing q ys d e t low)
+      go (Some t) e =
+          let first = position-Some q ys t d e in
+          let within : t < length draft.tasks = omega (arith, first.0, tells.one_each) in
+          let task = item_at draft.tasks t within in
+          record {
+            task = task.0;
+            there = task.1;
+            has = tells.has t task.0 (get_or ys t d) task.1 (slice_get-get_or ys t d first.0) first.1;
+            none_before = λ s other h there. passes_not s other (omega (arith, h, first.0)) there (first.2 s h);
+          }
 
-  -- the task that the look finds is the first with the fault
-  pub first_found : (look : Look) (task : TaskDraft) (id : List ℕ) → find (has draft look) draft.tasks ≡ Some task → id ≡ task.id → IsFirst draft (fault_of look) id
-  first_found look task id e named =
-      let first = first_passing (has draft look) draft.tasks task e in
-      let before = first.none_before in
-      record {
-        t = first.at;
-        task = task;
-        there = first.there;
-        has = right look first.at task first.passes;
-        none_before = λ s other h there is. (let fails = before s other h there in let passes = seen look s other is in absurd (cc));
-        id_is = named;
-      }
+  module _ (has : TaskDraft → Bool) (right : (t : ℕ) (task : TaskDraft) → has task ≡ true → Has draft fault t task) (seen : (t : ℕ) (task : TaskDraft) → Has draft fault t task → has task ≡ true) where
+    -- by what is found of a task alone
+    pub told_by_each : {Y Z : Type 0} (q : Y → Bool) (view : Y → Z) (f : TaskDraft → Z) (ys : List Y) → map view ys ≡ map f draft.tasks → ((task : TaskDraft) (y : Y) → view y ≡ f task → q y ≡ has task) → IsPlaceOfFirst draft fault (position q ys)
+    told_by_each {Y} q view f ys found tests = first_told q ys (record {
+      one_each = sym (length-map ys view) ∙ ap length found ∙ length-map draft.tasks f;
+      has = λ t task y there at passes. right t task (sym (same t task y there at) ∙ passes);
+      has_not = λ t task y there at fails yes. true≢false (sym (seen t task yes) ∙ sym (same t task y there at) ∙ fails);
+    })
+      where
+        same : (t : ℕ) (task : TaskDraft) (y : Y) → slice_get draft.tasks t ≡ Some task → slice_get ys t ≡ Some y → q y ≡ has task
+        same t task y there at =
+            let both : Some (view y) ≡ Some (f task) = sym (ap (option_map view) at) ∙ sym (slice_get-map view ys t) ∙ ap (λ zs. slice_get zs t) found ∙ slice_get-map f draft.tasks t ∙ ap (option_map f) there in
+            tests task y (some_same both)
+
+    -- by a task and what an earlier look found of it
+    pub told_by_pairs : {Y : Type 0} (q : TaskDraft × Y → Bool) (g : TaskDraft → Option Y) (ys : List Y) → map Some ys ≡ map g draft.tasks → ((task : TaskDraft) (y : Y) → g task ≡ Some y → q (task, y) ≡ has task) → IsPlaceOfFirst draft fault (position q (zip draft.tasks ys))
+    told_by_pairs {Y} q g ys found tests = first_told q (zip draft.tasks ys) (record {
+      one_each = (let all = length-zip draft.tasks ys in let same = sym (length-map ys Some) ∙ ap length found ∙ length-map draft.tasks g in omega (arith, all, same));
+      has = λ t task (other, y) there at passes. right t task (sym (same t task other y there at) ∙ passes);
+      has_not = λ t task (other, y) there at fails yes. true≢false (sym (seen t task yes) ∙ sym (same t task other y there at) ∙ fails);
+    })
+      where
+        same : (t : ℕ) (task other : TaskDraft) (y : Y) → slice_get draft.tasks t ≡ Some task → slice_get (zip draft.tasks ys) t ≡ Some (other, y) → q (other, y) ≡ has task
+        same t task other y there at =
+            let both = pair_at draft.tasks ys t other y at in
+            let it : other ≡ task = some_same (sym both.0 ∙ there) in
+            let of : Some (g task) ≡ Some (Some y) = sym (ap (option_map g) there) ∙ sym (slice_get-map g draft.tasks t) ∙ ap (λ zs. slice_get zs t) (sym found) ∙ slice_get-map Some ys t ∙ ap (option_map Some) both.1 in
+            ap (λ (d : TaskDraft). q (d, y)) it ∙ tests task y (some_same of)
+
+-- a draft without a fault up to the last number has none
+pub no_fault : (draft : Draft) → HasNoneBelow draft 18 → HasNoFault draft
+no_fault draft below = record { tasks = λ fault. below.tasks fault (last fault); edges = below.edges (omega arith) }
+  where
+    last : (fault : TaskFault) → number fault < 18
+    last UnknownUpstream = omega arith
+    last UnknownPool = omega arith
+    last SlotsBeyondPool = omega arith
+    last BadRule = omega arith
+    last PullNotSettled = omega arith
+    last ExpandSource = omega arith
+    last ExpandRule = omega arith
+    last BranchMisuse = omega arith

@@ -1,6 +1,8 @@
 pub mod ListLemmas
 pub mod FaultLemmas
+pub mod NumberLemmas
 pub mod PullLemmas
 pub mod PlanLemmas
+pub mod TaskLemmas
 pub mod PoolLemmas
 mod OneAnswer

@@ -1,9 +1,10 @@
 -- Lists, looked at one after another.
-use Rattle.std.proofs.Common.{◌≡◌, inl, inr, ℕ, zero, suc, ◌<◌, ◌+◌, List, [], ◌∷◌, ◌++◌, length, get_or, slice_get, map, take, Contains, subst, Bool, true, false, cond, Option, Some, None, refl, sym, ap, ◌∙◌, arith, add-one}
-use Rattle.std.specs.List.{find, join_with_byte}
-use Rattle.std.proofs.lemmas.Bool.{cases_lt}
-use Rattle.std.proofs.lemmas.List.{append_assoc, map_push}
-use Rattle.std.proofs.lemmas.Option.{slice_get_read}
+use Rattle.std.proofs.Common.{◌≡◌, ◌⊎◌, inl, inr, ℕ, zero, suc, ◌<◌, ◌+◌, List, [], ◌∷◌, ◌++◌, length, get_or, slice_get, map, take, drop, Contains, subst, Bool, true, false, cond, nat_lt, Option, Some, None, is_none, option_map, unwrap_or, refl, sym, ap, ◌∙◌, arith, add-one}
+use Rattle.std.specs.List.{filter_map, join_with_byte, position, position_or_len, zip}
+use Rattle.std.proofs.lemmas.Bool.{cases_lt, lt-ltb, ltb-true, ltb-false, false_from_ne_true}
+use Rattle.std.proofs.lemmas.List.{append_assoc, get_or_default, map_push}
+use Rattle.std.proofs.lemmas.List.Sums.{position_or_len_is, fails_before_first}
+use Rattle.std.proofs.lemmas.Option.{get_or_from_slice_get, slice_get_read, slice_get_within}
 use Rattle.std.proofs.Math.Seq.{take-suc}
 
 pub map-then : {X Y Z : Type 0} (f : X → Y) (g : Y → Z) (xs : List X) → map g (map f xs) ≡ map (λ x. g (f x)) xs
@@ -27,44 +28,120 @@ each_so_far P xs i x within is before here k y h there = elim (cases_lt k i) [
       subst (λ (n : ℕ). P n y) same (subst (P i) one here)
 ]
 
--- what stands at a place is one of the list
-pub place_contained : {X : Type 0} (xs : List X) (k : ℕ) (x : X) → k < length xs → x ≡ get_or xs k x → Contains xs x
-place_contained xs k x h is = (k, h, sym is)
+-- what stands at a place
+pub item_at : {X : Type 0} (xs : List X) (k : ℕ) → k < length xs → (x : X) × (slice_get xs k ≡ Some x)
+item_at [] k h = absurd (omega (arith, h))
+item_at (x ∷ xs) zero h = (x, refl)
+item_at (x ∷ xs) (suc k) h = item_at xs k (omega (arith, h))
 
--- ---- the first that passes a test
+pub item_contained : {X : Type 0} (xs : List X) (k : ℕ) (d : X) → k < length xs → Contains xs (get_or xs k d)
+item_contained xs k d h = (k, h, get_or_default xs k (get_or xs k d) d h)
 
-module _ {X : Type 0} (p : X → Bool) where
-  -- nothing is found where the first fails and nothing is found in the rest
-  none_then : (y : X) (found : Option X) → cond (p y) (Some y) found ≡ None → (p y ≡ false) × (found ≡ None)
-  none_then y found e = go (p y) refl e
+-- what is given or not by a test
+pub none_by_test : {X : Type 0} (b : Bool) (x : X) → is_none (cond b None (Some x)) ≡ b
+none_by_test true x = refl
+none_by_test false x = refl
+
+pub given_by_test : {X : Type 0} (b : Bool) (x y : X) → cond b None (Some x) ≡ Some y → y ≡ x
+given_by_test true x y e = absurd (cc)
+given_by_test false x y e = cc
+
+pub none_mapped : {X Y : Type 0} (f : X → Y) (o : Option X) → is_none (option_map f o) ≡ is_none o
+none_mapped f None = refl
+none_mapped f (Some x) = refl
+
+-- the one that comes next, of a list that is gone through
+pub next_there : {X : Type 0} (before more : List X) (x : X) → slice_get (before ++ x ∷ more) (length before) ≡ Some x
+next_there [] more x = refl
+next_there (y ∷ before) more x = next_there before more x
+
+pub next_contained : {X : Type 0} (before rest all more : List X) (x : X) → before ++ rest ≡ all → rest ≡ x ∷ more → Contains all x
+next_contained before rest all more x left is =
+    let there : slice_get all (length before) ≡ Some x = ap (λ xs. slice_get xs (length before)) (sym left ∙ ap (λ xs. before ++ xs) is) ∙ next_there before more x in
+    (length before, slice_get_within all (length before) x there, get_or_from_slice_get all (length before) x x there)
+
+-- ---- the first place that passes a test
+
+module _ {X : Type 0} (p : X → Bool) (xs : List X) (d : X) where
+  abbrev FailBelow : ℕ → Type 0
+  FailBelow i = (k : ℕ) → k < i → p (get_or xs k d) ≡ false
+
+  pub placed : (i : ℕ) → i < length xs → FailBelow i → p (get_or xs i d) ≡ true → position p xs ≡ Some i
+  placed i within before here =
+      let is : position_or_len p xs ≡ i = position_or_len_is p xs i d (omega (arith, within)) before (λ h. here) in
+      ap (λ n. cond (nat_lt n (length xs)) (Some n) None) is ∙ ap (λ b. cond b (Some i) None) (lt-ltb i (length xs) within)
+
+  pub missing : FailBelow (length xs) → position p xs ≡ None
+  missing none =
+      let is : position_or_len p xs ≡ length xs = position_or_len_is p xs (length xs) d (omega arith) none (λ h. absurd (omega (arith, h))) in
+      let low : nat_lt (length xs) (length xs) ≡ false = false_from_ne_true (nat_lt (length xs) (length xs)) (λ e. let bad = ltb-true (length xs) (length xs) e in omega (arith, bad)) in
+      ap (λ n. cond (nat_lt n (length xs)) (Some n) None) is ∙ ap (λ b. cond b (Some (length xs)) None) low
+
+  pub none_passing : position p xs ≡ None → FailBelow (length xs)
+  none_passing e k h = go (nat_lt (position_or_len p xs) (length xs)) refl e
     where
-      go : (b : Bool) → p y ≡ b → cond b (Some y) found ≡ None → (p y ≡ false) × (found ≡ None)
-      go true f e = absurd (cc)
-      go false f e = (f, e)
+      go : (b : Bool) → nat_lt (position_or_len p xs) (length xs) ≡ b → cond b (Some (position_or_len p xs)) None ≡ None → p (get_or xs k d) ≡ false
+      go true f bad = absurd (cc)
+      go false f same = (let high = ltb-false (position_or_len p xs) (length xs) f in fails_before_first p xs k d (omega (arith, h, high)))
 
-  pub none_passes : (xs : List X) → find p xs ≡ None → (i : ℕ) (x : X) → slice_get xs i ≡ Some x → p x ≡ false
-  none_passes [] e i x there = absurd (cc)
-  none_passes (y ∷ ys) e zero x there = (let first = (none_then y (find p ys) e).0 in cc)
-  none_passes (y ∷ ys) e (suc i) x there = none_passes ys (none_then y (find p ys) e).1 i x there
+-- ---- what was found of each
 
-  -- the first that passes, and its place
-  pub record IsFirstPassing (xs : List X) (x : X) : Type 0 where
-    pub at : ℕ
-    pub there : slice_get xs at ≡ Some x
-    pub passes : p x ≡ true
-    pub none_before : (j : ℕ) (y : X) → j < at → slice_get xs j ≡ Some y → p y ≡ false
+-- where nothing is missing, what is there is all
+pub all_there : {X : Type 0} (found : List (Option X)) → position is_none found ≡ None → map Some (filter_map (λ one. one) found) ≡ found
+all_there {X} found e = go found (none_passing is_none found None e)
+  where
+    go : (xs : List (Option X)) → ((k : ℕ) → k < length xs → is_none (get_or xs k None) ≡ false) → map Some (filter_map (λ one. one) xs) ≡ xs
+    go [] there = refl
+    go (None ∷ xs) there = absurd (let first = there 0 (omega arith) in cc)
+    go (Some x ∷ xs) there = ap (λ ys. Some x ∷ ys) (go xs (λ k h. there (suc k) (omega (arith, h))))
 
-  pub first_passing : (xs : List X) (x : X) → find p xs ≡ Some x → IsFirstPassing xs x
-  first_passing [] x e = absurd (cc)
-  first_passing (y ∷ ys) x e = go (p y) refl e (first_passing ys x)
-    where
-      earlier : p y ≡ false → (at : ℕ) → ((j : ℕ) (z : X) → j < at → slice_get ys j ≡ Some z → p z ≡ false) → (j : ℕ) (z : X) → j < suc at → slice_get (y ∷ ys) j ≡ Some z → p z ≡ false
-      earlier f at before zero z h there = cc
-      earlier f at before (suc j) z h there = before j z (omega (arith, h)) there
+pub some_same : {X : Type 0} {x y : X} → Some x ≡ Some y → x ≡ y
+some_same {x = x} e = ap (λ o. unwrap_or o x) e
 
-      go : (b : Bool) → p y ≡ b → cond b (Some y) (find p ys) ≡ Some x → (find p ys ≡ Some x → IsFirstPassing ys x) → IsFirstPassing (y ∷ ys) x
-      go true f e later = record { at = zero; there = e; passes = cc; none_before = λ j z h there. absurd (omega (arith, h)) }
-      go false f e later = let rest = later e in record { at = suc rest.at; there = rest.there; passes = rest.passes; none_before = earlier f rest.at rest.none_before }
+head_same : {X : Type 0} (x y : X) (xs ys : List X) → x ∷ xs ≡ y ∷ ys → x ≡ y
+head_same x y xs ys e = ap (λ zs. get_or zs 0 x) e
+
+tail_same : {X : Type 0} (x y : X) (xs ys : List X) → x ∷ xs ≡ y ∷ ys → xs ≡ ys
+tail_same x y xs ys e = ap (drop 1) e
+
+-- each that was found, by what it was found by
+pub each_found : {X Y : Type 0} (g : X → Option Y) (k : X → Y) (xs : List X) (ys : List Y) → map Some ys ≡ map g xs → ((x : X) (y : Y) → g x ≡ Some y → y ≡ k x) → ys ≡ map k xs
+each_found g k [] [] e of = refl
+each_found g k [] (y ∷ ys) e of = absurd (cc)
+each_found g k (x ∷ xs) [] e of = absurd (cc)
+each_found g k (x ∷ xs) (y ∷ ys) e of =
+    let first : y ≡ k x = of x y (sym (head_same (Some y) (g x) (map Some ys) (map g xs) e)) in
+    let rest : ys ≡ map k xs = each_found g k xs ys (tail_same (Some y) (g x) (map Some ys) (map g xs) e) of in
+    ap (λ z. z ∷ ys) first ∙ ap (λ zs. k x ∷ zs) rest
+
+-- the same, each made into something with what it was found by
+pub each_made : {X Y Z : Type 0} (g : X → Option Y) (h : X × Y → Z) (k : X → Z) (xs : List X) (ys : List Y) → map Some ys ≡ map g xs → ((x : X) (y : Y) → g x ≡ Some y → h (x, y) ≡ k x) → map h (zip xs ys) ≡ map k xs
+each_made g h k [] ys e of = refl
+each_made g h k (x ∷ xs) [] e of = absurd (cc)
+each_made g h k (x ∷ xs) (y ∷ ys) e of =
+    let first : h (x, y) ≡ k x = of x y (sym (head_same (Some y) (g x) (map Some ys) (map g xs) e)) in
+    let rest : map h (zip xs ys) ≡ map k xs = each_made g h k xs ys (tail_same (Some y) (g x) (map Some ys) (map g xs) e) of in
+    ap (λ z. z ∷ map h (zip xs ys)) first ∙ ap (λ zs. k x ∷ zs) rest
+
+-- each that was found, by where it stands
+pub each_by_place : {X Y : Type 0} (k : X → Y) (xs : List X) (ys : List Y) → length ys ≡ length xs → ((t : ℕ) (x : X) (y : Y) → slice_get xs t ≡ Some x → slice_get ys t ≡ Some y → y ≡ k x) → ys ≡ map k xs
+each_by_place k [] [] long of = refl
+each_by_place k [] (y ∷ ys) long of = absurd (omega (arith, long))
+each_by_place k (x ∷ xs) [] long of = absurd (omega (arith, long))
+each_by_place k (x ∷ xs) (y ∷ ys) long of = ap (λ z. z ∷ ys) (of 0 x y refl refl) ∙ ap (λ zs. k x ∷ zs) (each_by_place k xs ys (omega (arith, long)) (λ t a b. of (suc t) a b))
+
+pub zip_ended : {X Y : Type 0} (xs : List X) (ys : List Y) → (length xs ≡ 0) ⊎ (length ys ≡ 0) → zip xs ys ≡ []
+zip_ended [] ys ended = refl
+zip_ended (x ∷ xs) [] ended = refl
+zip_ended (x ∷ xs) (y ∷ ys) (inl none) = absurd (omega (arith, none))
+zip_ended (x ∷ xs) (y ∷ ys) (inr none) = absurd (omega (arith, none))
+
+-- a pair of two lists
+pub pair_at : {X Y : Type 0} (xs : List X) (ys : List Y) (k : ℕ) (x : X) (y : Y) → slice_get (zip xs ys) k ≡ Some (x, y) → (slice_get xs k ≡ Some x) × (slice_get ys k ≡ Some y)
+pair_at [] ys k x y e = absurd (cc)
+pair_at (a ∷ xs) [] k x y e = absurd (cc)
+pair_at (a ∷ xs) (b ∷ ys) zero x y e = (ap (option_map (λ p. p.0)) e, ap (option_map (λ p. p.1)) e)
+pair_at (a ∷ xs) (b ∷ ys) (suc k) x y e = pair_at xs ys k x y e
 
 -- one text more, behind the byte
 pub join-more : (c : ℕ) (x : List ℕ) (xs : List (List ℕ)) (y : List ℕ) → join_with_byte c (x ∷ xs ++ y ∷ []) ≡ join_with_byte c (x ∷ xs) ++ c ∷ y

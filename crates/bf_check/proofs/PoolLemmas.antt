@@ -1,45 +1,23 @@
 -- Pools, found by their names.
-use Rattle.std.proofs.Common.{◌≡◌, ◌<◌, ◌≤◌, inl, inr, ℕ, List, [], ◌∷◌, ◌++◌, length, length-append, get_or, Bool, true, false, cond, nat_lt, Some, None, Ordering, Less, Equal, Greater, refl, sym, ap, ◌∙◌, subst, arith, codes}
+use Rattle.std.proofs.Common.{◌≡◌, ◌<◌, ◌≤◌, inl, inr, ℕ, List, [], ◌∷◌, ◌++◌, length, length-append, get_or, map, Bool, true, false, cond, Option, Some, None, option_map, unwrap_or, Ordering, Less, Equal, Greater, refl, sym, ap, ◌∙◌, subst, arith, codes}
 use Rattle.std.specs.Cmp.Lexicographic.{slice_cmp}
-use Rattle.std.specs.List.{HoldsAt, position, position_or_len}
+use Rattle.std.specs.List.{HoldsAt, position, slice_index_or}
 use Rattle.std.specs.List.Sorted.{IsNonDecreasingBy, IsPartitionPoint}
 use Rattle.std.specs.Ordering.{nat_cmp, ordering_index, ordering_reverse}
 use Rattle.std.specs.Str.{bytes_eq}
 use Rattle.std.specs.Cmp.Lexicographic.{bytes_decides}
-use Rattle.std.proofs.lemmas.Bool.{cases_lt, lt-ltb, ltb-true, ltb-false, false_from_ne_true}
+use Rattle.std.proofs.lemmas.Bool.{cases_lt, false_from_ne_true}
 use Rattle.std.proofs.lemmas.Cmp.{nat_list_cmp_total, tied_itself}
 use Rattle.std.proofs.lemmas.List.{get_or_append_left}
 use Rattle.std.proofs.lemmas.List.Folds.{list_any_none}
-use Rattle.std.proofs.lemmas.List.Sums.{position_or_len_is, fails_before_first}
 use Rattle.std.proofs.lemmas.Map.Lookups.{exact_bytes}
 use Rattle.std.proofs.Math.Seq.{get_or-append_seam}
 use Rattle.bf_read.specs.declared.draft.PoolDraft.{PoolDraft}
 use Rattle.bf_read.specs.Drafts.{StandByName}
 use Rattle.bf_check.specs.Checking.{default_pool, names_default, pool_number, pools_of}
-
--- ---- the first place that passes a test
-
-module _ {X : Type 0} (p : X → Bool) (xs : List X) (d : X) where
-  abbrev FailBelow : ℕ → Type 0
-  FailBelow i = (k : ℕ) → k < i → p (get_or xs k d) ≡ false
-
-  pub placed : (i : ℕ) → i < length xs → FailBelow i → p (get_or xs i d) ≡ true → position p xs ≡ Some i
-  placed i within before here =
-      let is : position_or_len p xs ≡ i = position_or_len_is p xs i d (omega (arith, within)) before (λ h. here) in
-      ap (λ n. cond (nat_lt n (length xs)) (Some n) None) is ∙ ap (λ b. cond b (Some i) None) (lt-ltb i (length xs) within)
-
-  pub missing : FailBelow (length xs) → position p xs ≡ None
-  missing none =
-      let is : position_or_len p xs ≡ length xs = position_or_len_is p xs (length xs) d (omega arith) none (λ h. absurd (omega (arith, h))) in
-      let low : nat_lt (length xs) (length xs) ≡ false = false_from_ne_true (nat_lt (length xs) (length xs)) (λ e. let bad = ltb-true (length xs) (length xs) e in omega (arith, bad)) in
-      ap (λ n. cond (nat_lt n (length xs)) (Some n) None) is ∙ ap (λ b. cond b (Some (length xs)) None) low
-
-  pub none_passing : position p xs ≡ None → FailBelow (length xs)
-  none_passing e k h = go (nat_lt (position_or_len p xs) (length xs)) refl e
-    where
-      go : (b : Bool) → nat_lt (position_or_len p xs) (length xs) ≡ b → cond b (Some (position_or_len p xs)) None ≡ None → p (get_or xs k d) ≡ false
-      go true f bad = absurd (cc)
-      go false f same = (let high = ltb-false (position_or_len p xs) (length xs) f in fails_before_first p xs k d (omega (arith, h, high)))
+use Rattle.bf_check.specs.declared.pools.TaskPool.{TaskPool}
+use Rattle.bf_check.specs.Looks.{pool_named, with_size}
+use Rattle.bf_check.proofs.ListLemmas.{placed, missing, none_passing, some_same}
 
 -- ---- pools that stand by name
 
@@ -136,3 +114,27 @@ number_of_none q pools e differs = go (names_default pools)
           let same : length pools ≡ k = omega (arith, all, h, high) in
           ap (λ n. is_named q (get_or (pools ++ d ∷ []) n d)) (sym same) ∙ ap (is_named q) (get_or-append_seam pools d [] d) ∙ false_from_ne_true (is_named q d) (λ yes. differs ((bytes_decides q d.name).0 yes))
     ])
+
+-- ---- pools with their sizes
+
+last_size : (pools : List PoolDraft) → slice_index_or (map (λ (pool : PoolDraft). pool.slots) (pools ++ default_pool ∷ [])) (length pools) 0 ≡ 128
+last_size [] = refl
+last_size (pool ∷ pools) = last_size pools
+
+pub default_named : (q : List ℕ) (pools : List PoolDraft) → position (is_named q) pools ≡ None → q ≡ codes "default_pool" → pool_named (pools_of pools) q ≡ Some (record { number = length pools; slots = 128 })
+default_named q pools e is =
+    let P : List ℕ → Type 0 = λ s. position (is_named s) pools ≡ None in
+    let size : slice_index_or (map (λ (pool : PoolDraft). pool.slots) (pools_of pools)) (length pools) 0 ≡ 128 = ap (λ b. slice_index_or (map (λ (pool : PoolDraft). pool.slots) (with_default b pools)) (length pools) 0) (none_default pools (subst P is e)) ∙ last_size pools in
+    ap (option_map (with_size (pools_of pools))) (number_of_default q pools e is) ∙ ap (λ n. Some (record { number = length pools; slots = n })) size
+
+pub none_named : (q : List ℕ) (pools : List PoolDraft) → position (is_named q) pools ≡ None → (q ≡ codes "default_pool" → ⊥) → pool_named (pools_of pools) q ≡ None
+none_named q pools e differs = ap (option_map (with_size (pools_of pools))) (number_of_none q pools e differs)
+
+-- what is found of a pool with a name
+pub named_pool : (pools : List PoolDraft) (name : List ℕ) (pool : TaskPool) → pool_named pools name ≡ Some pool
+    → (pool.number ≡ unwrap_or (pool_number pools name) 0) × (pool.slots ≡ slice_index_or (map (λ (p : PoolDraft). p.slots) pools) (unwrap_or (pool_number pools name) 0) 0)
+named_pool pools name pool e = go (pool_number pools name) e
+  where
+    go : (found : Option ℕ) → option_map (with_size pools) found ≡ Some pool → (pool.number ≡ unwrap_or found 0) × (pool.slots ≡ slice_index_or (map (λ (p : PoolDraft). p.slots) pools) (unwrap_or found 0) 0)
+    go None e = absurd (cc)
+    go (Some n) e = (let same : with_size pools n ≡ pool = some_same e in (sym (ap (λ (p : TaskPool). p.number) same), sym (ap (λ (p : TaskPool). p.slots) same)))

@@ -1,19 +1,26 @@
 -- What is settled when a task is decided, by paths.
-use Rattle.std.proofs.Common.{◌≡◌, ◌↔◌, inl, inr, ℕ, zero, suc, ◌<◌, List, [], ◌∷◌, length, map, Contains, Bool, true, false, cond, Some, refl, sym, subst, arith}
-use Rattle.std.proofs.lemmas.List.Quantifiers.{position-Some}
-use Rattle.std.specs.Str.{bytes_eq}
-use Rattle.std.specs.List.{slice_index_or}
+use Rattle.std.proofs.Common.{◌≡◌, inl, inr, ℕ, zero, suc, ◌<◌, ◌+◌, ◌++◌, List, [], ◌∷◌, length, map, take, get_or, slice_get, Contains, Bool, true, false, true≢false, cond, Option, Some, None, is_none, option_map, refl, sym, ap, ◌∙◌, subst, arith}
+use Rattle.std.proofs.lemmas.List.{length-map, get_or-map}
+use Rattle.std.proofs.lemmas.Option.{get_or_from_slice_get, slice_get-map, slice_get_within}
+use Rattle.std.specs.List.{position, slice_index_or}
 use Rattle.bf_graph.specs.Edges.{upstreams_of, IsUpstream}
-use Rattle.bf_graph.specs.Reach.{IsPath, Reaches, IsRow}
+use Rattle.bf_graph.specs.Reach.{IsPath, Reaches}
 use Rattle.bf_read.specs.declared.draft.Draft.{Draft}
 use Rattle.bf_read.specs.declared.draft.TaskDraft.{TaskDraft}
 use Rattle.bf_read.specs.Drafts.{pulled_in}
+use Rattle.bf_rule.specs.declared.rule.Rule.{Rule}
 use Rattle.bf_rule.specs.Verdicts.{is_waiting}
+use Rattle.bf_check.specs.declared.fault.TaskFault.TheVariants.{PullNotSettled}
 use Rattle.bf_check.specs.declared.plan.Dag.{Dag}
+use Rattle.bf_check.specs.declared.pulls.Pulls.{Pulls}
 use Rattle.bf_check.specs.Plans.{no_task, task_of}
 use Rattle.bf_check.specs.Sound.{IsOneOf, IsSettledAncestor, Direct, Above}
-use Rattle.bf_check.specs.Checking.{ids_of, number_of, number_or_0, task_in, dag_of, shape_in}
-use Rattle.bf_check.specs.Refusals.{settling_upstreams, settling_edges, HasTask, LeadsTo, MarksTask, MayPull, PullsUnsettled}
+use Rattle.bf_check.specs.Checking.{ids_of, number_or_0, rule_of, task_in, dag_of, shape_in}
+use Rattle.bf_check.specs.Looks.{numbers_in, pulls_in, settling_upstreams, settling_edges, AllMayPull, IsFoundOfPulls, IsPlaceOfFirst}
+use Rattle.bf_check.specs.Refusals.{MayPull, PullsUnsettled}
+use Rattle.bf_check.proofs.FaultLemmas.{first_told}
+use Rattle.bf_check.proofs.ListLemmas.{each_by_place, item_at, map_more}
+use Rattle.bf_check.proofs.NumberLemmas.{all_known, one_unknown, known_number, unknown_id, mapped_from, contains_mapped}
 
 -- ---- one of a list
 
@@ -26,20 +33,6 @@ pub one_contained : (us : List ℕ) (u : ℕ) → Contains us u → IsOneOf us u
 one_contained [] u (k, h, is) = absurd (omega (arith, h))
 one_contained (x ∷ us) u (zero, h, is) = inl (sym is)
 one_contained (x ∷ us) u (suc k, h, is) = inr (one_contained us u (k, omega (arith, h), is))
-
--- the direct upstreams of t, as they are read, lead to it
-pub direct_leads : (ids ups : List (List ℕ)) (t : ℕ) (us : List ℕ) → us ≡ upstreams_of ups t → (id : List ℕ) → HasTask ids us id → LeadsTo ids ups t id
-direct_leads ids ups t us is id (a, at, one) = (a, at, (0, (a, subst (λ (xs : List ℕ). Contains xs a) is one, refl)))
-
--- marks on the tasks that reach t, read by an id
-pub marked_leads : (ids ups : List (List ℕ)) (t n : ℕ) (marks : List Bool) → length ids ≡ n → IsRow ups n t marks → (id : List ℕ) → MarksTask ids marks id ↔ LeadsTo ids ups t id
-marked_leads ids ups t n marks all row id = (
-  λ (a, is, mark). (a, is, (row.right a (within a is)).0 mark),
-  λ (a, is, path). (a, is, (row.right a (within a is)).1 path),
-)
-  where
-    within : (a : ℕ) → number_of ids id ≡ Some a → a < n
-    within a is = (let low = (position-Some (bytes_eq id) ids a [] is).0 in omega (arith, low, all))
 
 -- ---- the edges along which upstreams are settled
 
@@ -102,22 +95,71 @@ module _ (draft : Draft) where
   pub edge_there : (t u : ℕ) → IsUpstream edges u t → IsUpstream (shape_in draft.tasks).upstreams u t
   edge_there t u up = let edge = settling_edge t u up in subst (λ (us : List ℕ). Contains us u) (sym (shape_at t)) (contains_one _ u edge.1)
 
+  -- one task more
+  pub settling_more : (t : ℕ) (made : List (List ℕ)) (row ups : List ℕ) (rule d : Rule) → t < length draft.tasks → made ≡ map (settling_upstreams (ids_of draft.tasks)) (take t draft.tasks) → rule ≡ get_or (map rule_of draft.tasks) t d → ups ≡ upstreams_of (shape_in draft.tasks).upstreams t → row ≡ cond (is_waiting rule) ups [] → made ++ row ∷ [] ≡ map (settling_upstreams (ids_of draft.tasks)) (take (t + 1) draft.tasks)
+  settling_more t made row ups rule d within so_far rule_is ups_are row_is =
+      let ids = ids_of draft.tasks in
+      let one = item_at draft.tasks t within in
+      let task = one.0 in
+      let here : get_or draft.tasks t task ≡ task = get_or_from_slice_get draft.tasks t task task one.1 in
+      let ruled : rule ≡ rule_of task = rule_is ∙ get_or-map rule_of draft.tasks t task d within ∙ ap rule_of here in
+      let above : ups ≡ map (number_or_0 ids) task.upstreams = ups_are ∙ get_or-map (λ (d : TaskDraft). map (number_or_0 ids) d.upstreams) draft.tasks t task [] within ∙ ap (λ (d : TaskDraft). map (number_or_0 ids) d.upstreams) here in
+      map_more (settling_upstreams ids) draft.tasks t task made row within so_far (row_is ∙ ap (λ r. cond (is_waiting r) ups []) ruled ∙ ap (λ us. cond (is_waiting (rule_of task)) us []) above ∙ ap (settling_upstreams ids) (sym here))
+
   -- ---- pulls
 
-  pub leading_pulls : (t : ℕ) (id : List ℕ) → LeadsTo (ids_of draft.tasks) edges t id → MayPull draft t id
-  leading_pulls t id (a, is, path) = (a, is, reaching_settles t a path)
+  module _ (t : ℕ) (task : TaskDraft) where
+    abbrev pulled : List (List ℕ)
+    pulled = pulled_in task.command
 
-  pub pulling_leads : (t : ℕ) (id : List ℕ) → MayPull draft t id → LeadsTo (ids_of draft.tasks) edges t id
-  pulling_leads t id (a, is, settled) = (a, is, settled_reaches t a settled)
+    abbrev ids : List (List ℕ)
+    ids = ids_of draft.tasks
 
-  -- the same of what a call was given
-  module _ (ids : List (List ℕ)) (ups : List (List ℕ)) (are : ids ≡ ids_of draft.tasks) (settle : ups ≡ edges) where
-    pub may_pull : (t : ℕ) (id : List ℕ) → LeadsTo ids ups t id → MayPull draft t id
-    may_pull t id leads = leading_pulls t id (subst (λ (xs : List (List ℕ)). LeadsTo xs edges t id) are (subst (λ (us : List (List ℕ)). LeadsTo ids us t id) settle leads))
+    -- where the numbers are found and paths lead from all of them to it, a task may pull from all
+    pub may_pull_all : (numbers : List ℕ) → numbers_in ids pulled ≡ Some numbers → ((u : ℕ) → Contains numbers u → Reaches edges u t) → (id : List ℕ) → Contains pulled id → MayPull draft t id
+    may_pull_all numbers e all id one =
+        let known = all_known ids pulled numbers e in
+        let there : Contains numbers (number_or_0 ids id) = subst (λ (us : List ℕ). Contains us (number_or_0 ids id)) (sym known.1) (contains_mapped (number_or_0 ids) pulled id one) in
+        (number_or_0 ids id, known_number ids pulled known.0 id one, reaching_settles t _ (all _ there))
 
-    may_not_pull : (t : ℕ) (id : List ℕ) → ¬ (LeadsTo ids ups t id) → ¬ (MayPull draft t id)
-    may_not_pull t id no_path pull = no_path (subst (λ (us : List (List ℕ)). LeadsTo ids us t id) (sym settle) (subst (λ (xs : List (List ℕ)). LeadsTo xs edges t id) (sym are) (pulling_leads t id pull)))
+    -- where an id is that of none, or no path leads from one of them, it may not pull from that
+    pub unknown_unsettled : numbers_in ids pulled ≡ None → PullsUnsettled draft t task
+    unknown_unsettled e =
+        let one = unknown_id ids pulled (one_unknown ids pulled e) in
+        (one.0, one.1, λ (a, is, settled). absurd (let found : None ≡ Some a = sym one.2 ∙ is in cc))
 
-    -- a task that pulls from one from which no such path leads to it
-    pub unsettled : (t : ℕ) (task : TaskDraft) (pulled : List (List ℕ)) → pulled ≡ pulled_in task.command → (id : List ℕ) × Contains pulled id × ¬ (LeadsTo ids ups t id) → PullsUnsettled draft t task
-    unsettled t task pulled is (id, one, no_path) = (id, rw is at one, may_not_pull t id no_path)
+    pub unreaching_unsettled : (numbers : List ℕ) → numbers_in ids pulled ≡ Some numbers → (u : ℕ) → Contains numbers u → ¬ (Reaches edges u t) → PullsUnsettled draft t task
+    unreaching_unsettled numbers e u one no_path =
+        let known = all_known ids pulled numbers e in
+        let from = mapped_from (number_or_0 ids) pulled u (subst (λ (us : List ℕ). Contains us u) known.1 one) in
+        let number = known_number ids pulled known.0 from.0 from.1 in
+        (from.0, from.1, λ (a, is, settled). no_path (subst (λ (v : ℕ). Reaches edges v t) (let both : Some (number_or_0 ids from.0) ≡ Some a = sym number ∙ is in let same : number_or_0 ids from.0 ≡ a = cc in sym same ∙ from.2) (settled_reaches t a settled)))
+
+  -- what is found of the pulls of all tasks tells which may not pull from one
+  module _ (found : List (Option Pulls)) (one_each : length found ≡ length draft.tasks) (each : (t : ℕ) (task : TaskDraft) (one : Option Pulls) → slice_get draft.tasks t ≡ Some task → slice_get found t ≡ Some one → IsFoundOfPulls draft t task one) where
+    pub pulls_told : IsPlaceOfFirst draft PullNotSettled (position is_none found)
+    pulls_told = first_told draft PullNotSettled is_none found (record { one_each = one_each; has = λ t task one there at. has t task one (each t task one there at); has_not = λ t task one there at. has_not t task one (each t task one there at) })
+      where
+        has : (t : ℕ) (task : TaskDraft) (one : Option Pulls) → IsFoundOfPulls draft t task one → is_none one ≡ true → PullsUnsettled draft t task
+        has t task None is none = is
+        has t task (Some pulls) is none = absurd (true≢false (sym none))
+
+        has_not : (t : ℕ) (task : TaskDraft) (one : Option Pulls) → IsFoundOfPulls draft t task one → is_none one ≡ false → ¬ (PullsUnsettled draft t task)
+        has_not t task None is some = absurd (true≢false some)
+        has_not t task (Some pulls) is some = λ (id, among, cannot). cannot (is.1 id among)
+
+    module _ (all : List Pulls) (are : map Some all ≡ found) where
+      at : (t : ℕ) (task : TaskDraft) (pulls : Pulls) → slice_get draft.tasks t ≡ Some task → slice_get all t ≡ Some pulls → IsFoundOfPulls draft t task (Some pulls)
+      at t task pulls there is = each t task (Some pulls) there (ap (λ (ones : List (Option Pulls)). slice_get ones t) (sym are) ∙ slice_get-map Some all t ∙ ap (option_map Some) is)
+
+      same : length all ≡ length draft.tasks
+      same = sym (length-map all Some) ∙ ap length are ∙ one_each
+
+      pub pulls_are : all ≡ map (pulls_in (ids_of draft.tasks)) draft.tasks
+      pulls_are = each_by_place (pulls_in (ids_of draft.tasks)) draft.tasks all same (λ t task pulls there is. (at t task pulls there is).0)
+
+      pub all_may_pull : AllMayPull draft
+      all_may_pull t task there =
+          let within = slice_get_within draft.tasks t task there in
+          let one = item_at all t (omega (arith, within, same)) in
+          (at t task one.0 there one.1).1

@@ -1,10 +1,9 @@
 -- Why `check` refuses a draft.
-use Rattle.std.specs.Prelude.{◌≡◌, ℕ, ◌<◌, ◌&&◌, nat_lt, true, false, not, Bool, List, [], if◌then◌else◌, map, slice_get, Contains, Option, Some, None, unwrap_or, is_none, is_some, ◌++◌, codes}
+use Rattle.std.specs.Prelude.{◌≡◌, ℕ, ◌<◌, ◌&&◌, nat_lt, true, false, not, Bool, List, [], map, slice_get, Contains, Option, Some, None, unwrap_or, is_none, is_some, ◌++◌, codes}
 use Rattle.std.specs.List.{join_with_byte, list_any, slice_index_or}
 use Rattle.std.specs.Str.{bytes_eq}
 use Rattle.bf_graph.specs.Edges.{IsAcyclic}
 use Rattle.bf_graph.specs.Cycles.{IsNamedCycle}
-use Rattle.bf_graph.specs.Reach.{Reaches, is_marked}
 use Rattle.bf_graph.specs.Shape.{Shape}
 use Rattle.bf_read.specs.declared.draft.Draft.{Draft}
 use Rattle.bf_read.specs.declared.draft.PoolDraft.{PoolDraft}
@@ -21,7 +20,7 @@ use Rattle.bf_cron.specs.declared.spec.CronSpec.{CronSpec}
 use Rattle.bf_check.specs.Plans.{is_branch_kind}
 use Rattle.bf_check.specs.Schedules.{Fires, IsScheduled, NeverFiresIn, IsNoZone}
 use Rattle.bf_check.specs.Sound.{IsSettledAncestor}
-use Rattle.bf_check.specs.Checking.{ids_of, number_of, pool_number, pools_of, rule_of, dag_of, shape_in, number_or_0}
+use Rattle.bf_check.specs.Checking.{ids_of, number_of, pool_number, pools_of, rule_of, dag_of, shape_in}
 
 -- ---- what may be wrong with a task
 
@@ -162,28 +161,3 @@ IsFaultOf draft file BadCron = (schedule_of draft.schedule ≡ None) × HasNoneB
 IsFaultOf draft file NeverFires = NeverFiresIn draft.schedule × HasNoneBelow draft 12
 IsFaultOf draft file BadZone = IsNoZone draft.zone file × (spec : CronSpec) × Fires draft.schedule spec × HasNoneBelow draft 13
 IsFaultOf draft file OutOfMemory = Unit {0}
-
--- ---- while a draft is looked through
-
--- each task may pull from what it pulls from
-abbrev pub AllMayPull : Draft → Type 0
-AllMayPull draft = (t : ℕ) (task : TaskDraft) → slice_get draft.tasks t ≡ Some task → (id : List ℕ) → Contains (pulled_in task.command) id → MayPull draft t id
-
--- the edges along which upstreams are settled when a task is decided: those into tasks of a waiting rule
-abbrev pub settling_upstreams : List (List ℕ) → TaskDraft → List ℕ
-settling_upstreams ids task = if is_waiting (rule_of task) then map (number_or_0 ids) task.upstreams else []
-
-abbrev pub settling_edges : List TaskDraft → List (List ℕ)
-settling_edges tasks = map (settling_upstreams (ids_of tasks)) tasks
-
--- the task of an id is there, and a path along these edges leads from it to the task t
-abbrev pub LeadsTo : List (List ℕ) → List (List ℕ) → ℕ → List ℕ → Type 0
-LeadsTo ids edges t id = (a : ℕ) × (number_of ids id ≡ Some a) × Reaches edges a t
-
--- the task of an id is there, and marked
-abbrev pub MarksTask : List (List ℕ) → List Bool → List ℕ → Type 0
-MarksTask ids marks id = (a : ℕ) × (number_of ids id ≡ Some a) × (is_marked marks a ≡ true)
-
--- the task of an id is there, and one of these
-abbrev pub HasTask : List (List ℕ) → List ℕ → List ℕ → Type 0
-HasTask ids tasks id = (a : ℕ) × (number_of ids id ≡ Some a) × Contains tasks a

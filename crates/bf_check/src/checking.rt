@@ -1,120 +1,73 @@
 //! Drafts, checked as plans.
 ghost use Rattle.std.specs.Prelude.{◌≡◌, option_map, IfOk, IfErr, OnOk};
 ghost use Rattle.bf_graph.specs.Ranks.{Ranking};
-ghost use Rattle.bf_check.specs.Checking.{dag_of, ids_of, limits_of as limits_in, shape_in};
-ghost use Rattle.bf_check.specs.Refusals.{AllMayPull, HasNoFault, HasNoneBelow, IsAccepted, IsFaultOf};
-ghost use Rattle.bf_check.specs.Schedules.{Fires, IsScheduled, IsZoneFor};
+ghost use Rattle.bf_check.specs.Checking.{dag_of, limits_of as limits_in, shape_in};
+ghost use Rattle.bf_check.specs.Looks.{AllMayPull, AreFound};
+ghost use Rattle.bf_check.specs.Refusals.{HasNoFault, IsAccepted, IsFaultOf};
+ghost use Rattle.bf_check.specs.Schedules.{Fires, IsZoneFor};
 
 use crate::edges::numbered;
 use crate::fault::CheckFault;
+use crate::looks::Looks;
 use crate::plan::{Dag, Limits, Plan};
 use crate::pools::limits_of;
-use crate::refusing::{Look, Looks};
+use crate::pulls::Pulls;
 use crate::tasks::tasks_of;
 use bf_cron::CronSpec;
-use bf_graph::{Graph, Ids};
+use bf_graph::Graph;
 use bf_read::Draft;
+use bf_rule::Rule;
 use bf_value::{OutOfMemory, Sequence};
 use bf_zone::Zone;
 use std::alloc::Global;
 
-/// What a draft is found to have beside its tasks.
+/// What a draft is found to have beside what it says of its tasks.
 #[derive(Drop)]
 struct Parts {
     graph: Graph,
+    limits: Limits,
+    rules: Vec<Rule>,
     schedule: CronSpec,
     zone: Zone,
-    limits: Limits,
+    pulls: Vec<Pulls>,
+    sources: Vec<Option<u32>>,
 }
 
 impl Looks<'_> {
-    /// The looks 8 to 10.
-    fn refuse_pools_and_rules(&self, alloc: Global) -> Result<(), CheckFault>
-        requires { HasNoneBelow self.now.draft.now 8 }
-        ensures ok { OnOk result (HasNoneBelow self.now.draft.now 11) }
-        ensures err { IfErr result (IsFaultOf self.now.draft.now (option_map (λ s. s.now) self.now.zone_file)) }
-    {
-        self.refuse(alloc, Look::UnknownPool)?;
-        self.refuse(alloc, Look::SlotsBeyondPool)?;
-        self.refuse(alloc, Look::BadRule)
-    }
-
-    /// The looks 11 and 12 at the schedule, and 13 at its zone.
-    fn schedule_in_zone(&self, alloc: Global) -> Result<(CronSpec, Zone), CheckFault>
-        requires { HasNoneBelow self.now.draft.now 11 }
-        ensures schedule { IfOk result (λ both. Fires self.now.draft.now.schedule both.0) }
-        ensures zone { IfOk result (λ both. IsZoneFor self.now.draft.now.zone (option_map (λ s. s.now) self.now.zone_file) both.1) }
-        ensures below { OnOk result (HasNoneBelow self.now.draft.now 14) }
-        ensures scheduled { OnOk result (IsScheduled self.now.draft.now (option_map (λ s. s.now) self.now.zone_file)) }
-        ensures err { IfErr result (IsFaultOf self.now.draft.now (option_map (λ s. s.now) self.now.zone_file)) }
-    {
-        let schedule = self.schedule(alloc)?;
-        let zone = self.zone(alloc)?;
-        Ok((schedule, zone))
-    }
-
-    /// The look 14 at what is pulled, and those from 15 to 17 at what is expanded.
-    fn refuse_pulls_and_expansions(&self, alloc: Global) -> Result<(), CheckFault>
-        requires below { HasNoneBelow self.now.draft.now 14 }
-        requires scheduled { IsScheduled self.now.draft.now (option_map (λ s. s.now) self.now.zone_file) }
-        ensures ok { OnOk result (HasNoFault self.now.draft.now) }
-        ensures settled { OnOk result (AllMayPull self.now.draft.now) }
-        ensures err { IfErr result (IsFaultOf self.now.draft.now (option_map (λ s. s.now) self.now.zone_file)) }
-    {
-        self.refuse_unsettled_pulls(alloc)?;
-        self.refuse(alloc, Look::ExpandSource)?;
-        self.refuse(alloc, Look::ExpandRule)?;
-        self.refuse(alloc, Look::BranchMisuse)?;
-        Ok(())
-    }
-
-    /// All looks in the order of their numbers: 6, 7 the cycle, and the others.
+    /// All looks in the order of their numbers.
     fn parts(&self, alloc: Global) -> Result<Parts, CheckFault>
-        ensures graph { IfOk result (λ parts. parts.graph ≡ shape_in self.now.draft.now.tasks) }
+        ensures found { IfOk result (λ parts.
+            AreFound self.now.draft.now.tasks parts.graph parts.rules.items parts.pulls.items parts.sources.items) }
+        ensures limits { IfOk result (λ parts. parts.limits ≡ limits_in self.now.draft.now) }
         ensures schedule { IfOk result (λ parts. Fires self.now.draft.now.schedule parts.schedule) }
         ensures zone { IfOk result (λ parts. IsZoneFor self.now.draft.now.zone (option_map (λ s. s.now) self.now.zone_file) parts.zone) }
-        ensures limits { IfOk result (λ parts. parts.limits ≡ limits_in self.now.draft.now) }
         ensures ranking { OnOk result (Ranking (shape_in self.now.draft.now.tasks).upstreams) }
         ensures ok { OnOk result (HasNoFault self.now.draft.now) }
         ensures settled { OnOk result (AllMayPull self.now.draft.now) }
         ensures err { IfErr result (IsFaultOf self.now.draft.now (option_map (λ s. s.now) self.now.zone_file)) }
     {
-        self.refuse(alloc, Look::UnknownUpstream)?;
         let graph = self.graph(alloc)?;
-        self.refuse_pools_and_rules(alloc)?;
+        let demands = self.demands(alloc)?;
+        let rules = self.rules(alloc)?;
         let (schedule, zone) = self.schedule_in_zone(alloc)?;
-        self.refuse_pulls_and_expansions(alloc)?;
-        let limits = limits_of(alloc, self.draft)?;
+        let pulls = self.pulls(alloc, &graph, rules.as_slice())?;
+        let sources = self.sources(alloc, &graph, rules.as_slice())?;
+        let limits = limits_of(alloc, self.draft, demands)?;
         Ok(Parts {
             graph,
+            limits,
+            rules,
             schedule,
             zone,
-            limits,
+            pulls,
+            sources,
         })
     }
 }
 
-/// What the recursion over dates reads of a draft.
-fn dag_in(alloc: Global, ids: &Ids, draft: Draft) -> Result<Dag, OutOfMemory>
-    requires { ids.now ≡ ids_of draft.tasks }
-    ensures { IfOk result (λ dag. dag ≡ dag_of draft) }
-{
-    let tasks = tasks_of(alloc, ids, draft.tasks)?;
-    Ok(Dag {
-        id: draft.dag_id,
-        tasks: Sequence::from_vec(tasks),
-    })
-}
-
 /// The plan of a draft that was looked through, and the zone of its schedule.
-fn planned(
-    alloc: Global,
-    ids: &Ids,
-    draft: Draft,
-    parts: Parts,
-) -> Result<(Plan, Zone), OutOfMemory>
-    requires ids { ids.now ≡ ids_of draft.tasks }
-    requires graph { parts.graph ≡ shape_in draft.tasks }
+fn planned(alloc: Global, draft: Draft, parts: Parts) -> Result<(Plan, Zone), OutOfMemory>
+    requires found { AreFound draft.tasks parts.graph parts.rules.items parts.pulls.items parts.sources.items }
     requires limits { parts.limits ≡ limits_in draft }
     requires ranking { Ranking (shape_in draft.tasks).upstreams }
     requires ok { HasNoFault draft }
@@ -124,7 +77,19 @@ fn planned(
     ensures schedule { IfOk result (λ both. both.0.schedule ≡ parts.schedule) }
     ensures zone { IfOk result (λ both. both.1 ≡ parts.zone) }
 {
-    let dag = dag_in(alloc, ids, draft)?;
+    let pulls = parts.pulls;
+    let tasks = tasks_of(
+        alloc,
+        draft.tasks,
+        &parts.graph,
+        parts.rules.as_slice(),
+        pulls,
+        parts.sources.as_slice(),
+    )?;
+    let dag = Dag {
+        id: draft.dag_id,
+        tasks: Sequence::from_vec(tasks),
+    };
     let plan = Plan::new(dag, parts.limits, parts.schedule, parts.graph);
     Ok((plan, parts.zone))
 }
@@ -150,5 +115,5 @@ pub fn check(
         zone_file,
     };
     let parts = looks.parts(alloc)?;
-    Ok(planned(alloc, &ids, draft, parts)?)
+    Ok(planned(alloc, draft, parts)?)
 }

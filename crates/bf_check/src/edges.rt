@@ -1,13 +1,15 @@
 //! The tasks of a draft as a graph.
-ghost use Rattle.std.specs.Prelude.{◌≡◌, ◌<◌, ℕ, [], length, map, option_map, slice_index_or, Contains, IfOk, IfErr, OnOk};
+ghost use Rattle.std.specs.Prelude.{◌≡◌, ◌<◌, ℕ, [], length, map, option_map, position, slice_index_or, Contains, IfOk, IfErr, IfSome, OnOk};
+ghost use Rattle.std.specs.Str.{bytes_eq};
 ghost use Rattle.bf_graph.specs.Edges.{lists};
 ghost use Rattle.bf_graph.specs.Ranks.{Ranking};
 ghost use Rattle.bf_graph.specs.Shape.{texts};
-ghost use Rattle.bf_check.specs.Checking.{ids_of, number_or_0, shape_in};
-ghost use Rattle.bf_check.specs.Refusals.{has_unknown_upstream as unknown_upstream, HasNoneBelow, IsFaultOf};
+ghost use Rattle.bf_check.specs.Checking.{ids_of, shape_in};
+ghost use Rattle.bf_check.specs.Looks.{numbers_in};
+ghost use Rattle.bf_check.specs.Refusals.{HasNoneBelow, IsFaultOf};
 
-use crate::fault::CheckFault;
-use crate::refusing::Looks;
+use crate::fault::{CheckFault, TaskFault};
+use crate::looks::Looks;
 use bf_graph::{Graph, GraphFault, Ids};
 use bf_read::{Draft, TaskDraft};
 use bf_value::{OutOfMemory, Sequence, Text};
@@ -31,36 +33,30 @@ pub(crate) fn numbered(alloc: Global, draft: &Draft) -> Result<Ids, OutOfMemory>
     Ids::numbered(alloc, texts_of(alloc, draft.tasks.as_slice())?)
 }
 
-/// The numbers of the tasks of these ids, and 0 where there is none.
-pub(crate) fn numbers_of(alloc: Global, ids: &Ids, names: &[Text]) -> Result<Vec<u32>, OutOfMemory>
-    ensures { IfOk result (λ v. v.items ≡ map (number_or_0 ids.now) names.now) }
+/// The place of an id among these.
+pub(crate) fn place_of(ids: &[Text], id: &str) -> Option<usize>
+    ensures place { result ≡ position (bytes_eq id.now) ids.now }
+    ensures within { IfSome result (λ n. n < length ids.now) }
 {
-    Ok(
-        names
-            .iter()
-            .map(|name| ids.number_of(name.as_str()).unwrap_or(0))
-            .collect(alloc)?,
-    )
+    ids.iter().position(|other| id == other.as_str())
 }
 
-/// Whether an upstream of a task is the id of none.
-pub(crate) fn has_unknown_upstream(ids: &Ids, task: &TaskDraft) -> bool
-    ensures { result ≡ unknown_upstream ids.now task.now }
+/// The numbers of the tasks of these ids, or nothing where one is the id of none.
+pub(crate) fn numbers_of(
+    alloc: Global,
+    ids: &Ids,
+    names: &[Text],
+) -> Result<Option<Vec<u32>>, OutOfMemory>
+    ensures { IfOk result (λ found. option_map (λ v. v.items) found ≡ numbers_in ids.now names.now) }
 {
-    task.upstreams
-        .as_slice()
-        .iter()
-        .any(|id| ids.number_of(id.as_str()).is_none())
-}
-
-fn edges_of(alloc: Global, ids: &Ids, tasks: &[TaskDraft]) -> Result<Vec<Vec<u32>>, OutOfMemory>
-    ensures { IfOk result (λ v. lists v.items ≡ map (λ task. map (number_or_0 ids.now) task.upstreams) tasks.now) }
-{
-    let mut edges = Vec::new(alloc);
-    for task in tasks {
-        edges.push(numbers_of(alloc, ids, task.upstreams.as_slice())?)?;
+    let mut numbers = Vec::new(alloc);
+    for name in names {
+        match ids.number_of(name.as_str()) {
+            Some(number) => numbers.push(number)?,
+            None => return Ok(None),
+        }
     }
-    Ok(edges)
+    Ok(Some(numbers))
 }
 
 /// The ids of some tasks.
@@ -75,18 +71,44 @@ fn names_of(alloc: Global, tasks: &[TaskDraft], numbers: &[u32]) -> Result<Vec<T
     Ok(names)
 }
 
+/// The numbers of each task's upstreams, or nothing where one is the id of none.
+fn numbers_of_upstreams(
+    alloc: Global,
+    ids: &Ids,
+    tasks: &[TaskDraft],
+) -> Result<Vec<Option<Vec<u32>>>, OutOfMemory>
+    ensures { IfOk result (λ found. map (option_map (λ v. v.items)) found.items
+        ≡ map (λ task. numbers_in ids.now task.upstreams) tasks.now) }
+{
+    let mut found = Vec::new(alloc);
+    for task in tasks {
+        found.push(numbers_of(alloc, ids, task.upstreams.as_slice())?)?;
+    }
+    Ok(found)
+}
+
 impl Looks<'_> {
-    /// The graph of the tasks, or the cycle that is named.
-    pub(crate) fn graph(&self, alloc: Global) -> Result<Graph, CheckFault>
-        requires { HasNoneBelow self.now.draft.now 7 }
+    /// The look 6: the numbers of each task's upstreams.
+    fn upstreams(&self, alloc: Global) -> Result<Vec<Vec<u32>>, CheckFault>
+        ensures upstreams { IfOk result (λ upstreams. lists upstreams.items ≡ (shape_in self.now.draft.now.tasks).upstreams) }
+        ensures ok { OnOk result (HasNoneBelow self.now.draft.now 7) }
+        ensures err { IfErr result (IsFaultOf self.now.draft.now (option_map (λ s. s.now) self.now.zone_file)) }
+    {
+        let found = numbers_of_upstreams(alloc, self.ids, self.draft.tasks.as_slice())?;
+        self.found_of_each(alloc, TaskFault::UnknownUpstream, found)
+    }
+
+    /// The look 7: the graph of the tasks, or the cycle that is named.
+    fn graph_of(&self, alloc: Global, upstreams: Vec<Vec<u32>>) -> Result<Graph, CheckFault>
+        requires upstreams { lists upstreams.items ≡ (shape_in self.now.draft.now.tasks).upstreams }
+        requires below { HasNoneBelow self.now.draft.now 7 }
         ensures graph { IfOk result (λ graph. graph ≡ shape_in self.now.draft.now.tasks) }
         ensures ranking { OnOk result (Ranking (shape_in self.now.draft.now.tasks).upstreams) }
         ensures ok { OnOk result (HasNoneBelow self.now.draft.now 8) }
         ensures err { IfErr result (IsFaultOf self.now.draft.now (option_map (λ s. s.now) self.now.zone_file)) }
     {
         let tasks = self.draft.tasks.as_slice();
-        let edges = edges_of(alloc, self.ids, tasks)?;
-        match Graph::build(alloc, texts_of(alloc, tasks)?, edges) {
+        match Graph::build(alloc, texts_of(alloc, tasks)?, upstreams) {
             Ok(graph) => {
                 graph.ranks();
                 Ok(graph)
@@ -97,5 +119,15 @@ impl Looks<'_> {
             }
             Err(GraphFault::OutOfMemory) => Err(CheckFault::OutOfMemory),
         }
+    }
+    /// The looks 6 and 7: the graph of the tasks.
+    pub(crate) fn graph(&self, alloc: Global) -> Result<Graph, CheckFault>
+        ensures graph { IfOk result (λ graph. graph ≡ shape_in self.now.draft.now.tasks) }
+        ensures ranking { OnOk result (Ranking (shape_in self.now.draft.now.tasks).upstreams) }
+        ensures ok { OnOk result (HasNoneBelow self.now.draft.now 8) }
+        ensures err { IfErr result (IsFaultOf self.now.draft.now (option_map (λ s. s.now) self.now.zone_file)) }
+    {
+        let upstreams = self.upstreams(alloc)?;
+        self.graph_of(alloc, upstreams)
     }
 }

@@ -3,12 +3,14 @@
 
 mod checking;
 mod edges;
+mod expansions;
 mod fault;
 mod laws;
+mod looks;
 mod plan;
 mod pools;
 mod pulls;
-mod refusing;
+mod rules;
 mod schedules;
 mod tasks;
 

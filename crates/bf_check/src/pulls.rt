@@ -1,134 +1,157 @@
 //! Pulls: a task may pull only from what is settled whenever it is decided.
-ghost use Rattle.std.specs.Prelude.{◌≡◌, ◌↔◌, ◌<◌, ℕ, List, false, length, map, option_map, Contains, IsTrue, IfOk, IfErr, OnOk};
+ghost use Rattle.std.specs.Prelude.{◌≡◌, ◌<◌, ℕ, false, [], if◌then◌else◌, length, map, option_map, Contains, IsTrue, slice_get, Option, Some, IfOk, IfErr, OnOk};
+ghost use Rattle.bf_read.specs.declared.draft.TaskDraft.{TaskDraft as Task};
+ghost use Rattle.bf_check.specs.declared.pulls.Pulls.{Pulls as Pulled};
 ghost use Rattle.bf_graph.specs.Edges.{lists, AreInRange};
-ghost use Rattle.bf_check.specs.Refusals.{settling_upstreams as settling_in, settling_edges as edges_in, AllMayPull, HasNoneBelow, HasTask, IsFaultOf, LeadsTo, MarksTask};
+ghost use Rattle.bf_graph.specs.Reach.{Reaches};
+ghost use Rattle.bf_rule.specs.Verdicts.{is_waiting};
+ghost use Rattle.bf_check.specs.Checking.{rule_of, shape_in};
+ghost use Rattle.bf_check.specs.Looks.{pulls_in, settling_edges as settling_in, AllMayPull, IsFoundOfPulls};
+ghost use Rattle.bf_check.specs.Refusals.{HasNoneBelow, IsFaultOf};
 ghost use Rattle.bf_check.specs.Schedules.{IsScheduled};
 
 use crate::edges::numbers_of;
 use crate::fault::{CheckFault, TaskFault};
-use crate::refusing::{Looks, rule_of};
-use bf_graph::{Ids, reaching};
+use crate::looks::Looks;
+use bf_graph::{Graph, reaching};
 use bf_read::{TaskDraft, pulls_of};
-use bf_value::{OutOfMemory, Text};
+use bf_rule::Rule;
+use bf_value::{OutOfMemory, Sequence, Text};
 use std::alloc::Global;
 
-/// The upstreams of a task where they are settled when it is decided, and else none.
-fn settling_upstreams(alloc: Global, ids: &Ids, task: &TaskDraft) -> Result<Vec<u32>, OutOfMemory>
-    ensures { IfOk result (λ v. v.items ≡ settling_in ids.now task.now) }
-{
-    if rule_of(task).waits() {
-        numbers_of(alloc, ids, task.upstreams.as_slice())
-    } else {
-        Ok(Vec::new(alloc))
-    }
+/// What a task pulls from, in order of first use.
+#[derive(Drop)]
+pub(crate) struct Pulls {
+    pub(crate) ids: Sequence<Text>,
+    pub(crate) numbers: Sequence<u32>,
 }
 
-fn settling_edges(
+fn are_among(tasks: &[u32], pulls: &[u32]) -> bool
+    ensures { IsTrue result → (u : ℕ) → Contains pulls.now u → Contains tasks.now u }
+{
+    pulls.iter().all(|pull| tasks.contains(pull))
+}
+
+/// Whether each of these is settled when a task is decided, by the edges along which upstreams are.
+fn are_settled(
     alloc: Global,
-    ids: &Ids,
-    tasks: &[TaskDraft],
-) -> Result<Vec<Vec<u32>>, OutOfMemory>
-    ensures { IfOk result (λ v. lists v.items ≡ map (settling_in ids.now) tasks.now) }
-{
-    let mut edges = Vec::new(alloc);
-    for task in tasks {
-        edges.push(settling_upstreams(alloc, ids, task)?)?;
-    }
-    Ok(edges)
-}
-
-/// Whether the task of an id is there and marked.
-fn is_marked(ids: &Ids, marks: &[bool], id: &str) -> bool
-    requires { length marks.now ≡ length ids.now }
-    ensures { IsTrue result ↔ MarksTask ids.now marks.now id.now }
-{
-    match ids.number_of(id) {
-        Some(task) => marks[task as usize],
-        None => false,
-    }
-}
-
-/// Whether the task of an id is there and one of these.
-fn is_one_of(ids: &Ids, tasks: &[u32], id: &str) -> bool
-    ensures { IsTrue result ↔ HasTask ids.now tasks.now id.now }
-{
-    match ids.number_of(id) {
-        Some(task) => tasks.contains(&task),
-        None => false,
-    }
-}
-
-/// Whether these are all ids of some of these tasks.
-fn are_some_of(ids: &Ids, tasks: &[u32], pulled: &[Text]) -> bool
-    ensures { IsTrue result ↔ ((id : List ℕ) → Contains pulled.now id → HasTask ids.now tasks.now id) }
-{
-    for id in pulled {
-        if !is_one_of(ids, tasks, id.as_str()) {
-            return false;
-        }
-    }
-    true
-}
-
-/// Whether a task may pull from all of these, by the edges along which upstreams are settled.
-fn may_pull_all(
-    alloc: Global,
-    ids: &Ids,
     settling: &[Vec<u32>],
     task: u32,
-    pulled: &[Text],
+    pulls: &[u32],
 ) -> Result<bool, OutOfMemory>
-    requires same { length settling.now ≡ length ids.now }
+    requires task { task < length settling.now }
+    requires pulls { (u : ℕ) → Contains pulls.now u → u < length settling.now }
     requires in_range { AreInRange (lists settling.now) }
-    requires within { task < length ids.now }
-    ensures all { IfOk result (λ may. IsTrue may → (id : List ℕ) → Contains pulled.now id
-        → LeadsTo ids.now (lists settling.now) task id) }
-    ensures not_all { IfOk result (λ may. may ≡ false → (id : List ℕ) × Contains pulled.now id
-        × ¬ (LeadsTo ids.now (lists settling.now) task id)) }
+    ensures all { IfOk result (λ all. IsTrue all → (u : ℕ) → Contains pulls.now u → Reaches (lists settling.now) u task) }
+    ensures not_all { IfOk result (λ all. all ≡ false → (u : ℕ) × Contains pulls.now u × ¬ (Reaches (lists settling.now) u task)) }
 {
     // Most pulls are from direct upstreams, and need no walk.
-    let direct = settling[task as usize].as_slice();
-    if are_some_of(ids, direct, pulled) {
+    if are_among(settling[task as usize].as_slice(), pulls) {
         return Ok(true);
     }
     let settled = reaching(alloc, settling, task)?;
-    for id in pulled {
-        if !is_marked(ids, settled.as_slice(), id.as_str()) {
+    for pull in pulls {
+        if !settled[*pull as usize] {
             return Ok(false);
         }
     }
     Ok(true)
 }
 
+/// The upstreams of a task where they are settled when it is decided, and else none.
+fn settling_upstreams(alloc: Global, rule: Rule, upstreams: &[u32]) -> Result<Vec<u32>, OutOfMemory>
+    ensures { IfOk result (λ v. v.items ≡ if is_waiting rule then upstreams.now else []) }
+{
+    if rule.waits() {
+        Ok(upstreams.to_vec(alloc)?)
+    } else {
+        Ok(Vec::new(alloc))
+    }
+}
+
 impl Looks<'_> {
-    /// Refuses a draft in which a task pulls from what needn't be settled when it is decided, by the edges that settle.
-    fn refuse_pulls(&self, alloc: Global, settling: &[Vec<u32>]) -> Result<(), CheckFault>
-        requires settling { lists settling.now ≡ edges_in self.now.draft.now.tasks }
-        requires below { HasNoneBelow self.now.draft.now 14 }
-        requires scheduled { IsScheduled self.now.draft.now (option_map (λ s. s.now) self.now.zone_file) }
-        ensures settled { OnOk result (AllMayPull self.now.draft.now) }
-        ensures ok { OnOk result (HasNoneBelow self.now.draft.now 15) }
-        ensures err { IfErr result (IsFaultOf self.now.draft.now (option_map (λ s. s.now) self.now.zone_file)) }
+    /// The edges along which upstreams are settled when a task is decided.
+    fn settling_edges(
+        &self,
+        alloc: Global,
+        graph: &Graph,
+        rules: &[Rule],
+    ) -> Result<Vec<Vec<u32>>, OutOfMemory>
+        requires graph { graph.now ≡ shape_in self.now.draft.now.tasks }
+        requires rules { rules.now ≡ map rule_of self.now.draft.now.tasks }
+        ensures { IfOk result (λ v. lists v.items ≡ settling_in self.now.draft.now.tasks) }
     {
-        for (t, task) in self.draft.tasks.as_slice().iter().enumerate() {
-            let pulled = pulls_of(alloc, task.command.as_slice())?;
-            let may = may_pull_all(alloc, self.ids, settling, t as u32, pulled.as_slice())?;
-            if !may {
-                return Err(CheckFault::Task(TaskFault::PullNotSettled, task.id.copy(alloc)?));
-            }
+        let mut edges = Vec::new(alloc);
+        for (t, rule) in rules.iter().enumerate() {
+            edges.push(settling_upstreams(alloc, *rule, graph.upstreams(t as u32))?)?;
         }
-        Ok(())
+        Ok(edges)
     }
 
-    /// Refuses a draft in which a task pulls from what needn't be settled when it is decided.
-    pub(crate) fn refuse_unsettled_pulls(&self, alloc: Global) -> Result<(), CheckFault>
+    /// What a task pulls from, or nothing where it may not pull from one of these.
+    fn pulls_of_task(
+        &self,
+        alloc: Global,
+        settling: &[Vec<u32>],
+        t: u32,
+        task: &TaskDraft,
+    ) -> Result<Option<Pulls>, OutOfMemory>
+        requires settling { lists settling.now ≡ settling_in self.now.draft.now.tasks }
+        requires in_range { AreInRange (lists settling.now) }
+        requires within { t < length settling.now }
+        ensures { IfOk result (IsFoundOfPulls self.now.draft.now t task.now) }
+    {
+        let ids = pulls_of(alloc, task.command.as_slice())?;
+        let Some(numbers) = numbers_of(alloc, self.ids, ids.as_slice())? else {
+            return Ok(None);
+        };
+        if !are_settled(alloc, settling, t, numbers.as_slice())? {
+            return Ok(None);
+        }
+        Ok(Some(Pulls {
+            ids: Sequence::from_vec(ids),
+            numbers: Sequence::from_vec(numbers),
+        }))
+    }
+
+    /// What each task pulls from, or nothing where it may not pull from one.
+    fn pulls_of_each(
+        &self,
+        alloc: Global,
+        settling: &[Vec<u32>],
+    ) -> Result<Vec<Option<Pulls>>, OutOfMemory>
+        requires settling { lists settling.now ≡ settling_in self.now.draft.now.tasks }
+        requires in_range { AreInRange (lists settling.now) }
+        ensures one_each { IfOk result (λ found. length found.items ≡ length self.now.draft.now.tasks) }
+        ensures each { IfOk result (λ found. (t : ℕ) (task : Task) (one : Option Pulled)
+            → slice_get self.now.draft.now.tasks t ≡ Some task → slice_get found.items t ≡ Some one
+            → IsFoundOfPulls self.now.draft.now t task one) }
+    {
+        let mut found = Vec::new(alloc);
+        for (t, task) in self.draft.tasks.as_slice().iter().enumerate() {
+            found.push(self.pulls_of_task(alloc, settling, t as u32, task)?)?;
+        }
+        Ok(found)
+    }
+
+    /// The look 14: what each task pulls from.
+    pub(crate) fn pulls(
+        &self,
+        alloc: Global,
+        graph: &Graph,
+        rules: &[Rule],
+    ) -> Result<Vec<Pulls>, CheckFault>
+        requires graph { graph.now ≡ shape_in self.now.draft.now.tasks }
+        requires rules { rules.now ≡ map rule_of self.now.draft.now.tasks }
         requires below { HasNoneBelow self.now.draft.now 14 }
         requires scheduled { IsScheduled self.now.draft.now (option_map (λ s. s.now) self.now.zone_file) }
+        ensures pulls { IfOk result (λ pulls. pulls.items ≡ map (pulls_in self.now.ids.now) self.now.draft.now.tasks) }
         ensures settled { OnOk result (AllMayPull self.now.draft.now) }
         ensures ok { OnOk result (HasNoneBelow self.now.draft.now 15) }
         ensures err { IfErr result (IsFaultOf self.now.draft.now (option_map (λ s. s.now) self.now.zone_file)) }
     {
-        let settling = settling_edges(alloc, self.ids, self.draft.tasks.as_slice())?;
-        self.refuse_pulls(alloc, settling.as_slice())
+        let settling = self.settling_edges(alloc, graph, rules)?;
+        let found = self.pulls_of_each(alloc, settling.as_slice())?;
+        self.found_of_each(alloc, TaskFault::PullNotSettled, found)
     }
 }

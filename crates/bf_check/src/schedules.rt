@@ -5,7 +5,7 @@ ghost use Rattle.bf_check.specs.Schedules.{Fires, IsScheduled, IsScheduleOf, IsZ
 ghost use Rattle.bf_cron.specs.declared.spec.CronSpec.{CronSpec as Spec};
 
 use crate::fault::CheckFault;
-use crate::refusing::Looks;
+use crate::looks::Looks;
 use bf_cron::{CronFault, CronSpec};
 use bf_zone::{Zone, ZoneFault};
 use std::alloc::Global;
@@ -23,8 +23,8 @@ impl Looks<'_> {
         }
     }
 
-    /// The schedule, which some civil minute matches.
-    pub(crate) fn schedule(&self, alloc: Global) -> Result<CronSpec, CheckFault>
+    /// The looks 11 and 12: the schedule, which some civil minute matches.
+    fn schedule(&self, alloc: Global) -> Result<CronSpec, CheckFault>
         requires { HasNoneBelow self.now.draft.now 11 }
         ensures ok { IfOk result (Fires self.now.draft.now.schedule) }
         ensures below { OnOk result (HasNoneBelow self.now.draft.now 13) }
@@ -37,8 +37,8 @@ impl Looks<'_> {
         Ok(schedule)
     }
 
-    /// The zone of a schedule that is right.
-    pub(crate) fn zone(&self, alloc: Global) -> Result<Zone, CheckFault>
+    /// The look 13: the zone of a schedule that is right.
+    fn zone(&self, alloc: Global) -> Result<Zone, CheckFault>
         requires below { HasNoneBelow self.now.draft.now 13 }
         requires fires { (spec : Spec) × Fires self.now.draft.now.schedule spec }
         ensures ok { IfOk result (IsZoneFor self.now.draft.now.zone (option_map (λ s. s.now) self.now.zone_file)) }
@@ -51,5 +51,18 @@ impl Looks<'_> {
             Err(ZoneFault::Bad) => Err(CheckFault::BadZone),
             Err(ZoneFault::OutOfMemory) => Err(CheckFault::OutOfMemory),
         }
+    }
+    /// The looks 11 to 13: the schedule, and its zone.
+    pub(crate) fn schedule_in_zone(&self, alloc: Global) -> Result<(CronSpec, Zone), CheckFault>
+        requires { HasNoneBelow self.now.draft.now 11 }
+        ensures schedule { IfOk result (λ both. Fires self.now.draft.now.schedule both.0) }
+        ensures zone { IfOk result (λ both. IsZoneFor self.now.draft.now.zone (option_map (λ s. s.now) self.now.zone_file) both.1) }
+        ensures below { OnOk result (HasNoneBelow self.now.draft.now 14) }
+        ensures scheduled { OnOk result (IsScheduled self.now.draft.now (option_map (λ s. s.now) self.now.zone_file)) }
+        ensures err { IfErr result (IsFaultOf self.now.draft.now (option_map (λ s. s.now) self.now.zone_file)) }
+    {
+        let schedule = self.schedule(alloc)?;
+        let zone = self.zone(alloc)?;
+        Ok((schedule, zone))
     }
 }

@@ -1,35 +1,32 @@
 //! The tasks of a plan.
-ghost use Rattle.std.specs.Prelude.{◌≡◌, ◌<◌, ◌≤◌, length, map, All, position, unwrap_or, IfOk, IfSome};
+ghost use Rattle.std.specs.Prelude.{◌≡◌, ◌≤◌, ℕ, List, length, map, All, Contains, position, Some, IfOk};
 ghost use Rattle.std.specs.Str.{bytes_eq};
-ghost use Rattle.bf_read.specs.Limits.{most_pulls};
-ghost use Rattle.bf_read.specs.Drafts.{IsTask, pulled_in};
-ghost use Rattle.bf_check.specs.Checking.{number_or_0, task_in, word_in};
+ghost use Rattle.bf_read.specs.Limits.{most_pulls, most_tasks};
+ghost use Rattle.bf_read.specs.Drafts.{IsTask, pulled_by, pulled_in};
+ghost use Rattle.bf_check.specs.Checking.{ids_of, task_in, word_in};
+ghost use Rattle.bf_check.specs.Looks.{links_in, AreFound};
 
-use crate::edges::numbers_of;
+use crate::edges::place_of;
 use crate::plan::{Task, Word};
-use crate::refusing::rule_of;
-use bf_graph::Ids;
-use bf_read::{TaskDraft, WordDraft, pulls_of};
+use crate::pulls::Pulls;
+use bf_graph::Graph;
+use bf_read::{TaskDraft, WordDraft};
+use bf_rule::Rule;
 use bf_value::{OutOfMemory, Sequence, Text};
 use std::alloc::Global;
 
-fn place_of(pulled: &[Text], id: &str) -> Option<usize>
-    ensures place { result ≡ position (bytes_eq id.now) pulled.now }
-    ensures within { IfSome result (λ n. n < length pulled.now) }
-{
-    pulled.iter().position(|other| id == other.as_str())
-}
-
 /// The place of an id among those that are pulled.
 fn pull_of(pulled: &[Text], id: &str) -> u32
-    requires { length pulled.now ≤ most_pulls }
-    ensures { result ≡ unwrap_or (position (bytes_eq id.now) pulled.now) 0 }
+    requires pulled { Contains pulled.now id.now }
+    requires few { length pulled.now ≤ most_pulls }
+    ensures { Some result ≡ position (bytes_eq id.now) pulled.now }
 {
-    place_of(pulled, id).unwrap_or(0) as u32
+    place_of(pulled, id).unwrap() as u32
 }
 
 fn word_of(pulled: &[Text], word: WordDraft) -> Word
-    requires { length pulled.now ≤ most_pulls }
+    requires pulled { (id : List ℕ) → pulled_by word ≡ Some id → Contains pulled.now id }
+    requires few { length pulled.now ≤ most_pulls }
     ensures { result ≡ word_in pulled.now word }
 {
     match word {
@@ -45,7 +42,8 @@ fn words_of(
     pulled: &[Text],
     drafts: Sequence<WordDraft>,
 ) -> Result<Vec<Word>, OutOfMemory>
-    requires { length pulled.now ≤ most_pulls }
+    requires pulled { pulled.now ≡ pulled_in drafts }
+    requires few { length pulled.now ≤ most_pulls }
     ensures { IfOk result (λ v. v.items ≡ map (word_in pulled.now) drafts) }
 {
     let mut words = Vec::new(alloc);
@@ -55,65 +53,61 @@ fn words_of(
     Ok(words)
 }
 
-/// What a task stands on by numbers, and the ids that it pulls from.
+/// What is found of a task beside what its draft says.
 #[derive(Drop)]
 struct Links {
-    upstreams: Vec<u32>,
-    pulled: Vec<Text>,
-    pulls: Vec<u32>,
-}
-
-fn links_of(alloc: Global, ids: &Ids, draft: &TaskDraft) -> Result<Links, OutOfMemory>
-    ensures upstreams { IfOk result (λ links. links.upstreams.items ≡ map (number_or_0 ids.now) draft.now.upstreams) }
-    ensures pulled { IfOk result (λ links. links.pulled.items ≡ pulled_in draft.now.command) }
-    ensures pulls { IfOk result (λ links. links.pulls.items ≡ map (number_or_0 ids.now) (pulled_in draft.now.command)) }
-{
-    let upstreams = numbers_of(alloc, ids, draft.upstreams.as_slice())?;
-    let pulled = pulls_of(alloc, draft.command.as_slice())?;
-    let pulls = numbers_of(alloc, ids, pulled.as_slice())?;
-    Ok(Links {
-        upstreams,
-        pulled,
-        pulls,
-    })
+    upstreams: Sequence<u32>,
+    rule: Rule,
+    pulls: Pulls,
+    source: Option<u32>,
 }
 
 /// A task of a plan.
-fn task_of(alloc: Global, ids: &Ids, draft: TaskDraft) -> Result<Task, OutOfMemory>
-    requires { IsTask draft }
-    ensures { IfOk result (λ task. task ≡ task_in ids.now draft) }
+fn task_of(alloc: Global, draft: TaskDraft, links: Links) -> Result<Task, OutOfMemory>
+    requires task { IsTask draft }
+    requires pulled { links.pulls.ids ≡ pulled_in draft.command }
+    ensures { IfOk result (λ task. (ids : List (List ℕ)) → links ≡ links_in ids draft → task ≡ task_in ids draft) }
 {
-    let rule = rule_of(&draft);
-    let links = links_of(alloc, ids, &draft)?;
-    let command = words_of(alloc, links.pulled.as_slice(), draft.command)?;
-    let expand = draft
-        .expand
-        .map(|id| ids.number_of(id.as_str()).unwrap_or(0));
+    let pulls = links.pulls;
+    let command = words_of(alloc, pulls.ids.as_slice(), draft.command)?;
     Ok(Task {
         id: draft.id,
-        upstreams: Sequence::from_vec(links.upstreams),
-        rule,
+        upstreams: links.upstreams,
+        rule: links.rule,
         kind: draft.kind,
         command: Sequence::from_vec(command),
-        pulls: Sequence::from_vec(links.pulls),
-        expand,
+        pulls: pulls.numbers,
+        expand: links.source,
         depends_on_past: draft.depends_on_past,
         retries: draft.retries,
     })
 }
 
-/// The tasks of a plan.
+/// The tasks of a plan, of what was found of each.
 pub(crate) fn tasks_of(
     alloc: Global,
-    ids: &Ids,
     drafts: Sequence<TaskDraft>,
+    graph: &Graph,
+    rules: &[Rule],
+    pulls: Vec<Pulls>,
+    sources: &[Option<u32>],
 ) -> Result<Vec<Task>, OutOfMemory>
-    requires { All IsTask drafts }
-    ensures { IfOk result (λ v. v.items ≡ map (task_in ids.now) drafts) }
+    requires tasks { All IsTask drafts }
+    requires few { length drafts ≤ most_tasks }
+    requires found { AreFound drafts graph.now rules.now pulls.items sources.now }
+    ensures { IfOk result (λ v. v.items ≡ map (task_in (ids_of drafts)) drafts) }
 {
     let mut tasks = Vec::new(alloc);
-    for draft in drafts.into_vec() {
-        tasks.push(task_of(alloc, ids, draft)?)?;
+    for (draft, pulls) in drafts.into_vec().into_iter().zip(pulls) {
+        let t = tasks.len();
+        let upstreams = graph.upstreams(t as u32).to_vec(alloc)?;
+        let links = Links {
+            upstreams: Sequence::from_vec(upstreams),
+            rule: rules[t],
+            pulls,
+            source: sources[t],
+        };
+        tasks.push(task_of(alloc, draft, links)?)?;
     }
     Ok(tasks)
 }

@@ -1,7 +1,7 @@
 -- What the bytes of a graph file say, with a zone file: a plan, or why there is none.
 use Rattle.std.specs.Prelude.{◌≡◌, ℕ, List, length, Option, Ok, Err}
 use Rattle.bf_read.specs.declared.draft.Draft.{Draft}
-use Rattle.bf_read.specs.Drafts.{edge_count}
+use Rattle.bf_read.specs.Drafts.{number_of_edges}
 use Rattle.bf_read.specs.Reading.{graph_in, graph_file_of}
 use Rattle.bf_check.specs.Checked.{Checked}
 use Rattle.bf_check.specs.Checking.{dag_of}
@@ -24,7 +24,7 @@ pub record IsGraph (graph : List ℕ) (file : Option (List ℕ)) (draft : Draft)
 
 -- the size of a graph: its tasks and its distinct edges
 abbrev pub size_of : Draft → GraphSize
-size_of draft = record { tasks = length draft.tasks; edges = edge_count draft.tasks }
+size_of draft = record { tasks = length draft.tasks; edges = number_of_edges draft.tasks }
 
 -- the bytes say a graph without a fault, of this size
 pub record IsSizeOf (graph : List ℕ) (file : Option (List ℕ)) (size : GraphSize) : Type 0 where

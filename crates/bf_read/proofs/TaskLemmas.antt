@@ -15,7 +15,7 @@ use Rattle.bf_read.specs.declared.draft.TaskDraft.{TaskDraft}
 use Rattle.bf_read.specs.Limits.{most_tasks, most_edges}
 use Rattle.bf_read.specs.declared.path.Path.{Path}
 use Rattle.bf_read.specs.Gives.{◌>>=◌}
-use Rattle.bf_read.specs.Drafts.{edge_count, HaveDistinctIds, IsTask, MayFollow}
+use Rattle.bf_read.specs.Drafts.{number_of_edges, HaveDistinctIds, IsTask, MayFollow}
 use Rattle.bf_read.specs.Fields.{limit}
 use Rattle.bf_read.specs.Reading.{task_at, tasks_from}
 use Rattle.bf_read.proofs.FieldLemmas.{rest_from}
@@ -51,7 +51,7 @@ any_id id (t ∷ ts) = ap (λ b. bytes_eq id t.id || b) (any_id id ts)
 -- the tasks so far
 pub record KeepsTasks (n : ℕ) (tasks : List TaskDraft) : Type 0 where
   pub len : length tasks ≡ n
-  pub few_edges : edge_count tasks ≤ most_edges
+  pub few_edges : number_of_edges tasks ≤ most_edges
   pub distinct_ids : HaveDistinctIds tasks
   pub each : All IsTask tasks
 

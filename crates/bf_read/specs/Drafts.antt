@@ -1,5 +1,5 @@
 -- Drafts that a graph file may give: how many of each thing there are, and between which bounds.
-use Rattle.std.specs.Prelude.{◌≡◌, ◌≢◌, ℕ, ◌+◌, ◌≤◌, not, true, false, List, [], ◌∷◌, length, filter, All, AllPairs, map, sum_by, Option, Some, None}
+use Rattle.std.specs.Prelude.{◌≡◌, ℕ, ◌+◌, ◌≤◌, not, true, false, List, [], ◌∷◌, length, filter, All, AllPairs, map, sum_by, Option, Some, None}
 use Rattle.std.specs.List.{list_any, filter_map}
 use Rattle.std.specs.Cmp.Lexicographic.{slice_cmp}
 use Rattle.std.specs.Ordering.{nat_cmp}
@@ -27,8 +27,8 @@ abbrev pub pulled_in : List WordDraft → List (List ℕ)
 pulled_in words = distinct (filter_map pulled_by words)
 
 -- how many upstreams the tasks have
-abbrev pub edge_count : List TaskDraft → ℕ
-edge_count tasks = sum_by (λ task. length task.upstreams) tasks
+abbrev pub number_of_edges : List TaskDraft → ℕ
+number_of_edges tasks = sum_by (λ task. length task.upstreams) tasks
 
 -- no two tasks have one id
 abbrev pub HaveDistinctIds : List TaskDraft → Type 0
@@ -49,7 +49,7 @@ pub record IsTask (task : TaskDraft) : Type 0 where
 -- the tasks of a draft
 pub record AreTasks (tasks : List TaskDraft) : Type 0 where
   pub few : length tasks ≤ most_tasks
-  pub few_edges : edge_count tasks ≤ most_edges
+  pub few_edges : number_of_edges tasks ≤ most_edges
   pub distinct_ids : HaveDistinctIds tasks
   pub each : All IsTask tasks
 
@@ -74,5 +74,5 @@ pub record IsDraft (dag_id : List ℕ) (max_active_runs : ℕ) (pools : List Poo
 -- a task that may follow these: none of them has its id, and its upstreams are not too many
 pub record MayFollow (before : List TaskDraft) (task : TaskDraft) : Type 0 where
   pub fresh : list_any (λ other. bytes_eq task.id other.id) before ≡ false
-  pub few : edge_count before + length task.upstreams ≤ most_edges
+  pub few : number_of_edges before + length task.upstreams ≤ most_edges
   pub is_task : IsTask task

@@ -18,7 +18,7 @@ use Rattle.bf_read.specs.declared.path.Path.{Path}
 use Rattle.bf_read.specs.declared.fault.ReadFault.{ReadFault}
 use Rattle.bf_read.specs.declared.fault.ReadFault.TheVariants.{NotJson, DuplicateTask}
 use Rattle.bf_read.specs.declared.fields.ObjectKind.{ObjectKind}
-use Rattle.bf_read.specs.Drafts.{edge_count}
+use Rattle.bf_read.specs.Drafts.{number_of_edges}
 use Rattle.bf_read.specs.Gives.{◌>>=◌}
 use Rattle.bf_read.specs.Fields.{Member, graph_member, task_member, object_at, text_at, text_or, id_at, kind_at, expand_at, flag_at, count_at, weight_rule_at, limit, items_at, upstreams_at, pools_at}
 use Rattle.bf_read.specs.Commands.{command_at}
@@ -55,7 +55,7 @@ place_at before at = do
   found ← id_at (at TaskKey.Id)
   id ← fresh before found
   upstreams ← upstreams_at (at TaskKey.Upstream)
-  _ ← limit (at TaskKey.Upstream).path (nat_le (edge_count before + length upstreams) most_edges)
+  _ ← limit (at TaskKey.Upstream).path (nat_le (number_of_edges before + length upstreams) most_edges)
   Ok (record { id = id; upstreams = upstreams })
 
 -- what a task does, and when

@@ -1,6 +1,6 @@
 //! Drafts of graphs.
 ghost use Rattle.std.specs.Prelude.{◌≡◌, ◌≤◌};
-ghost use Rattle.bf_read.specs.Drafts.{IsDraft, edge_count as edges};
+ghost use Rattle.bf_read.specs.Drafts.{IsDraft, number_of_edges};
 ghost use Rattle.bf_read.specs.Limits.{most_edges};
 
 use crate::kinds::{ContextVariable, TaskKind, WeightRule};
@@ -65,8 +65,8 @@ pub struct Draft {
 
 /// How many upstreams the tasks have.
 pub(crate) fn edge_count(tasks: &[TaskDraft]) -> usize
-    requires { edges tasks.now ≤ most_edges }
-    ensures { result ≡ edges tasks.now }
+    requires { number_of_edges tasks.now ≤ most_edges }
+    ensures { result ≡ number_of_edges tasks.now }
 {
     tasks.iter().map(|task| task.upstreams.len()).sum()
 }
@@ -74,7 +74,7 @@ pub(crate) fn edge_count(tasks: &[TaskDraft]) -> usize
 impl Draft {
     /// How many distinct edges there are.
     pub fn edge_count(&self) -> usize
-        ensures { result ≡ edges self.now.tasks }
+        ensures { result ≡ number_of_edges self.now.tasks }
     {
         edge_count(self.tasks.as_slice())
     }

@@ -7,7 +7,7 @@ ghost use Rattle.serde_json.specs.View.{view, items_view};
 ghost use Rattle.bf_value.specs.Distinct.{AreDistinct};
 ghost use Rattle.bf_read.specs.Gives.{Gives};
 ghost use Rattle.bf_read.specs.Ids.{is_id};
-ghost use Rattle.bf_read.specs.Drafts.{edge_count as edges, pulled_in, AreTasks, MayFollow};
+ghost use Rattle.bf_read.specs.Drafts.{number_of_edges, pulled_in, AreTasks, MayFollow};
 ghost use Rattle.bf_read.specs.Fields.{member_of, task_member, limit as limited};
 ghost use Rattle.bf_read.specs.Reading.{fresh as new, place_at as place, work_at as work, demand_at as demand, task_at as task, tasks_from, tasks_at as tasks};
 ghost use Rattle.bf_read.specs.Limits.{most_edges, most_tasks, most_words, most_pulls, most_retries, longest_retry_delay, most_slots, greatest_weight};
@@ -79,12 +79,12 @@ fn fresh(tasks: &[TaskDraft], id: Text) -> Result<Text, ReadFault>
 
 #[tactic(auto, unfolding(crate::specs::Reading::place_at))]
 fn place_of(alloc: Global, tasks: &[TaskDraft], task: TaskObject) -> Result<TaskPlace, ReadFault>
-    requires { edges tasks.now ≤ most_edges }
+    requires { number_of_edges tasks.now ≤ most_edges }
     ensures exact { Gives (λ p. p) result (place tasks.now (task_member task.entry.n (view task.entry.value.now))) }
     ensures fresh { IfOk result (λ p. list_any (λ task. bytes_eq p.id task.id) tasks.now ≡ false) }
     ensures id { IfOk result (λ p. is_id p.id ≡ true) }
     ensures distinct { IfOk result (λ p. AreDistinct p.upstreams) }
-    ensures few { IfOk result (λ p. edges tasks.now + length p.upstreams ≤ most_edges) }
+    ensures few { IfOk result (λ p. number_of_edges tasks.now + length p.upstreams ≤ most_edges) }
 {
     let id = id_at(alloc, task.at(TaskKey::Id))?;
     let id = fresh(tasks, id)?;
@@ -155,7 +155,7 @@ fn task_of(
     n: u32,
     value: &Value,
 ) -> Result<TaskDraft, ReadFault>
-    requires { edges tasks.now ≤ most_edges }
+    requires { number_of_edges tasks.now ≤ most_edges }
     ensures exact { Gives (λ t. t) result (task tasks.now n (view value.now)) }
     ensures follows { IfOk result (MayFollow tasks.now) }
 {

@@ -5,3 +5,6 @@ returns-clause-accepted c =
     let parts = c.in_ok-parts.parts in
     let are = c.in_ok-parts.ensures in
     record { graph = are.ok; scheduled = record { spec = parts.schedule; fires = are.schedule; zone = parts.zone; zone_is = are.zone } }
+
+pub returns-clause-zone : goal.returns-clause-zone
+returns-clause-zone c = rw c.in_ok-planned.ensures.zone c.in_ok-parts.ensures.zone

@@ -1,0 +1,120 @@
+//! Tasks that are expanded.
+ghost use Rattle.std.specs.Prelude.{◌≡◌, ◌&&◌, ℕ, List, length, map, not, option_map, is_some, position, IfOk, IfErr, OnOk};
+ghost use Rattle.std.specs.List.{zip};
+ghost use Rattle.bf_rule.specs.Verdicts.{is_waiting};
+ghost use Rattle.bf_check.specs.Checking.{number_or_0, rule_of, shape_in};
+ghost use Rattle.bf_check.specs.Looks.{source_found, source_in};
+ghost use Rattle.bf_check.specs.Refusals.{expands_branch, HasNoFault, HasNoneBelow, IsFaultOf};
+ghost use Rattle.bf_check.specs.Schedules.{IsScheduled};
+
+use crate::edges::place_of;
+use crate::fault::{CheckFault, TaskFault};
+use crate::looks::Looks;
+use bf_graph::Graph;
+use bf_read::{TaskDraft, TaskKind};
+use bf_rule::Rule;
+use bf_value::OutOfMemory;
+use std::alloc::Global;
+
+/// The number of the task over whose items a task is expanded, if it is; nothing where that isn't upstream.
+fn source_of(task: &TaskDraft, upstreams: &[u32]) -> Option<Option<u32>>
+    requires { length upstreams.now ≡ length task.now.upstreams }
+    ensures { (ids : List (List ℕ)) → upstreams.now ≡ map (number_or_0 ids) task.now.upstreams → result ≡ source_found ids task.now }
+{
+    let Some(id) = &task.expand else {
+        return Some(None);
+    };
+    let place = place_of(task.upstreams.as_slice(), id.as_str())?;
+    Some(Some(upstreams[place]))
+}
+
+/// The place of the first task that is expanded, and may be decided before its upstreams are settled.
+fn first_expanded_early(tasks: &[TaskDraft], rules: &[Rule]) -> Option<usize>
+    ensures { result ≡ position (λ both. is_some both.0.expand && not (is_waiting both.1)) (zip tasks.now rules.now) }
+{
+    tasks
+        .iter()
+        .zip(rules)
+        .position(|(task, rule)| task.expand.is_some() && !rule.waits())
+}
+
+/// The place of the first branch that is expanded.
+fn first_expanded_branch(tasks: &[TaskDraft]) -> Option<usize>
+    ensures { result ≡ position expands_branch tasks.now }
+{
+    tasks.iter().position(|task| task.expand.is_some() && task.kind == TaskKind::Branch)
+}
+
+impl Looks<'_> {
+    /// The source of each task, or nothing where that isn't upstream.
+    fn sources_of_each(
+        &self,
+        alloc: Global,
+        graph: &Graph,
+    ) -> Result<Vec<Option<Option<u32>>>, OutOfMemory>
+        requires { graph.now ≡ shape_in self.now.draft.now.tasks }
+        ensures { IfOk result (λ found. found.items ≡ map (source_found self.now.ids.now) self.now.draft.now.tasks) }
+    {
+        let mut found = Vec::new(alloc);
+        for (t, task) in self.draft.tasks.as_slice().iter().enumerate() {
+            found.push(source_of(task, graph.upstreams(t as u32)))?;
+        }
+        Ok(found)
+    }
+
+    /// The look 15: the source of each task.
+    fn upstream_sources(&self, alloc: Global, graph: &Graph) -> Result<Vec<Option<u32>>, CheckFault>
+        requires graph { graph.now ≡ shape_in self.now.draft.now.tasks }
+        requires below { HasNoneBelow self.now.draft.now 15 }
+        requires scheduled { IsScheduled self.now.draft.now (option_map (λ s. s.now) self.now.zone_file) }
+        ensures sources { IfOk result (λ sources. sources.items ≡ map (source_in self.now.ids.now) self.now.draft.now.tasks) }
+        ensures ok { OnOk result (HasNoneBelow self.now.draft.now 16) }
+        ensures err { IfErr result (IsFaultOf self.now.draft.now (option_map (λ s. s.now) self.now.zone_file)) }
+    {
+        let found = self.sources_of_each(alloc, graph)?;
+        self.found_of_each(alloc, TaskFault::ExpandSource, found)
+    }
+
+    /// The look 16 at rules that don't wait.
+    fn refuse_early_expansions(&self, alloc: Global, rules: &[Rule]) -> Result<(), CheckFault>
+        requires rules { rules.now ≡ map rule_of self.now.draft.now.tasks }
+        requires below { HasNoneBelow self.now.draft.now 16 }
+        requires scheduled { IsScheduled self.now.draft.now (option_map (λ s. s.now) self.now.zone_file) }
+        ensures ok { OnOk result (HasNoneBelow self.now.draft.now 17) }
+        ensures err { IfErr result (IsFaultOf self.now.draft.now (option_map (λ s. s.now) self.now.zone_file)) }
+    {
+        let early = first_expanded_early(self.draft.tasks.as_slice(), rules);
+        self.refuse_at(alloc, TaskFault::ExpandRule, early)
+    }
+
+    /// The look 17 at branches.
+    fn refuse_expanded_branches(&self, alloc: Global) -> Result<(), CheckFault>
+        requires below { HasNoneBelow self.now.draft.now 17 }
+        requires scheduled { IsScheduled self.now.draft.now (option_map (λ s. s.now) self.now.zone_file) }
+        ensures ok { OnOk result (HasNoFault self.now.draft.now) }
+        ensures err { IfErr result (IsFaultOf self.now.draft.now (option_map (λ s. s.now) self.now.zone_file)) }
+    {
+        let branch = first_expanded_branch(self.draft.tasks.as_slice());
+        self.refuse_at(alloc, TaskFault::BranchMisuse, branch)
+    }
+    /// The looks 15 to 17: the source of each task.
+    pub(crate) fn sources(
+        &self,
+        alloc: Global,
+        graph: &Graph,
+        rules: &[Rule],
+    ) -> Result<Vec<Option<u32>>, CheckFault>
+        requires graph { graph.now ≡ shape_in self.now.draft.now.tasks }
+        requires rules { rules.now ≡ map rule_of self.now.draft.now.tasks }
+        requires below { HasNoneBelow self.now.draft.now 15 }
+        requires scheduled { IsScheduled self.now.draft.now (option_map (λ s. s.now) self.now.zone_file) }
+        ensures sources { IfOk result (λ sources. sources.items ≡ map (source_in self.now.ids.now) self.now.draft.now.tasks) }
+        ensures ok { OnOk result (HasNoFault self.now.draft.now) }
+        ensures err { IfErr result (IsFaultOf self.now.draft.now (option_map (λ s. s.now) self.now.zone_file)) }
+    {
+        let sources = self.upstream_sources(alloc, graph)?;
+        self.refuse_early_expansions(alloc, rules)?;
+        self.refuse_expanded_branches(alloc)?;
+        Ok(sources)
+    }
+}

@@ -1,0 +1,78 @@
+//! Looking through a draft for faults: of all tasks that have one the first in the file is named.
+ghost use Rattle.std.specs.Prelude.{◌≡◌, ◌<◌, suc, is_none, map, option_map, position, None, Some, IfOk, IfErr, OnOk};
+ghost use Rattle.bf_check.specs.Checking.{ids_of};
+ghost use Rattle.bf_check.specs.Looks.{IsPlaceOfFirst};
+ghost use Rattle.bf_check.specs.Refusals.{number, HasNoneBelow, IsFaultOf};
+ghost use Rattle.bf_check.specs.Schedules.{IsScheduled};
+
+use crate::fault::{CheckFault, TaskFault};
+use bf_graph::Ids;
+use bf_read::Draft;
+use bf_value::OutOfMemory;
+use std::alloc::Global;
+
+/// A draft that is looked through for faults, with the ids of its tasks and the bytes for the zone `file`.
+#[derive(Clone, Copy)]
+pub(crate) struct Looks<'a> {
+    pub(crate) ids: &'a Ids,
+    pub(crate) draft: &'a Draft,
+    pub(crate) zone_file: Option<&'a [u8]>,
+    ghost of_draft: { ids.now ≡ ids_of draft.now.tasks },
+}
+
+fn first_missing<T>(found: &[Option<T>]) -> Option<usize>
+    ensures { result ≡ position is_none found.now }
+{
+    found.iter().position(|one| one.is_none())
+}
+
+/// All that was found, where nothing is missing.
+fn all_of<T: Drop>(alloc: Global, found: Vec<Option<T>>) -> Result<Vec<T>, OutOfMemory>
+    requires { position is_none found.items ≡ None }
+    ensures { IfOk result (λ all. map Some all.items ≡ found.items) }
+{
+    Ok(found.into_iter().filter_map(|one| one).collect(alloc)?)
+}
+
+impl Looks<'_> {
+    /// Refuses a draft of which some task has this fault: the first of them stands at this place.
+    pub(crate) fn refuse_at(
+        &self,
+        alloc: Global,
+        fault: TaskFault,
+        place: Option<usize>,
+    ) -> Result<(), CheckFault>
+        requires first { IsPlaceOfFirst self.now.draft.now fault place }
+        requires below { HasNoneBelow self.now.draft.now (number fault) }
+        requires scheduled { 13 < number fault → IsScheduled self.now.draft.now (option_map (λ s. s.now) self.now.zone_file) }
+        ensures none { OnOk result (place ≡ None) }
+        ensures ok { OnOk result (HasNoneBelow self.now.draft.now (suc (number fault))) }
+        ensures err { IfErr result (IsFaultOf self.now.draft.now (option_map (λ s. s.now) self.now.zone_file)) }
+    {
+        match place {
+            Some(place) => {
+                let id = self.draft.tasks.as_slice()[place].id.copy(alloc)?;
+                Err(CheckFault::Task(fault, id))
+            }
+            None => Ok(()),
+        }
+    }
+
+    /// What was found of each task. A task of which nothing was found has this fault.
+    pub(crate) fn found_of_each<T: Drop>(
+        &self,
+        alloc: Global,
+        fault: TaskFault,
+        found: Vec<Option<T>>,
+    ) -> Result<Vec<T>, CheckFault>
+        requires first { IsPlaceOfFirst self.now.draft.now fault (position is_none found.items) }
+        requires below { HasNoneBelow self.now.draft.now (number fault) }
+        requires scheduled { 13 < number fault → IsScheduled self.now.draft.now (option_map (λ s. s.now) self.now.zone_file) }
+        ensures found { IfOk result (λ each. map Some each.items ≡ found.items) }
+        ensures ok { OnOk result (HasNoneBelow self.now.draft.now (suc (number fault))) }
+        ensures err { IfErr result (IsFaultOf self.now.draft.now (option_map (λ s. s.now) self.now.zone_file)) }
+    {
+        self.refuse_at(alloc, fault, first_missing(found.as_slice()))?;
+        Ok(all_of(alloc, found)?)
+    }
+}
