@@ -1,5 +1,5 @@
 -- Which of the faults of a draft is answered.
-use Rattle.std.proofs.Common.{◌≡◌, ℕ, suc, ◌<◌, ◌≤◌, ◌==◌, List, [], ◌∷◌, length, map, get_or, slice_get, Bool, true, false, true≢false, Option, option_map, Some, None, if◌then◌else◌, refl, sym, ap, ◌∙◌, arith}
+use Rattle.std.proofs.Common.{◌≡◌, ℕ, ◌<◌, ◌≤◌, ◌==◌, List, [], ◌∷◌, length, map, get_or, slice_get, Bool, true, false, true≢false, Option, option_map, Some, None, if◌then◌else◌, refl, sym, ap, ◌∙◌, arith}
 use Rattle.std.specs.List.{position, zip}
 use Rattle.std.proofs.lemmas.List.{length-map}
 use Rattle.std.proofs.lemmas.List.Quantifiers.{position-Some}
@@ -42,17 +42,6 @@ fault_at-number BranchMisuse = refl
 -- a number is that of one fault
 pub one_number : (a b : TaskFault) → number a ≡ number b → a ≡ b
 one_number a b e = let both : Some a ≡ Some b = sym (fault_at-number a) ∙ ap fault_at e ∙ fault_at-number b in cc
-
--- no fault of a task has the number of the cycle
-beside_cycle : (fault : TaskFault) → 7 < suc (number fault) → 7 < number fault
-beside_cycle UnknownUpstream h = absurd (omega (arith, h))
-beside_cycle UnknownPool h = omega arith
-beside_cycle SlotsBeyondPool h = omega arith
-beside_cycle BadRule h = omega arith
-beside_cycle PullNotSettled h = omega arith
-beside_cycle ExpandSource h = omega arith
-beside_cycle ExpandRule h = omega arith
-beside_cycle BranchMisuse h = omega arith
 
 -- ---- below a number
 

@@ -1,8 +1,9 @@
 -- Lists, looked at one after another.
 use Rattle.std.proofs.Common.{◌≡◌, ◌⊎◌, inl, inr, ℕ, zero, suc, ◌<◌, ◌+◌, List, [], ◌∷◌, ◌++◌, length, get_or, slice_get, map, take, drop, Contains, subst, Bool, true, false, cond, nat_lt, Option, Some, None, is_none, option_map, unwrap_or, refl, sym, ap, ◌∙◌, arith, add-one}
-use Rattle.std.specs.List.{filter_map, join_with_byte, position, position_or_len, zip}
+use Rattle.std.specs.List.{filter_map, join_with_byte, list_any, position, position_or_len, zip}
 use Rattle.std.proofs.lemmas.Bool.{cases_lt, lt-ltb, ltb-true, ltb-false, false_from_ne_true}
 use Rattle.std.proofs.lemmas.List.{append_assoc, get_or_default, map_push}
+use Rattle.std.proofs.lemmas.List.Folds.{list_any_at}
 use Rattle.std.proofs.lemmas.List.Sums.{position_or_len_is, fails_before_first}
 use Rattle.std.proofs.lemmas.Option.{get_or_from_slice_get, slice_get_read, slice_get_within}
 use Rattle.std.proofs.Math.Seq.{take-suc}
@@ -36,6 +37,10 @@ item_at (x ∷ xs) (suc k) h = item_at xs k (omega (arith, h))
 
 pub item_contained : {X : Type 0} (xs : List X) (k : ℕ) (d : X) → k < length xs → Contains xs (get_or xs k d)
 item_contained xs k d h = (k, h, get_or_default xs k (get_or xs k d) d h)
+
+-- a test that passes one of the list
+pub any_contained : {X : Type 0} (p : X → Bool) (xs : List X) (x : X) → Contains xs x → p x ≡ true → list_any p xs ≡ true
+any_contained p xs x (k, within, is) passes = list_any_at p xs k x within (ap p is ∙ passes)
 
 -- what is given or not by a test
 pub none_by_test : {X : Type 0} (b : Bool) (x : X) → is_none (cond b None (Some x)) ≡ b

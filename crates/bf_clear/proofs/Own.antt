@@ -5,7 +5,7 @@ use Rattle.std.specs.Ordering.{int_eq}
 use Rattle.std.specs.Str.{bytes_eq}
 use Rattle.std.specs.Cmp.Lexicographic.{bytes_decides}
 use Rattle.std.proofs.Math.Bool.{or-true}
-use Rattle.std.proofs.lemmas.Bool.{and_parts}
+use Rattle.std.proofs.lemmas.Bool.{and_parts, and_from}
 use Rattle.std.proofs.lemmas.Bool.Decides.{Decides-int_eq}
 use Rattle.std.proofs.lemmas.List.{length-map}
 use Rattle.std.proofs.lemmas.Option.{get_or_from_slice_get, slice_get-get_or}
@@ -14,7 +14,6 @@ use Rattle.bf_check.specs.declared.plan.Task.{Task}
 use Rattle.bf_check.specs.Plans.{no_task}
 use Rattle.bf_core.specs.Terms.{Dag, Given, Ledger, TaskResult, Xval, IsOneOf, IsSettledAncestor, IsSound, result_of, task_of}
 use Rattle.bf_core.specs.declared.deciding.Decision.{Decision}
-use Rattle.bf_core.specs.declared.state.Cell.{Cell}
 use Rattle.bf_core.specs.Recursion.{decided}
 use Rattle.bf_core.specs.Agreement.{final_cell, finished_from}
 use Rattle.bf_core.proofs.Depth.{pick}
@@ -23,11 +22,9 @@ use Rattle.bf_report.specs.declared.report.InstanceReport.{InstanceReport}
 use Rattle.bf_report.specs.declared.report.RunReport.{RunReport}
 use Rattle.bf_report.specs.declared.report.Report.{Report}
 use Rattle.bf_report.specs.Dated.{pulls_of, instance_report, reported, reported_instance, reported_instances, cell_by, reports_from, ids_shown, AreDated, IsDated}
+use Rattle.bf_report.proofs.DatedFacts.{length-reports_from}
 use Rattle.bf_clear.specs.Matching.{has_id, are_ids_of, is_pull_of, has_pulls_of, is_task_of, are_tasks_of, is_same_interval, is_run_of, are_runs_of, is_report_of}
 use Rattle.bf_clear.proofs.Told.{decided-pulled}
-
-and-of : (a b : Bool) → a ≡ true → b ≡ true → (a && b) ≡ true
-and-of a b e f = rw (e, f) refl
 
 same-count : (m n : ℕ) → m ≡ n → (m == n) ≡ true
 same-count m n e = grind (arith, e)
@@ -39,16 +36,16 @@ same-moment : (n : _) → int_eq n n ≡ true
 same-moment n = (Decides-int_eq n n).1 refl
 
 same-interval : (i : Interval) → is_same_interval i i ≡ true
-same-interval i = and-of _ _ (same-moment i.start.nanosecond) (same-moment i.end.nanosecond)
+same-interval i = and_from _ _ (same-moment i.start.nanosecond) (same-moment i.end.nanosecond)
 
 -- ---- ids
 
 each-id : (tasks : List Task) → list_all (λ p. has_id (Some p.1) p.0) (zip (map (λ task. task.id) tasks) tasks) ≡ true
 each-id [] = refl
-each-id (task ∷ tasks) = and-of _ _ (same-bytes task.id) (each-id tasks)
+each-id (task ∷ tasks) = and_from _ _ (same-bytes task.id) (each-id tasks)
 
 ids-are : (tasks : List Task) → are_ids_of (map (λ task. task.id) tasks) tasks ≡ true
-ids-are tasks = and-of _ _ (same-count _ _ (length-map tasks (λ (task : Task). task.id))) (each-id tasks)
+ids-are tasks = and_from _ _ (same-count _ _ (length-map tasks (λ (task : Task). task.id))) (each-id tasks)
 
 ids-shown : (dag : Dag) (intervals : List Interval) → (length intervals == 0 || are_ids_of (ids_shown dag intervals) dag.tasks) ≡ true
 ids-shown dag [] = refl
@@ -66,7 +63,7 @@ pull-is dag p l = ap (λ o. has_id o (task_of dag p).id) (slice_get-get_or dag.t
 
 each-pull : (dag : Dag) (f : ℕ → Option Xval) (ps : List ℕ) → ((p : ℕ) → IsOneOf ps p → p < length dag.tasks) → list_all (λ q. is_pull_of dag q.0 q.1) (zip (pulls_of dag ps (map f ps)) ps) ≡ true
 each-pull dag f [] low = refl
-each-pull dag f (p ∷ ps) low = and-of _ _ (pull-is dag p (low p (inl refl))) (each-pull dag f ps (λ q one. low q (inr one)))
+each-pull dag f (p ∷ ps) low = and_from _ _ (pull-is dag p (low p (inl refl))) (each-pull dag f ps (λ q one. low q (inr one)))
 
 pulls-len : (dag : Dag) (f : ℕ → Option Xval) (ps : List ℕ) → length (pulls_of dag ps (map f ps)) ≡ length ps
 pulls-len dag f [] = refl
@@ -75,7 +72,7 @@ pulls-len dag f (p ∷ ps) = ap suc (pulls-len dag f ps)
 has-pulls : (dag : Dag) → IsSound dag → (t : ℕ) (f : ℕ → Option Xval) (g : Given) (r : TaskResult) → g.pulled ≡ map f (task_of dag t).pulls → has_pulls_of dag (task_of dag t) (instance_report dag t g r) ≡ true
 has-pulls dag sound t f g r same =
     ap (λ vs. (length (pulls_of dag (task_of dag t).pulls vs) == length (task_of dag t).pulls) && list_all (λ q. is_pull_of dag q.0 q.1) (zip (pulls_of dag (task_of dag t).pulls vs) (task_of dag t).pulls)) same
-    ∙ and-of _ _ (same-count _ _ (pulls-len dag f (task_of dag t).pulls)) (each-pull dag f (task_of dag t).pulls low)
+    ∙ and_from _ _ (same-count _ _ (pulls-len dag f (task_of dag t).pulls)) (each-pull dag f (task_of dag t).pulls low)
   where
     low : (p : ℕ) → IsOneOf (task_of dag t).pulls p → p < length dag.tasks
     low p one = settled-in dag sound t p (pick (IsSettledAncestor dag t) (task_of dag t).pulls p (sound.pulls_settled t) one)
@@ -85,7 +82,7 @@ has-pulls dag sound t f g r same =
 each-instance : (dag : Dag) (t : ℕ) (f : ℕ → TaskResult) (from : ℕ) (gs : List Given) → ((i : ℕ) (g : Given) (r : TaskResult) → slice_get gs i ≡ Some g → has_pulls_of dag (task_of dag t) (instance_report dag t g r) ≡ true) →
     list_all (has_pulls_of dag (task_of dag t)) (filter_map (reported_instance dag t) (finished_from f from gs)) ≡ true
 each-instance dag t f from [] has = refl
-each-instance dag t f from (g ∷ gs) has = and-of _ _ (has 0 g (record { outcome = (f from).outcome; tries = (f from).tries }) refl) (each-instance dag t f (suc from) gs (λ i h r e. has (suc i) h r e))
+each-instance dag t f from (g ∷ gs) has = and_from _ _ (has 0 g (record { outcome = (f from).outcome; tries = (f from).tries }) refl) (each-instance dag t f (suc from) gs (λ i h r e. has (suc i) h r e))
 
 by-kind : (dag : Dag) (task : Task) (b : Bool) (xs : List InstanceReport) → list_all (has_pulls_of dag task) xs ≡ true → is_task_of Version.Two dag (reported_instances b xs) task ≡ true
 by-kind dag task true xs all = all
@@ -111,17 +108,13 @@ each-task dag sound ledger k from [] is = refl
 each-task dag sound ledger k from (task ∷ tasks) is =
     let at : from + 0 ≡ from = omega arith in
     let same : task ≡ task_of dag from = is 0 task refl ∙ ap (task_of dag) at in
-    and-of _ _ (ap (is_task_of Version.Two dag (reported dag from (cell_by dag ledger k from))) same ∙ task-is dag sound ledger k from)
+    and_from _ _ (ap (is_task_of Version.Two dag (reported dag from (cell_by dag ledger k from))) same ∙ task-is dag sound ledger k from)
     (each-task dag sound ledger k (suc from) tasks (λ i other e. let next : from + suc i ≡ suc from + i = omega arith in is (suc i) other e ∙ ap (task_of dag) next))
-
-tasks-len : (dag : Dag) (cell : ℕ → Cell) (from : ℕ) (tasks : List Task) → length (reports_from dag cell from tasks) ≡ length tasks
-tasks-len dag cell from [] = refl
-tasks-len dag cell from (task ∷ tasks) = ap suc (tasks-len dag cell (suc from) tasks)
 
 tasks-are : (dag : Dag) → IsSound dag → (ledger : Ledger) (k : ℕ) → are_tasks_of Version.Two dag (reports_from dag (cell_by dag ledger k) 0 dag.tasks) ≡ true
 unfolding task_of
 tasks-are dag sound ledger k =
-    and-of _ _ (same-count _ _ (tasks-len dag (cell_by dag ledger k) 0 dag.tasks))
+    and_from _ _ (same-count _ _ (length-reports_from dag (cell_by dag ledger k) 0 dag.tasks))
     (each-task dag sound ledger k 0 dag.tasks (λ i task e. let at : i ≡ 0 + i = omega arith in sym (get_or_from_slice_get dag.tasks i task no_task e) ∙ ap (task_of dag) at))
 
 -- ---- runs
@@ -138,13 +131,13 @@ each-run dag sound ledger from [] [] are = refl
 each-run dag sound ledger from [] (r ∷ rs) are = absurd are
 each-run dag sound ledger from (i ∷ is) [] are = absurd are
 each-run dag sound ledger from (i ∷ is) (r ∷ rs) are =
-    and-of _ _
-    (and-of _ _ (ap (λ j. is_same_interval j i) are.0 ∙ same-interval i) (ap (are_tasks_of Version.Two dag) are.2 ∙ tasks-are dag sound ledger from))
+    and_from _ _
+    (and_from _ _ (ap (λ j. is_same_interval j i) are.0 ∙ same-interval i) (ap (are_tasks_of Version.Two dag) are.2 ∙ tasks-are dag sound ledger from))
     (each-run dag sound ledger (suc from) is rs are.3)
 
 pub own-report : (dag : Dag) → IsSound dag → (intervals : List Interval) (ledger : Ledger) (report : Report) → IsDated dag intervals ledger report → is_report_of dag intervals report ≡ true
 unfolding is_report_of
 own-report dag sound intervals ledger report is =
-    and-of _ _ (ap (λ b. bytes_eq b dag.id) is.dag_id ∙ same-bytes dag.id)
-    (and-of _ _ (ap (λ ids. length intervals == 0 || are_ids_of ids dag.tasks) is.tasks ∙ ids-shown dag intervals)
-    (ap (λ v. are_runs_of v dag report.runs intervals) is.version ∙ and-of _ _ (same-count _ _ (runs-len dag ledger 0 intervals report.runs is.runs)) (each-run dag sound ledger 0 intervals report.runs is.runs)))
+    and_from _ _ (ap (λ b. bytes_eq b dag.id) is.dag_id ∙ same-bytes dag.id)
+    (and_from _ _ (ap (λ ids. length intervals == 0 || are_ids_of ids dag.tasks) is.tasks ∙ ids-shown dag intervals)
+    (ap (λ v. are_runs_of v dag report.runs intervals) is.version ∙ and_from _ _ (same-count _ _ (runs-len dag ledger 0 intervals report.runs is.runs)) (each-run dag sound ledger 0 intervals report.runs is.runs)))

@@ -11,7 +11,8 @@ use Rattle.bf_core.specs.declared.state.Cell.{Cell}
 use Rattle.bf_core.specs.Recursion.{out, decided, Asks}
 use Rattle.bf_core.specs.Events.{place_in}
 use Rattle.bf_core.specs.Agreement.{finished_from, final_cell, HoldsItsTries}
-use Rattle.bf_core.proofs.Attempts.{last_try-from}
+use Rattle.bf_core.proofs.Attempts.{last_try-from, decide_lt}
+use Rattle.bf_core.proofs.Steps.{failed-is}
 use Rattle.bf_report.specs.declared.report.Version.{Version}
 use Rattle.bf_report.specs.declared.report.InstanceReport.{InstanceReport}
 use Rattle.bf_report.specs.declared.report.Pull.{Pull}
@@ -23,18 +24,10 @@ use Rattle.bf_clear.specs.Entries.{report_at, instance_at, found_at, given_in, e
 
 -- ---- tries
 
-failed-is : (o : Outcome) → is_failed o ≡ true → o ≡ Outcome.Failed
-failed-is Outcome.Failed e = refl
-failed-is (Outcome.Success v) e = cc
-failed-is Outcome.Skipped e = cc
-
-here-or : (a b : ℕ) → a ≤ b → (a ≡ b) ⊎ (suc a ≤ b)
-here-or a b h = grind arith
-
 -- each try before the last one failed
 last_try-failed : (f : ℕ → Outcome) (a left b : ℕ) → a ≤ b → b < last_try f a left → f b ≡ Outcome.Failed
 last_try-failed f a zero b from to = absurd (omega (arith, from, to))
-last_try-failed f a (suc left) b from to = go (is_failed (f a)) refl (here-or a b from) (λ m l. last_try-failed f (suc a) left b m l) to
+last_try-failed f a (suc left) b from to = go (is_failed (f a)) refl (decide_lt a b from) (λ m l. last_try-failed f (suc a) left b m l) to
   where
     go : (c : Bool) → is_failed (f a) ≡ c → (a ≡ b) ⊎ (suc a ≤ b) → (suc a ≤ b → b < last_try f (suc a) left → f b ≡ Outcome.Failed) →
         b < (if c then last_try f (suc a) left else a) → f b ≡ Outcome.Failed

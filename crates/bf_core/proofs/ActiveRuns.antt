@@ -13,7 +13,7 @@ unfoldable pub one_open : RunPhase → ℕ
 one_open p = if is_open p then 1 else 0
 
 -- a decided task leaves as many runs open
-put-active : (s : State) (k t : ℕ) (c : Cell) → open_now (put s k t c) ≡ open_now s
+pub put-active : (s : State) (k t : ℕ) (c : Cell) → open_now (put s k t c) ≡ open_now s
 unfolding put_in one_open
 put-active s k t c = go (decide_in k (length s.runs))
   where

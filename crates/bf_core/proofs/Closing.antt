@@ -1,13 +1,13 @@
 -- The states of closed runs.
 use Rattle.std.proofs.Common.{◌≡◌, ◌<◌, ℕ, suc, zero, Bool, true, false, not, ◌&&◌, ◌||◌, if◌then◌else◌, length, ◌+◌, slice_index_or, slice_get, slice_set, List, [], ◌∷◌, Option, None, Some, is_some, option_map, refl, sym, ap, ap₂, ◌∙◌, inl, inr, arith}
 use Rattle.std.specs.List.{list_all, list_any}
+use Rattle.std.proofs.lemmas.Bool.{and_parts}
 use Rattle.bf_core.specs.Terms.{Dag, State, Run, RunPhase, RunState, Cell, Instance, Phase, TaskResult, TaskValue, is_failed}
 use Rattle.bf_core.specs.Recursion.{fails_run, any_below, run_state_of}
 use Rattle.bf_core.specs.Events.{no_run, row_of, value_in, phase_in, cell_in, entry_in, is_closed, HasEnded, results, cons_result, value_or_blocked}
 use Rattle.bf_core.specs.Agreement.{IsOutcome, AreRunStates}
 use Rattle.bf_core.specs.Checks.{AreStatesOf, row_value}
 use Rattle.bf_core.proofs.Placing.{any-default}
-use Rattle.bf_core.proofs.Decisions.{and_left, and_right}
 use Rattle.bf_core.specs.Words.{is_failed_phase, is_failed_instance, instances_fail}
 use Rattle.bf_core.proofs.Sums.{some-results}
 use Rattle.bf_core.proofs.Numbers.{below-or}
@@ -61,8 +61,8 @@ is_closed-is RunPhase.Unopened e = cc
 
 closed-from : (rs : List Run) → list_all (λ r. is_closed r.phase) rs ≡ true → (k : ℕ) → k < length rs → (slice_index_or rs k no_run).phase ≡ RunPhase.Closed
 closed-from [] e k l = absurd (omega (arith, l))
-closed-from (r ∷ rs) e zero l = is_closed-is r.phase (and_left (is_closed r.phase) _ e)
-closed-from (r ∷ rs) e (suc k) l = closed-from rs (and_right (is_closed r.phase) _ e) k (omega arith)
+closed-from (r ∷ rs) e zero l = is_closed-is r.phase (and_parts (is_closed r.phase) _ e).0
+closed-from (r ∷ rs) e (suc k) l = closed-from rs (and_parts (is_closed r.phase) _ e).1 k (omega arith)
 
 closed-back : (rs : List Run) → ((k : ℕ) → k < length rs → (slice_index_or rs k no_run).phase ≡ RunPhase.Closed) → list_all (λ r. is_closed r.phase) rs ≡ true
 closed-back [] h = refl

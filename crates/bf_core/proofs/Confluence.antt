@@ -10,7 +10,7 @@ use Rattle.bf_core.specs.Agreement.{final_cell, finished_from, HoldsItsTries, Is
 use Rattle.bf_core.proofs.Attempts.{last_try-same, last_try-from}
 use Rattle.bf_core.proofs.Depth.{decision-cong, out-is, pick, pull-below}
 
-ancestor-in : (dag : Dag) (sound : IsSound dag) (t a : ℕ) → IsSettledAncestor dag t a → a < length dag.tasks
+pub ancestor-in : (dag : Dag) (sound : IsSound dag) (t a : ℕ) → IsSettledAncestor dag t a → a < length dag.tasks
 ancestor-in dag sound t a (Direct w h) = sound.in_range t a h
 ancestor-in dag sound t a (Above {u = u} w h above) = ancestor-in dag sound u a above
 

@@ -1,6 +1,7 @@
 -- A decision that was taken is not revised by what becomes known later.
 use Rattle.std.proofs.Common.{◌≡◌, ◌≢◌, ℕ, Bool, true, false, not, ◌&&◌, ◌||◌, ◌==◌, if◌then◌else◌, List, [], ◌∷◌, map, Option, None, Some, is_some, option_and_then, refl, sym, ap, ap₂, ◌∙◌, arith}
 use Rattle.std.specs.List.{list_any, list_all, AllByRecursion}
+use Rattle.std.proofs.lemmas.Bool.{and_parts, and_from}
 use Rattle.bf_core.specs.Terms.{Dag, Task, task_of, Xval, Verdict, verdict, TaskValue, pull, items, is_branch}
 use Rattle.bf_core.specs.Deciding.{Seen, lets_decide, branch_is, ruling, counts_over, past_ruling, and_then_past, Decision, pull_seen, pulled, instances, mapped, after_verdict, gate, decision, branch_skips, is_blocked}
 use Rattle.bf_rule.proofs.Later.{IsLater, add-later, verdict-stable}
@@ -13,17 +14,6 @@ pub record IsSeenLater (a b : Seen) : Type 0 where
   pub counts : IsLater a.counts b.counts
   pub value : StaysKnown a.value b.value
 
-pub and_left : (a b : Bool) → (a && b) ≡ true → a ≡ true
-and_left true b e = refl
-and_left false b e = e
-
-pub and_right : (a b : Bool) → (a && b) ≡ true → b ≡ true
-and_right true b e = e
-and_right false b e = cc
-
-pub both : (a b : Bool) → a ≡ true → b ≡ true → (a && b) ≡ true
-both a b p q = rw (p, q)
-
 known-later : (a b : Option TaskValue) (c : Bool) → StaysKnown a b → (is_some a || c) ≡ true → (is_some b || c) ≡ true
 known-later None None c stays e = e
 known-later None (Some w) c stays e = refl
@@ -33,14 +23,14 @@ all-later : (dag : Dag) (task : Task) (a b : ℕ → Seen) → ((u : ℕ) → Is
     list_all (lets_decide dag task a) us ≡ true → list_all (lets_decide dag task b) us ≡ true
 all-later dag task a b later [] e = refl
 all-later dag task a b later (u ∷ us) e =
-    both _ _ (known-later (a u).value (b u).value _ (later u).value (and_left _ _ e)) (all-later dag task a b later us (and_right _ _ e))
+    and_from _ _ (known-later (a u).value (b u).value _ (later u).value (and_parts _ _ e).0) (all-later dag task a b later us (and_parts _ _ e).1)
 
 -- what is asked of a branch is the same, once it is settled
 branch-same : (dag : Dag) (p : TaskValue → Bool) (u : ℕ) (w : Bool) (a b : Option TaskValue) → StaysKnown a b →
     (is_some a || (not w && not (is_branch (task_of dag u)))) ≡ true → branch_is dag p u a ≡ branch_is dag p u b
 branch-same dag p u w (Some v) b stays e = rw (stays v refl)
 branch-same dag p u w None None stays e = refl
-branch-same dag p u w None (Some v) stays e = go (is_branch (task_of dag u)) (and_right (not w) _ e)
+branch-same dag p u w None (Some v) stays e = go (is_branch (task_of dag u)) (and_parts (not w) _ e).1
   where
     go : (x : Bool) → not x ≡ true → false ≡ (x && p v)
     go true h = cc
@@ -51,7 +41,7 @@ any-same : (dag : Dag) (task : Task) (p : ℕ → TaskValue → Bool) (a b : ℕ
     list_any (λ u. branch_is dag (p u) u (a u).value) us ≡ list_any (λ u. branch_is dag (p u) u (b u).value) us
 any-same dag task p a b later [] e = refl
 any-same dag task p a b later (u ∷ us) e =
-    ap₂ (λ x y. x || y) (branch-same dag (p u) u _ (a u).value (b u).value (later u).value (and_left _ _ e)) (any-same dag task p a b later us (and_right _ _ e))
+    ap₂ (λ x y. x || y) (branch-same dag (p u) u _ (a u).value (b u).value (later u).value (and_parts _ _ e).0) (any-same dag task p a b later us (and_parts _ _ e).1)
 
 counts-later : (a b : ℕ → Seen) → ((u : ℕ) → IsSeenLater (a u) (b u)) → (us : List ℕ) → IsLater (counts_over a us) (counts_over b us)
 counts-later a b later [] = record { success = omega arith; failed = omega arith; upstream_failed = omega arith; done = λ e. refl }

@@ -3,6 +3,7 @@ use Rattle.std.proofs.Common.{◌≡◌, ℕ, zero, suc, ◌≤◌, ◌==◌, Bo
 use Rattle.std.specs.List.{AllByRecursion, cons_option, filter_map, list_any}
 use Rattle.std.proofs.lemmas.Bool.Decides.{nat_tests}
 use Rattle.std.proofs.lemmas.List.{length-map}
+use Rattle.std.proofs.lemmas.Bool.{and_parts}
 use Rattle.bf_value.specs.declared.xval.Xval.TheVariants.{Nil, Flag, Int, Text, List as ListOf}
 use Rattle.bf_value.specs.Views.{xvals_of}
 use Rattle.bf_mapped.specs.Items.{items_of}
@@ -14,7 +15,6 @@ use Rattle.bf_core.specs.Terms.{Cell, Dag, Instance, Items, Outcome, Phase, Sour
 use Rattle.bf_core.specs.Events.{cons_result, results, value_in}
 use Rattle.bf_core.specs.Few.{HasFitting, IsFew, IsFitting}
 use Rattle.bf_core.specs.Words.{pushed_by_first, pushed_by_one, pushed_in, sourced_from}
-use Rattle.bf_core.proofs.Decisions.{and_right}
 use Rattle.bf_core.proofs.Pulled.{first-pushed}
 use Rattle.bf_core.proofs.Sums.{some-results}
 use Rattle.bf_core.proofs.Numbers.{le-from}
@@ -110,7 +110,7 @@ few-list : (dag : Dag) (p : ℕ) (v : Option Xval) → fits dag p (Outcome.Succe
 unfolding fits
 few-list dag p v e h =
     or-else (gives_items dag p) (is_list_of_items v)
-    (and_right (not (is_branch (task_of dag p)) || names_downstreams (shape_of dag) p v) _ (and_right (is_short v) _ (and_right (is_value_of_lines v) _ e))) h
+    (and_parts (not (is_branch (task_of dag p)) || names_downstreams (shape_of dag) p v) _ (and_parts (is_short v) _ (and_parts (is_value_of_lines v) _ e).1).1).1 h
 
 few-pushed : (v : Option Xval) → is_list_of_items v ≡ true → AreFewItems (items_of (SourceValues.Pushed v))
 few-pushed None e = tt

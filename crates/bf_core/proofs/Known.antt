@@ -1,11 +1,11 @@
 -- The instance that a name speaks of, and the runs that may be closed.
 use Rattle.std.proofs.Common.{◌≡◌, ◌≢◌, ◌<◌, ℕ, zero, suc, Bool, true, false, ◌&&◌, List, [], ◌∷◌, length, None, Some, is_some, slice_get, slice_index_or, refl, sym, ap, ◌∙◌, arith}
 use Rattle.std.specs.List.{list_all}
+use Rattle.std.proofs.lemmas.Bool.{and_parts}
 use Rattle.bf_core.specs.Terms.{Dag, State, Run, RunPhase, Cell, Instance, Phase, JobName}
 use Rattle.bf_core.specs.Events.{cell_in, cell_at, row_of, phase_in, phase_of, no_run, instance_of, place_in, value_in, is_open, IsPresent, AllSettled}
 use Rattle.bf_core.specs.Cores.{IsThere, IsKnown}
 use Rattle.bf_core.specs.Checks.{HasRows, IsKnownAs}
-use Rattle.bf_core.proofs.Decisions.{and_left, and_right}
 use Rattle.bf_core.proofs.Placing.{read-row, some-below}
 
 -- ---- in range
@@ -55,8 +55,8 @@ present-back dag s n x p known present =
 
 all-at : (p : Cell → Bool) (cells : List Cell) (t : ℕ) → list_all p cells ≡ true → t < length cells → p (slice_index_or cells t Cell.Undecided) ≡ true
 all-at p [] t e l = absurd (omega (arith, l))
-all-at p (c ∷ cs) zero e l = and_left (p c) _ e
-all-at p (c ∷ cs) (suc t) e l = all-at p cs t (and_right (p c) _ e) (omega arith)
+all-at p (c ∷ cs) zero e l = (and_parts (p c) _ e).0
+all-at p (c ∷ cs) (suc t) e l = all-at p cs t (and_parts (p c) _ e).1 (omega arith)
 
 at-all : (p : Cell → Bool) (cells : List Cell) → ((t : ℕ) → t < length cells → p (slice_index_or cells t Cell.Undecided) ≡ true) → list_all p cells ≡ true
 at-all p [] h = refl
@@ -92,8 +92,8 @@ pub closable-from : (dag : Dag) (s : State) → HasRows dag s → (k : ℕ) (row
     (k < length s.runs) × (phase_of s k ≡ RunPhase.Open) × AllSettled dag s k
 closable-from dag s rows k row at e = (
   some-below s.runs k (rw at),
-  phase-read s.runs k row at ∙ is_open-is row.phase (and_left _ _ e),
-  settled-from dag s rows k row at (and_right (is_open row.phase) _ e),
+  phase-read s.runs k row at ∙ is_open-is row.phase (and_parts _ _ e).0,
+  settled-from dag s rows k row at (and_parts (is_open row.phase) _ e).1,
 )
 
 pub not-closable : (dag : Dag) (s : State) → HasRows dag s → (k : ℕ) (row : Run) → slice_get s.runs k ≡ Some row → (is_open row.phase && list_all (λ c. is_some (value_in c)) row.cells) ≡ false →

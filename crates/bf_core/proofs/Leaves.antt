@@ -8,7 +8,9 @@ use Rattle.bf_graph.proofs.PathLemmas.{task_within}
 use Rattle.bf_check.specs.declared.plan.Task.{Task}
 use Rattle.bf_check.specs.declared.plan.Dag.{Dag}
 use Rattle.bf_check.specs.Plans.{no_task, task_of, shape_of}
-use Rattle.bf_pool.proofs.WeightFacts.{tasks_there, upstreams_are, any_at, any_of}
+use Rattle.bf_check.proofs.PlanLemmas.{upstreams_of_task}
+use Rattle.bf_check.proofs.ListLemmas.{any_contained}
+use Rattle.bf_pool.proofs.WeightFacts.{tasks_there, any_of}
 use Rattle.bf_core.specs.Recursion.{is_leaf}
 use Rattle.bf_core.proofs.Placing.{any-default}
 
@@ -17,9 +19,9 @@ unfolding task_of
 named dag t d up =
     let within : d < length dag.tasks = omega (arith, task_within (shape_of dag).upstreams t d up, tasks_there dag) in
     let task : Task = task_of dag d in
-    let up' : Contains task.upstreams t = subst (λ (us : List ℕ). Contains us t) (sym (upstreams_are dag d)) up in
-    any_at (λ task. list_any (λ u. u == t) task.upstreams) dag.tasks task (d, within, any-default dag.tasks d task no_task within)
-    (any_at (λ u. u == t) task.upstreams t up' (eq-eqb t t refl))
+    let up' : Contains task.upstreams t = subst (λ (us : List ℕ). Contains us t) (sym (upstreams_of_task dag d)) up in
+    any_contained (λ task. list_any (λ u. u == t) task.upstreams) dag.tasks task (d, within, any-default dag.tasks d task no_task within)
+    (any_contained (λ u. u == t) task.upstreams t up' (eq-eqb t t refl))
 
 namer : (dag : Dag) (t : ℕ) → list_any (λ task. list_any (λ u. u == t) task.upstreams) dag.tasks ≡ true → (d : ℕ) × IsUpstream (shape_of dag).upstreams t d
 unfolding task_of
@@ -28,7 +30,7 @@ namer dag t e =
     let (u, held, same) = any_of (λ u. u == t) task.upstreams names in
     let is : task ≡ task_of dag d = sym at ∙ any-default dag.tasks d task no_task within in
     let one : Contains task.upstreams t = subst (λ (v : ℕ). Contains task.upstreams v) (eqb-true u t same) held in
-    (d, subst (λ (us : List ℕ). Contains us t) (ap (λ (x : Task). x.upstreams) is ∙ upstreams_are dag d) one)
+    (d, subst (λ (us : List ℕ). Contains us t) (ap (λ (x : Task). x.upstreams) is ∙ upstreams_of_task dag d) one)
 
 -- a task is a leaf where the list of its downstreams is empty
 pub no_downstreams : (dag : Dag) (t : ℕ) (ds : List ℕ) → IsRisingListOf (IsUpstream (shape_of dag).upstreams t) ds → (length ds == 0) ≡ is_leaf dag t

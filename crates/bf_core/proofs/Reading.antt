@@ -1,21 +1,16 @@
 -- Reading a state that was changed.
-use Rattle.std.proofs.Common.{◌≡◌, ◌≢◌, ◌<◌, ℕ, suc, zero, ◌⊎◌, Ordering, Equal, Bool, true, false, List, [], ◌∷◌, length, Some, refl, sym, ap, ◌∙◌, inl, inr, slice_index_or, slice_set, arith}
+use Rattle.std.proofs.Common.{◌≡◌, ◌≢◌, ◌<◌, ℕ, suc, zero, ◌⊎◌, Bool, true, false, List, [], ◌∷◌, length, Some, refl, sym, ap, ◌∙◌, inl, inr, slice_index_or, slice_set, arith}
 use Rattle.std.specs.FinMap as map
-use Rattle.std.specs.Ordering.{eq_by_cmp, is_eq}
-use Rattle.std.specs.Cmp.{eq_by_cmp_equiv, Equal-is}
-use Rattle.bf_core.specs.Terms.{name_cmp, name_cmp_total, name_cmp-IsAntisymmetric, JobName, Entry, State, Run, RunPhase, Cell}
+use Rattle.std.specs.Ordering.{eq_by_cmp}
+use Rattle.std.specs.Cmp.{eq_by_cmp_equiv}
+use Rattle.bf_try.proofs.Maps.{same_name}
+use Rattle.bf_core.specs.Terms.{name_cmp, name_cmp_total, JobName, Entry, State, Run, RunPhase, Cell}
 use Rattle.bf_core.specs.Events.{no_run, cell_at, put, with_phase, cell_in, put_in, phase_put_in, entry_in}
 
 -- ---- entries
 
-is_eq-true : (r : Ordering) → is_eq r ≡ true → r ≡ Equal
-is_eq-true r e = (Equal-is r).0 e
-
 eq-self : (a : JobName) → eq_by_cmp name_cmp a a ≡ true
 eq-self a = (eq_by_cmp_equiv name_cmp_total).refl a
-
-name-from : (a b : JobName) → eq_by_cmp name_cmp a b ≡ true → a ≡ b
-name-from a b e = name_cmp-IsAntisymmetric a b (is_eq-true (name_cmp a b) e)
 
 -- after an entry is written, it is at its name, and the others are as they were
 pub entry-cases : (ledger : map.FinMap name_cmp Entry) (m : JobName) (e : Entry) (n : JobName) →
@@ -24,7 +19,7 @@ entry-cases ledger m e n = go (eq_by_cmp name_cmp n m) refl
   where
     go : (b : Bool) → eq_by_cmp name_cmp n m ≡ b →
         ((n ≡ m) × (entry_in (map.insert ledger m e) n ≡ Some e)) ⊎ ((n ≢ m) × (entry_in (map.insert ledger m e) n ≡ entry_in ledger n))
-    go true h = inl (name-from n m h, map.get-insert name_cmp_total ledger m e n ∙ rw h)
+    go true h = inl (same_name n m h, map.get-insert name_cmp_total ledger m e n ∙ rw h)
     go false h = inr (λ x. let y : eq_by_cmp name_cmp n m ≡ true = rw x (eq-self m) in cc, map.get-insert name_cmp_total ledger m e n ∙ rw h)
 
 -- ---- cells

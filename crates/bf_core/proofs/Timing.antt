@@ -1,25 +1,18 @@
 -- What the clock keeps, and what a list of timely events leads to.
-use Rattle.std.proofs.Common.{◌≡◌, ℕ, pred, ◌++◌, Bool, true, false, not, cond, List, [], ◌∷◌, Option, None, Some, IsSome, Ordering, Less, Equal, Greater, ℤ, pos, ◌+ℤ◌, ◌≤ℤ◌, refl, sym, ap, ◌∙◌, arith}
+use Rattle.std.proofs.Common.{◌≡◌, ℕ, pred, ◌++◌, Bool, true, false, not, cond, List, [], ◌∷◌, Option, None, Some, IsSome, ℤ, pos, ◌+ℤ◌, ◌≤ℤ◌, refl, sym, ap, ◌∙◌, arith}
 use Rattle.std.specs.Prelude.{int_lt}
 use Rattle.std.proofs.lemmas.Int.{ints, clamps}
 use Rattle.std.specs.Int.{int_min}
 use Rattle.std.specs.FinMap as map
-use Rattle.std.specs.Ordering.{eq_by_cmp, is_eq}
+use Rattle.std.specs.Ordering.{eq_by_cmp}
 use Rattle.std.specs.Cmp.{eq_by_cmp_equiv}
 use Rattle.bf_value.specs.Names.{name_cmp_total, name_cmp-IsAntisymmetric}
+use Rattle.bf_try.proofs.Maps.{same_name}
 use Rattle.bf_core.specs.Terms.{Clock, Dag, Entry, Event, JobName, Ledger, Limits, State, name_cmp, demand_of, task_of}
 use Rattle.bf_core.specs.Events.{after, entry_in, is_made_again}
 use Rattle.bf_core.specs.Clocks.{AreTimely, IsTimely, KeepsTime, clock_after, clock_of, after_end, last_moment, next_try, start_clock}
 
 -- ---- names
-
-equal-is : (r : Ordering) → is_eq r ≡ true → r ≡ Equal
-equal-is Less e = cc
-equal-is Equal e = refl
-equal-is Greater e = cc
-
-pub same-name : (a b : JobName) → eq_by_cmp name_cmp a b ≡ true → a ≡ b
-same-name a b e = name_cmp-IsAntisymmetric a b (equal-is _ e)
 
 next-one : (a b : JobName) → next_try a ≡ next_try b → a ≡ b
 next-one a b e =
@@ -53,14 +46,14 @@ noted-forgotten : {X : Type 0} → (m : map.FinMap name_cmp X) (k : JobName) (v 
 noted-forgotten m k v none = map.same_map name_cmp_total name_cmp-IsAntisymmetric _ _ (λ q. map.get-remove name_cmp_total (map.insert m k v) k q ∙ go q (eq_by_cmp name_cmp q k) refl)
   where
     go : (q : JobName) (b : Bool) → eq_by_cmp name_cmp q k ≡ b → cond b None (map.get (map.insert m k v) q) ≡ map.get m q
-    go q true e = sym (ap (λ n. map.get m n) (same-name q k e) ∙ none)
+    go q true e = sym (ap (λ n. map.get m n) (same_name q k e) ∙ none)
     go q false e = map.get-insert name_cmp_total m k v q ∙ ap (λ b. cond b (Some v) (map.get m q)) e
 
 none-forgotten : {X : Type 0} → (m : map.FinMap name_cmp X) (k : JobName) → map.get m k ≡ None → map.remove m k ≡ m
 none-forgotten m k none = map.same_map name_cmp_total name_cmp-IsAntisymmetric _ _ (λ q. map.get-remove name_cmp_total m k q ∙ go q (eq_by_cmp name_cmp q k) refl)
   where
     go : (q : JobName) (b : Bool) → eq_by_cmp name_cmp q k ≡ b → cond b None (map.get m q) ≡ map.get m q
-    go q true e = sym (ap (λ n. map.get m n) (same-name q k e) ∙ none)
+    go q true e = sym (ap (λ n. map.get m n) (same_name q k e) ∙ none)
     go q false e = refl
 
 -- a clock whose next try is forgotten again is the clock that it was
@@ -127,7 +120,7 @@ end-keeps-time c ledger is n e true delay = go (int_lt c.time m)
     bound q o false h = is.bounded q o h
 
     one : (q : JobName) (b : Bool) → eq_by_cmp name_cmp (next_try q) (next_try n) ≡ b → IsSome (cond b (Some m) (map.get c.moments (next_try q))) → IsSome (map.get (map.insert ledger n e) q)
-    one q true f h = some-own ledger n e q (next-one q n (same-name _ _ f))
+    one q true f h = some-own ledger n e q (next-one q n (same_name _ _ f))
     one q false f h = some-kept ledger n e q (is.after_one q h)
 
     go : (b : Bool) → KeepsTime (cond b (record { time = c.time; moments = map.insert c.moments (next_try n) m }) c) (entry_in (map.insert ledger n e))

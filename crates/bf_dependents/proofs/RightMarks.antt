@@ -1,11 +1,10 @@
 -- Marks of what follows from the seeds.
-use Rattle.std.proofs.Common.{◌≡◌, ◌⊎◌, ◌↔◌, ◌||◌, ◌&&◌, ◌==◌, inl, inr, ℕ, zero, suc, ◌<◌, ◌≤◌, ◌+◌, List, [], ◌∷◌, ◌++◌, length, Contains, Bool, true, false, Some, slice_get, slice_index_or, slice_set, refl, sym, ap, ◌∙◌, subst, arith}
+use Rattle.std.proofs.Common.{◌≡◌, ◌⊎◌, ◌↔◌, ◌&&◌, ◌==◌, inl, inr, ℕ, zero, suc, ◌<◌, ◌≤◌, ◌+◌, List, [], ◌∷◌, ◌++◌, length, Contains, Bool, true, false, Some, slice_get, slice_index_or, slice_set, refl, sym, ap, ◌∙◌, subst, arith}
 use Rattle.std.specs.List.{list_any}
-use Rattle.std.proofs.Math.Bool.{or-true}
 use Rattle.std.proofs.Math.ListN.{get_or-append}
 use Rattle.std.proofs.Math.Nat.{eq-or-lt_of_le}
 use Rattle.std.proofs.Math.Seq.{get_or-append_seam}
-use Rattle.std.proofs.lemmas.Bool.{and_parts}
+use Rattle.std.proofs.lemmas.Bool.{and_parts, and_from, or_cases, or_left, or_right}
 use Rattle.std.proofs.lemmas.List.{length-append, get_or-set_same, get_or-set_other, length-set, length-map}
 use Rattle.std.proofs.lemmas.List.Folds.{list_any_at}
 use Rattle.std.proofs.lemmas.Map.Views.{Contains-from_any}
@@ -35,19 +34,6 @@ same-or-before j n l = let low : j ≤ n = omega (arith, l) in eq-or-lt_of_le lo
 
 -- ---- what marks a task
 
-or-cases : (a b : Bool) → (a || b) ≡ true → (a ≡ true) ⊎ (b ≡ true)
-or-cases true b e = inl refl
-or-cases false b e = inr e
-
-or-left : (a b : Bool) → a ≡ true → (a || b) ≡ true
-or-left a b e = rw e refl
-
-or-right : (a b : Bool) → b ≡ true → (a || b) ≡ true
-or-right a b e = rw e (or-true a)
-
-and-of : (a b : Bool) → a ≡ true → b ≡ true → (a && b) ≡ true
-and-of a b e f = rw (e, f) refl
-
 place-same : (p q : Place) → is_place p q ≡ true → p ≡ q
 place-same p q e =
     let both : _ = and_parts (q.run == p.run) (q.task == p.task) e in
@@ -56,29 +42,29 @@ place-same p q e =
     λ i. record { run = run i; task = task i }
 
 place-itself : (p : Place) → is_place p p ≡ true
-place-itself p = and-of (p.run == p.run) (p.task == p.task) (grind arith) (grind arith)
+place-itself p = and_from (p.run == p.run) (p.task == p.task) (grind arith) (grind arith)
 
 seed-found : (seeds : List Place) (p : Place) → Contains seeds p → list_any (is_place p) seeds ≡ true
 seed-found seeds p c = list_any_at (is_place p) seeds c.0 p c.1 (ap (is_place p) c.2 ∙ place-itself p)
 
 one-marked : (marks : List Bool) (us : List ℕ) → list_any (is_marked marks) us ≡ true → (u : ℕ) × IsOneOf us u × (is_marked marks u ≡ true)
 one-marked marks [] e = cc
-one-marked marks (u ∷ us) e = elim (or-cases (is_marked marks u) (list_any (is_marked marks) us) e) [
+one-marked marks (u ∷ us) e = elim (or_cases (is_marked marks u) (list_any (is_marked marks) us) e) [
   | inl h ↦ (u, inl refl, h)
   | inr h ↦ let rest : _ = one-marked marks us h in (rest.0, inr rest.1, rest.2)
 ]
 
 marked-one : (marks : List Bool) (us : List ℕ) (u : ℕ) → IsOneOf us u → is_marked marks u ≡ true → list_any (is_marked marks) us ≡ true
 marked-one marks [] u one h = absurd one
-marked-one marks (v ∷ us) u (inl e) h = or-left (is_marked marks v) _ (ap (is_marked marks) (sym e) ∙ h)
-marked-one marks (v ∷ us) u (inr one) h = or-right (is_marked marks v) _ (marked-one marks us u one h)
+marked-one marks (v ∷ us) u (inl e) h = or_left (is_marked marks v) _ (ap (is_marked marks) (sym e) ∙ h)
+marked-one marks (v ∷ us) u (inr one) h = or_right (is_marked marks v) _ (marked-one marks us u one h)
 
 module _ (dag : Dag) (seeds : List Place) (k : ℕ) (seeded before : List Bool) (row : IsSeedRow seeds (length dag.tasks) k seeded) (past : ArePast dag seeds k before) (t : ℕ) (there : t < length dag.tasks) (marks : List Bool)
     (ups : (u : ℕ) → IsOneOf (task_of dag t).upstreams u → (is_marked marks u ≡ true) ↔ IsDependent dag seeds k u) where
   followed : follows dag t seeded before marks ≡ true → IsDependent dag seeds k t
-  followed e = elim (or-cases (is_marked seeded t) _ e) [
+  followed e = elim (or_cases (is_marked seeded t) _ e) [
     | inl h ↦ IsDependent.Seed (Contains-from_any place-same (record { run = k; task = t }) seeds (sym (row t there) ∙ h))
-    | inr h ↦ elim (or-cases ((task_of dag t).depends_on_past && is_marked before t) _ h) [
+    | inr h ↦ elim (or_cases ((task_of dag t).depends_on_past && is_marked before t) _ h) [
       | inl g ↦ let both : _ = and_parts (task_of dag t).depends_on_past (is_marked before t) g in next k ((past t there).0 both.1) both.0
       | inr g ↦ let one : _ = one-marked marks (task_of dag t).upstreams g in IsDependent.Downstream one.1 ((ups one.0 one.1).0 one.2)
     ]
@@ -94,14 +80,14 @@ module _ (dag : Dag) (seeds : List Place) (k : ℕ) (seeded before : List Bool) 
   -- why a task follows from the seeds
   following : (n s : ℕ) → n ≡ k → s ≡ t → IsDependent dag seeds n s → follows dag t seeded before marks ≡ true
   following n s e f (IsDependent.Seed c) =
-      or-left _ _ (row t there ∙ seed-found seeds (record { run = k; task = t }) (subst (Contains seeds) (λ i. record { run = e i; task = f i }) c))
+      or_left _ _ (row t there ∙ seed-found seeds (record { run = k; task = t }) (subst (Contains seeds) (λ i. record { run = e i; task = f i }) c))
   following n s e f (IsDependent.Downstream {u = u} h d) =
       let one : IsOneOf (task_of dag t).upstreams u = subst (λ (s : ℕ). IsOneOf (task_of dag s).upstreams u) f h in
-      or-right (is_marked seeded t) _ (or-right ((task_of dag t).depends_on_past && is_marked before t) _
+      or_right (is_marked seeded t) _ (or_right ((task_of dag t).depends_on_past && is_marked before t) _
       (marked-one marks (task_of dag t).upstreams u one ((ups u one).1 (subst (λ (n : ℕ). IsDependent dag seeds n u) e d))))
   following (suc n) s e f (IsDependent.NextRun h d) =
-      or-right (is_marked seeded t) _ (or-left ((task_of dag t).depends_on_past && is_marked before t) _
-      (and-of _ _ (ap (λ s. (task_of dag s).depends_on_past) (sym f) ∙ h) ((past t there).1 (past-of n (sym e) (subst (IsDependent dag seeds n) f d)))))
+      or_right (is_marked seeded t) _ (or_left ((task_of dag t).depends_on_past && is_marked before t) _
+      (and_from _ _ (ap (λ s. (task_of dag s).depends_on_past) (sym f) ∙ h) ((past t there).1 (past-of n (sym e) (subst (IsDependent dag seeds n) f d)))))
 
   pub follows-right : (follows dag t seeded before marks ≡ true) ↔ IsDependent dag seeds k t
   follows-right = (followed, following k t refl refl)

@@ -4,6 +4,7 @@ use Rattle.std.proofs.lemmas.Bool.{both_ways}
 use Rattle.std.specs.List.Sorted.{IsStrictlyIncreasing}
 use Rattle.bf_graph.specs.Edges.{IsRank, IsUpstream}
 use Rattle.bf_graph.specs.Lookups.{IsRisingListOf}
+use Rattle.bf_graph.proofs.PathLemmas.{task_within}
 use Rattle.bf_check.specs.Plans.{shape_of}
 use Rattle.bf_pool.proofs.WeightFacts.{tasks_there}
 use Rattle.bf_core.specs.Terms.{Dag}
@@ -92,16 +93,11 @@ few-rising (x ∷ xs) n rising below =
     let b : get_or (x ∷ xs) (length xs) 0 < n = below (length xs) last in
     omega (arith, a, b)
 
-downstream-there : (ups : List (List ℕ)) (u d : ℕ) → IsUpstream ups u d → d < length ups
-downstream-there [] u d c = absurd (omega (arith, c.1))
-downstream-there (us ∷ ups) u zero c = omega arith
-downstream-there (us ∷ ups) u (suc d) c = let h : d < length ups = downstream-there ups u d c in omega (arith, h)
-
 -- what is listed below a task is a task
 pub below-there : (dag : Dag) (u : ℕ) (ds : List ℕ) → IsRisingListOf (IsUpstream (shape_of dag).upstreams u) ds → (i : ℕ) → i < length ds → get_or ds i 0 < length dag.tasks
 below-there dag u ds rising i l =
     let listed : Contains ds (get_or ds i 0) = (i, l, at-any ds i (get_or ds i 0) l) in
-    let there : get_or ds i 0 < length (shape_of dag).upstreams = downstream-there (shape_of dag).upstreams u (get_or ds i 0) ((rising.exact (get_or ds i 0)).0 listed) in
+    let there : get_or ds i 0 < length (shape_of dag).upstreams = task_within (shape_of dag).upstreams u (get_or ds i 0) ((rising.exact (get_or ds i 0)).0 listed) in
     omega (arith, there, tasks_there dag)
 
 -- a step of one of the first n + 1 is one of the first n or of that one

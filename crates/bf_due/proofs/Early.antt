@@ -1,6 +1,6 @@
 -- Early rules: what has come of an upstream lets no task be decided whose rule doesn't look for it, until all are settled.
 use Rattle.std.proofs.Common.{◌≡◌, ◌⊎◌, ℕ, zero, suc, ◌+◌, ◌<◌, ◌==◌, nat_lt, Bool, true, false, not, ◌&&◌, ◌||◌, if◌then◌else◌, List, [], ◌∷◌, map, slice_get, Option, None, Some, is_some, refl, sym, ap, ap₂, ◌∙◌, subst, inl, inr, arith}
-use Rattle.std.proofs.lemmas.Bool.{and_cases, both_ways, cases_Bool, not-false, or_parts, or_right}
+use Rattle.std.proofs.lemmas.Bool.{and_cases, both_ways, cases_Bool, not-false, or_parts, or_right, and_parts, and_from}
 use Rattle.std.proofs.lemmas.Bool.Decides.{nat_tests}
 use Rattle.std.specs.List.{list_all, list_any}
 use Rattle.bf_core.specs.Terms.{Dag, Limits, JobName, Rule, Counts, Verdict, verdict, TaskResult, TaskValue, Given, task_of, add, finished, fires, is_branch, is_waiting, none_counted}
@@ -12,7 +12,6 @@ use Rattle.bf_core.specs.declared.event.Event.{Event}
 use Rattle.bf_core.specs.declared.deciding.Decision.{Decision}
 use Rattle.bf_core.specs.Deciding.{Seen, after_verdict, and_then_past, branch_is, branch_skips, counts_over, decision, gate, is_blocked, lets_decide, one_blocked, one_of, one_skipped, one_unfinished, one_upstream_failed, ruling}
 use Rattle.bf_core.specs.Events.{after, before_in, cell_at, cell_of, change_at, change_instance, cons_result, counts_of_cell, counts_of_instance, counts_of_instances, decision_in, ended, fresh, instance_of, place_in, put, results, seen_in, value_in, IsDecidable, IsEnabled}
-use Rattle.bf_core.proofs.Decisions.{and_left, and_right, both}
 use Rattle.bf_core.proofs.Instances.{instance-here}
 use Rattle.bf_core.proofs.Reading.{put-cases}
 use Rattle.bf_due.specs.declared.news.News.{News}
@@ -224,7 +223,7 @@ past-awaited dag s k t unaware v (inl e) =
 module _ (dag : Dag) (limits : Limits) (s : State) (e : Event) (able : IsEnabled dag limits s e) where
   all-kept : (k : ℕ) (us : List ℕ) → list_all (is_settled s k) us ≡ true → list_all (is_settled (after dag s e) k) us ≡ true
   all-kept k [] h = refl
-  all-kept k (u ∷ us) h = both _ _ (settled-stays dag limits s e able k u (and_left _ _ h)) (all-kept k us (and_right (is_settled s k u) _ h))
+  all-kept k (u ∷ us) h = and_from _ _ (settled-stays dag limits s e able k u (and_parts _ _ h).0) (all-kept k us (and_parts (is_settled s k u) _ h).1)
 
   unsettled-before : (k : ℕ) (us : List ℕ) → list_all (is_settled (after dag s e) k) us ≡ false → list_all (is_settled s k) us ≡ false
   unsettled-before k us h = elim (cases_Bool (list_all (is_settled s k) us)) [

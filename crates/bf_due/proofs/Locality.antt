@@ -2,6 +2,7 @@
 -- of a run that it opens or closes.
 use Rattle.std.proofs.Common.{◌≡◌, ◌≢◌, ℕ, suc, zero, ◌⊎◌, ◌&&◌, Bool, true, false, List, [], ◌∷◌, slice_get, Option, None, Some, is_some, option_map, refl, sym, ap, ap₂, ◌∙◌, arith, inl, inr, subst}
 use Rattle.std.specs.List.{list_all}
+use Rattle.std.proofs.lemmas.Bool.{and_parts}
 use Rattle.bf_core.specs.Terms.{Dag, Limits, task_of, Verdict, TaskValue, Xval, items, IsOneOf, IsSound, add}
 use Rattle.bf_core.specs.declared.state.State.{State}
 use Rattle.bf_core.specs.declared.state.Cell.{Cell}
@@ -18,7 +19,6 @@ use Rattle.bf_core.proofs.Instances.{IsUnfinished, not_yet}
 use Rattle.bf_core.proofs.Steps.{lets}
 use Rattle.bf_core.proofs.Taken.{mapped-not}
 use Rattle.bf_core.proofs.Shape.{put-phase, phase-cases}
-use Rattle.bf_core.proofs.Decisions.{and_left, and_right}
 
 -- ---- what a decision looks at
 
@@ -234,8 +234,8 @@ rules-alike dag sound limits s e able j u = elim (any-touched e j (task_of dag u
 not-all : (p : ℕ → Bool) (us : List ℕ) (u : ℕ) → IsOneOf us u → p u ≡ false → list_all p us ≡ true → ⊥
 not-all p [] u h e all = h
 not-all p (v ∷ us) u h e all = elim h [
-  | inl same ↦ let yes : p v ≡ true = and_left _ _ all in let no : p v ≡ false = ap p (sym same) ∙ e in let f : true ≡ false = sym yes ∙ no in cc
-  | inr g ↦ not-all p us u g e (and_right (p v) _ all)
+  | inl same ↦ let yes : p v ≡ true = (and_parts _ _ all).0 in let no : p v ≡ false = ap p (sym same) ∙ e in let f : true ≡ false = sym yes ∙ no in cc
+  | inr g ↦ not-all p us u g e (and_parts (p v) _ all).1
 ]
 
 -- a task isn't due while one of its upstreams doesn't let it be decided

@@ -1,22 +1,20 @@
 -- Which steps an event may make possible.
-use Rattle.std.proofs.Common.{◌≡◌, ◌⊎◌, ℕ, zero, suc, Bool, true, false, if◌then◌else◌, List, [], ◌∷◌, slice_index_or, slice_set, Option, None, Some, is_some, Contains, refl, sym, ap, ◌∙◌, subst, subst₂, inl, inr, arith}
-use Rattle.std.specs.List.{count_by}
+use Rattle.std.proofs.Common.{◌≡◌, ◌⊎◌, ℕ, zero, suc, Bool, true, false, List, Option, None, Some, is_some, Contains, refl, sym, ap, ◌∙◌, subst, subst₂, inl, inr, arith}
 use Rattle.std.proofs.lemmas.Bool.{both_ways, cases_Bool}
-use Rattle.std.proofs.lemmas.List.Sums.{sum_by-cons}
 use Rattle.bf_check.proofs.PullLemmas.{contains_one}
-use Rattle.bf_pool.proofs.WeightFacts.{upstreams_are}
+use Rattle.bf_check.proofs.PlanLemmas.{upstreams_of_task}
 use Rattle.bf_core.specs.Terms.{Dag, Limits, IsSound, TaskValue, task_of}
 use Rattle.bf_core.specs.declared.state.State.{State}
-use Rattle.bf_core.specs.declared.state.Run.{Run}
 use Rattle.bf_core.specs.declared.state.RunPhase.{RunPhase}
 use Rattle.bf_core.specs.declared.state.Cell.{Cell}
 use Rattle.bf_core.specs.declared.event.Event.{Event}
 use Rattle.bf_core.specs.Deciding.{Seen}
-use Rattle.bf_core.specs.Events.{no_run, after, before_in, cell_at, goes_on, value_in, is_open, next_run, open_now, phase_of, put, put_in, with_phase, IsDecidable, IsEnabled}
+use Rattle.bf_core.specs.Events.{after, before_in, cell_at, goes_on, value_in, next_run, phase_of, put, with_phase, IsDecidable, IsEnabled}
 use Rattle.bf_core.specs.Cores.{Backfill, IsReplay, MayCome, moved}
 use Rattle.bf_core.proofs.Shape.{IsShaped, open-run, phase-there, length-put}
 use Rattle.bf_core.proofs.Kept.{replay-shaped}
 use Rattle.bf_core.proofs.NextRun.{next-after}
+use Rattle.bf_core.proofs.ActiveRuns.{put-active}
 use Rattle.bf_due.specs.declared.agenda.Step.{Step}
 use Rattle.bf_due.specs.declared.agenda.Turn.{Turn}
 use Rattle.bf_due.specs.Agendas.{event_of}
@@ -55,7 +53,7 @@ module _ (dag : Dag) (sound : IsSound dag) (limits : Limits) (s : State) (e : Ev
     rules-or k t due = elim (rules-alike dag sound limits s e able k t) [
       | inl alike ↦ inl alike
       | inr w ↦ elim (cases_Bool (matters dag (after dag s e) n t)) [
-        | inl holds ↦ inr ((told.only k w.0 w.2).0, subst₂ (λ (us : List ℕ) (v : ℕ). Contains us v) (upstreams_are dag t) (told.only k w.0 w.2).1 (contains_one (task_of dag t).upstreams w.0 w.1), holds)
+        | inl holds ↦ inr ((told.only k w.0 w.2).0, subst₂ (λ (us : List ℕ) (v : ℕ). Contains us v) (upstreams_of_task dag t) (told.only k w.0 w.2).1 (contains_one (task_of dag t).upstreams w.0 w.1), holds)
         | inr fails ↦ inl (subst (λ (j : ℕ). RulesAlike dag (after dag s e) s j t) (sym (told.only k w.0 w.2).0) (unmoved-rules dag limits s e able n told t fails (subst (λ (j : ℕ). IsDecidable dag (after dag s e) j t) (told.only k w.0 w.2).0 due)))
       ]
     ]
@@ -161,28 +159,9 @@ newly-closable dag runs limits s shaped e able k due = elim (turns? s e k) [
 
 -- ---- the opening of a run
 
-one_open : RunPhase → ℕ
-one_open p = if is_open p then 1 else 0
-
-count-same : (rs : List Run) (k : ℕ) (r : Run) → r.phase ≡ (slice_index_or rs k no_run).phase → count_by (λ (x : Run). is_open x.phase) (slice_set rs k r) ≡ count_by (λ (x : Run). is_open x.phase) rs
-unfolding one_open
-count-same [] k r e = refl
-count-same (x ∷ xs) zero r e =
-    let a : _ = sum_by-cons (λ (q : Run). one_open q.phase) r xs in
-    let b : _ = sum_by-cons (λ (q : Run). one_open q.phase) x xs in
-    omega (arith, a, b, ap one_open e)
-count-same (x ∷ xs) (suc k) r e =
-    let a : _ = sum_by-cons (λ (q : Run). one_open q.phase) x (slice_set xs k r) in
-    let b : _ = sum_by-cons (λ (q : Run). one_open q.phase) x xs in
-    omega (arith, a, b, count-same xs k r e)
-
-open-put : (s : State) (k t : ℕ) (c : Cell) → open_now (put s k t c) ≡ open_now s
-unfolding put_in
-open-put s k t c = count-same s.runs k _ refl
-
 module _ (dag : Dag) (runs : ℕ) (limits : Limits) (s : State) (shaped : IsShaped dag runs s) where
   put-openable : (k t : ℕ) (c : Cell) → next_run (put s k t c) ≡ next_run s → IsEnabled dag limits (put s k t c) Event.Open → IsEnabled dag limits s Event.Open
-  put-openable k t c next due = (omega (arith, due.0, next, length-put s.runs k t c), omega (arith, due.1, open-put s k t c))
+  put-openable k t c next due = (omega (arith, due.0, next, length-put s.runs k t c), omega (arith, due.1, put-active s k t c))
 
   newly-openable : (e : Event) → IsEnabled dag limits s e → IsEnabled dag limits (after dag s e) Event.Open → IsEnabled dag limits s Event.Open ⊎ Concerns dag (after dag s e) e Step.Open
   unfolding after

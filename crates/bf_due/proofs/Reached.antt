@@ -1,6 +1,6 @@
 -- What a cursor says stays true over every event.
 use Rattle.std.proofs.Common.{◌≡◌, ◌⊎◌, ◌+◌, ◌++◌, ◌||◌, ℕ, zero, suc, ◌<◌, ◌≤◌, nat_le, Bool, true, false, List, [], ◌∷◌, length, get_or, slice_get, slice_set, Some, None, is_some, refl, sym, ap, ◌∙◌, subst, subst₂, inl, inr, arith}
-use Rattle.std.proofs.lemmas.Bool.{or_parts}
+use Rattle.std.proofs.lemmas.Bool.{or_parts, and_from}
 use Rattle.std.proofs.lemmas.List.Folds.{list_all_at}
 use Rattle.std.specs.List.{list_all}
 use Rattle.bf_core.specs.Terms.{Dag, Limits, JobName, IsOneOf, task_of}
@@ -16,9 +16,9 @@ use Rattle.bf_core.proofs.Instances.{IsUnfinished, instance-kept, open-cell}
 use Rattle.bf_core.proofs.Reading.{put-cases, set-read, with_phase-cell}
 use Rattle.bf_core.proofs.Steps.{decided-held, settled-kept}
 use Rattle.bf_core.specs.Words.{is_finished}
-use Rattle.bf_core.proofs.Decisions.{both}
 use Rattle.bf_core.proofs.Numbers.{below-or, le-from, lt-from}
 use Rattle.bf_core.proofs.Sums.{finished_settled}
+use Rattle.bf_check.proofs.ListLemmas.{some_same}
 use Rattle.bf_due.proofs.Locality.{awaits-upstream}
 use Rattle.bf_due.specs.declared.progress.Progress.{Progress}
 use Rattle.bf_due.specs.Cursors.{AreFinished, ArePassed, AreReached, Awaits, HasFinished, IsFinished, IsReached, is_early, lets}
@@ -136,11 +136,8 @@ all-finished : (xs : List Instance) → AreFinished (Cell.Ran xs) (length xs) �
 all-finished [] all = refl
 all-finished (x ∷ xs) all =
     let first : HasFinished (Cell.Ran (x ∷ xs)) 0 = all 0 (omega arith) in
-    let same : x ≡ first.0 = just first.0 first.1 in
-    both _ _ (finished-yes x.phase (subst (λ (y : Instance). IsFinished y.phase) (sym same) first.2)) (all-finished xs (λ i l. all (suc i) (omega (arith, l))))
-  where
-    just : (y : Instance) → Some x ≡ Some y → x ≡ y
-    just y e = cc
+    let same : x ≡ first.0 = some_same first.1 in
+    and_from _ _ (finished-yes x.phase (subst (λ (y : Instance). IsFinished y.phase) (sym same) first.2)) (all-finished xs (λ i l. all (suc i) (omega (arith, l))))
 
 -- one whose instances have all finished is
 pub all-settled : (xs : List Instance) → AreFinished (Cell.Ran xs) (length xs) → is_some (value_in (Cell.Ran xs)) ≡ true

@@ -3,7 +3,6 @@ use Rattle.std.proofs.Common.{Result, Ok, Err, IfOk, ◌≡◌, inl, inr, ℕ, z
 use Rattle.std.specs.List.{list_any, filter, range_with_len}
 use Rattle.std.proofs.lemmas.Bool.{cases_Bool, cases_lt, eqb-true, eq-eqb}
 use Rattle.std.proofs.lemmas.List.Kept.{AllPairs-from_increasing}
-use Rattle.std.proofs.Math.ListN.{get_or-map as get_or-map_default}
 use Rattle.std.proofs.lemmas.List.{length-map}
 use Rattle.std.proofs.lemmas.List.Elements.{All-filter}
 use Rattle.std.proofs.lemmas.List.FromFn.{length-range_with_len, get_or-range_with_len}
@@ -15,9 +14,11 @@ use Rattle.bf_graph.specs.Lookups.{IsRisingListOf}
 use Rattle.bf_graph.proofs.PathLemmas.{task_within, first_edge}
 use Rattle.bf_check.specs.declared.plan.Task.{Task}
 use Rattle.bf_check.specs.declared.plan.Dag.{Dag}
-use Rattle.bf_check.specs.Plans.{no_task, task_of, shape_of}
+use Rattle.bf_check.specs.Plans.{shape_of}
 use Rattle.bf_check.specs.Sound.{IsSound, IsOneOf}
 use Rattle.bf_check.proofs.PullLemmas.{one_contained}
+use Rattle.bf_check.proofs.PlanLemmas.{upstreams_of_task}
+use Rattle.bf_check.proofs.ListLemmas.{any_contained}
 use Rattle.bf_pool.specs.Weights.{leads_within, does_reach}
 
 -- ---- what a sound plan tells
@@ -25,23 +26,11 @@ use Rattle.bf_pool.specs.Weights.{leads_within, does_reach}
 pub tasks_there : (dag : Dag) → length (shape_of dag).upstreams ≡ length dag.tasks
 tasks_there dag = length-map dag.tasks (λ (task : Task). task.upstreams)
 
-pub upstreams_are : (dag : Dag) (t : ℕ) → (task_of dag t).upstreams ≡ upstreams_of (shape_of dag).upstreams t
-unfolding task_of
-upstreams_are dag t = sym (get_or-map_default (λ (task : Task). task.upstreams) dag.tasks t no_task)
-
 pub in_range : (dag : Dag) → IsSound dag → AreInRange (shape_of dag).upstreams
 in_range dag sound t u up =
-    omega (arith, tasks_there dag, sound.in_range t u (subst (λ (us : List ℕ). IsOneOf us u) (sym (upstreams_are dag t)) (one_contained (upstreams_of (shape_of dag).upstreams t) u up)))
+    omega (arith, tasks_there dag, sound.in_range t u (subst (λ (us : List ℕ). IsOneOf us u) (sym (upstreams_of_task dag t)) (one_contained (upstreams_of (shape_of dag).upstreams t) u up)))
 
 -- ---- tests on lists
-
-any_later : {X : Type 0} (p : X → Bool) (y : X) (ys : List X) → list_any p ys ≡ true → list_any p (y ∷ ys) ≡ true
-any_later p y ys rest = elim (cases_Bool (p y)) as (λ _. (p y || list_any p ys) ≡ true) [ inl e ↦ rw e refl | inr e ↦ rw e rest ]
-
-pub any_at : {X : Type 0} (p : X → Bool) (xs : List X) (x : X) → Contains xs x → p x ≡ true → list_any p xs ≡ true
-any_at p [] x (k, h, e) t = absurd (omega arith)
-any_at p (y ∷ ys) x (zero, h, e) t = let first : p y ≡ true = ap p e ∙ t in rw first refl
-any_at p (y ∷ ys) x (suc k, h, e) t = any_later p y ys (any_at p ys x (k, omega arith, e) t)
 
 pub any_of : {X : Type 0} (p : X → Bool) (xs : List X) → list_any p xs ≡ true → (x : X) × Contains xs x × (p x ≡ true)
 any_of p [] e = absurd (true≢false (sym e))
@@ -66,10 +55,10 @@ module _ (ups : List (List ℕ)) where
   leads_from_path zero m a t h p = absurd (omega arith)
   leads_from_path (suc n) zero a t h (u, up, same) =
       let first : (a == u) ≡ true = eq-eqb a u same in
-      any_at (λ v. a == v || leads_within ups n a v) (upstreams_of ups t) u up (rw first refl)
+      any_contained (λ v. a == v || leads_within ups n a v) (upstreams_of ups t) u up (rw first refl)
   leads_from_path (suc n) (suc m) a t h (u, up, p) =
       let rest : leads_within ups n a u ≡ true = leads_from_path n m a u (omega arith) p in
-      any_at (λ v. a == v || leads_within ups n a v) (upstreams_of ups t) u up
+      any_contained (λ v. a == v || leads_within ups n a v) (upstreams_of ups t) u up
       (elim (cases_Bool (a == u)) as (λ _. (a == u || leads_within ups n a u) ≡ true) [ inl e ↦ rw e refl | inr e ↦ rw e rest ])
 
   -- a path has no more edges than the rank where it ends

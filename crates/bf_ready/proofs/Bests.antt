@@ -1,6 +1,7 @@
 -- The best of the tries that may begin.
 use Rattle.std.proofs.Common.{◌≡◌, ◌⊎◌, ℕ, ◌<◌, ◌≤◌, ◌+◌, nat_lt, if◌then◌else◌, Bool, true, false, List, length, get_or, Option, None, Some, refl, sym, ◌∙◌, inl, inr, arith}
 use Rattle.std.proofs.lemmas.Bool.Decides.{nat_tests}
+use Rattle.std.proofs.lemmas.Bool.{ltb-true}
 use Rattle.bf_value.specs.declared.name.JobName.{JobName}
 use Rattle.bf_check.specs.declared.plan.Dag.{Dag}
 use Rattle.bf_check.specs.declared.plan.Limits.{Limits}
@@ -21,9 +22,6 @@ use Rattle.bf_ready.proofs.Present.{IsTryBelow, one-named, named-so, below-count
 pub best-of : (b : Backfill) (P Q : JobName → Type 0) → ((m : JobName) → P m → Q m) → ((m : JobName) → Q m → MayCome b (Event.Begin m) → P m) → (o : Option JobName) → IsBest b P o → IsBest b Q o
 best-of b P Q there back None best = λ m q able. best m (back m q able) able
 best-of b P Q there back (Some n) best = (there n best.0, best.1, λ m q able. best.2 m (back m q able) able)
-
-lt-yes : (a b : ℕ) → nat_lt a b ≡ true → a < b
-lt-yes a b e = grind (arith, nat_tests, e)
 
 lt-no : (a b : ℕ) → nat_lt a b ≡ false → b ≤ a
 lt-no a b e = grind (arith, nat_tests, e)
@@ -56,7 +54,7 @@ module _ (b : Backfill) (rows : HasRows b.dag b.state) (weights : List ℕ) (are
     where
       go : (x : Bool) → nat_lt (get_or weights a.task 0) (get_or weights f.task 0) ≡ x → IsBest b (λ m. P m ⊎ Q m) (if x then Some f else Some a)
       go true e =
-          let more : total_weight_of b.dag b.limits a.task < total_weight_of b.dag b.limits f.task = omega (arith, lt-yes _ _ e, weighs a one.1, weighs f two.1) in
+          let more : total_weight_of b.dag b.limits a.task < total_weight_of b.dag b.limits f.task = omega (arith, ltb-true _ _ e, weighs a one.1, weighs f two.1) in
           (inr two.0, two.1, λ m h able. elim h [ inl p ↦ heavier b.dag b.limits f a m more (one.2 m p able) | inr q ↦ two.2 m q able ])
       go false e =
           let less : total_weight_of b.dag b.limits f.task ≤ total_weight_of b.dag b.limits a.task = omega (arith, lt-no _ _ e, weighs a one.1, weighs f two.1) in

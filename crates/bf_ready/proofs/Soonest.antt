@@ -1,7 +1,6 @@
 -- The least of the later moments for which tries wait.
 use Rattle.std.proofs.Common.{◌≡◌, ◌⊎◌, ℕ, ◌≤◌, ◌+◌, ℤ, ◌≤ℤ◌, ◌<ℤ◌, length, Option, None, Some, IfSome, IfNone, refl, sym, ap, ◌∙◌, subst, inl, inr, arith}
-use Rattle.std.proofs.lemmas.Int.{ints, clamps, by_lt_z}
-use Rattle.std.specs.Int.{int_min}
+use Rattle.std.proofs.lemmas.Int.{ints, by_lt_z}
 use Rattle.std.specs.FinMap as map
 use Rattle.bf_value.specs.declared.name.JobName.{JobName}
 use Rattle.bf_try.specs.Tries.{name_of}
@@ -13,6 +12,7 @@ use Rattle.bf_core.specs.Checks.{HasRows}
 use Rattle.bf_core.specs.Clocks.{IsReached, IsTimely}
 use Rattle.bf_core.specs.Cores.{Backfill, IsReplay, MayCome, WaitsLater}
 use Rattle.bf_core.proofs.Enabling.{present-there}
+use Rattle.bf_waiting.proofs.Soonest.{min-left, min-right}
 use Rattle.bf_ready.specs.Choices.{IsNextMoment}
 use Rattle.bf_ready.specs.Looks.{IsLeast, IsSoonest, IsTryAt, IsTryBefore, IsTryOf, sooner_of, instances_in}
 use Rattle.bf_ready.proofs.Present.{IsTryBelow, present-named, one-named, named-so, phase-at, below-count, last-place, one-more-place, last-task, one-more-task, last-run, one-more-run}
@@ -21,12 +21,6 @@ use Rattle.bf_ready.proofs.Present.{IsTryBelow, present-named, one-named, named-
 soonest-of : (b : Backfill) (P Q : JobName → Type 0) → ((n : JobName) → P n → Q n) → ((n : JobName) → Q n → WaitsLater b n → P n) → (o : Option ℤ) → IsSoonest b P o → IsSoonest b Q o
 soonest-of b P Q there back None is = λ n q waits. is n (back n q waits) waits
 soonest-of b P Q there back (Some m) is = record { name = is.name; is_one = there is.name is.is_one; waits = is.waits; is_moment = is.is_moment; least = λ n q w. is.least n (back n q w) w }
-
-min-left : (a b : ℤ) → a ≤ℤ b → int_min a b ≡ a
-min-left a b l = omega (arith, ints, clamps, l)
-
-min-right : (a b : ℤ) → b <ℤ a → int_min a b ≡ b
-min-right a b l = omega (arith, ints, clamps, l)
 
 -- the sooner of the soonest of some tries and the soonest of others is the soonest of them all
 soonest-joined : (b : Backfill) (P Q : JobName → Type 0) (one two : Option ℤ) → IsSoonest b P one → IsSoonest b Q two → IsSoonest b (λ n. P n ⊎ Q n) (sooner_of one two)

@@ -10,13 +10,14 @@ use Rattle.bf_interval.specs.declared.interval.Interval.{Interval}
 use Rattle.bf_check.specs.declared.plan.Task.{Task}
 use Rattle.bf_check.specs.declared.plan.Dag.{Dag}
 use Rattle.bf_check.specs.Plans.{no_task, task_of}
-use Rattle.bf_check.specs.Sound.{IsSound, IsSettledAncestor, Direct, Above}
+use Rattle.bf_check.specs.Sound.{IsSound, IsSettledAncestor}
 use Rattle.bf_try.specs.Tries.{Look}
 use Rattle.bf_core.specs.declared.state.Cell.{Cell}
 use Rattle.bf_core.specs.declared.state.State.{State}
 use Rattle.bf_core.specs.Recursion.{out, run_state_of}
 use Rattle.bf_core.specs.Events.{cell_at, entry_in}
 use Rattle.bf_core.specs.Agreement.{IsOutcome}
+use Rattle.bf_core.proofs.Confluence.{ancestor-in}
 use Rattle.bf_moment.specs.Moment.{IsShown}
 use Rattle.bf_report.specs.declared.report.TaskReport.{TaskReport}
 use Rattle.bf_report.specs.declared.report.RunReport.{RunReport}
@@ -30,15 +31,11 @@ all_more P (y ∷ ys) x all one = (all.0, all_more P ys x all.1 one)
 
 -- ---- pulls
 
-ancestor_in_range : (dag : Dag) (sound : IsSound dag) (t a : ℕ) → IsSettledAncestor dag t a → a < length dag.tasks
-ancestor_in_range dag sound t a (Direct w h) = sound.in_range t a h
-ancestor_in_range dag sound t a (Above {u = u} w h above) = ancestor_in_range dag sound u a above
-
 -- a task pulls from tasks of the graph
 pub pulls_in_range : (dag : Dag) → IsSound dag → (t : ℕ) → All (λ p. p < length dag.tasks) (task_of dag t).pulls
 pulls_in_range dag sound t =
     let pulls : List ℕ = (task_of dag t).pulls in
-    All-weaker (IsSettledAncestor dag t) (λ p. p < length dag.tasks) (ancestor_in_range dag sound t) pulls
+    All-weaker (IsSettledAncestor dag t) (λ p. p < length dag.tasks) (ancestor-in dag sound t) pulls
     (All-from_recursion (IsSettledAncestor dag t) pulls (sound.pulls_settled t))
 
 pub no_pulls : (dag : Dag) (ps : List ℕ) (vs : List (Option Xval)) → length ps ≡ 0 → pulls_of dag ps vs ≡ []
@@ -98,6 +95,21 @@ dated-next dag ledger intervals k interval runs run l e are a b c =
 
 -- ---- one report
 
+-- runs that are equal part by part
+pub same_run : (r q : RunReport) → r.interval ≡ q.interval → r.state ≡ q.state → r.tasks ≡ q.tasks → r ≡ q
+same_run r q a b c = λ i. record {
+  interval = a i;
+  state = b i;
+  tasks = c i;
+  shown_start = is_prop→PathP (λ j. IsShown (a j).start.nanosecond) (λ j. hlevel props) r.shown_start q.shown_start i;
+  shown_end = is_prop→PathP (λ j. IsShown (a j).end.nanosecond) (λ j. hlevel props) r.shown_end q.shown_end i;
+}
+
+-- as many tasks are told as there are
+pub length-reports_from : (dag : Dag) (cell : ℕ → Cell) (t : ℕ) (tasks : List Task) → length (reports_from dag cell t tasks) ≡ length tasks
+length-reports_from dag cell t [] = refl
+length-reports_from dag cell t (task ∷ tasks) = ap suc (length-reports_from dag cell (suc t) tasks)
+
 runs-once : (dag : Dag) (ledger : Look) (k : ℕ) (intervals : List Interval) (runs others : List RunReport) → AreDated dag ledger k intervals runs → AreDated dag ledger k intervals others → runs ≡ others
 runs-once dag ledger k [] [] [] a b = refl
 runs-once dag ledger k [] (r ∷ rs) others a b = absurd a
@@ -105,16 +117,7 @@ runs-once dag ledger k [] [] (r ∷ rs) a b = absurd b
 runs-once dag ledger k (i ∷ is) [] others a b = absurd a
 runs-once dag ledger k (i ∷ is) (r ∷ rs) [] a b = absurd b
 runs-once dag ledger k (i ∷ is) (r ∷ rs) (q ∷ qs) a b =
-    ap₂ (λ x xs. x ∷ xs) (run-once r q (a.0 ∙ sym b.0) (a.1 ∙ sym b.1) (a.2 ∙ sym b.2)) (runs-once dag ledger (suc k) is rs qs a.3 b.3)
-  where
-    run-once : (r q : RunReport) → r.interval ≡ q.interval → r.state ≡ q.state → r.tasks ≡ q.tasks → r ≡ q
-    run-once r q a b c = λ i. record {
-      interval = a i;
-      state = b i;
-      tasks = c i;
-      shown_start = is_prop→PathP (λ j. IsShown (a j).start.nanosecond) (λ j. hlevel props) r.shown_start q.shown_start i;
-      shown_end = is_prop→PathP (λ j. IsShown (a j).end.nanosecond) (λ j. hlevel props) r.shown_end q.shown_end i;
-    }
+    ap₂ (λ x xs. x ∷ xs) (same_run r q (a.0 ∙ sym b.0) (a.1 ∙ sym b.1) (a.2 ∙ sym b.2)) (runs-once dag ledger (suc k) is rs qs a.3 b.3)
 
 -- the recursion over a ledger has one report
 pub dated-once : (dag : Dag) (intervals : List Interval) (ledger : Look) (report other : Report) → IsDated dag intervals ledger report → IsDated dag intervals ledger other → report ≡ other

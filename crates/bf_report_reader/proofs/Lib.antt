@@ -9,7 +9,6 @@ pub mod PartingFacts
 pub mod HeldFacts
 pub mod Pieces
 pub mod Taking
-pub mod RunFacts
 pub mod Rooms
 pub mod Ruled
 pub mod StepFacts

@@ -14,6 +14,8 @@ use Rattle.bf_xcom.specs.declared.values.RunState.{RunState}
 use Rattle.bf_report.specs.declared.report.Pull.{Pull}
 use Rattle.bf_report.specs.declared.report.RunReport.{RunReport}
 use Rattle.bf_report.specs.Report.{run_state_word, state_word, value_word, pulled_word}
+use Rattle.bf_report.proofs.DatedFacts.{same_run}
+use Rattle.bf_check.proofs.ListLemmas.{some_same}
 use Rattle.bf_report_reader.specs.declared.entry.Untried.{Untried}
 use Rattle.bf_report_reader.specs.declared.entry.Entry.{Entry}
 use Rattle.bf_report_reader.specs.declared.part.GivenPart.{GivenPart}
@@ -30,16 +32,15 @@ use Rattle.bf_report_reader.specs.Reads.{IsWord}
 use Rattle.bf_report_reader.specs.Steps.{Follows, MayEnd, MayStand, Steps, EntrySteps, EndsBy}
 use Rattle.bf_report_reader.proofs.Splits.{cut_once}
 use Rattle.bf_report_reader.proofs.Words.{id_lacks, id_short, decimal_plain, moment_plain, moment_length, state_plain, never_plain, index_plain, run_state_plain, value_lacks, pulled_lacks, decimal_short, state_short, never_short, run_state_short, index_short, value_short, pulled_short, at_least}
-use Rattle.bf_report_reader.proofs.Spelled.{same_entry, same_run_state, some_same, run_fields, apart, same_told, same_pull, same_part}
+use Rattle.bf_report_reader.proofs.Spelled.{same_entry, same_run_state, run_fields, apart, same_told, same_pull, same_part}
 use Rattle.bf_report_reader.proofs.Growth.{if_some, is_text_of, next_parts, further_parts, new_parts}
-use Rattle.bf_report_reader.proofs.RunFacts.{same_run}
 use Rattle.bf_report_reader.proofs.StepFacts.{counted_runs, entry_next, run_next, part_next}
 
 -- ---- the ids of lines
 
 pub each_at : {X : Type 0} (P : X → Type 0) (xs : List X) (n : ℕ) (x : X) → AllByRecursion P xs → slice_get xs n ≡ Some x → P x
 each_at P [] n x each at = absurd (cc at)
-each_at P (y ∷ ys) zero x each at = subst P (some_same y x at) each.0
+each_at P (y ∷ ys) zero x each at = subst P (some_same at) each.0
 each_at P (y ∷ ys) (suc n) x each at = each_at P ys n x each.1 at
 
 next_id : (runs : List RunReport) (ids : List (List ℕ)) (run : Option OpenRun) (id : List ℕ) → AllByRecursion (λ id. is_id id ≡ true) ids → is_next_in runs ids run id ≡ true → is_id id ≡ true
@@ -109,7 +110,7 @@ follows_once b c d text ruled (inl one) (inl two) =
     let named = entry_id b c one.id one.entry ruled one.added in
     let other = entry_id b d two.id two.entry ruled two.added in
     let (ids, entries) = cut_once 32 one.id two.id (entry_text one.entry) (entry_text two.entry) (id_lacks 32 one.id (omega arith) named) (id_lacks 32 two.id (omega arith) other) (sym one.spelled ∙ two.spelled) in
-    some_same c d (sym one.added ∙ ap (λ i. with_entry b i one.entry) ids ∙ ap (with_entry b two.id) (same_entry one.entry two.entry one.good two.good entries) ∙ two.added)
+    some_same (sym one.added ∙ ap (λ i. with_entry b i one.entry) ids ∙ ap (with_entry b two.id) (same_entry one.entry two.entry one.good two.good entries) ∙ two.added)
 follows_once b c d text ruled (inl one) (inr (inl two)) = absurd (not_run one.id _ _ (entry_id b c one.id one.entry ruled one.added) (sym one.spelled ∙ two.spelled))
 follows_once b c d text ruled (inl one) (inr (inr two)) = absurd (id_not_part two.part one.id _ (entry_id b c one.id one.entry ruled one.added) (sym one.spelled ∙ two.spelled))
 follows_once b c d text ruled (inr (inl one)) (inl two) = absurd (not_run two.id _ _ (entry_id b d two.id two.entry ruled two.added) (sym two.spelled ∙ one.spelled))
@@ -117,10 +118,10 @@ follows_once b c d text ruled (inr (inr one)) (inl two) = absurd (id_not_part on
 follows_once b c d text ruled (inr (inl one)) (inr (inr two)) = absurd (run_not_part two.part _ (sym one.spelled ∙ two.spelled))
 follows_once b c d text ruled (inr (inr one)) (inr (inl two)) = absurd (run_not_part one.part _ (sym two.spelled ∙ one.spelled))
 follows_once b c d text ruled (inr (inr one)) (inr (inr two)) =
-    some_same c d (sym one.added ∙ ap (with_part b) (same_part one.part two.part one.good two.good (sym one.spelled ∙ two.spelled)) ∙ two.added)
+    some_same (sym one.added ∙ ap (with_part b) (same_part one.part two.part one.good two.good (sym one.spelled ∙ two.spelled)) ∙ two.added)
 follows_once b c d text ruled (inr (inl one)) (inr (inl two)) =
     let words = (cut_once 32 (codes "@run") (codes "@run") (run_words (one.run.interval, one.run.state)) (run_words (two.run.interval, two.run.state)) refl refl (sym one.spelled ∙ two.spelled)).1 in
-    some_same c d (sym one.added ∙ ap (with_run b) (same_bare one.run two.run one.bare two.bare one.good two.good words) ∙ two.added)
+    some_same (sym one.added ∙ ap (with_run b) (same_bare one.run two.run one.bare two.bare one.good two.good words) ∙ two.added)
 
 -- the end line is none that a report goes on by
 pub end_once : (b c : Beginning) (text : List ℕ) → IsRuled b → Follows b text c → MayEnd b text → ⊥

@@ -1,7 +1,6 @@
 -- Each line leaves less room for more.
-use Rattle.std.proofs.Common.{◌≡◌, ◌≤◌, ◌<◌, ℕ, zero, suc, List, [], ◌∷◌, length, Option, Some, None, is_some, Bool, true, true≢false, nat_lt, slice_get, sym, ap, subst, arith, length-append}
-use Rattle.std.proofs.lemmas.Bool.{and_parts, eqb-true}
-use Rattle.std.proofs.lemmas.Bool.Decides.{nat_tests}
+use Rattle.std.proofs.Common.{◌≡◌, ◌≤◌, ◌<◌, ℕ, zero, suc, List, [], ◌∷◌, length, Option, Some, None, is_some, Bool, true, true≢false, slice_get, sym, ap, subst, arith, length-append}
+use Rattle.std.proofs.lemmas.Bool.{and_parts, eqb-true, ltb-true}
 use Rattle.bf_value.specs.declared.xval.Xval.{Xval}
 use Rattle.bf_xcom.specs.declared.values.TaskResult.{TaskResult}
 use Rattle.bf_report.specs.declared.report.Version.{Version}
@@ -18,16 +17,13 @@ use Rattle.bf_report_reader.specs.Entries.{IsEntry}
 use Rattle.bf_report_reader.specs.Beginning.{tasks_in, count, last_run, run_count, tells_item, most_told, has_item, takes, with_told, untold, is_text, is_next_in, is_next, ids_with, is_further, is_further_task, goes_on_in, goes_on, takes_task, takes_in, put_task, put_open, further, put_further, put_part, may_begin, with_run, with_task, with_open, with_further, with_part, with_entry, IsCountedIn, IsCounted, item_room, instance_room, before_room, task_room, open_room, room, IsSmall}
 use Rattle.bf_report_reader.proofs.Growth.{if_some, count_is, get_within, is_text_of, next_parts, further_parts, begin_parts, no_item, not_true, new_parts, pull_parts}
 
-pub lt_true : (m n : ℕ) → nat_lt m n ≡ true → m < n
-lt_true m n e = grind (arith, nat_tests)
-
 -- ---- a task
 
 -- there is room for one more
 fits : (runs : List RunReport) (ids : List (List ℕ)) (o : OpenRun) (id : List ℕ) → length ids ≤ 2_000 → IsCountedIn runs ids (Some o) → is_next_in runs ids (Some o) id ≡ true
     → (count o < 2_000) × (length (ids_with runs ids id) ≤ 2_000)
 fits [] ids o id small counted next =
-    let below : length ids < 2_000 = lt_true (length ids) 2_000 (new_parts ids id next).1.0 in
+    let below : length ids < 2_000 = ltb-true (length ids) 2_000 (new_parts ids id next).1.0 in
     (omega (arith, below, counted), omega (arith, below, length-append ids (id ∷ [])))
 fits (r ∷ rs) ids o id small counted next = (omega (arith, small, get_within ids id (count o) (is_text_of (slice_get ids (count o)) id next)), small)
 
@@ -108,7 +104,7 @@ few_told Version.Two = omega arith
 told_less : (version : Version) (is_told : Bool) (x : InstanceReport) (part : GivenPart) → takes version (has_item is_told x.item) x part ≡ true → instance_room (with_told x part) < instance_room x
 told_less version is_told x (GivenPart.Item v) next = omega (arith, ap item_room (no_item is_told x.item (not_true (has_item is_told x.item) next)))
 told_less version is_told x (GivenPart.Pull p) next =
-    omega (arith, lt_true (length x.pulls) (most_told version) (pull_parts version (has_item is_told x.item) x p next).1.0, few_told version, length-append x.pulls (p ∷ []))
+    omega (arith, ltb-true (length x.pulls) (most_told version) (pull_parts version (has_item is_told x.item) x p next).1.0, few_told version, length-append x.pulls (p ∷ []))
 
 pub part_room : (b c : Beginning) (part : GivenPart) → IsSmall b → with_part b part ≡ Some c → IsSmall c × (room c < room b)
 part_room b c part small e =
@@ -129,6 +125,6 @@ part_room b c part small e =
 pub run_room : (b c : Beginning) (run : RunReport) → run.tasks ≡ [] → IsSmall b → with_run b run ≡ Some c → IsSmall c × (room c < room b)
 run_room b c run none small e =
     let (next, is) = if_some (may_begin b run.interval) _ c e in
-    let below : run_count b < 4_096 = lt_true (run_count b) 4_096 (begin_parts b run.interval next).1.0 in
+    let below : run_count b < 4_096 = ltb-true (run_count b) 4_096 (begin_parts b run.interval next).1.0 in
     let P : Beginning → Type 0 = λ x. IsSmall x × (room x < room b) in
     subst P is (small, omega (arith, below, length-append b.runs (last_run b.run)))

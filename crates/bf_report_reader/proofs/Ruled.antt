@@ -4,7 +4,7 @@ use Rattle.std.specs.List.{list_any, AllByRecursion}
 use Rattle.std.specs.Str.{bytes_eq}
 use Rattle.std.specs.Cmp.Lexicographic.{bytes_decides}
 use Rattle.std.proofs.lemmas.Int.{ints}
-use Rattle.std.proofs.lemmas.Bool.{and_parts, eqb-true, cases_Bool}
+use Rattle.std.proofs.lemmas.Bool.{and_parts, eqb-true, cases_Bool, ltb-true}
 use Rattle.std.proofs.lemmas.List.{map-append}
 use Rattle.std.proofs.lemmas.List.Quantifiers.{all_pairs_push}
 use Rattle.bf_read.specs.Ids.{is_id}
@@ -16,6 +16,7 @@ use Rattle.bf_report.specs.declared.report.Pull.{Pull}
 use Rattle.bf_report.specs.declared.report.InstanceReport.{InstanceReport}
 use Rattle.bf_report.specs.declared.report.TaskReport.{TaskReport}
 use Rattle.bf_report.specs.declared.report.RunReport.{RunReport}
+use Rattle.bf_report.proofs.DatedFacts.{all_more}
 use Rattle.bf_report_reader.specs.declared.entry.Untried.{Untried}
 use Rattle.bf_report_reader.specs.declared.entry.Entry.{Entry}
 use Rattle.bf_report_reader.specs.declared.part.GivenPart.{GivenPart}
@@ -28,13 +29,8 @@ use Rattle.bf_report_reader.specs.Parts.{IsPart}
 use Rattle.bf_report_reader.specs.Beginning.{task_with, open_task, tasks_in, count, closed, last_run, so_far, run_count, tells_item, most_told, has_item, takes, with_told, untold, is_given_task, is_given_in, is_whole_in, is_whole, starts_before, is_text, is_next_in, is_next, ids_with, is_further, is_further_task, goes_on_in, goes_on, takes_task, takes_in, put_task, put_open, further, put_further, told, put_part, may_begin, with_run, with_task, with_open, with_further, with_part, with_entry, IsCountedIn, IsCounted, IsSmall}
 use Rattle.bf_report_reader.specs.Rules.{AreToldPulls, IsShownInstance, IsShownTask, IsShownRun, Rise, IsShownReport, AreShownBefore, IsOpenInstance, IsOpenTask, IsOpenRun, IsRuled}
 use Rattle.bf_report_reader.proofs.Growth.{if_some, count_is, next_parts, further_parts, begin_parts, whole_parts, not_true, new_parts, pull_parts}
-use Rattle.bf_report_reader.proofs.Rooms.{lt_true}
 
 -- ---- lists
-
-each_push : {X : Type 0} (P : X → Type 0) (xs : List X) (y : X) → AllByRecursion P xs → P y → AllByRecursion P (xs ++ y ∷ [])
-each_push P [] y each one = (one, tt)
-each_push P (x ∷ xs) y each one = (each.0, each_push P xs y each.1 one)
 
 rise_same : (rs : List RunReport) (a b : RunReport) → a.interval ≡ b.interval → Rise (rs ++ a ∷ []) → Rise (rs ++ b ∷ [])
 rise_same [] a b same rise = tt
@@ -85,7 +81,7 @@ pulls_told : (version : Version) (pulls : List Pull) (p : Pull) → AreToldPulls
 pulls_told version pulls p told good few other = record {
   few = omega (arith, few, length-append pulls (p ∷ []));
   distinct = subst AreDistinct (sym (map-append (λ (q : Pull). q.task) pulls (p ∷ []))) (all_pairs_push (λ a b. a ≢ b) (map (λ (q : Pull). q.task) pulls) p.task told.distinct (none_pulled pulls p.task other));
-  each = each_push _ pulls p told.each good;
+  each = all_more _ pulls p told.each good;
 }
 
 told_open : (version : Version) (expanded : Bool) (x : InstanceReport) (part : GivenPart) → IsPart part → IsOpenInstance version expanded x → takes version (has_item (tells_item version expanded) x.item) x part ≡ true
@@ -98,7 +94,7 @@ told_open version expanded x (GivenPart.Pull p) good begun next =
     record {
       result = begun.result;
       item = begun.item;
-      pulls = pulls_told version x.pulls p begun.pulls good (lt_true (length x.pulls) (most_told version) few) other;
+      pulls = pulls_told version x.pulls p begun.pulls good (ltb-true (length x.pulls) (most_told version) few) other;
       in_order = λ lacks. absurd (true≢false (sym complete ∙ lacks));
     }
 
@@ -106,7 +102,7 @@ told_open version expanded x (GivenPart.Pull p) good begun next =
 
 before_each : (version : Version) (before : Option (List InstanceReport)) (x : InstanceReport) → AreShownBefore version before → IsShownInstance version (is_some before) x → IsShownTask version (task_with before x)
 before_each version None x each last = last
-before_each version (Some xs) x each last = (omega (arith, length-append xs (x ∷ [])), omega (arith, each.0, length-append xs (x ∷ [])), each_push _ xs x each.1 last)
+before_each version (Some xs) x each last = (omega (arith, length-append xs (x ∷ [])), omega (arith, each.0, length-append xs (x ∷ [])), all_more _ xs x each.1 last)
 
 open_each : (version : Version) (task : Option OpenTask) → is_given_task version task ≡ true → IsOpenTask version task → AllByRecursion (IsShownTask version) (open_task task)
 open_each version None given good = tt
@@ -131,7 +127,7 @@ names : (version : Version) (runs : List RunReport) (ids : List (List ℕ)) (o :
     → AllByRecursion (IsShownRun version (length ids)) runs → AreNamed version runs (ids_with runs ids id)
 names version [] ids o id next named distinct shown =
     let (good, (few, other)) = new_parts ids id next in
-    record { named = each_push (λ id. is_id id ≡ true) ids id named good; distinct = all_pairs_push (λ a b. a ≢ b) ids id distinct (none_there ids id other); shown = tt }
+    record { named = all_more (λ id. is_id id ≡ true) ids id named good; distinct = all_pairs_push (λ a b. a ≢ b) ids id distinct (none_there ids id other); shown = tt }
 names version (r ∷ rs) ids o id next named distinct shown = record { named = named; distinct = distinct; shown = shown }
 
 -- ---- a line of a task
@@ -161,7 +157,7 @@ task_ruled b c id t good ruled e =
     go None ruled given next = absurd (true≢false (sym next))
     go (Some o) ruled given next =
         let new : OpenRun = record { run = record o.run { tasks = tasks_in o ++ t ∷ [] }; task = None } in
-        put_ruled b o new id ruled next refl (ruled.last.0, each_push (IsShownTask b.version) (tasks_in o) t (tasks_each b.version o given ruled.last) good, tt)
+        put_ruled b o new id ruled next refl (ruled.last.0, all_more (IsShownTask b.version) (tasks_in o) t (tasks_each b.version o given ruled.last) good, tt)
 
 opened_ruled : (b c : Beginning) (id : List ℕ) (t : OpenTask) → IsOpenTask b.version (Some t) → IsRuled b → with_open b id t ≡ Some c → IsRuled c
 opened_ruled b c id t good ruled e =
@@ -197,7 +193,7 @@ further_ruled b c id index r within good ruled e =
         → IsOpenTask b.version (Some (further (record { before = before; instance = x }) r))
     open_further None x number given begun = absurd (true≢false (sym number))
     open_further (Some xs) x number given begun =
-        ((omega (arith, within, eqb-true _ _ number, length-append xs (x ∷ [])), each_push _ xs x begun.0.1 (whole_instance b.version true x begun.1 given)), untold_open b.version true r good)
+        ((omega (arith, within, eqb-true _ _ number, length-append xs (x ∷ [])), all_more _ xs x begun.0.1 (whole_instance b.version true x begun.1 given)), untold_open b.version true r good)
 
     last : (run : RunReport) (task : Option OpenTask) → IsRuled (record b { run = Some (record { run = run; task = task }) }) → is_given_task b.version task ≡ true → is_further_task task index ≡ true
         → IsRuled (record b { run = put_further (Some (record { run = run; task = task })) r })
@@ -236,7 +232,7 @@ part_ruled b c part good ruled e =
 
 close_ruled : (b : Beginning) (o : OpenRun) → IsRuled (record b { run = Some o }) → is_given_in b.version (Some o) ≡ true → (count o == length b.tasks) ≡ true → AllByRecursion (IsShownRun b.version (length b.tasks)) (b.runs ++ closed o ∷ [])
 close_ruled b o ruled given whole =
-    each_push (IsShownRun b.version (length b.tasks)) b.runs (closed o) ruled.runs
+    all_more (IsShownRun b.version (length b.tasks)) b.runs (closed o) ruled.runs
     (record { interval = ruled.last.0; each = tasks_each b.version o given ruled.last; all = count_is o ∙ eqb-true _ _ whole })
 
 -- before the first run there is nothing
@@ -260,7 +256,7 @@ run_ruled b c run none good counted ruled e =
       distinct = ruled.distinct;
       runs = shown;
       last = (good, subst (AllByRecursion (IsShownTask b.version)) (sym none) tt, tt);
-      few_runs = omega (arith, lt_true (run_count b) 4_096 few, length-append b.runs (last_run b.run));
+      few_runs = omega (arith, ltb-true (run_count b) 4_096 few, length-append b.runs (last_run b.run));
       rise = rise;
     })
   where

@@ -1,5 +1,5 @@
 -- A line spells one thing.
-use Rattle.std.proofs.Common.{◌≡◌, ℕ, List, [], ◌∷◌, ◌++◌, length, get_or, true, false, true≢false, Option, Some, None, unwrap_or, codes, decimal, refl, sym, ap, ◌∙◌, subst, ℤ, arith, inl, inr}
+use Rattle.std.proofs.Common.{◌≡◌, ℕ, List, [], ◌∷◌, ◌++◌, length, get_or, true, false, true≢false, Option, Some, None, codes, decimal, refl, sym, ap, ◌∙◌, subst, ℤ, arith, inl, inr}
 use Rattle.std.proofs.lemmas.Fmt.{decimal_injective, decimal_digit}
 use Rattle.bf_interval.specs.declared.interval.Interval.{Interval}
 use Rattle.jiff.specs.declared.timestamp.Timestamp.{Timestamp}
@@ -15,6 +15,7 @@ use Rattle.bf_xcom.specs.declared.values.RunState.{RunState}
 use Rattle.bf_xcom.specs.declared.values.TaskResult.{TaskResult}
 use Rattle.bf_report.specs.declared.report.Pull.{Pull}
 use Rattle.bf_report.specs.Report.{state_word, value_word, pulled_word, run_state_word}
+use Rattle.bf_check.proofs.ListLemmas.{some_same}
 use Rattle.bf_report_reader.specs.declared.part.GivenPart.{GivenPart}
 use Rattle.bf_report_reader.specs.Parts.{IsToldValue, IsToldPulled, IsToldPull, IsPart, pull_words, part_text}
 use Rattle.bf_report_reader.specs.declared.entry.Untried.{Untried}
@@ -82,11 +83,8 @@ same_run_state RunState.Success RunState.Failed e = absurd (differ _ _ 0 e (λ h
 same_run_state RunState.Failed RunState.Success e = absurd (differ _ _ 0 e (λ h. omega (arith, h)))
 same_run_state RunState.Failed RunState.Failed e = refl
 
-pub some_same : {X : Type 0} (x y : X) → Some x ≡ Some y → x ≡ y
-some_same x y e = ap (λ o. unwrap_or o x) e
-
 pub same_value : (v w : Xval) → IsShownValue v → IsShownValue w → text_of v ≡ text_of w → v ≡ w
-same_value v w good other e = some_same v w (sym good.pushed ∙ ap value_of_line e ∙ other.pushed)
+same_value v w good other e = some_same (sym good.pushed ∙ ap value_of_line e ∙ other.pushed)
 
 pub same_outcome : (o p : Outcome) → IsShownOutcome o → IsShownOutcome p → state_word o ≡ state_word p → value_word o ≡ value_word p → o ≡ p
 same_outcome (Success (Some v)) (Success (Some w)) good other s e = ap (λ x. Success (Some x)) (same_value v w good other e)
@@ -138,7 +136,7 @@ one_outcome o p state value one two = same_outcome o p one.0 two.0 (sym one.1 �
 -- ---- what was given
 
 pub same_told : (deepest longest : ℕ) (v w : Xval) → IsToldValue deepest longest v → IsToldValue deepest longest w → text_of v ≡ text_of w → v ≡ w
-same_told deepest longest v w good other e = some_same v w (sym good.says ∙ ap (value_of_text deepest) e ∙ other.says)
+same_told deepest longest v w good other e = some_same (sym good.says ∙ ap (value_of_text deepest) e ∙ other.says)
 
 pub same_pulled : (v w : Option Xval) → IsToldPulled v → IsToldPulled w → pulled_word v ≡ pulled_word w → v ≡ w
 same_pulled None None good other e = refl

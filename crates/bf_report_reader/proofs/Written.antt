@@ -52,7 +52,7 @@ use Rattle.bf_report.specs.declared.report.RunReport.{RunReport}
 use Rattle.bf_report.specs.declared.report.Report.{Report}
 use Rattle.bf_report.specs.Dated.{pulls_of, instance_report, reported_instance, reported_instances, reported, reports_from, cell_by, AreDated, IsDated, ids_shown}
 use Rattle.bf_report.specs.Values.{IsSoundValue, IsSoundOutcome, AreSoundPulls, IsSoundInstance, IsSoundTask, AreSoundTasks, HasSoundValues}
-use Rattle.bf_report.proofs.DatedFacts.{pulls_in_range}
+use Rattle.bf_report.proofs.DatedFacts.{pulls_in_range, length-reports_from}
 use Rattle.bf_report_reader.specs.Entries.{IsShownValue, IsShownOutcome, IsTries}
 use Rattle.bf_report_reader.specs.Parts.{IsToldPull}
 use Rattle.bf_report_reader.specs.Beginning.{has_item}
@@ -399,10 +399,6 @@ tasks_shown : (dag : Dag) (cell : ℕ → Cell) (t : ℕ) (tasks : List Task) �
 tasks_shown dag cell t [] each sound = tt
 tasks_shown dag cell t (task ∷ tasks) each sound =
     (each t (omega arith) (omega arith) sound.0, tasks_shown dag cell (suc t) tasks (λ u low high. each u (omega (arith, low)) (omega (arith, high))) sound.1)
-
-length-reports_from : (dag : Dag) (cell : ℕ → Cell) (t : ℕ) (tasks : List Task) → length (reports_from dag cell t tasks) ≡ length tasks
-length-reports_from dag cell t [] = refl
-length-reports_from dag cell t (task ∷ tasks) = ap suc (length-reports_from dag cell (suc t) tasks)
 
 -- each task of the runs from k on is read back
 abbrev AreReadBack : Dag → Look → ℕ → ℕ → Type 0

@@ -5,10 +5,10 @@ use Rattle.std.proofs.lemmas.Bool.{ltb-true, ltb-false, lt-ltb, le-ltb}
 use Rattle.std.specs.Ordering.{is_eq, eq_by_cmp}
 use Rattle.std.specs.Cmp.{IsTotalOrder, nat_cmp_total, int_cmp_total, then_total, on_total, eq_by_cmp_equiv}
 use Rattle.std.specs.Cmp.Lexicographic.{options_total, lists_total}
+use Rattle.bf_value.proofs.ReadLemmas.{drop-item}
 use Rattle.bf_try.specs.declared.table.TableEntry.{TableEntry}
 use Rattle.bf_try.specs.declared.table_index.Pattern.{Pattern}
 use Rattle.bf_try.specs.TableIndex.{earlier, first_of_key, first_of_keys, is_pattern, pattern_cmp, pattern_in}
-use Rattle.bf_try.proofs.TableLemmas.{rest_from}
 
 -- ---- the first that passes
 
@@ -73,7 +73,7 @@ module _ (ids : List (List ℕ)) (entries : List TableEntry) (n : ℕ) (e : Tabl
 
   opened : (key : Pattern) → from key n ≡ option_map (λ k. n + k) (if is_pattern key (pattern_in ids e) then Some 0 else option_map suc (first_of_key ids (drop (n + 1) entries) key))
   opened key =
-      ap (λ es. option_map (λ k. n + k) (first_of_key ids es key)) (rest_from entries n e within is)
+      ap (λ es. option_map (λ k. n + k) (first_of_key ids es key)) (drop-item entries n e within is)
       ∙ ap (option_map (λ k. n + k)) (position-cons (λ x. is_pattern key (pattern_in ids x)) e (drop (n + 1) entries))
 
   pub pattern_noted : (p : Pattern) (key : Pattern) (old new : Option ℕ) → pattern_in ids e ≡ Some p → new ≡ cond (is_eq (pattern_cmp p key)) (Some n) old → old ≡ from key (n + 1) → new ≡ from key n

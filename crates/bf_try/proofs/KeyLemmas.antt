@@ -12,6 +12,7 @@ use Rattle.std.proofs.lemmas.List.Folds.{list_any-append}
 use Rattle.std.proofs.lemmas.List.Quantifiers.{position-Some}
 use Rattle.std.proofs.lemmas.Slice.Eq.{bytes_eq-Decides}
 use Rattle.bf_value.specs.declared.name.JobName.{JobName}
+use Rattle.bf_check.proofs.ListLemmas.{some_same}
 use Rattle.bf_try.specs.declared.table.TableEntry.{TableEntry}
 use Rattle.bf_try.specs.declared.table_index.Pattern.{Pattern}
 use Rattle.bf_try.specs.Tables.{answers_for, is_number, is_text}
@@ -152,9 +153,6 @@ task_passes t (Some number) = is_eq (option_cmp nat_cmp None number) || is_eq (o
 abbrev date_passes : List ℕ → Option (Option (List ℕ)) → Bool
 date_passes date None = false
 date_passes date (Some named) = is_eq (option_cmp (slice_cmp nat_cmp) None named) || is_eq (option_cmp (slice_cmp nat_cmp) (Some date) named)
-
-some_same : {X : Type 0} {x y : X} → Some x ≡ Some y → x ≡ y
-some_same e = cc
 
 module _ (ids : List (List ℕ)) (id : List ℕ) (t : ℕ) (is : position (bytes_eq id) ids ≡ Some t) where
   numbered : (text : List ℕ) (o : Option ℕ) → position (bytes_eq text) ids ≡ o → bytes_eq text id ≡ true → o ≡ Some t

@@ -1,5 +1,5 @@
 -- What the tasks of a plan may push, and the grades of lines.
-use Rattle.std.proofs.Common.{◌≡◌, ℕ, suc, ◌<◌, Bool, true, false, ◌||◌, List, [], ◌∷◌, length, get_or, Contains, Option, None, Some, if◌then◌else◌, IsUtf8, refl, sym, ap, ◌∙◌, inl, inr, arith, true≢false}
+use Rattle.std.proofs.Common.{◌≡◌, ℕ, suc, ◌<◌, Bool, true, false, ◌||◌, List, [], ◌∷◌, length, get_or, Option, None, Some, if◌then◌else◌, IsUtf8, refl, sym, ap, ◌∙◌, inl, inr, arith, true≢false}
 use Rattle.std.specs.List.{list_any}
 use Rattle.std.specs.Str.{is_utf8}
 use Rattle.std.proofs.lemmas.Bool.{cases_lt, eqb-true}
@@ -15,13 +15,11 @@ use Rattle.bf_check.specs.declared.plan.Dag.{Dag}
 use Rattle.bf_check.specs.Plans.{no_task, task_of, shape_of}
 use Rattle.bf_check.specs.Sound.{IsSound}
 use Rattle.bf_check.proofs.PlanLemmas.{is_upstream}
+use Rattle.bf_check.proofs.ListLemmas.{any_contained}
 use Rattle.bf_xcom.specs.declared.values.Outcome.{Outcome}
 use Rattle.bf_try.specs.Grades.{grade_line, grade_value, is_source, may_push}
 
 -- ---- whether one of a list passes
-
-any_contained : {X : Type 0} (p : X → Bool) (xs : List X) (x : X) → Contains xs x → p x ≡ true → list_any p xs ≡ true
-any_contained p xs x (k, within, is) e = list_any_at p xs k x within (ap p is ∙ e)
 
 record IsFoundAt {X : Type 0} (p : X → Bool) (xs : List X) (d : X) (k : ℕ) : Type 0 where
   within : k < length xs

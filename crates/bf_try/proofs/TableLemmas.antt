@@ -1,5 +1,5 @@
 -- Reading the entries of a table.
-use Rattle.std.proofs.Common.{◌≡◌, ℕ, zero, suc, ◌≢◌, ◌<◌, ◌≤◌, ◌+◌, Bool, true, false, ◌&&◌, if◌then◌else◌, IsUtf8, List, [], ◌∷◌, ◌++◌, length, get_or, drop, drop-cons, add-one, slice_get, slice_index_or, Option, Some, None, Result, Ok, Err, String, Global, string_bytes, refl, sym, ap, ◌∙◌}
+use Rattle.std.proofs.Common.{◌≡◌, ℕ, zero, suc, ◌<◌, ◌≤◌, ◌+◌, Bool, true, false, ◌&&◌, if◌then◌else◌, IsUtf8, List, [], ◌∷◌, ◌++◌, length, get_or, drop, slice_get, slice_index_or, Option, Some, None, Result, Ok, Err, String, Global, string_bytes, refl, ap}
 use Rattle.std.specs.List.{list_all}
 use Rattle.std.specs.Map.{keys_of}
 use Rattle.std.specs.Str.{is_utf8}
@@ -12,6 +12,7 @@ use Rattle.serde_json.specs.declared.value.Value.{Value}
 use Rattle.bf_check.specs.declared.plan.Task.{Task}
 use Rattle.bf_check.specs.declared.plan.Dag.{Dag}
 use Rattle.bf_check.specs.Plans.{no_task, task_of}
+use Rattle.bf_value.proofs.ReadLemmas.{drop-item}
 use Rattle.bf_try.specs.declared.table.TableEntry.{TableEntry}
 use Rattle.bf_try.specs.declared.table.TableFault.{TableFault}
 use Rattle.bf_try.specs.Tables.{is_key, has_known_keys, entry_of, entries_of, entries_from, longest_table, json_of_file}
@@ -27,10 +28,6 @@ abbrev pub after : List TableEntry → Result (List TableEntry) TableFault → R
 after es (Ok rest) = Ok (es ++ rest)
 after es (Err fault) = Err fault
 
--- what is left of a list, from its next item on
-pub rest_from : {A : Type 0} → (xs : List A) (i : ℕ) (x : A) → i < length xs → x ≡ get_or xs i x → drop i xs ≡ x ∷ drop (i + 1) xs
-rest_from xs i x h e = rw add-one (drop-cons xs i x h ∙ ap (λ y. y ∷ drop (suc i) xs) (sym e))
-
 -- what is read from n on
 abbrev pub read_from : ℕ → List Value → Result (List TableEntry) TableFault
 read_from n vs = entries_from n (entries_of (items_view (drop n vs)))
@@ -40,7 +37,7 @@ abbrev at : List TableEntry → ℕ → List Value → Option TableEntry → Res
 at es n vs o = after es (entries_from n (o ∷ entries_of (items_view (drop (n + 1) vs))))
 
 next : (es : List TableEntry) (vs : List Value) (n : ℕ) (v : Value) → n < length vs → v ≡ get_or vs n v → after es (read_from n vs) ≡ at es n vs (entry_of (view v))
-next es vs n v h is = ap (λ us. after es (entries_from n (entries_of (items_view us)))) (rest_from vs n v h is)
+next es vs n v h is = ap (λ us. after es (entries_from n (entries_of (items_view us)))) (drop-item vs n v h is)
 
 -- ---- the file
 

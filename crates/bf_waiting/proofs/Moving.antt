@@ -11,6 +11,7 @@ use Rattle.bf_check.specs.declared.plan.Dag.{Dag}
 use Rattle.bf_check.specs.Plans.{task_of}
 use Rattle.bf_try.specs.declared.ledger.Entry.{Entry}
 use Rattle.bf_try.specs.Tries.{map_index, name_of, place_of}
+use Rattle.bf_try.proofs.Maps.{same_name}
 use Rattle.bf_core.specs.declared.clock.Clock.{Clock}
 use Rattle.bf_core.specs.declared.event.Event.{Event}
 use Rattle.bf_core.specs.declared.state.State.{State}
@@ -25,7 +26,6 @@ use Rattle.bf_core.proofs.Instances.{instance-here, new-fresh}
 use Rattle.bf_core.proofs.Kept.{replay-in-time, replay-invariant}
 use Rattle.bf_core.proofs.Reading.{put-cases, put-here, with_phase-cell}
 use Rattle.bf_core.proofs.Stuck.{placed-in}
-use Rattle.bf_core.proofs.Timing.{same-name}
 use Rattle.bf_waiting.specs.Standings.{IsDelayedAt, IsReadyAt}
 
 -- ---- moments
@@ -35,14 +35,14 @@ removed : {X : Type 0} → (ms : map.FinMap name_cmp X) (n q : JobName) → ((q 
 removed ms n q = go (eq_by_cmp name_cmp q n) refl
   where
     go : (b : Bool) → eq_by_cmp name_cmp q n ≡ b → ((q ≡ n) × (map.get (map.remove ms n) q ≡ None)) ⊎ (map.get (map.remove ms n) q ≡ map.get ms q)
-    go true e = inl (same-name q n e, map.get-remove name_cmp_total ms n q ∙ rw e)
+    go true e = inl (same_name q n e, map.get-remove name_cmp_total ms n q ∙ rw e)
     go false e = inr (map.get-remove name_cmp_total ms n q ∙ rw e)
 
 inserted : {X : Type 0} → (ms : map.FinMap name_cmp X) (n : JobName) (v : X) (q : JobName) → (q ≡ n) ⊎ (map.get (map.insert ms n v) q ≡ map.get ms q)
 inserted ms n v q = go (eq_by_cmp name_cmp q n) refl
   where
     go : (b : Bool) → eq_by_cmp name_cmp q n ≡ b → (q ≡ n) ⊎ (map.get (map.insert ms n v) q ≡ map.get ms q)
-    go true e = inl (same-name q n e)
+    go true e = inl (same_name q n e)
     go false e = inr (map.get-insert name_cmp_total ms n v q ∙ rw e)
 
 -- the end of a try changes the moment of its next try alone

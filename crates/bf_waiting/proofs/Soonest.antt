@@ -10,10 +10,10 @@ use Rattle.bf_core.proofs.Numbers.{below-or}
 no-item : (d : Delay) (xs : List Delay) → xs ≡ [] → Contains xs d → ⊥
 no-item d xs e c = let none : Contains [] d = subst (λ (ys : List Delay). Contains ys d) e c in absurd (omega (arith, none.1))
 
-min-left : (a b : ℤ) → a ≤ℤ b → int_min a b ≡ a
+pub min-left : (a b : ℤ) → a ≤ℤ b → int_min a b ≡ a
 min-left a b l = omega (arith, ints, clamps, l)
 
-min-right : (a b : ℤ) → b <ℤ a → int_min a b ≡ b
+pub min-right : (a b : ℤ) → b <ℤ a → int_min a b ≡ b
 min-right a b l = omega (arith, ints, clamps, l)
 
 module _ (classes : List Waits) where

@@ -1,9 +1,10 @@
 use Rattle.std.proofs.Common.{◌≡◌, ap, Some, sym, subst, ◌∙◌, true≢false, arith}
+use Rattle.bf_check.proofs.ListLemmas.{some_same}
 use Rattle.bf_report_reader.proofs.Splits.{none_stands, cut_once}
 use Rattle.bf_report_reader.proofs.Words.{moment_plain}
 use Rattle.std.proofs.lemmas.Int.{ints}
 use Rattle.bf_interval.specs.Years.{IsInYears}
-use Rattle.bf_report_reader.proofs.Spelled.{run_fields, some_same}
+use Rattle.bf_report_reader.proofs.Spelled.{run_fields}
 use Rattle.bf_report_reader.proofs.interval.run_in.Goals as goal
 use Rattle.bf_report_reader.proofs.interval.run_in.Goals.{then-gt-via-then-gt, then-gt-via-else-gt+then-not-is_in_years}
 
@@ -32,8 +33,8 @@ returns-then-gt-clause-every c = λ p says.
     let (start, end, state) = run_fields p c.args.text.now _ _ _ _ c.in_ok-start.ensures.word c.in_ok-start.ensures.some c.in_ok-end.ensures.word c.in_ok-end.ensures.some says.1 in
     let first = c.in_ok-start-2.ensures.every p.0.start (says.0.start, start) in
     let last = c.in_ok-end-2.ensures.every p.0.end (says.0.end, end) in
-    let same : c.in_ok-start-2.start ≡ p.0.start = some_same _ _ first in
-    let ends : c.in_ok-end-2.end ≡ p.0.end = some_same _ _ last in
+    let same : c.in_ok-start-2.start ≡ p.0.start = some_same first in
+    let ends : c.in_ok-end-2.end ≡ p.0.end = some_same last in
     elim c.then-gt.branch [
       | then-gt-via-then-gt w ↦ absurd (grind (arith, ints, ap (λ t. t.nanosecond) same, ap (λ t. t.nanosecond) ends, says.0.in_order, w.if-gt.ensures))
       | then-gt-via-else-gt+then-not-is_in_years w ↦ absurd (true≢false (sym (w.is_in_years.ensures.1 (subst (λ t. IsInYears t.nanosecond) (sym same) says.0.in_years)) ∙ w.if-not-is_in_years.true))
@@ -45,4 +46,4 @@ returns-clause-every c = λ p says.
     let first = c.in_ok-start-2.ensures.every p.0.start (says.0.start, start) in
     let last = c.in_ok-end-2.ensures.every p.0.end (says.0.end, end) in
     let how = c.in_ok-state.ensures.every p.1 state in
-    ap Some (λ k. (record { start = some_same c.in_ok-start-2.start p.0.start first k; end = some_same c.in_ok-end-2.end p.0.end last k }, some_same c.in_ok-state.state p.1 how k))
+    ap Some (λ k. (record { start = some_same first k; end = some_same last k }, some_same how k))

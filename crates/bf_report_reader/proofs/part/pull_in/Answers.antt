@@ -1,8 +1,9 @@
 use Rattle.std.proofs.Common.{Some, true≢false, ap, sym, subst, ◌∙◌}
 use Rattle.std.specs.Str.{IsUtf8}
 use Rattle.bf_read.specs.Ids.{is_id}
+use Rattle.bf_check.proofs.ListLemmas.{some_same}
 use Rattle.bf_report_reader.proofs.Words.{id_utf8}
-use Rattle.bf_report_reader.proofs.Spelled.{some_same, pull_fields}
+use Rattle.bf_report_reader.proofs.Spelled.{pull_fields}
 use Rattle.bf_report_reader.proofs.part.pull_in.Goals as goal
 
 pub returns-in_default-from_utf8-clause-every : goal.returns-in_default-from_utf8-clause-every
@@ -19,7 +20,7 @@ pub returns-in_ok-copied-in-Some-2-clause-every : goal.returns-in_ok-copied-in-S
 returns-in_ok-copied-in-Some-2-clause-every c = λ p says.
     let (task, value) = pull_fields p c.args.text.now c.in-Some.id.now c.in-Some.value.now c.in-Some.ensures.word c.in-Some.ensures.some says in
     let tasks = c.in_ok-copied-in-Some-2.ensures ∙ c.in-Ok.ensures.cases.0 ∙ task in
-    let values = some_same _ _ (sym c.in-Some-2.is ∙ c.in_ok-value.ensures.every p.value (says.0.1, value)) in
+    let values = some_same (sym c.in-Some-2.is ∙ c.in_ok-value.ensures.every p.value (says.0.1, value)) in
     λ k. Some (record { task = tasks k; value = values k })
 
 pub returns-in-None-clause-every : goal.returns-in-None-clause-every
