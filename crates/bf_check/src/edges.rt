@@ -120,6 +120,7 @@ impl Looks<'_> {
             Err(GraphFault::OutOfMemory) => Err(CheckFault::OutOfMemory),
         }
     }
+
     /// The looks 6 and 7: the graph of the tasks.
     pub(crate) fn graph(&self, alloc: Global) -> Result<Graph, CheckFault>
         ensures graph { IfOk result (λ graph. graph ≡ shape_in self.now.draft.now.tasks) }

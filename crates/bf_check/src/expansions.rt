@@ -97,6 +97,7 @@ impl Looks<'_> {
         let branch = first_expanded_branch(self.draft.tasks.as_slice());
         self.refuse_at(alloc, TaskFault::BranchMisuse, branch)
     }
+
     /// The looks 15 to 17: the source of each task.
     pub(crate) fn sources(
         &self,

@@ -52,6 +52,7 @@ impl Looks<'_> {
             Err(ZoneFault::OutOfMemory) => Err(CheckFault::OutOfMemory),
         }
     }
+
     /// The looks 11 to 13: the schedule, and its zone.
     pub(crate) fn schedule_in_zone(&self, alloc: Global) -> Result<(CronSpec, Zone), CheckFault>
         requires { HasNoneBelow self.now.draft.now 11 }
