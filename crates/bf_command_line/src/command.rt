@@ -11,7 +11,7 @@ use clap::{Arg, ArgAction, Command, Error, value_parser};
 use std::alloc::{AllocError, Global};
 
 /// The number of the version, as in the file VERSION.
-const VERSION: &str = "0.1.0";
+const VERSION: &str = "0.2.0";
 
 const CHECK_EXAMPLE: &str = "Example:\n\
     \x20 backfill check examples/every_key/graph.json";
