@@ -1,4 +1,4 @@
-# Compares what the built program prints. Sourced by scripts of this folder: sets what shared/count.sh sets.
+# Compares what the program prints. Sourced by the scripts of tests/: sets what shared/count.sh sets.
 source "$(dirname "$(readlink -f "${BASH_SOURCE[0]}")")/count.sh"
 graph=$work/graph.json
 table=$work/table.json
@@ -66,21 +66,4 @@ ends_in() {
     for workers in 1 2 8; do
         ends_by "$workers" "$1" < "$work/instances"
     done
-}
-
-# Compares what goes by chance, and ends the script: `by_chance NAME MANY [FIRST [COUNT]]` has shared/NAME.py write the files of COUNT
-# seeds from FIRST on, by itself of the first MANY, and hands `compares` what the line of each has behind its seed, while `folder` has
-# its files. (Paths in a folder that mktemp made have no blanks.)
-by_chance() {
-    local name=$1 first=${3:-1} count=${4:-$2} seed words before folder
-    python3 -B "$root/tests/shared/$name.py" "$work" "$first" "$count"
-    while read -r seed words; do
-        folder=$work/$seed
-        graph=$folder/graph.json
-        before=$differing
-        compares $words
-        [[ $differing -eq $before ]] || echo "that was seed $seed, of which tests/shared/$name.py FOLDER $seed 1 writes the files"
-        rm -r "$folder"
-    done < "$work/cases"
-    sum
 }

@@ -13,7 +13,7 @@ import json
 import random
 import re
 
-from chance import ITEMS, graph_of, happens, in_version_1, intervals_of, some, table_of, write_cases
+from backfills import ITEMS, graph_of, happens, in_version_1, intervals_of, some, table_of, write_cases
 from intervals import BAD_MOMENTS, DAY, FIRST_MOMENT, LAST_DAY, LAST_MOMENT, OUTSIDE_MOMENTS, Refused, moment_of, spelled
 import recursion
 

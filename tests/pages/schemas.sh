@@ -3,11 +3,11 @@
 # here, which was worked out by hand from docs/FORMATS.md, and the schema refuses just what they refuse as 2, 3, 5, 10 and 19. A row
 # `beyond N` is one that the program refuses by N and no schema can tell: a number written as 1.0 or -0, bytes of letters that have
 # several, sums over the file, a day that its month doesn't have. The keys of the schemas, their defaults and limits are compared with
-# the tables of docs/FORMATS.md. What is asked of the schemas takes python3 with the module jsonschema, and isn't run without. The last
-# line is the sum, and the status is 1 where something differs.
+# the tables of docs/FORMATS.md. What is asked of the schemas takes python3 with the module jsonschema. The last line is the sum, and the
+# status is 1 where something differs.
 set -euo pipefail
 
-source "$(dirname "$(readlink -f "${BASH_SOURCE[0]}")")/shared/count.sh"
+source "$(dirname "$(readlink -f "${BASH_SOURCE[0]}")")/../shared/count.sh"
 file=$work/file.json
 mkdir "$work/graph" "$work/table"
 echo '{"dag_id":"d","schedule":"@daily","tasks":[]}' > "$work/no_tasks.json"
@@ -428,11 +428,8 @@ done
 
 # ---- what the schemas say
 
-if ! python3 -c 'from jsonschema import Draft202012Validator' 2> /dev/null; then
-    echo "not run: the schemas over these $rows files, since there is no python3 with the module jsonschema"
-    sum
-    exit
-fi
+python3 -c 'from jsonschema import Draft202012Validator' 2> /dev/null ||
+    skips_rest "the schemas over these $rows files, since there is no python3 with the module jsonschema"
 
 # Says of each file of a kind whether its schema accepts it.
 cat > "$work/validate.py" <<'PY'

@@ -1,5 +1,5 @@
 #!/usr/bin/env python3
-"""Tables with faults and reports that don't fit, both by chance, and what the program is to print: answers.py FOLDER FIRST COUNT
+"""Tables with faults and reports that don't fit, both by chance, and what the program is to print: tables_and_clearing.py FOLDER FIRST COUNT
 
 For each seed from FIRST on, COUNT of them, a folder of its name has the files that `single`, `dry` or `clear` reads, `line`, the words
 of its command each on a line, and `wanted`, what is printed: to standard output where the status is 0 or 1, else to standard error. The
@@ -10,11 +10,11 @@ import json
 import random
 import re
 
-import chance as graphs
+import backfills as graphs
 import faults
 import intervals
 import recursion
-from chance import happens, some, write_cases
+from backfills import happens, some, write_cases
 from looking import ENTRY_KEYS, Case, told
 
 # A sound table for a graph of one or two tasks, and the faults that are planted in it. A text between two `@@` is written as it stands.

@@ -1,5 +1,5 @@
 #!/usr/bin/env python3
-"""Graphs and tables that go by chance, and what the program is to print of them: chance.py FOLDER FIRST COUNT
+"""Graphs and tables that go by chance, and what the program is to print of them: backfills.py FOLDER FIRST COUNT
 
 For each seed from FIRST on, COUNT of them, a folder of its name has graph.json and table.json, and the reports `single` and
 `dry_2` that the program is to print; `dry_1`, the latter in version 1; mended.json and again.json, by which a task is cleared in

@@ -1,11 +1,11 @@
 #!/usr/bin/env bash
-# Runs the built program with a launcher, which is handed the words of each command, and compares its exit status, all that it
+# Runs the program with a launcher, which is handed the words of each command, and compares its exit status, all that it
 # prints and the words that were handed over with what stands here, which was worked out by hand from docs/SPECIFICATION.md and
 # docs/FORMATS.md, or with the run without a launcher. The launchers of examples/cluster run over small programs that stand for
 # srun, ssh and kubectl. The last line is the sum, and the status is 1 where a row differs.
 set -euo pipefail
 
-source "$(dirname "$(readlink -f "${BASH_SOURCE[0]}")")/shared/compare.sh"
+source "$(dirname "$(readlink -f "${BASH_SOURCE[0]}")")/../shared/compare.sh"
 
 # Requires that the program ends with this status, prints what stands in the file `wanted`, and tells of no fault. A launcher has
 # the same standard error, and may write there. A run that takes more than a minute hangs.

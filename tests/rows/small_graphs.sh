@@ -1,10 +1,10 @@
 #!/usr/bin/env bash
-# Runs the built program over small graphs, and compares its exit status and all that it prints with what stands here, which
+# Runs the program over small graphs, and compares its exit status and all that it prints with what stands here, which
 # was worked out by hand from docs/SPECIFICATION.md and docs/FORMATS.md. The last line is the sum, and the status is 1 where a
 # row differs.
 set -euo pipefail
 
-source "$(dirname "$(readlink -f "${BASH_SOURCE[0]}")")/shared/compare.sh"
+source "$(dirname "$(readlink -f "${BASH_SOURCE[0]}")")/../shared/compare.sh"
 
 # Writes a graph without tasks that has this schedule, and this zone.
 scheduled() {

@@ -20,7 +20,7 @@ import random
 import re
 import struct
 
-from chance import happens, write_cases
+from backfills import happens, write_cases
 
 DAY = 86400
 EPOCH = datetime.date(1970, 1, 1).toordinal()

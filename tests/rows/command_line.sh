@@ -1,10 +1,10 @@
 #!/usr/bin/env bash
-# Hands the built program lines that ask for help, lines that are wrong, and lines with several faults at once, and compares its
+# Hands the program lines that ask for help, lines that are wrong, and lines with several faults at once, and compares its
 # exit status and what it prints with what stands here: by docs/FORMATS.md, and for the words of the line by clap. The last line
 # is the sum, and the status is 1 where a row differs.
 set -euo pipefail
 
-source "$(dirname "$(readlink -f "${BASH_SOURCE[0]}")")/shared/compare.sh"
+source "$(dirname "$(readlink -f "${BASH_SOURCE[0]}")")/../shared/compare.sh"
 cd "$work"
 
 # Help stands on standard output where it is asked for, and on standard error where a word is wanting.

@@ -1,11 +1,11 @@
 #!/usr/bin/env bash
-# Hands the built program graph files, whole ones and such with one or more faults, and compares what `check` tells of them with what
+# Hands the program graph files, whole ones and such with one or more faults, and compares what `check` tells of them with what
 # stands here, which was worked out by hand from docs/FORMATS.md: how many tasks and edges, or the first fault. Those that every
-# command has to refuse alike stand in rows.sh, and numbers at their limits in limits.sh. The last line is the sum, and the status is
-# 1 where a row differs.
+# command has to refuse alike stand in small_graphs.sh, and numbers at their limits in limits.sh. The last line is the sum, and
+# the status is 1 where a row differs.
 set -euo pipefail
 
-source "$(dirname "$(readlink -f "${BASH_SOURCE[0]}")")/shared/compare.sh"
+source "$(dirname "$(readlink -f "${BASH_SOURCE[0]}")")/../shared/compare.sh"
 
 # Requires what `check` tells of a graph: how many tasks and edges it has, or the number and the words of its first fault.
 is_told() {

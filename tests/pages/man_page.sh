@@ -1,10 +1,10 @@
 #!/usr/bin/env bash
-# Compares the man page with the help that the built program prints: each command, what stands on its line and what of it may be
+# Compares the man page with the help that the program prints: each command, what stands on its line and what of it may be
 # left out, and each option, are the same in both. And runs the lines of the page's examples, and those of the help's. And compares
 # what --version prints with the file VERSION. The last line is the sum, and the status is 1 where something differs.
 set -euo pipefail
 
-source "$(dirname "$(readlink -f "${BASH_SOURCE[0]}")")/shared/count.sh"
+source "$(dirname "$(readlink -f "${BASH_SOURCE[0]}")")/../shared/count.sh"
 source "$root/tests/shared/help.sh"
 page=${1:-$root/docs/backfill.1}
 

@@ -1,16 +1,14 @@
 #!/usr/bin/env bash
-# Refuses each call for memory, each open, each read, each write and each look at the clock of runs of the built program in turn. A
-# run has to end as if nothing was refused, or by the fault that the refused call is, with nothing (or, of a refused write, a
-# beginning of the report) on standard output. A look at the clock that fails is no fault. Needs a C compiler. The last line is the
-# sum, and the status is 1 where a call ended a run otherwise.
+# Refuses each call for memory, each open, each read, each write and each look at the clock of runs of the program in turn. A run has
+# to end as if nothing was refused, or by the fault that the refused call is, with nothing (or, of a refused write, a beginning of the
+# report) on standard output. A look at the clock that fails is no fault. Needs a C compiler. The last line is the sum, and the status
+# is 1 where a call ended a run otherwise.
 set -euo pipefail
 
-source "$(dirname "$(readlink -f "${BASH_SOURCE[0]}")")/../bench/program.sh"
+source "$(dirname "$(readlink -f "${BASH_SOURCE[0]}")")/../shared/count.sh"
 
+[[ -n $(command -v cc) ]] || skips_rest 'each call refused in turn, since there is no C compiler'
 cc -shared -fPIC -O1 -o "$work/refuse.so" "$root/tests/shared/refuse.c"
-
-passed=0
-failed=0
 
 # Runs the program with the call of this kind and number refused. At number 0 none is, and the calls are counted.
 run() {
@@ -50,15 +48,13 @@ each() {
     cp "$work/err" "$work/whole_err"
     for ((number = 1; number <= calls; number++)); do
         run "$call" "$number" "$@"
+        rows=$((rows + 1))
         if is_fault "$call"; then
             faults=$((faults + 1))
         elif ! is_whole && ! is_untold "$call"; then
-            echo "$call $number of: $* ended with $status" >&2
-            cat "$work/out" "$work/err" >&2
-            failed=$((failed + 1))
-            continue
+            differs "status $status, of $call $number of: $*"
+            cat "$work/out" "$work/err"
         fi
-        passed=$((passed + 1))
     done
     echo "$calls calls, $faults ended the run: $call, status $whole: $*"
 }
@@ -106,5 +102,4 @@ done
 each memory run extract_transform_load/graph.json --from 2024-01-01 --to 2024-01-02
 each memory run extract_transform_load/graph.json --from 2024-01-01 --to 2024-01-02 --workers 2
 each clock run "$work/delayed" --from 2024-01-01 --to 2024-01-01
-echo "$passed passed, $failed failed"
-[[ $failed -eq 0 ]]
+sum

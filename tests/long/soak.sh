@@ -1,12 +1,12 @@
 #!/usr/bin/env bash
 # Runs many real programs that end by chance, beside `dry` by the table of the same answers, and requires equal reports. Says how long
-# that took, how much memory it had at most, and what it left behind: tests/by_hand/soak.sh [TASKS [RUNS [WORKERS [SEED]]]], by itself 1,990
+# that took, how much memory it had at most, and what it left behind: tests/long/soak.sh [TASKS [RUNS [WORKERS [SEED]]]], by itself 1,990
 # tasks and 20 runs, whose answers just fit a table, 64 workers and the seed 1. Needs a C compiler. The last line is `equal`, and the
 # status is 1 where it isn't.
 set -euo pipefail
 
 source "$(dirname "$(readlink -f "${BASH_SOURCE[0]}")")/../../bench/program.sh"
-cc -O2 -o "$work/soak" "$root/tests/by_hand/soak.c"
+cc -O2 -o "$work/soak" "$root/tests/long/soak.c"
 
 python3 - "$program" "$work" "${1:-1990}" "${2:-20}" "${3:-64}" "${4:-1}" <<'PY'
 import datetime

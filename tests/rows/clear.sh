@@ -1,10 +1,10 @@
 #!/usr/bin/env bash
-# Runs `clear` of the built program over small graphs and reports of both versions, by tables and by real programs, and compares
+# Runs `clear` of the program over small graphs and reports of both versions, by tables and by real programs, and compares
 # its exit status and all that it prints with what stands here, which was worked out by hand from docs/SPECIFICATION.md and
 # docs/FORMATS.md. The last line is the sum, and the status is 1 where a row differs.
 set -euo pipefail
 
-source "$(dirname "$(readlink -f "${BASH_SOURCE[0]}")")/shared/compare.sh"
+source "$(dirname "$(readlink -f "${BASH_SOURCE[0]}")")/../shared/compare.sh"
 from=2024-01-01
 to=2024-01-01
 

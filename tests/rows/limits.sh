@@ -1,10 +1,10 @@
 #!/usr/bin/env bash
-# Hands the built program files that break off, and files and lengths at their limits and one beyond, and compares its exit status
+# Hands the program files that break off, and files and lengths at their limits and one beyond, and compares its exit status
 # and all that it prints with what stands here, which was worked out by hand from docs/FORMATS.md. The last line is the sum, and
 # the status is 1 where a row differs.
 set -euo pipefail
 
-source "$(dirname "$(readlink -f "${BASH_SOURCE[0]}")")/shared/compare.sh"
+source "$(dirname "$(readlink -f "${BASH_SOURCE[0]}")")/../shared/compare.sh"
 
 # So many times a text.
 times() {

@@ -6,7 +6,7 @@
 # line is the sum, and the status is 1 where something differs. Other pages may be named, and then these alone are looked at.
 set -euo pipefail
 
-source "$(dirname "$(readlink -f "${BASH_SOURCE[0]}")")/shared/count.sh"
+source "$(dirname "$(readlink -f "${BASH_SOURCE[0]}")")/../shared/count.sh"
 pages=("$@")
 [[ $# -gt 0 ]] || pages=("$root/README.md" "$root/examples/README.md" "$root/docs/FROM_AIRFLOW.md")
 

@@ -1,6 +1,6 @@
 #!/usr/bin/env bash
 # Clears a task in a run of backfills over graphs and tables that go by chance, and requires that the report is that of a backfill
-# from nothing whose table has the new answers where it was cleared and the old ones elsewhere: tests/by_hand/clearing.sh [CASES [SEED]], by
+# from nothing whose table has the new answers where it was cleared and the old ones elsewhere: tests/long/clearing.sh [CASES [SEED]], by
 # itself 200 cases and the seed 1. The last line is the sum, and the status is 1 where a case differs.
 set -euo pipefail
 

@@ -13,7 +13,7 @@ import re
 
 import intervals
 import recursion
-from chance import UNSETTLED, WAITING, graph_of, happens, settled_ancestors, some, write_cases
+from backfills import UNSETTLED, WAITING, graph_of, happens, settled_ancestors, some, write_cases
 
 MOST_BYTES = 8388608
 MOST_TASKS = 2000

@@ -1,11 +1,11 @@
 #!/usr/bin/env bash
-# Compares the completions for bash, zsh and fish that `completions` prints with the help that the built program prints: each has its
-# commands and no other, and for each command its long options and no other. Those for bash are loaded, and asked. Those for zsh are read as they stand,
-# and those for fish too, which are asked as well where there is fish. The last line is the sum, and the status is 1 where something
-# differs.
+# Compares the completions for bash, zsh and fish that `completions` prints with the help that the program prints: each has its
+# commands and no other, and for each command its long options and no other. Those for bash are loaded, and asked. Those for zsh
+# are read as they stand, and those for fish too, which are asked as well where there is fish. The last line is the sum, and the
+# status is 1 where something differs.
 set -euo pipefail
 
-source "$(dirname "$(readlink -f "${BASH_SOURCE[0]}")")/shared/count.sh"
+source "$(dirname "$(readlink -f "${BASH_SOURCE[0]}")")/../shared/count.sh"
 source "$root/tests/shared/help.sh"
 
 # The words on standard input, one a line, are the ones that are told.
@@ -127,7 +127,7 @@ if command -v fish > /dev/null; then
         same "options of $command that fish offers" "$(long_in_help "$command")" < <(fish_offers "backfill $command --")
     done
 else
-    echo 'not run: what fish offers, since there is no fish'
+    skips 'what fish offers, since there is no fish'
 fi
 
 sum

@@ -1,10 +1,10 @@
 #!/usr/bin/env bash
-# Runs the built program with real programs, by 1, 2 and 8 workers, and compares its exit status and all that it prints with
+# Runs the program with real programs, by 1, 2 and 8 workers, and compares its exit status and all that it prints with
 # what stands here, which was worked out by hand from docs/SPECIFICATION.md and docs/FORMATS.md. The last line is the sum, and
 # the status is 1 where a row differs.
 set -euo pipefail
 
-source "$(dirname "$(readlink -f "${BASH_SOURCE[0]}")")/shared/compare.sh"
+source "$(dirname "$(readlink -f "${BASH_SOURCE[0]}")")/../shared/compare.sh"
 
 # A list is printed, a task is made for each item, and another is given what they printed.
 

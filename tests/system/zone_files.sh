@@ -1,24 +1,17 @@
 #!/usr/bin/env bash
 # Compares the data intervals in the zones of this machine's tz database, read by `--zone-file`, with those by the rule that
-# stands at the end of each file, over years in which the rule alone holds. Without a tz database nothing is compared. The last
-# line is the sum of the ranges, and the status is 1 where one differs.
+# stands at the end of each file, over years in which the rule alone holds: tests/system/zone_files.sh [FOLDER], by itself
+# /usr/share/zoneinfo. The last line is the sum of the ranges, and the status is 1 where one differs.
 set -euo pipefail
 
-source "$(dirname "$(readlink -f "${BASH_SOURCE[0]}")")/../bench/program.sh"
+source "$(dirname "$(readlink -f "${BASH_SOURCE[0]}")")/../shared/count.sh"
 zones=${1:-/usr/share/zoneinfo}
 
 graph() {
     printf '{"dag_id":"d","schedule":"%s","zone":"%s","tasks":[]}' "$1" "$2"
 }
 
-if [[ ! -d $zones ]]; then
-    echo "$zones is not there: nothing was compared"
-    echo "0 passed, 0 failed"
-    exit 0
-fi
-
-passed=0
-failed=0
+[[ -d $zones ]] || skips_rest "the zones of the tz database, since there is no $zones"
 for name in Europe/Berlin Europe/Dublin Australia/Sydney Australia/Lord_Howe America/New_York America/St_Johns \
     Asia/Kolkata Asia/Kathmandu Pacific/Chatham UTC; do
     rule=$(tail -n 1 "$zones/$name")
@@ -31,18 +24,13 @@ for name in Europe/Berlin Europe/Dublin Australia/Sydney Australia/Lord_Howe Ame
             status=0
             "$program" list "$work/rule.json" --from "$from" --to "$to" > "$work/rule" 2> "$work/err" || status=$?
             if [[ $status -ne 0 ]]; then
-                echo "$name: its rule $rule isn't one alone: $(< "$work/err")"
+                skips "$name, since its rule $rule isn't one alone: $(< "$work/err")"
                 continue 3
             fi
-            if cmp "$work/file" "$work/rule"; then
-                passed=$((passed + 1))
-            else
-                echo "$name: $schedule differs from $from to $to"
-                failed=$((failed + 1))
-            fi
+            rows=$((rows + 1))
+            cmp "$work/file" "$work/rule" || differs "$name: $schedule from $from to $to"
         done
     done
     echo "$name: as by $rule"
 done
-echo "$passed passed, $failed failed"
-[[ $failed -eq 0 ]]
+sum

@@ -1,11 +1,11 @@
 #!/usr/bin/env bash
-# Runs the built program with programs that behave badly, with too few descriptors, with output that can't be written, and with
+# Runs the program with programs that behave badly, with too few descriptors, with output that can't be written, and with
 # signals, and compares its exit status and all that it prints with what stands here, which was worked out by hand from
 # docs/SPECIFICATION.md and docs/FORMATS.md. At the end nothing that was started is left. The last line is the sum, and the status
 # is 1 where a row differs.
 set -euo pipefail
 
-source "$(dirname "$(readlink -f "${BASH_SOURCE[0]}")")/shared/compare.sh"
+source "$(dirname "$(readlink -f "${BASH_SOURCE[0]}")")/../shared/compare.sh"
 # Descriptors are limited below, so none that was handed on stays open, but that by which the shell reads this script; and a signal
 # that would write a core writes none.
 for descriptor in /proc/$$/fd/*; do

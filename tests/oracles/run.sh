@@ -1,0 +1,101 @@
+#!/usr/bin/env bash
+# Hands the program files that go by chance, and compares its exit status and all that it prints with what an oracle in Python makes of
+# them, which is docs/SPECIFICATION.md and docs/FORMATS.md read by somebody who hasn't seen the code:
+#
+#     tests/oracles/run.sh NAME [FIRST [COUNT]]
+#
+# NAME.py writes the files of COUNT seeds from FIRST on, by itself those from 1 on that ./test runs, with what is to be printed. Without a NAME it
+# tells which there are. Needs python3. The last line is the sum, and the status is 1 where a row differs.
+set -euo pipefail
+
+source "$(dirname "$(readlink -f "${BASH_SOURCE[0]}")")/../shared/compare.sh"
+
+# How many seeds each oracle has by itself.
+declare -A seeds=([backfills]=300 [faults]=1000 [intervals]=600 [reports]=600 [tables_and_clearing]=600)
+
+# Below, `folder` has the files of a seed, `graph` is its graph file, and the arguments are what its line in the file `cases` has.
+
+# A task in a run is cleared in the report of either version.
+clears() {
+    local task=$1 run=$2 status=$3 version=$4 workers=$5
+    graph=$folder/mended.json
+    answers "$status" clear "$graph" "$folder/dry_$version" "${range[@]}" --task="$task" --run "$run" --table "$folder/again.json" \
+        --workers "$workers" < "$folder/clear_$version"
+}
+
+# Graphs and tables: a plain recursion over dates.
+compares_backfills() {
+    local from=$1 to=$2 task=$3 run=$4 single=$5 dry=$6 clear_1=$7 clear_2=$8 workers
+    range=(--from "$from" --to "$to")
+    answers "$single" single "$graph" "$folder/table.json" --at "$from" < "$folder/single"
+    for workers in 1 2 8; do
+        answers "$dry" dry "$graph" "$folder/table.json" "${range[@]}" --workers "$workers" < "$folder/dry_2"
+    done
+    clears "$task" "$run" "$clear_1" 1 1
+    clears "$task" "$run" "$clear_2" 2 1
+    clears "$task" "$run" "$clear_2" 2 8
+}
+
+# Graph files with faults.
+compares_faults() {
+    local status=$1
+    shift
+    case $status in
+        0) answers 0 check "$graph" "$@" < "$folder/told" ;;
+        *) tells "$status" "$(< "$folder/told")" check "$graph" "$@" ;;
+    esac
+}
+
+# Schedules, zones and ranges, whose data intervals are listed.
+compares_intervals() {
+    local status=$1
+    mapfile -t line < "$folder/line"
+    case $status in
+        0) answers 0 list "${line[@]}" < "$folder/wanted" ;;
+        *) tells "$status" "$(< "$folder/wanted")" list "${line[@]}" ;;
+    esac
+}
+
+# Reports, good ones and bad. One that is read is refused too, as of another graph.
+compares_reports() {
+    graph=$work/of_no_report.json
+    echo '{"dag_id":"of-no-report","schedule":"@daily","tasks":[{"id":"t"}]}' > "$graph"
+    echo '[]' > "$table"
+    tells 2 "refused $*" clear "$graph" "$folder/report" --task t --run 2024-01-01T00:00:00Z --from 2024-01-01 --to 2024-01-02 \
+        --table "$table"
+}
+
+# Tables with faults, and reports that don't fit what they are cleared with.
+compares_tables_and_clearing() {
+    local status=$1
+    mapfile -t line < "$folder/line"
+    case $status in
+        0 | 1) answers "$status" "${line[@]}" < "$folder/wanted" ;;
+        *) tells "$status" "$(< "$folder/wanted")" "${line[@]}" ;;
+    esac
+}
+
+name=${1:-}
+if [[ -z $name ]]; then
+    printf '%s\n' "${!seeds[@]}" | sort
+    exit
+fi
+if [[ -z ${seeds[$name]:-} ]]; then
+    echo "there is no oracle $name" >&2
+    exit 2
+fi
+[[ -n $(command -v python3) ]] || skips_rest "the oracle $name, since there is no python3"
+count=${3:-${seeds[$name]}}
+python3 -B "$root/tests/oracles/$name.py" "$work" "${2:-1}" "$count"
+# (paths in a folder that mktemp made have no blanks)
+while read -r seed words; do
+    folder=$work/$seed
+    graph=$folder/graph.json
+    before=$differing
+    "compares_$name" $words
+    [[ $differing -eq $before ]] || echo "that was seed $seed, of which tests/oracles/$name.py FOLDER $seed 1 writes the files"
+    rm -r "$folder"
+done < "$work/cases"
+absent=$((count - $(wc -l < "$work/cases")))
+[[ $absent -eq 0 ]] || skips "$absent seeds, which take files of the tz database that aren't there"
+sum
