@@ -1,6 +1,6 @@
 #!/usr/bin/env bash
-# Measures how long the program takes to start and to end: 200 runs of `backfill --help`, and of a shell that does nothing beside
-# it, in milliseconds each.
+# Measures how long the program takes to start and to end, by itself and by ./backfill: 200 runs of `--help`, and of a shell that does
+# nothing beside it, in milliseconds each.
 set -euo pipefail
 
 source "$(dirname "$(readlink -f "${BASH_SOURCE[0]}")")/program.sh"
@@ -17,5 +17,6 @@ mean() {
     echo "$name: $((end - start))" | awk -F ': ' '{ printf "%s: %.2f ms each\n", $1, $2 / 200 / 1000000 }'
 }
 
-mean 'backfill --help' "$program" --help
+mean "${program#"$root/"} --help" "$program" --help
+mean './backfill --help' "$root/backfill" --help
 mean '/bin/sh -c :' /bin/sh -c :

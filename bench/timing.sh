@@ -1,4 +1,4 @@
-# Times runs of the built program. Sourced by the other scripts; expects `program`.
+# Times runs of the program. Sourced by the other scripts; expects `program`.
 
 # The times of 21 runs in milliseconds, least first, with starting the program.
 milliseconds() {

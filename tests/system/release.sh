@@ -1,32 +1,18 @@
 #!/usr/bin/env bash
-# Runs ./release in a clone of what is committed, with the program that was built: the same bytes come twice, the sum fits, and the
-# archive has the files that the README tells, and no other. The lines of its pages are run where it is unpacked. What isn't
-# committed is refused. It isn't run where there is no git repository. The last line is the sum, and the status is 1 where something
-# differs.
+# Runs ./release in a clone of what is committed, with the program that ./backfill starts: the same bytes come twice, the sum fits, and
+# the archive has the files that the README tells, and no other. The lines of its pages are run where it is unpacked. What isn't committed
+# is refused. Needs the git repository. The last line is the sum, and the status is 1 where something differs.
 set -euo pipefail
 
-source "$(dirname "$(readlink -f "${BASH_SOURCE[0]}")")/shared/count.sh"
+source "$(dirname "$(readlink -f "${BASH_SOURCE[0]}")")/../shared/count.sh"
 
-# Counts a row, and tells where it fails.
-holds() {
-    local name=$1
-    shift
-    rows=$((rows + 1))
-    if ! "$@" > "$work/said" 2>&1; then
-        differs "$name"
-        cat "$work/said"
-    fi
-}
-
-if ! git -C "$root" rev-parse --verify --quiet HEAD > /dev/null 2>&1; then
-    echo 'not run: ./release, since this is no git repository'
-    sum
-    exit
-fi
+git -C "$root" rev-parse --verify --quiet HEAD > "$work/head" 2> /dev/null || skips_rest './release, since there is no git repository'
 git clone --quiet "$root" "$work/clone"
 cd "$work/clone"
-mkdir -p crates/backfill/out
-install -m 755 "$program" crates/backfill/out/backfill
+install -D -m 755 "$program" bin/backfill
+cp "$root/bin/PROVED" bin
+git add bin
+git diff --cached --quiet || git -c user.name=test -c user.email=test commit --quiet --message 'The program that is tested'
 name=backfill-$(< VERSION)-x86_64-linux
 
 holds 'a release' ./release
@@ -45,6 +31,9 @@ tar -x -f "dist/$name.tar.gz" -C "$work/unpacked"
     git ls-files examples
 } | sed "s#^#./$name/#" | sort > "$work/wanted"
 holds 'the files' diff "$work/wanted" "$work/found"
+for file in backfill PROVED; do
+    holds "$file" cmp "$work/unpacked/$name/$file" "bin/$file"
+done
 for format in graph table; do
     holds "the schema $format" cmp "$work/unpacked/$name/schemas/$format.schema.json" <("$program" schema "$format")
 done
