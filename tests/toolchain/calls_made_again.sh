@@ -1,13 +1,14 @@
 #!/usr/bin/env bash
-# Refuses each request for memory of bf_tests_refusals in turn, two backfills of which each call is made again where memory was wanting,
+# Refuses each request for memory of bf_tests_refusals in turn: two backfills of which each call is made again where memory was wanting,
 # and their journals, let come again to cores. Whichever is refused, they have to come to the same events, and no refused call may have
-# changed them. Needs a C compiler. The last line is the sum, and the status is 1 where a run ended otherwise.
+# changed them. Takes the program that rt built of that crate, or builds it. Needs a C compiler. The last line is the sum, and the status
+# is 1 where a run ended otherwise.
 set -euo pipefail
 
-root=$(dirname "$(dirname "$(readlink -f "${BASH_SOURCE[0]}")")")
+source "$(dirname "$(readlink -f "${BASH_SOURCE[0]}")")/../shared/count.sh"
 crate=$root/crates/bf_tests_refusals
-work=$(mktemp -d)
-trap 'rm -rf "$work"' EXIT
+
+[[ -n $(command -v cc) ]] || skips_rest 'calls made again, since there is no C compiler'
 [[ -x $crate/out/bf_tests_refusals ]] || (cd "$crate" && rt run > "$work/built" 2>&1)
 cc -shared -fPIC -O1 -o "$work/refuse.so" "$root/tests/shared/refuse.c"
 
@@ -18,22 +19,18 @@ run() {
         timeout 60 "$crate/out/bf_tests_refusals" > "$work/out" 2> "$work/err" || status=$?
 }
 
-passed=0
-failed=0
 run 0
 requests=$(< "$work/count")
 for ((number = 0; number <= requests; number++)); do
     run "$number"
-    if [[ $status -eq 0 && ! -s $work/err ]] && cmp -s "$work/out" "$crate/stdout"; then
-        passed=$((passed + 1))
-    else
-        echo "request $number ended with $status" >&2
-        cat "$work/err" >&2
-        failed=$((failed + 1))
+    rows=$((rows + 1))
+    if [[ $status -ne 0 || -s $work/err ]] || ! cmp -s "$work/out" "$crate/stdout"; then
+        differs "status $status, of request $number"
+        cat "$work/err"
     fi
 done
 echo "$requests requests for memory"
 # A count of 0 would be that of a program that was never reached.
-[[ $requests -gt 100 ]] || failed=$((failed + 1))
-echo "$passed passed, $failed failed"
-[[ $failed -eq 0 ]]
+rows=$((rows + 1))
+[[ $requests -gt 100 ]] || differs 'so few requests'
+sum
