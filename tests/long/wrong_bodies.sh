@@ -1,0 +1,83 @@
+#!/usr/bin/env bash
+# Tries the wrong bodies in crates/NAME/wrong-bodies/, each of which the prover has to refuse: tests/long/wrong_bodies.sh [CRATE ..], by
+# itself those of all crates. `rt ci` tries them, over a copy in which they stand in must-fail/: it takes libraries that it proved on this
+# machine before as they are, and what a wrong body came to where nothing that it stands on has changed. (`rt must-fail` would prove the
+# libraries below.) All that it says stands in out/wrong_bodies.log. The last line is `N refused, M not`. Those that weren't refused,
+# couldn't be applied or weren't tried are named above it, and then the status is 1.
+set -euo pipefail
+
+root=$(dirname "$(dirname "$(dirname "$(readlink -f "${BASH_SOURCE[0]}")")")")
+work=$(mktemp -d)
+trap 'rm -rf "$work"' EXIT
+log=$root/out/wrong_bodies.log
+
+# What each crate stands on, and the crates that are needed.
+declare -A below=() needed=()
+while IFS=: read -r crate libraries; do
+    below[$crate]=$libraries
+done < <(grep '^[a-z]' "$root/crates.txt")
+
+need() {
+    local crate
+    for crate in "$@"; do
+        [[ -v below[$crate] && ! -v needed[$crate] ]] || continue
+        needed[$crate]=1
+        need ${below[$crate]}
+    done
+}
+
+# Lays out a crate without its tests of the gate.
+lay_out() {
+    local crate=$1 part
+    mkdir -p "$work/crates/$crate"
+    echo "$crate:${below[$crate]}" >> "$work/crates.txt"
+    for part in src specs proofs args data stdin stdout status; do
+        [[ ! -e $root/crates/$crate/$part ]] || cp -R "$root/crates/$crate/$part" "$work/crates/$crate"
+    done
+}
+
+crates=("$@")
+if [[ $# -eq 0 ]]; then
+    for folder in "$root"/crates/*/wrong-bodies; do
+        crates+=("$(basename "${folder%/*}")")
+    done
+fi
+for crate in "${crates[@]}"; do
+    if ! compgen -G "$root/crates/$crate/wrong-bodies/*.edit" > "$work/edits"; then
+        echo "there is no wrong body in crates/$crate/wrong-bodies" >&2
+        exit 2
+    fi
+done
+
+# (a folder of this name makes it the top of a repository)
+mkdir "$work/.git"
+cp "$root/HANDLES" "$work"
+need "${crates[@]}"
+for crate in "${!needed[@]}"; do
+    lay_out "$crate"
+done
+for crate in "${crates[@]}"; do
+    mkdir "$work/crates/$crate/must-fail"
+    cp "$root/crates/$crate/wrong-bodies"/*.edit "$work/crates/$crate/must-fail"
+done
+mkdir -p "${log%/*}"
+# (what it counts besides isn't asked for here)
+(cd "$work" && rt ci) 2>&1 | tee "$log" | sed -nu '/^rt: must-fail /d; /^rt: /p' || true
+
+refused=0
+others=0
+for crate in "${crates[@]}"; do
+    for edit in "$root/crates/$crate/wrong-bodies"/*.edit; do
+        name=$crate/${edit##*/}
+        line=$(grep -F -m 1 "rt: must-fail $name: " "$log" || echo "rt: must-fail $name: not tried")
+        if [[ $line == *': refused, as it must be'* ]]; then
+            refused=$((refused + 1))
+        else
+            others=$((others + 1))
+            echo "${line#rt: must-fail }"
+        fi
+    done
+done
+[[ $others -eq 0 ]] || echo "all that rt ci said stands in $log"
+echo "$refused refused, $others not"
+[[ $others -eq 0 ]]
