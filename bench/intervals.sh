@@ -2,12 +2,9 @@
 # Times `intervals` inside the process: builds the program below beside copies of the crates that it uses.
 set -euo pipefail
 
-root=$(dirname "$(dirname "$(readlink -f "${BASH_SOURCE[0]}")")")
-work=$(mktemp -d)
-trap 'rm -rf "$work"' EXIT
+source "$(dirname "$(readlink -f "${BASH_SOURCE[0]}")")/crates.sh"
 
 mkdir -p "$work/crates/bench_intervals/src"
-cp -a "$root/crates/bf_cron" "$root/crates/bf_interval" "$work/crates"
 cat > "$work/crates/bench_intervals/src/main.rt" <<'PROGRAM'
 //! Times `intervals` inside the process, in a zone with daylight saving time: the least and the middle of 21 listings.
 #![tactic(auto)]
@@ -61,8 +58,7 @@ fn main(rt: HostRuntime) -> Result<()> {
     Ok(())
 }
 PROGRAM
-cp "$root/HANDLES" "$work"
-grep -E '^bf_(cron|interval):' "$root/crates.txt" > "$work/crates.txt"
+lay_out bf_cron bf_interval
 echo 'bench_intervals: bf_cron bf_interval jiff anyhow' >> "$work/crates.txt"
 
 cd "$work/crates/bench_intervals"

@@ -3,9 +3,7 @@
 # copies of the crates that it uses, which takes half an hour where they aren't proved. It writes to a file.
 set -euo pipefail
 
-root=$(dirname "$(dirname "$(readlink -f "${BASH_SOURCE[0]}")")")
-work=$(mktemp -d)
-trap 'rm -rf "$work"' EXIT
+source "$(dirname "$(readlink -f "${BASH_SOURCE[0]}")")/crates.sh"
 
 mkdir -p "$work/crates/bench_report/src"
 cat > "$work/crates/bench_report/src/main.rt" <<'PROGRAM'
@@ -61,12 +59,7 @@ awk 'BEGIN {
     print "@end 100"
 }' > "$work/crates/bench_report/report"
 
-libraries=$(sed -n '/^bf_tests_/d; s/^\(bf_[a-z_]*\):.*/\1/p' "$root/crates.txt" | sed '/^bf_report_reader$/q')
-for library in $libraries; do
-    cp -a "$root/crates/$library" "$work/crates"
-    grep "^$library:" "$root/crates.txt" >> "$work/crates.txt"
-done
-cp "$root/HANDLES" "$work"
+lay_out bf_device bf_report bf_report_reader
 echo 'bench_report: bf_device bf_report bf_report_reader anyhow' >> "$work/crates.txt"
 
 cd "$work/crates/bench_report"

@@ -6,35 +6,8 @@
 # couldn't be applied or weren't tried are named above it, and then the status is 1.
 set -euo pipefail
 
-root=$(dirname "$(dirname "$(dirname "$(readlink -f "${BASH_SOURCE[0]}")")")")
-work=$(mktemp -d)
-trap 'rm -rf "$work"' EXIT
+source "$(dirname "$(readlink -f "${BASH_SOURCE[0]}")")/../../bench/crates.sh"
 log=$root/out/wrong_bodies.log
-
-# What each crate stands on, and the crates that are needed.
-declare -A below=() needed=()
-while IFS=: read -r crate libraries; do
-    below[$crate]=$libraries
-done < <(grep '^[a-z]' "$root/crates.txt")
-
-need() {
-    local crate
-    for crate in "$@"; do
-        [[ -v below[$crate] && ! -v needed[$crate] ]] || continue
-        needed[$crate]=1
-        need ${below[$crate]}
-    done
-}
-
-# Lays out a crate without its tests of the gate.
-lay_out() {
-    local crate=$1 part
-    mkdir -p "$work/crates/$crate"
-    echo "$crate:${below[$crate]}" >> "$work/crates.txt"
-    for part in src specs proofs args data stdin stdout status; do
-        [[ ! -e $root/crates/$crate/$part ]] || cp -R "$root/crates/$crate/$part" "$work/crates/$crate"
-    done
-}
 
 crates=("$@")
 if [[ $# -eq 0 ]]; then
@@ -49,13 +22,7 @@ for crate in "${crates[@]}"; do
     fi
 done
 
-# (a folder of this name makes it the top of a repository)
-mkdir "$work/.git"
-cp "$root/HANDLES" "$work"
-need "${crates[@]}"
-for crate in "${!needed[@]}"; do
-    lay_out "$crate"
-done
+lay_out "${crates[@]}"
 for crate in "${crates[@]}"; do
     mkdir "$work/crates/$crate/must-fail"
     cp "$root/crates/$crate/wrong-bodies"/*.edit "$work/crates/$crate/must-fail"
