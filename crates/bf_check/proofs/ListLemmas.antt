@@ -38,10 +38,6 @@ item_at (x ∷ xs) (suc k) h = item_at xs k (omega (arith, h))
 pub item_contained : {X : Type 0} (xs : List X) (k : ℕ) (d : X) → k < length xs → Contains xs (get_or xs k d)
 item_contained xs k d h = (k, h, get_or_default xs k (get_or xs k d) d h)
 
--- a test that passes one of the list
-pub any_contained : {X : Type 0} (p : X → Bool) (xs : List X) (x : X) → Contains xs x → p x ≡ true → list_any p xs ≡ true
-any_contained p xs x (k, within, is) passes = list_any_at p xs k x within (ap p is ∙ passes)
-
 -- what is given or not by a test
 pub none_by_test : {X : Type 0} (b : Bool) (x : X) → is_none (cond b None (Some x)) ≡ b
 none_by_test true x = refl
@@ -99,9 +95,6 @@ all_there {X} found e = go found (none_passing is_none found None e)
     go [] there = refl
     go (None ∷ xs) there = absurd (let first = there 0 (omega arith) in cc)
     go (Some x ∷ xs) there = ap (λ ys. Some x ∷ ys) (go xs (λ k h. there (suc k) (omega (arith, h))))
-
-pub some_same : {X : Type 0} {x y : X} → Some x ≡ Some y → x ≡ y
-some_same {x = x} e = ap (λ o. unwrap_or o x) e
 
 head_same : {X : Type 0} (x y : X) (xs ys : List X) → x ∷ xs ≡ y ∷ ys → x ≡ y
 head_same x y xs ys e = ap (λ zs. get_or zs 0 x) e

@@ -11,28 +11,17 @@ use Rattle.bf_read.specs.Drafts.{pulled_in}
 use Rattle.bf_rule.specs.declared.rule.Rule.{Rule}
 use Rattle.bf_rule.specs.Verdicts.{is_waiting}
 use Rattle.bf_check.specs.declared.fault.TaskFault.TheVariants.{PullNotSettled}
-use Rattle.bf_check.specs.declared.plan.Dag.{Dag}
+use Rattle.bf_plan.specs.declared.plan.Dag.{Dag}
 use Rattle.bf_check.specs.declared.pulls.Pulls.{Pulls}
-use Rattle.bf_check.specs.Plans.{no_task, task_of}
-use Rattle.bf_check.specs.Sound.{IsOneOf, IsSettledAncestor, Direct, Above}
+use Rattle.bf_plan.specs.Plans.{no_task, task_of}
+use Rattle.bf_plan.specs.Sound.{IsOneOf, IsSettledAncestor, Direct, Above}
 use Rattle.bf_check.specs.Checking.{ids_of, number_or_0, rule_of, task_in, dag_of, shape_in}
 use Rattle.bf_check.specs.Looks.{numbers_in, pulls_in, settling_upstreams, settling_edges, AllMayPull, IsFoundOfPulls, IsPlaceOfFirst}
 use Rattle.bf_check.specs.Refusals.{MayPull, PullsUnsettled}
+use Rattle.bf_plan.proofs.PlanLemmas.{contains_one, one_contained}
 use Rattle.bf_check.proofs.FaultLemmas.{first_told}
 use Rattle.bf_check.proofs.ListLemmas.{each_by_place, item_at, map_more}
 use Rattle.bf_check.proofs.NumberLemmas.{all_known, one_unknown, known_number, unknown_id, mapped_from, contains_mapped}
-
--- ---- one of a list
-
-pub contains_one : (us : List ℕ) (u : ℕ) → IsOneOf us u → Contains us u
-contains_one [] u one = absurd one
-contains_one (x ∷ us) u (inl is) = (0, omega arith, sym is)
-contains_one (x ∷ us) u (inr one) = let rest = contains_one us u one in (suc rest.0, omega (arith, rest.1), rest.2)
-
-pub one_contained : (us : List ℕ) (u : ℕ) → Contains us u → IsOneOf us u
-one_contained [] u (k, h, is) = absurd (omega (arith, h))
-one_contained (x ∷ us) u (zero, h, is) = inl (sym is)
-one_contained (x ∷ us) u (suc k, h, is) = inr (one_contained us u (k, omega (arith, h), is))
 
 -- ---- the edges along which upstreams are settled
 

@@ -10,7 +10,8 @@ use Rattle.bf_rule.specs.declared.rule.Rule.{Rule}
 use Rattle.bf_check.specs.declared.pulls.Pulls.{Pulls}
 use Rattle.bf_check.specs.Checking.{ids_of, number_or_0, rule_of}
 use Rattle.bf_check.specs.Looks.{links_in, pulls_in, source_in, AreFound}
-use Rattle.bf_check.proofs.ListLemmas.{pair_at, some_same}
+use Rattle.bf_plan.proofs.ListLemmas.{some_same}
+use Rattle.bf_check.proofs.ListLemmas.{pair_at}
 
 -- what was found of a task makes its links
 pub links_are : (drafts : List TaskDraft) (graph : Shape) (rules : List Rule) (pulls : List Pulls) (sources : List (Option ℕ)) → AreFound drafts graph rules pulls sources

@@ -9,7 +9,7 @@ use Rattle.bf_read.specs.Drafts.{pulled_in}
 use Rattle.bf_rule.specs.declared.rule.Rule.{Rule}
 use Rattle.bf_rule.specs.Verdicts.{is_waiting}
 use Rattle.bf_check.specs.declared.fault.TaskFault.{TaskFault}
-use Rattle.bf_check.specs.declared.plan.Demand.{Demand}
+use Rattle.bf_plan.specs.declared.plan.Demand.{Demand}
 use Rattle.bf_check.specs.declared.pools.TaskPool.{TaskPool}
 use Rattle.bf_check.specs.declared.pulls.Pulls.{Pulls}
 use Rattle.bf_check.specs.declared.tasks.Links.{Links}

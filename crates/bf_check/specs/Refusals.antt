@@ -17,9 +17,9 @@ use Rattle.bf_check.specs.declared.fault.TaskFault.{TaskFault}
 use Rattle.bf_check.specs.declared.fault.TaskFault.TheVariants.{UnknownUpstream, UnknownPool, SlotsBeyondPool, BadRule, PullNotSettled, ExpandSource, ExpandRule, BranchMisuse}
 use Rattle.bf_cron.specs.Cron.{schedule_of}
 use Rattle.bf_cron.specs.declared.spec.CronSpec.{CronSpec}
-use Rattle.bf_check.specs.Plans.{is_branch_kind}
+use Rattle.bf_plan.specs.Plans.{is_branch_kind}
 use Rattle.bf_check.specs.Schedules.{Fires, IsScheduled, NeverFiresIn, IsNoZone}
-use Rattle.bf_check.specs.Sound.{IsSettledAncestor}
+use Rattle.bf_plan.specs.Sound.{IsSettledAncestor}
 use Rattle.bf_check.specs.Checking.{ids_of, number_of, pool_number, pools_of, rule_of, dag_of, shape_in}
 
 -- ---- what may be wrong with a task

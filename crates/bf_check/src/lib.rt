@@ -7,7 +7,6 @@ mod expansions;
 mod fault;
 mod laws;
 mod looks;
-mod plan;
 mod pools;
 mod pulls;
 mod rules;
@@ -15,9 +14,8 @@ mod schedules;
 mod tasks;
 
 pub use bf_cron::CronSpec;
-pub use bf_read::{ContextVariable, TaskKind, WeightRule};
+pub use bf_plan::{ContextVariable, Dag, Demand, Limits, Plan, Task, TaskKind, WeightRule, Word};
 pub use bf_zone::Zone;
 pub use checking::check;
 pub use fault::{CheckFault, TaskFault};
 pub use laws::one_answer;
-pub use plan::{Dag, Demand, Limits, Plan, Task, Word};

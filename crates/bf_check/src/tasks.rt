@@ -7,9 +7,9 @@ ghost use Rattle.bf_check.specs.Checking.{ids_of, task_in, word_in};
 ghost use Rattle.bf_check.specs.Looks.{links_in, AreFound};
 
 use crate::edges::place_of;
-use crate::plan::{Task, Word};
 use crate::pulls::Pulls;
 use bf_graph::Graph;
+use bf_plan::{Task, Word};
 use bf_read::{TaskDraft, WordDraft};
 use bf_rule::Rule;
 use bf_value::{OutOfMemory, Sequence, Text};

@@ -10,8 +10,8 @@ use Rattle.std.proofs.lemmas.Bool.Decides.{Decides-int_eq}
 use Rattle.std.proofs.lemmas.List.{length-map}
 use Rattle.std.proofs.lemmas.Option.{get_or_from_slice_get, slice_get-get_or}
 use Rattle.bf_interval.specs.declared.interval.Interval.{Interval}
-use Rattle.bf_check.specs.declared.plan.Task.{Task}
-use Rattle.bf_check.specs.Plans.{no_task}
+use Rattle.bf_plan.specs.declared.plan.Task.{Task}
+use Rattle.bf_plan.specs.Plans.{no_task}
 use Rattle.bf_core.specs.Terms.{Dag, Given, Ledger, TaskResult, Xval, IsOneOf, IsSettledAncestor, IsSound, result_of, task_of}
 use Rattle.bf_core.specs.declared.deciding.Decision.{Decision}
 use Rattle.bf_core.specs.Recursion.{decided}

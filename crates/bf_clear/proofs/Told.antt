@@ -3,7 +3,7 @@ use Rattle.std.proofs.Common.{◌≡◌, ℕ, suc, zero, ℤ, pos, negsuc, ◌+�
 use Rattle.std.specs.List.{filter_map}
 use Rattle.std.specs.Option.{option_and_then}
 use Rattle.bf_interval.specs.declared.interval.Interval.{Interval}
-use Rattle.bf_check.specs.declared.plan.Task.{Task}
+use Rattle.bf_plan.specs.declared.plan.Task.{Task}
 use Rattle.bf_core.specs.Terms.{Dag, Entry, Given, JobName, Ledger, Outcome, TaskResult, TaskValue, Verdict, Xval, Items, items, result_of, name_of, task_of, map_index, place_of, is_failed, last_try, outcome_of, outcome_at}
 use Rattle.bf_core.specs.Deciding.{Seen, settled, decision, after_verdict, instances, mapped, pulled}
 use Rattle.bf_core.specs.declared.deciding.Decision.{Decision}

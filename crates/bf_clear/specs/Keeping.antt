@@ -1,7 +1,7 @@
 -- What is kept of a report where tasks are cleared.
 use Rattle.std.specs.Prelude.{◌≡◌, ◌↔◌, ℕ, nat_lt, ◌&&◌, not, if◌then◌else◌, Bool, true, List, length, Option, Some, None, option_and_then, slice_get, unwrap_or}
 use Rattle.bf_value.specs.declared.name.JobName.{JobName}
-use Rattle.bf_check.specs.declared.plan.Dag.{Dag}
+use Rattle.bf_plan.specs.declared.plan.Dag.{Dag}
 use Rattle.bf_xcom.specs.declared.values.Given.{Given}
 use Rattle.bf_xcom.specs.declared.values.Outcome.{Outcome}
 use Rattle.bf_try.specs.declared.answers.Raw.{Raw}

@@ -4,8 +4,8 @@ use Rattle.std.specs.List.{list_all, zip}
 use Rattle.std.specs.Ordering.{int_eq}
 use Rattle.std.specs.Str.{bytes_eq}
 use Rattle.bf_interval.specs.declared.interval.Interval.{Interval}
-use Rattle.bf_check.specs.declared.plan.Task.{Task}
-use Rattle.bf_check.specs.declared.plan.Dag.{Dag}
+use Rattle.bf_plan.specs.declared.plan.Task.{Task}
+use Rattle.bf_plan.specs.declared.plan.Dag.{Dag}
 use Rattle.bf_report.specs.declared.report.Version.{Version}
 use Rattle.bf_report.specs.declared.report.Pull.{Pull}
 use Rattle.bf_report.specs.declared.report.InstanceReport.{InstanceReport}

@@ -3,7 +3,7 @@ ghost use Rattle.std.specs.Prelude.{◌≡◌};
 
 use crate::looking::{instance_at, is_cleared};
 use crate::telling::answer_of_instance;
-use bf_check::Plan;
+use bf_plan::Plan;
 use bf_kept::KeptTries;
 use bf_report::Report;
 use bf_try::Raw;
@@ -23,7 +23,7 @@ pub struct Cleared<'a> {
 
 impl<'a> Model for Cleared<'a> {
     ghost use Rattle.std.specs.Coded.{codes};
-    ghost use Rattle.bf_check.specs.contracts.plan.Dag as d;
+    ghost use Rattle.bf_plan.specs.contracts.plan.Dag as d;
     ghost use Rattle.bf_report.specs.contracts.report.Report as r;
     ghost use Rattle.bf_clear.specs.Keeping.{Clearance};
 

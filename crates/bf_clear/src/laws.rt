@@ -3,8 +3,8 @@
 ghost use Rattle.std.specs.Prelude.{◌≡◌, true, List, length};
 ghost use Rattle.bf_value.specs.declared.name.JobName.{JobName as JobNameTerm};
 ghost use Rattle.bf_interval.specs.declared.interval.Interval.{Interval as IntervalTerm};
-ghost use Rattle.bf_check.specs.declared.plan.Dag.{Dag as DagTerm};
-ghost use Rattle.bf_check.specs.Sound.{IsSound};
+ghost use Rattle.bf_plan.specs.declared.plan.Dag.{Dag as DagTerm};
+ghost use Rattle.bf_plan.specs.Sound.{IsSound};
 ghost use Rattle.bf_try.specs.Tries.{Look, AreAlike};
 ghost use Rattle.bf_core.specs.Agreement.{HoldsItsTries};
 ghost use Rattle.bf_report.specs.declared.report.Report.{Report as ReportTerm};

@@ -4,7 +4,7 @@ ghost use Rattle.bf_clear.specs.Entries.{given_by, given_in, outcome_of_try as o
 ghost use Rattle.bf_clear.specs.Keeping.{fit_outcome, IsAnswerOf, IsRawFor};
 
 use crate::working::was_worked_out;
-use bf_check::Plan;
+use bf_plan::Plan;
 use bf_report::{InstanceReport, Pull, Report, Version};
 use bf_try::{Outcome, Raw, answer_for, fits};
 use bf_value::{JobName, OutOfMemory, Xval, is_same_option};

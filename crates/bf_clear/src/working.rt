@@ -3,7 +3,7 @@ ghost use Rattle.std.specs.Prelude.{◌≡◌, ◌<◌, ◌↔◌, length, map, 
 ghost use Rattle.bf_clear.specs.Entries.{item_in, pull_from, value_in, value_at as value_by, worked_out as worked_by};
 
 use crate::looking::task_at;
-use bf_check::Dag;
+use bf_plan::Dag;
 use bf_report::{InstanceReport, Report, TaskReport};
 use bf_value::{JobName, OutOfMemory, Sequence, Xval, copy_option};
 use bf_xcom::{Given, TaskResult, TaskValue, pull};

@@ -2,8 +2,8 @@
 use Rattle.std.proofs.Common.{◌≡◌, ◌<◌, ℕ, Bool, List, None, Some, Option, refl, slice_get, length}
 use Rattle.std.proofs.lemmas.Option.{slice_get_within}
 use Rattle.bf_value.specs.declared.name.JobName.{JobName}
-use Rattle.bf_check.specs.declared.plan.Dag.{Dag}
-use Rattle.bf_check.specs.declared.plan.Task.{Task}
+use Rattle.bf_plan.specs.declared.plan.Dag.{Dag}
+use Rattle.bf_plan.specs.declared.plan.Task.{Task}
 use Rattle.bf_xcom.specs.declared.values.Given.{Given}
 use Rattle.bf_process.specs.Words.{HoldsOfTry, IsLost, MayGiveUp}
 use Rattle.bf_interval.specs.declared.interval.Interval.{Interval}

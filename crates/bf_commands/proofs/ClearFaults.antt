@@ -1,8 +1,8 @@
 -- The faults of a backfill that goes on from a report.
 use Rattle.std.proofs.Common.{ℕ, ℤ, Bool, List, Option, Some, None, Result, Ok, IfErr, option_map, refl, ◌∙◌, ap}
 use Rattle.std.proofs.lemmas.Result.{IfErr-weaker}
-use Rattle.bf_check.specs.Checked.{Checked}
-use Rattle.bf_check.specs.declared.plan.Dag.{Dag}
+use Rattle.bf_plan.specs.Checked.{Checked}
+use Rattle.bf_plan.specs.declared.plan.Dag.{Dag}
 use Rattle.bf_interval.specs.declared.interval.Interval.{Interval}
 use Rattle.bf_try.specs.declared.table.TableEntry.{TableEntry}
 use Rattle.bf_try.specs.Tables.{table_of}

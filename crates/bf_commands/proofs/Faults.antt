@@ -9,11 +9,11 @@ use Rattle.bf_read.specs.declared.fault.ReadFault.{ReadFault}
 use Rattle.bf_read.specs.declared.fault.ReadFault.TheVariants as read
 use Rattle.bf_read.specs.Gives.{Fails}
 use Rattle.bf_read.specs.Reading.{graph_in}
-use Rattle.bf_check.specs.Checked.{Checked}
+use Rattle.bf_plan.specs.Checked.{Checked}
 use Rattle.bf_check.specs.declared.fault.CheckFault.{CheckFault}
 use Rattle.bf_check.specs.declared.fault.CheckFault.TheVariants as check
 use Rattle.bf_check.specs.Refusals.{IsFaultOf}
-use Rattle.bf_check.specs.declared.plan.Dag.{Dag}
+use Rattle.bf_plan.specs.declared.plan.Dag.{Dag}
 use Rattle.bf_interval.specs.declared.fault.IntervalFault.{IntervalFault}
 use Rattle.bf_interval.specs.declared.fault.IntervalFault.TheVariants as interval
 use Rattle.bf_interval.specs.declared.interval.Interval.{Interval}

@@ -3,7 +3,7 @@ use Rattle.std.specs.Prelude.{◌≡◌, ℕ, List, length, Option, Ok, Err}
 use Rattle.bf_read.specs.declared.draft.Draft.{Draft}
 use Rattle.bf_read.specs.Drafts.{number_of_edges}
 use Rattle.bf_read.specs.Reading.{graph_in, graph_file_of}
-use Rattle.bf_check.specs.Checked.{Checked}
+use Rattle.bf_plan.specs.Checked.{Checked}
 use Rattle.bf_check.specs.Checking.{dag_of}
 use Rattle.bf_check.specs.Refusals.{IsAccepted, IsFaultOf}
 use Rattle.bf_check.specs.Schedules.{Fires, IsZoneFor}

@@ -6,8 +6,8 @@ use Rattle.bf_value.specs.declared.name.JobName.{JobName}
 use Rattle.bf_value.specs.Names.{name_cmp}
 use Rattle.bf_read.specs.declared.draft.Draft.{Draft}
 use Rattle.bf_check.specs.Checking.{dag_of}
-use Rattle.bf_check.specs.Plans.{task_of}
-use Rattle.bf_check.specs.declared.plan.Dag.{Dag}
+use Rattle.bf_plan.specs.Plans.{task_of}
+use Rattle.bf_plan.specs.declared.plan.Dag.{Dag}
 use Rattle.bf_interval.specs.declared.interval.Interval.{Interval}
 use Rattle.bf_xcom.specs.declared.values.Given.{Given}
 use Rattle.bf_try.specs.declared.answers.Raw.{Raw}

@@ -11,7 +11,7 @@ ghost use Rattle.bf_commands.specs.Cleared.{IsEndedFrom};
 
 use crate::progress::Progress;
 use crate::screen::Screen;
-use bf_check::Plan;
+use bf_plan::Plan;
 use bf_command_line::Workers;
 use bf_core::{BackfillFault, Ended};
 use bf_exec::{Watch, run_backfill};

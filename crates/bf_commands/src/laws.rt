@@ -1,7 +1,7 @@
 //! What holds of the definitions. These functions do nothing: their contracts are the laws.
 ghost use Rattle.std.specs.Prelude.{◌≡◌, ℕ, ℤ, Bool, List, Option, Ok};
-ghost use Rattle.bf_check.specs.declared.plan.Dag.{Dag as DagTerm};
-ghost use Rattle.bf_check.specs.Sound.{IsSound};
+ghost use Rattle.bf_plan.specs.declared.plan.Dag.{Dag as DagTerm};
+ghost use Rattle.bf_plan.specs.Sound.{IsSound};
 ghost use Rattle.bf_interval.specs.declared.interval.Interval.{Interval as IntervalTerm};
 ghost use Rattle.bf_try.specs.declared.table.TableEntry.{TableEntry as TableEntryTerm};
 ghost use Rattle.bf_commands.specs.Lists.{HasListing};

@@ -12,7 +12,7 @@ ghost use Rattle.bf_commands.specs.OverTable.{IsOver, IsReportOver, IsTableFault
 use crate::crew::Crew;
 use crate::reported::write_ended;
 use crate::screen::Screen;
-use bf_check::Plan;
+use bf_plan::Plan;
 use bf_command_fault::{CommandFault, StopFault};
 use bf_core::{BackfillFault, Ended};
 use bf_device::Write;

@@ -1,7 +1,7 @@
 //! How far a backfill is, told while it goes.
 
 use crate::screen::Screen;
-use bf_check::Plan;
+use bf_plan::Plan;
 use bf_core::{Cell, Core, Event, Phase};
 use bf_exec::Observer;
 use bf_try::Outcome;

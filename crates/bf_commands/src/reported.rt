@@ -10,7 +10,7 @@ ghost use Rattle.bf_command_fault.specs.Refusal.{Leaves, Sends};
 ghost use Rattle.bf_commands.specs.OverTable.{IsWanting};
 ghost use Rattle.bf_commands.specs.Reported.{IsReportOf, is_success as succeeds};
 
-use bf_check::Plan;
+use bf_plan::Plan;
 use bf_command_fault::CommandFault;
 use bf_core::Ended;
 use bf_device::Write;

@@ -16,7 +16,7 @@ use crate::over_table::{runner_over, stopped_over, wanting_alone};
 use crate::reported::write_ended;
 use crate::run::stopped_by_programs;
 use crate::screen::Screen;
-use bf_check::Plan;
+use bf_plan::Plan;
 use bf_clear::{Cleared, clear};
 use bf_command_fault::CommandFault;
 use bf_core::Ended;

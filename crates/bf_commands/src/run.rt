@@ -15,7 +15,7 @@ use crate::plan::dated_plan_in;
 use crate::range::MomentRange;
 use crate::reported::write_ended;
 use crate::screen::Screen;
-use bf_check::Plan;
+use bf_plan::Plan;
 use bf_command_fault::{CommandFault, StopFault};
 use bf_core::{BackfillFault, Ended};
 use bf_device::Write;

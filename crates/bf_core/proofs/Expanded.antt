@@ -8,7 +8,7 @@ use Rattle.bf_value.specs.declared.xval.Xval.TheVariants.{Nil, Flag, Int, Text, 
 use Rattle.bf_value.specs.Views.{xvals_of}
 use Rattle.bf_mapped.specs.Items.{items_of}
 use Rattle.bf_xcom.specs.Pulls.{pushed_alone}
-use Rattle.bf_check.specs.Plans.{no_task}
+use Rattle.bf_plan.specs.Plans.{no_task}
 use Rattle.bf_rule.specs.Branches.{names_downstreams}
 use Rattle.bf_try.specs.Grades.{gives_items, is_list_of_items, is_short, is_source, is_value_of_lines, most_items}
 use Rattle.bf_core.specs.Terms.{Cell, Dag, Instance, Items, Outcome, Phase, SourceValues, Task, TaskResult, TaskValue, Xval, fits, is_branch, items, pushed, shape_of, source_values, task_of}

@@ -5,11 +5,11 @@ use Rattle.std.proofs.lemmas.Bool.{cases_Bool, eqb-true, eq-eqb}
 use Rattle.bf_graph.specs.Edges.{IsUpstream}
 use Rattle.bf_graph.specs.Lookups.{IsRisingListOf}
 use Rattle.bf_graph.proofs.PathLemmas.{task_within}
-use Rattle.bf_check.specs.declared.plan.Task.{Task}
-use Rattle.bf_check.specs.declared.plan.Dag.{Dag}
-use Rattle.bf_check.specs.Plans.{no_task, task_of, shape_of}
-use Rattle.bf_check.proofs.PlanLemmas.{upstreams_of_task}
-use Rattle.bf_check.proofs.ListLemmas.{any_contained}
+use Rattle.bf_plan.specs.declared.plan.Task.{Task}
+use Rattle.bf_plan.specs.declared.plan.Dag.{Dag}
+use Rattle.bf_plan.specs.Plans.{no_task, task_of, shape_of}
+use Rattle.bf_plan.proofs.PlanLemmas.{upstreams_of_task}
+use Rattle.bf_plan.proofs.ListLemmas.{any_contained}
 use Rattle.bf_pool.proofs.WeightFacts.{tasks_there, any_of}
 use Rattle.bf_core.specs.Recursion.{is_leaf}
 use Rattle.bf_core.proofs.Placing.{any-default}

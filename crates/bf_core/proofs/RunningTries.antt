@@ -4,7 +4,7 @@ use Rattle.std.proofs.lemmas.Bool.Decides.{nat_tests}
 use Rattle.std.proofs.lemmas.List.{set_past}
 use Rattle.std.proofs.lemmas.List.Sums.{sum_by-cons}
 use Rattle.std.specs.FinMap as map
-use Rattle.bf_check.specs.Sound.{AreLimits}
+use Rattle.bf_plan.specs.Sound.{AreLimits}
 use Rattle.bf_try.specs.Asked.{Asked}
 use Rattle.bf_core.specs.Terms.{Dag, task_of, Limits, Given, Outcome, JobName, State, Run, RunPhase, Cell, Instance, Phase, Event, name_cmp, name_of, Entry, demand_of, pool_size}
 use Rattle.bf_core.specs.Deciding.{Decision}

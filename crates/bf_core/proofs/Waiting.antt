@@ -2,7 +2,7 @@
 use Rattle.std.proofs.Common.{◌≡◌, ◌⊎◌, ℕ, true, Option, None, Some, ℤ, refl, inl, inr}
 use Rattle.std.proofs.lemmas.Int.{by_lt_z}
 use Rattle.std.specs.FinMap as map
-use Rattle.bf_check.specs.Sound.{AreLimits}
+use Rattle.bf_plan.specs.Sound.{AreLimits}
 use Rattle.bf_core.specs.Terms.{Event, Instance, JobName, Phase}
 use Rattle.bf_core.specs.Events.{IsEnabled, cell_at, has_room, instance_of}
 use Rattle.bf_core.specs.Cores.{Backfill, GoesOn, IsReplay, MayCome, WaitsLater}

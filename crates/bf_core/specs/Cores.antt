@@ -1,7 +1,7 @@
 -- What callers see of a core, what an event does to it, and which events are refused.
 use Rattle.std.specs.Prelude.{◌≡◌, ◌⊎◌, ◌<◌, ◌≤◌, ◌++◌, ◌∷◌, [], Bool, true, false, ℕ, List, length, Some, ℤ, ◌<ℤ◌}
 use Rattle.std.specs.FinMap as map
-use Rattle.bf_check.specs.Sound.{AreLimits}
+use Rattle.bf_plan.specs.Sound.{AreLimits}
 use Rattle.bf_pool.specs.Slots.{Slots, occupied_of}
 use Rattle.bf_core.specs.Terms.{Clock, Dag, Limits, JobName, State, Event, Instance, Phase, IsSound, task_of, map_index}
 use Rattle.bf_core.specs.declared.event.Illegal.{Illegal}

@@ -1,6 +1,6 @@
 -- Backfills of a plan whose tries were answered as they may be, on the way and at the end.
 use Rattle.std.specs.Prelude.{◌≡◌, ℕ}
-use Rattle.bf_check.specs.Sound.{AreLimits}
+use Rattle.bf_plan.specs.Sound.{AreLimits}
 use Rattle.bf_try.specs.declared.answers.Raw.{Raw}
 use Rattle.bf_core.specs.Terms.{Dag, Given, JobName, Limits}
 use Rattle.bf_core.specs.Events.{HasEnded, entry_in}

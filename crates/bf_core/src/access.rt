@@ -14,7 +14,7 @@ use crate::ended::{Ended, run_state};
 use crate::event::Event;
 use crate::machine::Core;
 use crate::state::{Cell, Run};
-use bf_check::Plan;
+use bf_plan::Plan;
 use bf_try::Ledger;
 use bf_value::{JobName, Sequence};
 use bf_xcom::RunState;

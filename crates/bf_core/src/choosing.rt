@@ -15,7 +15,7 @@ use crate::machine::Core;
 use crate::places::place_of;
 use crate::ruling::is_settled;
 use crate::state::{Cell, Instance, State};
-use bf_check::{Dag, Plan};
+use bf_plan::{Dag, Plan};
 use bf_rule::Verdict;
 use bf_value::JobName;
 

@@ -9,7 +9,7 @@ ghost use Rattle.bf_core.specs.Checks.{HasRows};
 use crate::expanding::instances;
 use crate::ruling::ruling;
 use crate::state::{Cell, Instance, Phase, State};
-use bf_check::{Dag, Plan};
+use bf_plan::{Dag, Plan};
 use bf_rule::Verdict;
 use bf_value::{OutOfMemory, Sequence};
 use bf_xcom::Given;

@@ -9,7 +9,7 @@ ghost use Rattle.bf_core.specs.declared.state.Cell.{Cell as CellTerm};
 use crate::event::Event;
 use crate::seen::are_finished;
 use crate::state::{Cell, Instance, Phase, State};
-use bf_check::Plan;
+use bf_plan::Plan;
 use bf_try::Outcome;
 use bf_value::Sequence;
 use bf_xcom::RunState;

@@ -11,7 +11,7 @@ use crate::event::{Event, Illegal};
 use crate::machine::Core;
 use crate::places::{next_try, place_of};
 use crate::trying::{Change, is_retried};
-use bf_check::Demand;
+use bf_plan::Demand;
 use bf_try::{Entry, Outcome, fits};
 use bf_value::JobName;
 

@@ -10,7 +10,7 @@ use crate::deciding::Decision;
 use crate::pulling::{pull_all, pushed_by_first_of};
 use crate::seen::are_finished;
 use crate::state::{Cell, Instance, State};
-use bf_check::{Dag, Task};
+use bf_plan::{Dag, Task};
 use bf_mapped::{Items, SourceValues, items};
 use bf_value::{OutOfMemory, Sequence, Xval};
 use bf_xcom::Given;

@@ -12,7 +12,7 @@ use crate::opening::unopened_runs;
 use crate::places::place_of;
 use crate::state::{RunPhase, State};
 use crate::trying::Change;
-use bf_check::{Demand, Plan};
+use bf_plan::{Demand, Plan};
 use bf_interval::Interval;
 use bf_pool::{NoRoom, Pools};
 use bf_try::Ledger;
@@ -42,8 +42,8 @@ pub struct Core<'a> {
 impl<'a> Model for Core<'a> {
     ghost use Rattle.std.specs.Prelude.{vec_len};
     ghost use Rattle.bf_core.specs.Cores.{Backfill, IsCore};
-    ghost use Rattle.bf_check.specs.contracts.plan.Dag as d;
-    ghost use Rattle.bf_check.specs.contracts.plan.Limits as l;
+    ghost use Rattle.bf_plan.specs.contracts.plan.Dag as d;
+    ghost use Rattle.bf_plan.specs.contracts.plan.Limits as l;
     ghost use Rattle.bf_core.specs.contracts.state.State as s;
     ghost use Rattle.bf_core.specs.contracts.clock.Clock as k;
     ghost use Rattle.bf_core.specs.contracts.event.Event as e;

@@ -9,7 +9,7 @@ ghost use Rattle.bf_core.specs.Words.{pushed_by_one, pushed_by_first, pulled_fro
 
 use crate::seen::are_finished;
 use crate::state::{Cell, Instance, Phase, State};
-use bf_check::{Dag, Task};
+use bf_plan::{Dag, Task};
 use bf_value::{OutOfMemory, Values, Xval, copy_option};
 use std::alloc::Global;
 

@@ -1,8 +1,8 @@
 -- What follows from the seeds is the least of such sets.
 use Rattle.std.proofs.Common.{◌≡◌, ℕ, suc, true, List, Contains}
-use Rattle.bf_check.specs.declared.plan.Dag.{Dag}
-use Rattle.bf_check.specs.Plans.{task_of}
-use Rattle.bf_check.specs.Sound.{IsOneOf}
+use Rattle.bf_plan.specs.declared.plan.Dag.{Dag}
+use Rattle.bf_plan.specs.Plans.{task_of}
+use Rattle.bf_plan.specs.Sound.{IsOneOf}
 use Rattle.bf_dependents.specs.declared.place.Place.{Place}
 use Rattle.bf_dependents.specs.Dependents.{IsDependent}
 

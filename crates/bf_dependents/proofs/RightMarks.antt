@@ -11,11 +11,11 @@ use Rattle.std.proofs.lemmas.Map.Views.{Contains-from_any}
 use Rattle.std.proofs.lemmas.Option.{slice_get-get_or, slice_get_within}
 use Rattle.bf_graph.specs.Order.{IsByRank, StandBehind}
 use Rattle.bf_graph.specs.Reach.{is_marked, row_at}
-use Rattle.bf_check.specs.declared.plan.Dag.{Dag}
-use Rattle.bf_check.specs.declared.plan.Task.{Task}
-use Rattle.bf_check.specs.Plans.{shape_of, task_of}
-use Rattle.bf_check.specs.Sound.{IsOneOf}
-use Rattle.bf_check.proofs.PlanLemmas.{is_upstream}
+use Rattle.bf_plan.specs.declared.plan.Dag.{Dag}
+use Rattle.bf_plan.specs.declared.plan.Task.{Task}
+use Rattle.bf_plan.specs.Plans.{shape_of, task_of}
+use Rattle.bf_plan.specs.Sound.{IsOneOf}
+use Rattle.bf_plan.proofs.PlanLemmas.{is_upstream}
 use Rattle.bf_dependents.specs.declared.place.Place.{Place}
 use Rattle.bf_dependents.specs.Dependents.{IsDependent, AreMarks, AreDependents}
 use Rattle.bf_dependents.specs.Marks.{is_place, follows, marks_before, AreMarksFor, ArePast, AreSeeded, IsSeedRow, WasDependent}

@@ -2,9 +2,9 @@
 use Rattle.std.specs.Prelude.{◌≡◌, ◌<◌, ◌↔◌, ℕ, suc, Bool, true, List, length, Contains}
 use Rattle.bf_value.specs.declared.name.JobName.{JobName}
 use Rattle.bf_graph.specs.Reach.{is_marked, row_at}
-use Rattle.bf_check.specs.declared.plan.Dag.{Dag}
-use Rattle.bf_check.specs.Plans.{task_of}
-use Rattle.bf_check.specs.Sound.{IsOneOf}
+use Rattle.bf_plan.specs.declared.plan.Dag.{Dag}
+use Rattle.bf_plan.specs.Plans.{task_of}
+use Rattle.bf_plan.specs.Sound.{IsOneOf}
 use Rattle.bf_dependents.specs.declared.place.Place.{Place}
 
 -- the least set of tasks in runs that has the seeds, the direct downstreams of each, and a task that depends on its past behind its previous run

@@ -2,8 +2,8 @@
 use Rattle.std.specs.Prelude.{◌≡◌, ◌<◌, ◌==◌, ◌&&◌, ◌||◌, ◌↔◌, nat_lt, if◌then◌else◌, ℕ, zero, suc, Bool, true, false, List, [], length, slice_set}
 use Rattle.std.specs.List.{list_any}
 use Rattle.bf_graph.specs.Reach.{is_marked, row_at}
-use Rattle.bf_check.specs.declared.plan.Dag.{Dag}
-use Rattle.bf_check.specs.Plans.{task_of}
+use Rattle.bf_plan.specs.declared.plan.Dag.{Dag}
+use Rattle.bf_plan.specs.Plans.{task_of}
 use Rattle.bf_dependents.specs.declared.place.Place.{Place}
 use Rattle.bf_dependents.specs.Dependents.{IsDependent, AreMarks}
 

@@ -4,8 +4,8 @@ use Rattle.std.specs.List.{list_any, filter_map, position}
 use Rattle.std.specs.Ordering.{int_eq}
 use Rattle.std.specs.Str.{bytes_eq}
 use Rattle.bf_interval.specs.declared.interval.Interval.{Interval}
-use Rattle.bf_check.specs.Plans.{shape_of}
-use Rattle.bf_check.specs.declared.plan.Dag.{Dag}
+use Rattle.bf_plan.specs.Plans.{shape_of}
+use Rattle.bf_plan.specs.declared.plan.Dag.{Dag}
 use Rattle.bf_dependents.specs.declared.place.Place.{Place}
 use Rattle.bf_dependents.specs.declared.seeds.Seed.{Seed}
 use Rattle.bf_dependents.specs.declared.fault.ClearFault.{ClearFault}

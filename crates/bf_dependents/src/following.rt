@@ -3,13 +3,13 @@ ghost use Rattle.std.specs.Prelude.{◌≡◌, ◌<◌, length, IfOk};
 ghost use Rattle.std.specs.List.{list_any};
 ghost use Rattle.bf_graph.specs.Order.{IsByRank, StandBehind};
 ghost use Rattle.bf_graph.specs.Reach.{is_marked as marked};
-ghost use Rattle.bf_check.specs.Plans.{shape_of};
+ghost use Rattle.bf_plan.specs.Plans.{shape_of};
 ghost use Rattle.bf_dependents.specs.Dependents.{AreDependents};
 ghost use Rattle.bf_dependents.specs.Marks.{follows as follows_by, marks_before as before_in, AreMarksFor};
 
 use crate::marks::{is_marked, seed_rows};
 use crate::place::Place;
-use bf_check::{Dag, Plan};
+use bf_plan::{Dag, Plan};
 use bf_value::{OutOfMemory, Sequence};
 use std::alloc::Global;
 

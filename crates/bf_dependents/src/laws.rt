@@ -1,8 +1,8 @@
 //! What holds of all that is cleared. The function does nothing: its contract is the law, over the definitions alone.
 ghost use Rattle.std.specs.Prelude.{◌≡◌, ℕ, suc, Bool, true, List, Contains};
-ghost use Rattle.bf_check.specs.declared.plan.Dag.{Dag as DagTerm};
-ghost use Rattle.bf_check.specs.Plans.{task_of};
-ghost use Rattle.bf_check.specs.Sound.{IsOneOf};
+ghost use Rattle.bf_plan.specs.declared.plan.Dag.{Dag as DagTerm};
+ghost use Rattle.bf_plan.specs.Plans.{task_of};
+ghost use Rattle.bf_plan.specs.Sound.{IsOneOf};
 ghost use Rattle.bf_dependents.specs.declared.place.Place.{Place};
 ghost use Rattle.bf_dependents.specs.Dependents.{IsDependent};
 

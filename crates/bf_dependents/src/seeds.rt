@@ -5,8 +5,8 @@ ghost use Rattle.bf_dependents.specs.Seeds.{is_unknown_run as unknown_run, is_un
 
 use crate::fault::ClearFault;
 use crate::place::Place;
-use bf_check::Plan;
 use bf_interval::Interval;
+use bf_plan::Plan;
 use bf_value::{OutOfMemory, Text};
 use jiff::Timestamp;
 use std::alloc::Global;

@@ -5,7 +5,7 @@ use Rattle.std.specs.List.Sorted.{IsStrictlyIncreasing}
 use Rattle.bf_graph.specs.Edges.{IsRank, IsUpstream}
 use Rattle.bf_graph.specs.Lookups.{IsRisingListOf}
 use Rattle.bf_graph.proofs.PathLemmas.{task_within}
-use Rattle.bf_check.specs.Plans.{shape_of}
+use Rattle.bf_plan.specs.Plans.{shape_of}
 use Rattle.bf_pool.proofs.WeightFacts.{tasks_there}
 use Rattle.bf_core.specs.Terms.{Dag}
 use Rattle.bf_core.specs.declared.event.Event.{Event}

@@ -2,7 +2,7 @@
 use Rattle.std.proofs.Common.{◌≡◌, ◌⊎◌, ℕ, List, [], length, slice_get, None, Some, IfSome, Contains, refl, sym, ap, ◌∙◌, subst, inl, inr, arith}
 use Rattle.bf_graph.specs.Edges.{IsRank}
 use Rattle.bf_graph.specs.Ranks.{Ranking}
-use Rattle.bf_check.specs.Plans.{shape_of}
+use Rattle.bf_plan.specs.Plans.{shape_of}
 use Rattle.bf_pool.proofs.WeightFacts.{tasks_there}
 use Rattle.bf_core.specs.Terms.{Dag}
 use Rattle.bf_core.specs.declared.state.State.{State}

@@ -1,8 +1,7 @@
 -- Which steps an event may make possible.
 use Rattle.std.proofs.Common.{◌≡◌, ◌⊎◌, ℕ, zero, suc, Bool, true, false, List, Option, None, Some, is_some, Contains, refl, sym, ap, ◌∙◌, subst, subst₂, inl, inr, arith}
 use Rattle.std.proofs.lemmas.Bool.{both_ways, cases_Bool}
-use Rattle.bf_check.proofs.PullLemmas.{contains_one}
-use Rattle.bf_check.proofs.PlanLemmas.{upstreams_of_task}
+use Rattle.bf_plan.proofs.PlanLemmas.{contains_one, upstreams_of_task}
 use Rattle.bf_core.specs.Terms.{Dag, Limits, IsSound, TaskValue, task_of}
 use Rattle.bf_core.specs.declared.state.State.{State}
 use Rattle.bf_core.specs.declared.state.RunPhase.{RunPhase}

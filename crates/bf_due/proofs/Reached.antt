@@ -18,7 +18,7 @@ use Rattle.bf_core.proofs.Steps.{decided-held, settled-kept}
 use Rattle.bf_core.specs.Words.{is_finished}
 use Rattle.bf_core.proofs.Numbers.{below-or, le-from, lt-from}
 use Rattle.bf_core.proofs.Sums.{finished_settled}
-use Rattle.bf_check.proofs.ListLemmas.{some_same}
+use Rattle.bf_plan.proofs.ListLemmas.{some_same}
 use Rattle.bf_due.proofs.Locality.{awaits-upstream}
 use Rattle.bf_due.specs.declared.progress.Progress.{Progress}
 use Rattle.bf_due.specs.Cursors.{AreFinished, ArePassed, AreReached, Awaits, HasFinished, IsFinished, IsReached, is_early, lets}

@@ -1,8 +1,8 @@
 -- What is known of how far the runs have come.
 use Rattle.std.specs.Prelude.{◌≡◌, ℕ, ◌<◌, Bool, true, false, not, ◌&&◌, ◌||◌, List, length, Some, is_some, slice_get, slice_index}
 use Rattle.bf_rule.specs.Verdicts.{is_waiting}
-use Rattle.bf_check.specs.declared.plan.Dag.{Dag}
-use Rattle.bf_check.specs.Plans.{is_branch}
+use Rattle.bf_plan.specs.declared.plan.Dag.{Dag}
+use Rattle.bf_plan.specs.Plans.{is_branch}
 use Rattle.bf_core.specs.Terms.{task_of}
 use Rattle.bf_core.specs.declared.state.Cell.{Cell}
 use Rattle.bf_core.specs.declared.state.Instance.{Instance}

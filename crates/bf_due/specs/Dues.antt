@@ -2,8 +2,8 @@
 use Rattle.std.specs.Prelude.{◌≡◌, ◌⊎◌, ℕ, ◌+◌, ◌-◌, ◌<◌, ◌≤◌, true, List, length, Contains, IfSome, slice_get, slice_index}
 use Rattle.bf_graph.specs.Edges.{IsRank, IsUpstream}
 use Rattle.bf_graph.specs.Ranks.{Ranking}
-use Rattle.bf_check.specs.declared.plan.Dag.{Dag}
-use Rattle.bf_check.specs.Plans.{shape_of}
+use Rattle.bf_plan.specs.declared.plan.Dag.{Dag}
+use Rattle.bf_plan.specs.Plans.{shape_of}
 use Rattle.bf_core.specs.declared.event.Event.{Event}
 use Rattle.bf_core.specs.declared.state.State.{State}
 use Rattle.bf_core.specs.Cores.{Backfill, IsReplay, IsThere, MayCome}

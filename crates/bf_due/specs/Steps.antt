@@ -1,7 +1,7 @@
 -- Which step comes next by itself: a close, an open, a settle or an expand.
 use Rattle.std.specs.Prelude.{◌≡◌, ◌⊎◌, ℕ, ◌<◌, ◌≤◌, Option, None, Some}
-use Rattle.bf_check.specs.declared.plan.Dag.{Dag}
-use Rattle.bf_check.specs.Plans.{shape_of}
+use Rattle.bf_plan.specs.declared.plan.Dag.{Dag}
+use Rattle.bf_plan.specs.Plans.{shape_of}
 use Rattle.bf_graph.specs.Edges.{IsRank}
 use Rattle.bf_core.specs.declared.event.Event.{Event}
 use Rattle.bf_core.specs.Cores.{Backfill, MayCome}

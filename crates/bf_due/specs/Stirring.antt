@@ -5,8 +5,8 @@ use Rattle.bf_value.specs.declared.name.JobName.{JobName}
 use Rattle.bf_rule.specs.declared.rule.Rule.{Rule}
 use Rattle.bf_rule.specs.declared.rule.Counts.{Counts}
 use Rattle.bf_rule.specs.Verdicts.{fires, is_waiting, none_counted}
-use Rattle.bf_check.specs.declared.plan.Dag.{Dag}
-use Rattle.bf_check.specs.Plans.{is_branch}
+use Rattle.bf_plan.specs.declared.plan.Dag.{Dag}
+use Rattle.bf_plan.specs.Plans.{is_branch}
 use Rattle.bf_core.specs.Terms.{task_of}
 use Rattle.bf_core.specs.Deciding.{one_blocked, one_of, one_skipped, one_upstream_failed}
 use Rattle.bf_core.specs.declared.state.Cell.{Cell}

@@ -2,7 +2,7 @@
 ghost use Rattle.std.specs.Prelude.{◌≡◌, ◌<◌, ◌≤◌, ◌+◌, ◌↔◌, ℕ, Bool, length, slice_index, IsTrue, IfSome, IfNone, Some, false};
 ghost use Rattle.bf_graph.specs.Edges.{IsUpstream};
 ghost use Rattle.bf_graph.specs.Lookups.{IsRisingListOf};
-ghost use Rattle.bf_check.specs.Plans.{shape_of};
+ghost use Rattle.bf_plan.specs.Plans.{shape_of};
 ghost use Rattle.bf_core.specs.Events.{IsDecidable};
 ghost use Rattle.bf_core.specs.Cores.{IsThere, MayCome, deciding};
 ghost use Rattle.bf_due.specs.declared.agenda.Step.{Step as StepTerm};

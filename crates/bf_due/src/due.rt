@@ -1,7 +1,7 @@
 //! The steps that are due.
 ghost use Rattle.std.specs.Prelude.{◌≡◌, ◌<◌, ◌≤◌, ◌+◌, ◌↔◌, [], length, IsTrue, OnOk, IfOk, true};
 ghost use Rattle.bf_graph.specs.Ranks.{Ranking};
-ghost use Rattle.bf_check.specs.Plans.{shape_of};
+ghost use Rattle.bf_plan.specs.Plans.{shape_of};
 ghost use Rattle.bf_core.specs.Events.{next_run};
 ghost use Rattle.bf_core.specs.Cores.{Backfill, IsReplay, IsThere, MayCome, moved};
 ghost use Rattle.bf_due.specs.Steps.{IsNextStep};

@@ -1,6 +1,6 @@
 -- At the start and at the end of a backfill.
 use Rattle.std.proofs.Common.{◌≡◌, ℕ, List, length, refl, sym, ap, subst}
-use Rattle.bf_check.specs.Sound.{AreLimits, IsSound}
+use Rattle.bf_plan.specs.Sound.{AreLimits, IsSound}
 use Rattle.bf_try.specs.declared.answers.Raw.{Raw}
 use Rattle.bf_core.specs.Terms.{Dag, Given, JobName, Limits}
 use Rattle.bf_core.specs.declared.event.Event.{Event}

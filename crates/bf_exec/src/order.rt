@@ -1,7 +1,7 @@
 //! What a backfill is asked for.
 ghost use Rattle.std.specs.Prelude.{◌≡◌, ◌≤◌, length};
 
-use bf_check::Plan;
+use bf_plan::Plan;
 use bf_interval::Interval;
 use bf_try::{Done, RunnerFault, TaskRunner, Ticket};
 use std::alloc::Global;

@@ -18,7 +18,7 @@ use crate::halt::Halt;
 use crate::order::{Order, Planned};
 use crate::starting::{all_fresh, all_started};
 use crate::watch::{Observer, Watch};
-use bf_check::Plan;
+use bf_plan::Plan;
 use bf_core::{BackfillFault, Core, Ended};
 use bf_interval::Interval;
 use bf_lane::{Clock, Queues, Seats, Service};

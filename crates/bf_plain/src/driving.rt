@@ -10,7 +10,7 @@ ghost use Rattle.bf_sched.specs.Driving.{IsUnderWay, StaysDriven};
 ghost use Rattle.bf_sched.specs.Scheduling.{HasFinished, MayFinish};
 ghost use Rattle.bf_plain.specs.Driving.{IsIdle, IsLonger};
 
-use bf_check::Plan;
+use bf_plan::Plan;
 use bf_core::{BackfillFault, Core, Ended, Illegal};
 use bf_interval::Interval;
 use bf_sched::{Next, Scheduler};

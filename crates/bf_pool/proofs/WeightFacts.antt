@@ -12,13 +12,12 @@ use Rattle.bf_graph.specs.Ranks.{Ranking}
 use Rattle.bf_graph.specs.Reach.{IsPath, Reaches}
 use Rattle.bf_graph.specs.Lookups.{IsRisingListOf}
 use Rattle.bf_graph.proofs.PathLemmas.{task_within, first_edge}
-use Rattle.bf_check.specs.declared.plan.Task.{Task}
-use Rattle.bf_check.specs.declared.plan.Dag.{Dag}
-use Rattle.bf_check.specs.Plans.{shape_of}
-use Rattle.bf_check.specs.Sound.{IsSound, IsOneOf}
-use Rattle.bf_check.proofs.PullLemmas.{one_contained}
-use Rattle.bf_check.proofs.PlanLemmas.{upstreams_of_task}
-use Rattle.bf_check.proofs.ListLemmas.{any_contained}
+use Rattle.bf_plan.specs.declared.plan.Task.{Task}
+use Rattle.bf_plan.specs.declared.plan.Dag.{Dag}
+use Rattle.bf_plan.specs.Plans.{shape_of}
+use Rattle.bf_plan.specs.Sound.{IsSound, IsOneOf}
+use Rattle.bf_plan.proofs.PlanLemmas.{one_contained, upstreams_of_task}
+use Rattle.bf_plan.proofs.ListLemmas.{any_contained}
 use Rattle.bf_pool.specs.Weights.{leads_within, does_reach}
 
 -- ---- what a sound plan tells

@@ -2,11 +2,11 @@
 use Rattle.std.specs.Prelude.{ℕ, zero, suc, ◌+◌, ◌==◌, ◌||◌, Bool, false, List, length}
 use Rattle.std.specs.List.{list_any, filter, range_with_len, sum_by}
 use Rattle.bf_graph.specs.Edges.{upstreams_of}
-use Rattle.bf_read.specs.declared.kinds.WeightRule.{WeightRule}
-use Rattle.bf_check.specs.declared.plan.Limits.{Limits}
-use Rattle.bf_check.specs.declared.plan.Dag.{Dag}
-use Rattle.bf_check.specs.Sound.{demand_of}
-use Rattle.bf_check.specs.Plans.{shape_of}
+use Rattle.bf_plan.specs.declared.kinds.WeightRule.{WeightRule}
+use Rattle.bf_plan.specs.declared.plan.Limits.{Limits}
+use Rattle.bf_plan.specs.declared.plan.Dag.{Dag}
+use Rattle.bf_plan.specs.Sound.{demand_of}
+use Rattle.bf_plan.specs.Plans.{shape_of}
 
 -- a path of one to n edges leads from a to t
 abbrev pub leads_within : List (List ℕ) → ℕ → ℕ → ℕ → Bool

@@ -2,7 +2,7 @@
 ghost use Rattle.std.specs.Prelude.{◌≡◌, ◌+◌, ◌-◌, ◌<◌, ◌≤◌, ◌↔◌, ℕ, length, IsOk, OnOk, OnErr, IfOk};
 ghost use Rattle.bf_pool.specs.Slots.{size_of, occupied_of, HasOccupied};
 
-use bf_check::Plan;
+use bf_plan::Plan;
 use bf_value::OutOfMemory;
 use std::alloc::Global;
 use std::marker::Model;

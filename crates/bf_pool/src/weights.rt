@@ -1,11 +1,10 @@
 //! The weight of a task, which says whose waiting instance begins first (Airflow's "Priority Weights").
 ghost use Rattle.std.specs.Prelude.{◌≡◌, ◌<◌, ◌≤◌, ℕ, length, All, IfOk};
-ghost use Rattle.bf_check.specs.Sound.{demand_of};
+ghost use Rattle.bf_plan.specs.Sound.{demand_of};
 ghost use Rattle.bf_pool.specs.Weights.{tasks_counting, weights_of, total_weight_of};
 
-use bf_check::{Limits, Plan};
 use bf_graph::Graph;
-use bf_read::WeightRule;
+use bf_plan::{Limits, Plan, WeightRule};
 use bf_value::OutOfMemory;
 use std::alloc::Global;
 

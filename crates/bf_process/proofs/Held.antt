@@ -1,8 +1,8 @@
 -- What holds of the words that were made holds of those of the try.
 use Rattle.std.proofs.Common.{◌≡◌, ℕ, List, subst}
 use Rattle.bf_value.specs.declared.name.JobName.{JobName}
-use Rattle.bf_check.specs.declared.plan.Task.{Task}
-use Rattle.bf_check.specs.declared.plan.Dag.{Dag}
+use Rattle.bf_plan.specs.declared.plan.Task.{Task}
+use Rattle.bf_plan.specs.declared.plan.Dag.{Dag}
 use Rattle.bf_interval.specs.declared.interval.Interval.{Interval}
 use Rattle.bf_xcom.specs.declared.context.JobContext.{JobContext}
 use Rattle.bf_xcom.specs.declared.values.Given.{Given}

@@ -6,7 +6,7 @@ ghost use Rattle.bf_process.specs.Words.{IsContext, IsHeard, IsLost, HoldsOfWord
 
 use crate::program::not_started;
 use crate::starter::Starter;
-use bf_check::{Plan, Task};
+use bf_plan::{Plan, Task};
 use bf_interval::Interval;
 use bf_moment::Moment;
 use bf_try::{Done, Raw, RunnerFault, TaskRunner, Ticket};
@@ -29,7 +29,7 @@ pub struct ProcessRunner<'s, 'p, 'i, 'l, S> {
 impl<'s, 'p, 'i, 'l, S> Model for ProcessRunner<'s, 'p, 'i, 'l, S> {
     ghost use Rattle.std.specs.Prelude.{All, option_map};
     ghost use Rattle.std.specs.Coded.{codes};
-    ghost use Rattle.bf_check.specs.contracts.plan.Dag as d;
+    ghost use Rattle.bf_plan.specs.contracts.plan.Dag as d;
     ghost use Rattle.bf_interval.specs.Intervals.{IsShownInterval};
     ghost use Rattle.bf_process.specs.Words.{Programs};
 

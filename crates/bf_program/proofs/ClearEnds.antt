@@ -1,6 +1,6 @@
 -- What the command `clear` comes to, by what was read of its files.
 use Rattle.std.proofs.Common.{◌≡◌, ℕ, ℤ, Bool, List, Option, Some, option_map, string_bytes, refl, sym, ◌∙◌, subst, inl, inr}
-use Rattle.bf_check.specs.declared.plan.Dag.{Dag}
+use Rattle.bf_plan.specs.declared.plan.Dag.{Dag}
 use Rattle.bf_interval.specs.declared.interval.Interval.{Interval}
 use Rattle.bf_try.specs.declared.table.TableEntry.{TableEntry}
 use Rattle.bf_try.specs.Tables.{table_of}

@@ -12,7 +12,8 @@ use Rattle.bf_read.specs.declared.fault.ReadFault.{ReadFault}
 use Rattle.bf_read.specs.declared.fault.ReadFault.TheVariants.{Shape}
 use Rattle.bf_read.specs.Drafts.{pulled_in}
 use Rattle.bf_read.specs.Gives.{◌>>=◌}
-use Rattle.bf_read.specs.Fields.{Member, or_shape, if_there, there, text_at, flag_at, context_named, limit, items_at, each_item}
+use Rattle.bf_read.specs.Fields.{Member, or_shape, if_there, there, text_at, flag_at, limit, items_at, each_item}
+use Rattle.bf_plan.specs.Kinds.{context_named}
 
 -- ---- words
 

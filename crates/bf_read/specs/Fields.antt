@@ -1,7 +1,5 @@
 -- What is read of the members of JSON objects.
-use Rattle.std.specs.Prelude.{ℕ, ℤ, pos, negsuc, ◌&&◌, ◌||◌, ◌==◌, List, [], ◌∷◌, length, codes, Bool, true, false, nat_le, if◌then◌else◌, Option, Some, None, option_map, option_and_then, Result, Ok, Err}
-use Rattle.std.specs.List.{list_all}
-use Rattle.std.specs.Str.{bytes_eq}
+use Rattle.std.specs.Prelude.{ℕ, ℤ, pos, negsuc, ◌&&◌, ◌||◌, ◌==◌, List, [], ◌∷◌, length, Bool, true, false, nat_le, if◌then◌else◌, Option, Some, None, option_map, option_and_then, Result, Ok, Err}
 use Rattle.serde_json.specs.Data.{Data, Items, no_items, item, Members, no_members, member}
 use Rattle.serde_json.specs.Find.{get, as_bool, as_number, as_i64, as_str, as_array, as_object}
 use Rattle.serde_json.specs.View.{view}
@@ -10,16 +8,16 @@ use Rattle.bf_read.specs.declared.keys.GraphKey.{GraphKey}
 use Rattle.bf_read.specs.declared.keys.TaskKey.{TaskKey}
 use Rattle.bf_read.specs.declared.draft.PoolDraft.{PoolDraft}
 use Rattle.bf_read.specs.Limits.{most_slots}
-use Rattle.bf_read.specs.declared.kinds.TaskKind.{TaskKind}
-use Rattle.bf_read.specs.declared.kinds.WeightRule.{WeightRule}
-use Rattle.bf_read.specs.declared.kinds.ContextVariable.{ContextVariable}
+use Rattle.bf_plan.specs.declared.kinds.TaskKind.{TaskKind}
+use Rattle.bf_plan.specs.declared.kinds.WeightRule.{WeightRule}
+use Rattle.bf_plan.specs.Ids.{is_id}
+use Rattle.bf_plan.specs.Kinds.{kind_named, weight_rule_named}
 use Rattle.bf_read.specs.declared.fault.ReadFault.{ReadFault}
 use Rattle.bf_read.specs.declared.fault.ReadFault.TheVariants.{Shape, BadName, LimitPassed}
 use Rattle.bf_read.specs.declared.fields.Field.{Field}
 use Rattle.bf_read.specs.declared.fields.ObjectKind.{ObjectKind}
 use Rattle.bf_read.specs.Drafts.{distinct}
 use Rattle.bf_read.specs.Gives.{◌>>=◌}
-use Rattle.bf_read.specs.Ids.{is_id}
 use Rattle.bf_read.specs.Keys.{graph_key_name, task_key_name, is_graph_key, is_task_key}
 
 -- a value and its place, where the value may be missing
@@ -174,29 +172,10 @@ pools_at m = if_there m.value [] (members_at m >>= each_member (pool_at m.path))
 
 -- ---- names
 
-unfoldable pub kind_named : List ℕ → Option TaskKind
-kind_named s = if bytes_eq s (codes "program") then Some TaskKind.Program else (if bytes_eq s (codes "branch") then Some TaskKind.Branch else None)
-
 -- a program where it is missing
 unfoldable pub kind_at : Member → Result TaskKind ReadFault
 kind_at m = if_there m.value TaskKind.Program (text_at m >>= λ s. or_shape m.path (kind_named s))
 
-unfoldable pub weight_rule_named : List ℕ → Option WeightRule
-weight_rule_named s =
-    if bytes_eq s (codes "downstream") then Some WeightRule.Downstream
-    else (if bytes_eq s (codes "upstream") then Some WeightRule.Upstream
-    else (if bytes_eq s (codes "absolute") then Some WeightRule.Absolute else None))
-
 -- that of downstreams where it is missing
 unfoldable pub weight_rule_at : Member → Result WeightRule ReadFault
 weight_rule_at m = if_there m.value WeightRule.Downstream (text_at m >>= λ s. or_shape m.path (weight_rule_named s))
-
-unfoldable pub context_named : List ℕ → Option ContextVariable
-context_named s =
-    if bytes_eq s (codes "logical_date") then Some ContextVariable.LogicalDate
-    else (if bytes_eq s (codes "data_interval_start") then Some ContextVariable.DataIntervalStart
-    else (if bytes_eq s (codes "data_interval_end") then Some ContextVariable.DataIntervalEnd
-    else (if bytes_eq s (codes "dag_id") then Some ContextVariable.DagId
-    else (if bytes_eq s (codes "task_id") then Some ContextVariable.TaskId
-    else (if bytes_eq s (codes "map_index") then Some ContextVariable.MapIndex
-    else (if bytes_eq s (codes "try_number") then Some ContextVariable.TryNumber else None))))))

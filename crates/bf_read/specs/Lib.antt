@@ -1,5 +1,4 @@
 pub mod Limits
-pub mod Ids
 pub mod Drafts
 pub mod Gives
 pub mod Keys

@@ -5,10 +5,6 @@ use Rattle.std.specs.Prelude.{ℕ}
 abbrev pub most_bytes : ℕ
 most_bytes = 8_388_608
 
--- how many bytes an id may have
-abbrev pub longest_id : ℕ
-longest_id = 250
-
 -- how many runs may be open at once
 abbrev pub most_active_runs : ℕ
 most_active_runs = 4_096

@@ -3,7 +3,7 @@ ghost use Rattle.std.specs.Prelude.{◌≡◌, ◌≤◌};
 ghost use Rattle.bf_read.specs.Drafts.{IsDraft, number_of_edges};
 ghost use Rattle.bf_read.specs.Limits.{most_edges};
 
-use crate::kinds::{ContextVariable, TaskKind, WeightRule};
+use bf_plan::{ContextVariable, TaskKind, WeightRule};
 use bf_value::{Sequence, Text};
 
 /// A word of a task's command, as a graph file gives it.

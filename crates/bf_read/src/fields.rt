@@ -4,12 +4,11 @@ ghost use Rattle.std.specs.BTreeMap.{keys};
 ghost use Rattle.std.specs.List.{list_all};
 ghost use Rattle.serde_json.specs.View.{view, items_view, members_view};
 ghost use Rattle.bf_read.specs.Gives.{Gives};
-ghost use Rattle.bf_read.specs.Ids.{is_id_byte as id_byte, is_id as id_text};
+ghost use Rattle.bf_plan.specs.Ids.{is_id as id_text};
 ghost use Rattle.bf_read.specs.Fields.{member_of, there as place, graph_member, task_member, text_at as text, text_or as text_unless, expand_at as expand, id_at as id, named_at as named, is_key as key, has_known_keys as has_known, object_at as object, items_at as items, flag_at as flag, whole_at as whole, within as between, count_at as count, limit as limited, members_at as members};
 
 use crate::fault::ReadFault;
 use crate::keys::{GraphKey, TaskKey, is_graph_key, is_task_key};
-use crate::limits::LONGEST_ID;
 use crate::path::Path;
 use bf_value::Text;
 use serde_json::{Map, Value};
@@ -139,25 +138,6 @@ pub(crate) fn expand_at(alloc: Global, field: Field) -> Result<Option<Text>, Rea
         return Ok(None);
     }
     Ok(Some(Text::copied(alloc, text_at(field)?)?))
-}
-
-fn is_id_byte(byte: u8) -> bool
-    ensures { result ≡ id_byte byte }
-{
-    byte.is_ascii_alphanumeric() || byte == b'-' || byte == b'.' || byte == b'_'
-}
-
-fn are_id_bytes(bytes: &[u8]) -> bool
-    ensures { result ≡ list_all id_byte bytes.now }
-{
-    bytes.iter().all(|b| is_id_byte(*b))
-}
-
-/// Whether a text may be the id of a graph, a task or a pool: 1 to 250 ASCII letters, digits, `-`, `.` and `_`.
-pub fn is_id(text: &str) -> bool
-    ensures { result ≡ id_text text.now }
-{
-    1 <= text.len() && text.len() <= LONGEST_ID && are_id_bytes(text.as_bytes())
 }
 
 /// A text that has to be an id.

@@ -31,9 +31,7 @@ mod texts;
 pub use command::pulls_of;
 pub use draft::{DEFAULT_POOL, Draft, PoolDraft, TaskDraft, WordDraft};
 pub use fault::ReadFault;
-pub use fields::is_id;
 pub use keys::{GraphKey, TaskKey};
-pub use kinds::{ContextVariable, TaskKind, WeightRule};
 pub use limits::{
     GREATEST_WEIGHT, LONGEST_RETRY_DELAY, LONGEST_WORD, MOST_ACTIVE_RUNS, MOST_BYTES, MOST_EDGES,
     MOST_PULLS, MOST_RETRIES, MOST_SLOTS, MOST_TASKS, MOST_WORDS,

@@ -3,9 +3,6 @@
 /// How many bytes a graph file may have.
 pub const MOST_BYTES: usize = 8_388_608;
 
-/// How many bytes an id may have, as in Airflow.
-pub(crate) const LONGEST_ID: usize = 250;
-
 /// How many runs may be open at once.
 pub const MOST_ACTIVE_RUNS: u32 = 4_096;
 

@@ -6,7 +6,7 @@ ghost use Rattle.serde_json.specs.Events.{items_len};
 ghost use Rattle.serde_json.specs.View.{view, items_view};
 ghost use Rattle.bf_value.specs.Distinct.{AreDistinct};
 ghost use Rattle.bf_read.specs.Gives.{Gives};
-ghost use Rattle.bf_read.specs.Ids.{is_id};
+ghost use Rattle.bf_plan.specs.Ids.{is_id};
 ghost use Rattle.bf_read.specs.Drafts.{number_of_edges, pulled_in, AreTasks, MayFollow};
 ghost use Rattle.bf_read.specs.Fields.{member_of, task_member, limit as limited};
 ghost use Rattle.bf_read.specs.Reading.{fresh as new, place_at as place, work_at as work, demand_at as demand, task_at as task, tasks_from, tasks_at as tasks};
@@ -20,12 +20,13 @@ use crate::fields::{
     text_or,
 };
 use crate::keys::TaskKey;
-use crate::kinds::{TaskKind, WeightRule, kind_at, weight_rule_at};
+use crate::kinds::{kind_at, weight_rule_at};
 use crate::limits::{
     GREATEST_WEIGHT, LONGEST_RETRY_DELAY, MOST_EDGES, MOST_RETRIES, MOST_SLOTS, MOST_TASKS,
 };
 use crate::path::Path;
 use crate::texts::upstreams_at;
+use bf_plan::{TaskKind, WeightRule};
 use bf_value::{Sequence, Text};
 use serde_json::Value;
 use std::alloc::Global;

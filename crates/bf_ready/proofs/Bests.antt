@@ -3,8 +3,8 @@ use Rattle.std.proofs.Common.{◌≡◌, ◌⊎◌, ℕ, ◌<◌, ◌≤◌, ◌
 use Rattle.std.proofs.lemmas.Bool.Decides.{nat_tests}
 use Rattle.std.proofs.lemmas.Bool.{ltb-true}
 use Rattle.bf_value.specs.declared.name.JobName.{JobName}
-use Rattle.bf_check.specs.declared.plan.Dag.{Dag}
-use Rattle.bf_check.specs.declared.plan.Limits.{Limits}
+use Rattle.bf_plan.specs.declared.plan.Dag.{Dag}
+use Rattle.bf_plan.specs.declared.plan.Limits.{Limits}
 use Rattle.bf_pool.specs.Weights.{total_weight_of}
 use Rattle.bf_try.specs.Tries.{name_of}
 use Rattle.bf_core.specs.declared.event.Event.{Event}

@@ -3,8 +3,8 @@ use Rattle.std.proofs.Common.{◌≡◌, ◌⊎◌, ℕ, zero, suc, ◌<◌, ◌
 use Rattle.std.proofs.lemmas.List.{length-map}
 use Rattle.bf_graph.specs.Edges.{IsRank}
 use Rattle.bf_graph.specs.Order.{IsByRank}
-use Rattle.bf_check.specs.declared.plan.Dag.{Dag}
-use Rattle.bf_check.specs.Plans.{shape_of}
+use Rattle.bf_plan.specs.declared.plan.Dag.{Dag}
+use Rattle.bf_plan.specs.Plans.{shape_of}
 use Rattle.bf_core.specs.declared.event.Event.{Event}
 use Rattle.bf_core.specs.Cores.{Backfill, IsThere, MayCome, deciding}
 use Rattle.bf_core.proofs.Enabling.{able-decidable}

@@ -1,7 +1,7 @@
 -- What a look at some of the tries finds, on the way to all of them.
 use Rattle.std.specs.Prelude.{◌≡◌, ◌⊎◌, ℕ, ◌<◌, ℤ, ◌≤ℤ◌, Option, None, Some, nat_lt, if◌then◌else◌, List, slice_index}
 use Rattle.bf_value.specs.declared.name.JobName.{JobName}
-use Rattle.bf_check.specs.declared.plan.Dag.{Dag}
+use Rattle.bf_plan.specs.declared.plan.Dag.{Dag}
 use Rattle.bf_core.specs.declared.event.Event.{Event}
 use Rattle.bf_core.specs.Cores.{Backfill, MayCome, WaitsLater}
 use Rattle.bf_core.specs.Events.{place_in}

@@ -24,8 +24,8 @@ pub struct Ready<'a> {
 }
 
 impl<'a> Model for Ready<'a> {
-    ghost use Rattle.bf_check.specs.contracts.plan.Dag as d;
-    ghost use Rattle.bf_check.specs.contracts.plan.Limits as l;
+    ghost use Rattle.bf_plan.specs.contracts.plan.Dag as d;
+    ghost use Rattle.bf_plan.specs.contracts.plan.Limits as l;
     ghost use Rattle.bf_core.specs.contracts.state.State as s;
     ghost use Rattle.bf_core.specs.contracts.clock.Clock as k;
     ghost use Rattle.bf_core.specs.contracts.event.Event as e;

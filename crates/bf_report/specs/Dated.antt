@@ -3,9 +3,9 @@ use Rattle.std.specs.Prelude.{◌≡◌, ℕ, suc, Bool, true, false, List, [], 
 use Rattle.std.specs.List.{filter_map}
 use Rattle.bf_value.specs.declared.xval.Xval.{Xval}
 use Rattle.bf_interval.specs.declared.interval.Interval.{Interval}
-use Rattle.bf_check.specs.declared.plan.Task.{Task}
-use Rattle.bf_check.specs.declared.plan.Dag.{Dag}
-use Rattle.bf_check.specs.Plans.{task_of}
+use Rattle.bf_plan.specs.declared.plan.Task.{Task}
+use Rattle.bf_plan.specs.declared.plan.Dag.{Dag}
+use Rattle.bf_plan.specs.Plans.{task_of}
 use Rattle.bf_xcom.specs.declared.values.Given.{Given}
 use Rattle.bf_xcom.specs.declared.values.TaskResult.{TaskResult}
 use Rattle.bf_try.specs.Tries.{Look}

@@ -1,6 +1,6 @@
 //! The report of a backfill that has ended.
 ghost use Rattle.std.specs.Prelude.{◌≡◌, ◌≤◌, ◌<◌, length, map, All, IfOk};
-ghost use Rattle.bf_check.specs.Sound.{IsSound};
+ghost use Rattle.bf_plan.specs.Sound.{IsSound};
 ghost use Rattle.bf_core.specs.Events.{entry_in, cell_at};
 ghost use Rattle.bf_core.specs.Agreement.{IsOutcome, AreRunStates};
 ghost use Rattle.bf_interval.specs.Intervals.{IsShownInterval};
@@ -9,7 +9,7 @@ ghost use Rattle.bf_report.specs.Values.{AreSoundInstances, IsSoundTask, AreSoun
 
 use crate::instances::instance_reports;
 use crate::report::{InstanceReport, Report, RunReport, TaskReport, Version};
-use bf_check::{Dag, Plan, Task};
+use bf_plan::{Dag, Plan, Task};
 use bf_core::{Cell, Ended, State};
 use bf_interval::Interval;
 use bf_value::{OutOfMemory, Sequence, Text};

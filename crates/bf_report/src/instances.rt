@@ -1,13 +1,13 @@
 //! The reports of instances.
 ghost use Rattle.std.specs.Prelude.{◌≡◌, ◌<◌, All, length, IfOk, IfSome};
 ghost use Rattle.std.specs.List.{filter_map};
-ghost use Rattle.bf_check.specs.Plans.{task_of};
-ghost use Rattle.bf_check.specs.Sound.{IsSound};
+ghost use Rattle.bf_plan.specs.Plans.{task_of};
+ghost use Rattle.bf_plan.specs.Sound.{IsSound};
 ghost use Rattle.bf_report.specs.Dated.{pulls_of as pulls_in, reported_instance};
 ghost use Rattle.bf_report.specs.Values.{IsSoundValue, IsSoundOutcome, AreSoundPulls, IsSoundInstance, AreSoundInstances};
 
 use crate::report::{InstanceReport, Pull};
-use bf_check::Dag;
+use bf_plan::Dag;
 use bf_core::{Instance, Phase};
 use bf_value::{OutOfMemory, Sequence, Xval, copy_option};
 use bf_xcom::{Outcome, TaskResult};

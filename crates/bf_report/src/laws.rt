@@ -2,8 +2,8 @@
 ghost use Rattle.std.specs.Prelude.{◌≡◌, List, length};
 ghost use Rattle.std.specs.FinMap as finite;
 ghost use Rattle.bf_value.specs.Names.{name_cmp};
-ghost use Rattle.bf_check.specs.declared.plan.Dag.{Dag as DagTerm};
-ghost use Rattle.bf_check.specs.Sound.{IsSound};
+ghost use Rattle.bf_plan.specs.declared.plan.Dag.{Dag as DagTerm};
+ghost use Rattle.bf_plan.specs.Sound.{IsSound};
 ghost use Rattle.bf_interval.specs.declared.interval.Interval.{Interval as IntervalTerm};
 ghost use Rattle.bf_try.specs.declared.ledger.Entry.{Entry as EntryTerm};
 ghost use Rattle.bf_try.specs.Tries.{AreAlike};

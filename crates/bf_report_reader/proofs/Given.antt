@@ -12,8 +12,8 @@ use Rattle.bf_value.specs.Views.{plain_of, plains_of, xvals_of, list_of}
 use Rattle.bf_value.proofs.ValueLemmas.{plains_of-xvals_of}
 use Rattle.bf_value.proofs.SizeLemmas.{item_size, list_size}
 use Rattle.bf_value.proofs.TextLemmas.{value_of_text-text_of, IsUtf8-text_of}
-use Rattle.bf_check.specs.declared.plan.Dag.{Dag}
-use Rattle.bf_check.specs.Plans.{task_of}
+use Rattle.bf_plan.specs.declared.plan.Dag.{Dag}
+use Rattle.bf_plan.specs.Plans.{task_of}
 use Rattle.bf_mapped.specs.Items.{items_of}
 use Rattle.bf_mapped.specs.declared.source.Items.{Items}
 use Rattle.bf_mapped.specs.declared.source.SourceValues.{SourceValues}

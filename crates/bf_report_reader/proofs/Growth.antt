@@ -5,7 +5,7 @@ use Rattle.std.specs.Str.{IsUtf8, bytes_eq}
 use Rattle.std.specs.Cmp.Lexicographic.{bytes_decides}
 use Rattle.std.proofs.lemmas.Bool.{and_parts, eqb-true}
 use Rattle.std.proofs.lemmas.Option.{slice_get-get_or}
-use Rattle.bf_read.specs.Ids.{is_id}
+use Rattle.bf_plan.specs.Ids.{is_id}
 use Rattle.bf_value.specs.declared.xval.Xval.{Xval}
 use Rattle.bf_interval.specs.declared.interval.Interval.{Interval}
 use Rattle.bf_xcom.specs.declared.values.TaskResult.{TaskResult}

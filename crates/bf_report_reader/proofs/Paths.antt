@@ -8,7 +8,7 @@ use Rattle.std.proofs.lemmas.List.{get_or_append_left, map-append}
 use Rattle.std.proofs.lemmas.Bool.{cases_Bool}
 use Rattle.std.proofs.lemmas.Bool.Decides.{nat_tests}
 use Rattle.std.proofs.lemmas.Int.{ints}
-use Rattle.bf_read.specs.Ids.{is_id}
+use Rattle.bf_plan.specs.Ids.{is_id}
 use Rattle.bf_value.specs.Distinct.{AreDistinct}
 use Rattle.bf_value.specs.declared.xval.Xval.{Xval}
 use Rattle.bf_xcom.specs.declared.values.TaskResult.{TaskResult}

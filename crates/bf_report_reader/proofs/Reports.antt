@@ -5,7 +5,7 @@ use Rattle.std.specs.List.{flat_map, enumerate_from, zip}
 use Rattle.std.proofs.lemmas.List.{append_cancel_left}
 use Rattle.std.proofs.lemmas.Option.{slice_get-get_or}
 use Rattle.std.proofs.lemmas.Bool.{cases_Bool, eqb-false}
-use Rattle.bf_read.specs.Ids.{is_id}
+use Rattle.bf_plan.specs.Ids.{is_id}
 use Rattle.bf_value.specs.declared.xval.Xval.{Xval}
 use Rattle.bf_value.specs.declared.xval.Xval.TheVariants.{Nil}
 use Rattle.bf_value.specs.Json.{text_of}

@@ -7,7 +7,7 @@ use Rattle.std.proofs.lemmas.Int.{ints}
 use Rattle.std.proofs.lemmas.Bool.{and_parts, eqb-true, cases_Bool, ltb-true}
 use Rattle.std.proofs.lemmas.List.{map-append}
 use Rattle.std.proofs.lemmas.List.Quantifiers.{all_pairs_push}
-use Rattle.bf_read.specs.Ids.{is_id}
+use Rattle.bf_plan.specs.Ids.{is_id}
 use Rattle.bf_value.specs.Distinct.{AreDistinct}
 use Rattle.bf_value.specs.declared.xval.Xval.{Xval}
 use Rattle.bf_xcom.specs.declared.values.TaskResult.{TaskResult}

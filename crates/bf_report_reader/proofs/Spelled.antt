@@ -15,7 +15,7 @@ use Rattle.bf_xcom.specs.declared.values.RunState.{RunState}
 use Rattle.bf_xcom.specs.declared.values.TaskResult.{TaskResult}
 use Rattle.bf_report.specs.declared.report.Pull.{Pull}
 use Rattle.bf_report.specs.Report.{state_word, value_word, pulled_word, run_state_word}
-use Rattle.bf_check.proofs.ListLemmas.{some_same}
+use Rattle.bf_plan.proofs.ListLemmas.{some_same}
 use Rattle.bf_report_reader.specs.declared.part.GivenPart.{GivenPart}
 use Rattle.bf_report_reader.specs.Parts.{IsToldValue, IsToldPulled, IsToldPull, IsPart, pull_words, part_text}
 use Rattle.bf_report_reader.specs.declared.entry.Untried.{Untried}

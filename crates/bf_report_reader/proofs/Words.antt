@@ -11,7 +11,7 @@ use Rattle.std.proofs.lemmas.Bool.Decides.{nat_tests}
 use Rattle.std.proofs.lemmas.Fmt.{length-decimal-le}
 use Rattle.bf_moment.specs.Moment.{moment_text, IsShown}
 use Rattle.bf_moment.proofs.OneText.{moment_ascii}
-use Rattle.bf_read.specs.Ids.{is_id, is_id_byte}
+use Rattle.bf_plan.specs.Ids.{is_id, is_id_byte}
 use Rattle.bf_value.specs.declared.xval.Xval.{Xval}
 use Rattle.bf_value.specs.declared.xval.Xval.TheVariants.{Flag, Int, Text, List as ListOf, Nil}
 use Rattle.bf_value.specs.Json.{text_of}

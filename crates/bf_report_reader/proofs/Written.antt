@@ -13,14 +13,14 @@ use Rattle.bf_value.specs.Plain.{IsSound}
 use Rattle.bf_value.specs.Views.{plain_of}
 use Rattle.bf_value.proofs.TextLemmas.{value_of_line-text_of}
 use Rattle.bf_value.proofs.TextLemmas.{IsUtf8-text_of}
-use Rattle.bf_read.specs.Ids.{is_id}
+use Rattle.bf_plan.specs.Ids.{is_id}
 use Rattle.bf_value.specs.Distinct.{AreDistinct}
 use Rattle.bf_interval.specs.declared.interval.Interval.{Interval}
 use Rattle.bf_interval.specs.Runs.{IsSecondTo2208, IsOfRun}
-use Rattle.bf_check.specs.declared.plan.Task.{Task}
-use Rattle.bf_check.specs.declared.plan.Dag.{Dag}
-use Rattle.bf_check.specs.Plans.{task_of, no_task}
-use Rattle.bf_check.specs.Sound.{IsSound as IsSoundDag}
+use Rattle.bf_plan.specs.declared.plan.Task.{Task}
+use Rattle.bf_plan.specs.declared.plan.Dag.{Dag}
+use Rattle.bf_plan.specs.Plans.{task_of, no_task}
+use Rattle.bf_plan.specs.Sound.{IsSound as IsSoundDag}
 use Rattle.bf_mapped.specs.declared.source.Items.{Items}
 use Rattle.bf_xcom.specs.declared.values.Given.{Given}
 use Rattle.bf_xcom.specs.declared.values.Outcome.{Outcome}
@@ -58,7 +58,7 @@ use Rattle.bf_report_reader.specs.Parts.{IsToldPull}
 use Rattle.bf_report_reader.specs.Beginning.{has_item}
 use Rattle.bf_report_reader.specs.Rules.{MayHaveItem, AreToldPulls, IsShownInstance, IsShownTask, IsShownRun, IsShownReport, Rise}
 use Rattle.bf_report_reader.specs.Runs.{IsReportMoment, IsRunInterval}
-use Rattle.bf_check.specs.Sound.{IsNamed}
+use Rattle.bf_plan.specs.Sound.{IsNamed}
 use Rattle.bf_report_reader.specs.Written.{AreOfRuns}
 use Rattle.bf_report_reader.proofs.Given.{IsPushed, FitsValue, AreFittingResults, told_value, pulled_told, items_pushed}
 

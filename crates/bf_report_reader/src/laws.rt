@@ -1,6 +1,6 @@
 //! Laws of the texts of reports. These functions do nothing: their contracts are the laws.
 ghost use Rattle.std.specs.Prelude.{◌≡◌, List, length};
-ghost use Rattle.bf_check.specs.Sound.{IsNamed, IsSound};
+ghost use Rattle.bf_plan.specs.Sound.{IsNamed, IsSound};
 ghost use Rattle.bf_core.specs.Terms.{Dag, Limits};
 ghost use Rattle.bf_core.specs.declared.event.Event.{Event};
 ghost use Rattle.bf_core.specs.declared.state.State.{State};

@@ -7,7 +7,7 @@ ghost use Rattle.bf_report_reader.specs.Parts.{IsToldValue, IsToldItem, IsToldPu
 
 use crate::field::split_field;
 use crate::value::if_spelled;
-use bf_read::is_id;
+use bf_plan::is_id;
 use bf_report::Pull;
 use bf_try::{LONGEST_VALUE, MOST_ITEMS};
 use bf_value::{DEEPEST, OutOfMemory, Text, Xval, read_text};

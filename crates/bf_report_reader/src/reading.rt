@@ -21,7 +21,7 @@ use crate::interval::run_in;
 use crate::line::{LineEnd, next_line};
 use crate::part::{GivenPart, item_in, pull_in};
 use bf_device::Read;
-use bf_read::is_id;
+use bf_plan::is_id;
 use bf_report::{Report, RunReport, Version};
 use bf_value::{OutOfMemory, Sequence, Text};
 use std::alloc::Global;

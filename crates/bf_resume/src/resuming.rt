@@ -9,7 +9,7 @@ ghost use Rattle.bf_core.specs.Terms.{AreAlike};
 ghost use Rattle.bf_exec.specs.Accounts.{KeepsWorkers};
 ghost use Rattle.bf_exec.specs.Faults.{MayFail};
 
-use bf_check::Plan;
+use bf_plan::Plan;
 use bf_core::{BackfillFault, Ended};
 use bf_exec::{Observer, Watch, run_backfill};
 use bf_interval::Interval;

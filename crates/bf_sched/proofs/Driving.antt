@@ -1,6 +1,6 @@
 -- What keeps a backfill driven, from its start to its end.
 use Rattle.std.proofs.Common.{◌≡◌, ℕ, ℤ, Bool, true, false, refl, sym, ap, ◌∙◌, subst, arith}
-use Rattle.bf_check.specs.Sound.{AreLimits, IsSound}
+use Rattle.bf_plan.specs.Sound.{AreLimits, IsSound}
 use Rattle.bf_try.specs.Asked.{Asked, Answered}
 use Rattle.bf_try.specs.declared.answers.Raw.{Raw}
 use Rattle.bf_core.specs.Terms.{Dag, Given, JobName, Limits}

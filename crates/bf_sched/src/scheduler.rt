@@ -29,8 +29,8 @@ pub struct Scheduler<'a> {
 
 impl<'a> Model for Scheduler<'a> {
     ghost use Rattle.bf_sched.specs.Scheduling.{Schedule, IsScheduler};
-    ghost use Rattle.bf_check.specs.contracts.plan.Dag as d;
-    ghost use Rattle.bf_check.specs.contracts.plan.Limits as l;
+    ghost use Rattle.bf_plan.specs.contracts.plan.Dag as d;
+    ghost use Rattle.bf_plan.specs.contracts.plan.Limits as l;
     ghost use Rattle.bf_core.specs.contracts.state.State as s;
     ghost use Rattle.bf_core.specs.contracts.clock.Clock as k;
     ghost use Rattle.bf_core.specs.contracts.event.Event as e;

@@ -1,6 +1,6 @@
 //! What a try is given of what other tasks pushed.
 use crate::steps::{Answered, End, Step, core_after, list_of};
-use bf_check::Plan;
+use bf_plan::Plan;
 use bf_core::Core;
 use bf_tests_graphs::{job, plan_of};
 use bf_value::{JobName, Xval};

@@ -1,5 +1,5 @@
 //! Cores, driven by hand over one run.
-use bf_check::Plan;
+use bf_plan::Plan;
 use bf_core::{Core, Event, Illegal};
 use bf_interval::Interval;
 use bf_tests_graphs::plan_of;

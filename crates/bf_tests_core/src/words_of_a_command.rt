@@ -1,5 +1,5 @@
 //! The words of a command.
-use bf_check::{ContextVariable, Word};
+use bf_plan::{ContextVariable, Word};
 use bf_moment::Moment;
 use bf_value::{OutOfMemory, Sequence, Text, Values, Xval};
 use bf_xcom::{Given, JobContext, words};

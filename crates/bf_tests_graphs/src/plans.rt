@@ -1,7 +1,8 @@
 //! Plans of graph files.
 ghost use Rattle.std.specs.Prelude.{◌≡◌};
 
-use bf_check::{CheckFault, Plan, check};
+use bf_check::{CheckFault, check};
+use bf_plan::Plan;
 use bf_read::{ReadFault, read_graph};
 use bf_value::JobName;
 use std::alloc::Global;

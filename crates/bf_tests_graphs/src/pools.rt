@@ -1,6 +1,6 @@
 //! The total priority weights of tasks, by which tries wait for room in their pools.
 use crate::plans::plan_of;
-use bf_check::Plan;
+use bf_plan::Plan;
 use bf_pool::total_weight;
 use bf_value::OutOfMemory;
 use std::alloc::Global;

@@ -2,7 +2,7 @@
 use crate::chance::Chance;
 use crate::graphs::{TASKS, graph_of};
 use crate::looks::compare;
-use bf_check::Plan;
+use bf_plan::Plan;
 use bf_core::{Core, Event};
 use bf_interval::Interval;
 use bf_ready::Ready;

@@ -2,7 +2,7 @@
 ghost use Rattle.std.specs.Prelude.{◌≡◌, ◌≤◌, length};
 
 use crate::graphs::Graph;
-use bf_check::Plan;
+use bf_plan::Plan;
 use bf_core::{Core, Illegal};
 use bf_interval::Interval;
 use bf_sched::{Next, Scheduler};

@@ -6,7 +6,7 @@ use crate::again::{
 };
 use crate::graphs::Graph;
 use crate::replay::replay;
-use bf_check::Plan;
+use bf_plan::Plan;
 use bf_core::Ended;
 use bf_interval::Interval;
 use bf_sched::{Next, Scheduler};

@@ -3,7 +3,7 @@ ghost use Rattle.std.specs.Prelude.{◌≡◌, ◌≤◌, length};
 
 use crate::again::Fault;
 use crate::sameness::is_same_core;
-use bf_check::Plan;
+use bf_plan::Plan;
 use bf_core::{Core, Event, Illegal};
 use bf_interval::Interval;
 use std::alloc::Global;

@@ -12,7 +12,7 @@ use Rattle.std.proofs.lemmas.List.Folds.{list_any-append}
 use Rattle.std.proofs.lemmas.List.Quantifiers.{position-Some}
 use Rattle.std.proofs.lemmas.Slice.Eq.{bytes_eq-Decides}
 use Rattle.bf_value.specs.declared.name.JobName.{JobName}
-use Rattle.bf_check.proofs.ListLemmas.{some_same}
+use Rattle.bf_plan.proofs.ListLemmas.{some_same}
 use Rattle.bf_try.specs.declared.table.TableEntry.{TableEntry}
 use Rattle.bf_try.specs.declared.table_index.Pattern.{Pattern}
 use Rattle.bf_try.specs.Tables.{answers_for, is_number, is_text}

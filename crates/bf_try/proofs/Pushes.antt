@@ -10,12 +10,12 @@ use Rattle.bf_value.specs.Json.{value_of_line}
 use Rattle.bf_value.specs.declared.xval.Xval.{Xval}
 use Rattle.bf_graph.specs.Edges.{IsUpstream}
 use Rattle.bf_graph.specs.Lookups.{IsRisingListOf}
-use Rattle.bf_check.specs.declared.plan.Task.{Task}
-use Rattle.bf_check.specs.declared.plan.Dag.{Dag}
-use Rattle.bf_check.specs.Plans.{no_task, task_of, shape_of}
-use Rattle.bf_check.specs.Sound.{IsSound}
-use Rattle.bf_check.proofs.PlanLemmas.{is_upstream}
-use Rattle.bf_check.proofs.ListLemmas.{any_contained}
+use Rattle.bf_plan.specs.declared.plan.Task.{Task}
+use Rattle.bf_plan.specs.declared.plan.Dag.{Dag}
+use Rattle.bf_plan.specs.Plans.{no_task, task_of, shape_of}
+use Rattle.bf_plan.specs.Sound.{IsSound}
+use Rattle.bf_plan.proofs.PlanLemmas.{is_upstream}
+use Rattle.bf_plan.proofs.ListLemmas.{any_contained}
 use Rattle.bf_xcom.specs.declared.values.Outcome.{Outcome}
 use Rattle.bf_try.specs.Grades.{grade_line, grade_value, is_source, may_push}
 

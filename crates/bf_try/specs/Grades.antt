@@ -8,8 +8,8 @@ use Rattle.bf_value.specs.Views.{plain_of, xvals_of}
 use Rattle.bf_value.specs.declared.xval.Xval.{Xval}
 use Rattle.bf_value.specs.declared.xval.Xval.TheVariants.{Nil, List as ListOf}
 use Rattle.bf_rule.specs.Branches.{names_downstreams}
-use Rattle.bf_check.specs.Plans.{task_of, shape_of, is_branch}
-use Rattle.bf_check.specs.declared.plan.Dag.{Dag}
+use Rattle.bf_plan.specs.Plans.{task_of, shape_of, is_branch}
+use Rattle.bf_plan.specs.declared.plan.Dag.{Dag}
 use Rattle.bf_xcom.specs.declared.values.Outcome.{Outcome}
 use Rattle.bf_try.specs.declared.answers.Exit.{Exit}
 use Rattle.bf_try.specs.declared.answers.Line.{Line}

@@ -11,8 +11,8 @@ use Rattle.bf_value.specs.Line.{last_line}
 use Rattle.bf_value.specs.declared.name.JobName.{JobName}
 use Rattle.bf_moment.specs.Long.{is_long}
 use Rattle.bf_moment.specs.Moment.{moment_text}
-use Rattle.bf_check.specs.declared.plan.Dag.{Dag}
-use Rattle.bf_check.specs.Plans.{task_of}
+use Rattle.bf_plan.specs.declared.plan.Dag.{Dag}
+use Rattle.bf_plan.specs.Plans.{task_of}
 use Rattle.bf_try.specs.declared.answers.Exit.{Exit}
 use Rattle.bf_try.specs.declared.answers.Line.{Line}
 use Rattle.bf_try.specs.declared.answers.Raw.{Raw}

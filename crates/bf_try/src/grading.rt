@@ -1,16 +1,16 @@
 //! Grades.
 ghost use Rattle.std.specs.Prelude.{◌≡◌, ◌<◌, ◌||◌, ℕ, true, not, length, IfOk, IsUtf8};
 ghost use Rattle.bf_value.specs.Json.{value_of_line};
-ghost use Rattle.bf_check.specs.declared.plan.Dag.{Dag as DagTerm};
+ghost use Rattle.bf_plan.specs.declared.plan.Dag.{Dag as DagTerm};
 ghost use Rattle.bf_xcom.specs.declared.values.Outcome.{Outcome as OutcomeTerm};
 ghost use Rattle.bf_try.specs.declared.answers.Raw.{Raw as RawTerm};
 ghost use Rattle.std.specs.List.{list_any};
 ghost use Rattle.bf_rule.specs.Branches.{names_downstreams as names_downstreams_in};
-ghost use Rattle.bf_check.specs.Plans.{task_of, shape_of, is_branch as branch};
+ghost use Rattle.bf_plan.specs.Plans.{task_of, shape_of, is_branch as branch};
 ghost use Rattle.bf_try.specs.Grades.{grade_of, grade_line as line_grade, fits as fits_in, gives_items as items_given, GradesTo, HasSoundValue, is_list_of_items as list_of_items, is_short as short, is_source, is_value_of_lines as of_lines, may_push as pushable};
 
 use crate::answers::{Exit, Line, Raw, copied};
-use bf_check::{Dag, Plan};
+use bf_plan::{Dag, Plan};
 use bf_rule::names_downstreams;
 use bf_value::{DEEPEST, LineFault, OutOfMemory, Sequence, Xval, read_line, text_of};
 use bf_xcom::Outcome;
@@ -49,7 +49,7 @@ fn is_source_of(source: u32, expand: Option<u32>) -> bool
     expand == Some(source)
 }
 
-#[tactic(auto, unfolding(bf_check::specs::Plans::task_of))]
+#[tactic(auto, unfolding(bf_plan::specs::Plans::task_of))]
 fn is_expanded_over(dag: &Dag, task: u32, source: u32) -> bool
     ensures { result ≡ is_source (task_of dag.now task).expand source }
 {

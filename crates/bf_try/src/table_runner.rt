@@ -2,7 +2,7 @@
 ghost use Rattle.std.specs.Prelude.{◌≡◌, [], All, IfOk, find, option_and_then, option_copied, slice_get, slice_index_or, length, IfNone, IfSome};
 ghost use Rattle.std.specs.BTreeMap as tree;
 ghost use Rattle.bf_try.specs.TableIndex.{first_of_keys, keys_for, pattern_cmp, IsIndexOf};
-ghost use Rattle.bf_check.specs.Plans.{task_of};
+ghost use Rattle.bf_plan.specs.Plans.{task_of};
 ghost use Rattle.bf_moment.specs.Moment.{IsShown};
 ghost use Rattle.bf_try.specs.Tables.{answer_of, answers_for as is_for, dates_of as dates_in, is_number as number_is, is_text as text_is, raw_of as raw_in};
 
@@ -11,7 +11,7 @@ use crate::runner::{RunnerFault, TaskRunner};
 use crate::table::{Table, TableEntry};
 use crate::table_index::{Firsts, Pattern, first_for, firsts_of};
 use crate::tickets::{Done, Ticket};
-use bf_check::Plan;
+use bf_plan::Plan;
 use bf_graph::Graph;
 use bf_moment::moment_bytes;
 use bf_value::{JobName, OutOfMemory, Sequence, Text};
@@ -33,8 +33,8 @@ pub struct TableRunner<'a> {
 
 impl<'a> Model for TableRunner<'a> {
     ghost use Rattle.std.specs.Coded.{codes};
-    ghost use Rattle.bf_check.specs.Plans.{shape_of};
-    ghost use Rattle.bf_check.specs.contracts.plan.Dag as d;
+    ghost use Rattle.bf_plan.specs.Plans.{shape_of};
+    ghost use Rattle.bf_plan.specs.contracts.plan.Dag as d;
     ghost use Rattle.bf_try.specs.contracts.table.TableEntry as e;
     ghost use Rattle.bf_try.specs.Tables.{Answering};
     ghost use Rattle.bf_try.specs.TableIndex.{IsIndexOf};
@@ -116,7 +116,7 @@ fn entry_in_run<'a>(
     }
 }
 
-#[tactic(auto, unfolding(bf_check::specs::Plans::task_of))]
+#[tactic(auto, unfolding(bf_plan::specs::Plans::task_of))]
 fn id_of(plan: &Plan, task: u32) -> &str
     ensures { result.now ≡ (task_of plan.now.dag task).id }
 {

@@ -3,9 +3,9 @@ use Rattle.std.proofs.Common.{◌≡◌, ◌⊎◌, ℕ, zero, suc, ◌<◌, ◌
 use Rattle.std.proofs.lemmas.Option.{slice_get_within}
 use Rattle.bf_value.specs.declared.name.JobName.{JobName}
 use Rattle.bf_xcom.specs.declared.values.Outcome.{Outcome}
-use Rattle.bf_check.specs.declared.plan.Dag.{Dag}
-use Rattle.bf_check.specs.declared.plan.Limits.{Limits}
-use Rattle.bf_check.specs.Sound.{demand_of}
+use Rattle.bf_plan.specs.declared.plan.Dag.{Dag}
+use Rattle.bf_plan.specs.declared.plan.Limits.{Limits}
+use Rattle.bf_plan.specs.Sound.{demand_of}
 use Rattle.bf_core.specs.declared.event.Event.{Event}
 use Rattle.bf_core.specs.declared.state.Phase.{Phase}
 use Rattle.bf_core.specs.Clocks.{IsMove}

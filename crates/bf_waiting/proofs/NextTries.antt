@@ -3,8 +3,8 @@ use Rattle.std.proofs.Common.{◌≡◌, ℕ, ◌+◌, ◌<◌, ℤ, true, nat_l
 use Rattle.std.proofs.lemmas.Option.{slice_get_within}
 use Rattle.std.specs.FinMap as map
 use Rattle.bf_value.specs.declared.name.JobName.{JobName}
-use Rattle.bf_check.specs.Plans.{task_of}
-use Rattle.bf_check.specs.Sound.{demand_of, pool_size}
+use Rattle.bf_plan.specs.Plans.{task_of}
+use Rattle.bf_plan.specs.Sound.{demand_of, pool_size}
 use Rattle.bf_pool.specs.Weights.{total_weight_of}
 use Rattle.bf_try.specs.Tries.{map_index, name_of, place_of}
 use Rattle.bf_core.specs.declared.event.Event.{Event}

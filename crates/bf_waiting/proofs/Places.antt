@@ -1,6 +1,6 @@
 -- Tasks and runs that are not there.
 use Rattle.std.proofs.Common.{◌≡◌, ◌⊎◌, ℕ, zero, suc, ◌<◌, ◌≤◌, List, [], ◌∷◌, length, None, Some, slice_index_or, refl, sym, ap, ◌∙◌, inl, inr, arith}
-use Rattle.bf_check.specs.declared.plan.Dag.{Dag}
+use Rattle.bf_plan.specs.declared.plan.Dag.{Dag}
 use Rattle.bf_core.specs.declared.state.Cell.{Cell}
 use Rattle.bf_core.specs.declared.state.Instance.{Instance}
 use Rattle.bf_core.specs.declared.state.Run.{Run}

@@ -1,8 +1,8 @@
 -- Which try begins next, and which moment is waited for.
 use Rattle.std.specs.Prelude.{◌≡◌, ◌⊎◌, ℕ, ◌<◌, ◌≤◌, ℤ, ◌≤ℤ◌, List, length, slice_index, Option, None, Some}
 use Rattle.bf_value.specs.declared.name.JobName.{JobName}
-use Rattle.bf_check.specs.declared.plan.Dag.{Dag}
-use Rattle.bf_check.specs.declared.plan.Limits.{Limits}
+use Rattle.bf_plan.specs.declared.plan.Dag.{Dag}
+use Rattle.bf_plan.specs.declared.plan.Limits.{Limits}
 use Rattle.bf_pool.specs.Weights.{total_weight_of}
 use Rattle.bf_core.specs.declared.event.Event.{Event}
 use Rattle.bf_core.specs.Cores.{Backfill, MayCome, WaitsLater}

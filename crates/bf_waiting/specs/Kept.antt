@@ -1,8 +1,8 @@
 -- What is kept of the tries of a backfill that wait.
 use Rattle.std.specs.Prelude.{◌≡◌, ℕ, ◌<◌, List, length, slice_get, slice_index, Some}
-use Rattle.bf_check.specs.declared.plan.Dag.{Dag}
-use Rattle.bf_check.specs.declared.plan.Limits.{Limits}
-use Rattle.bf_check.specs.Sound.{demand_of}
+use Rattle.bf_plan.specs.declared.plan.Dag.{Dag}
+use Rattle.bf_plan.specs.declared.plan.Limits.{Limits}
+use Rattle.bf_plan.specs.Sound.{demand_of}
 use Rattle.bf_core.specs.declared.event.Event.{Event}
 use Rattle.bf_core.specs.Cores.{Backfill, IsReplay, MayCome, moved}
 use Rattle.bf_waiting.specs.declared.waiting.Waiting.{Waiting}

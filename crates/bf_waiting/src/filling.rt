@@ -1,6 +1,6 @@
 //! What waits in a core, taken up from nothing.
 ghost use Rattle.std.specs.Prelude.{◌≡◌, ◌<◌, ◌+◌, ℕ, [], length, slice_index, IfOk, OnOk, IfSome, IsTrue, ◌↔◌};
-ghost use Rattle.bf_check.specs.Sound.{demand_of};
+ghost use Rattle.bf_plan.specs.Sound.{demand_of};
 ghost use Rattle.bf_waiting.specs.Choices.{AreWeights};
 ghost use Rattle.bf_waiting.specs.Filling.{AreClassedTo, AreEmpty, AreFilled, TakesIn};
 ghost use Rattle.bf_waiting.specs.Keeping.{Anywhere, At, HasDelayed};
@@ -10,7 +10,7 @@ use crate::class::Class;
 use crate::delays::Delay;
 use crate::instances::{Standing, instances_of, standing_at};
 use crate::waiting::Waiting;
-use bf_check::Plan;
+use bf_plan::Plan;
 use bf_core::Core;
 use bf_pool::total_weight;
 use bf_value::OutOfMemory;

@@ -3,7 +3,7 @@ use Rattle.std.specs.Prelude.{if◌then◌else◌, List, [], ◌∷◌, Option, 
 use Rattle.std.specs.List.{filter_map}
 use Rattle.bf_value.specs.Views.{list_of}
 use Rattle.bf_value.specs.declared.xval.Xval.{Xval}
-use Rattle.bf_check.specs.declared.plan.Task.{Task}
+use Rattle.bf_plan.specs.declared.plan.Task.{Task}
 use Rattle.bf_mapped.specs.Items.{items_of}
 use Rattle.bf_mapped.specs.declared.source.Items.{Items}
 use Rattle.bf_mapped.specs.declared.source.SourceValues.{SourceValues}

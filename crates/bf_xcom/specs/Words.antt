@@ -4,10 +4,10 @@ use Rattle.std.specs.Fmt.{signed_decimal}
 use Rattle.bf_value.specs.Json.{text_of}
 use Rattle.bf_value.specs.declared.xval.Xval.{Xval}
 use Rattle.bf_value.specs.declared.xval.Xval.TheVariants.{Text}
-use Rattle.bf_read.specs.declared.kinds.ContextVariable.{ContextVariable}
-use Rattle.bf_read.specs.declared.kinds.ContextVariable.TheVariants.{LogicalDate, DataIntervalStart, DataIntervalEnd, DagId, TaskId, MapIndex, TryNumber}
+use Rattle.bf_plan.specs.declared.kinds.ContextVariable.{ContextVariable}
+use Rattle.bf_plan.specs.declared.kinds.ContextVariable.TheVariants.{LogicalDate, DataIntervalStart, DataIntervalEnd, DagId, TaskId, MapIndex, TryNumber}
 use Rattle.bf_moment.specs.Moment.{moment_text}
-use Rattle.bf_check.specs.declared.plan.Word.{Word}
+use Rattle.bf_plan.specs.declared.plan.Word.{Word}
 use Rattle.bf_xcom.specs.declared.context.JobContext.{JobContext}
 use Rattle.bf_xcom.specs.declared.values.Given.{Given}
 

@@ -3,7 +3,7 @@ ghost use Rattle.std.specs.Prelude.{◌≡◌, IfOk, option_copied};
 ghost use Rattle.bf_xcom.specs.Pulls.{all_pushed as all_of, pull as pulled_from, pushed as pushed_of, pushed_alone as alone_of};
 
 use crate::values::{TaskResult, TaskValue};
-use bf_check::Task;
+use bf_plan::Task;
 use bf_value::{OutOfMemory, Values, Xval, copy_option};
 use std::alloc::Global;
 

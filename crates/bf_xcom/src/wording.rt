@@ -5,7 +5,7 @@ ghost use Rattle.bf_xcom.specs.Words.{context_word as context_text, pushed_word 
 
 use crate::context::JobContext;
 use crate::values::Given;
-use bf_check::{ContextVariable, Word};
+use bf_plan::{ContextVariable, Word};
 use bf_value::{OutOfMemory, Xval, text_of};
 use std::alloc::Global;
 

@@ -1,9 +1,9 @@
 use Rattle.std.proofs.Common.{sym, ◌∙◌, subst}
 use Rattle.bf_graph.specs.Shape.{Shape}
-use Rattle.bf_check.specs.declared.plan.Dag.{Dag}
-use Rattle.bf_check.specs.declared.plan.Limits.{Limits}
+use Rattle.bf_plan.specs.declared.plan.Dag.{Dag}
+use Rattle.bf_plan.specs.declared.plan.Limits.{Limits}
 use Rattle.bf_check.specs.Checking.{dag_of, limits_of}
-use Rattle.bf_check.specs.Sound.{IsChecked}
+use Rattle.bf_plan.specs.Sound.{IsChecked}
 use Rattle.bf_check.proofs.PlanLemmas.{is_checked}
 use Rattle.bf_check.proofs.checking.planned.Goals as goal
 

@@ -2,7 +2,7 @@ use Rattle.std.proofs.Common.{inl, inr, List, [], ◌∷◌, ◌++◌, map, sym,
 use Rattle.std.proofs.lemmas.List.{append_assoc, append-nil}
 use Rattle.std.specs.List.{zip}
 use Rattle.bf_read.specs.declared.draft.TaskDraft.{TaskDraft}
-use Rattle.bf_check.specs.declared.plan.Demand.{Demand}
+use Rattle.bf_plan.specs.declared.plan.Demand.{Demand}
 use Rattle.bf_check.specs.declared.pools.TaskPool.{TaskPool}
 use Rattle.bf_check.specs.Looks.{demand_from}
 use Rattle.bf_check.proofs.ListLemmas.{zip_ended}

@@ -4,7 +4,7 @@ use Rattle.std.proofs.lemmas.Slice.Zip.{firsts-zip}
 use Rattle.std.specs.List.{zip}
 use Rattle.std.specs.Vec.Iter.{into_iter_items}
 use Rattle.bf_read.specs.declared.draft.TaskDraft.{TaskDraft}
-use Rattle.bf_check.specs.declared.plan.Task.{Task}
+use Rattle.bf_plan.specs.declared.plan.Task.{Task}
 use Rattle.bf_check.specs.declared.pulls.Pulls.{Pulls}
 use Rattle.bf_check.specs.Checking.{ids_of, task_in}
 use Rattle.bf_check.specs.Looks.{pulls_in}

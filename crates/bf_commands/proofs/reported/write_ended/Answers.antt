@@ -1,7 +1,7 @@
 use Rattle.std.proofs.Common.{◌≡◌, List, Bool, length, refl, ap, ◌∙◌}
 use Rattle.std.specs.List.{list_all}
-use Rattle.bf_check.specs.Sound.{IsNamed, IsSound}
-use Rattle.bf_check.specs.declared.plan.Dag.{Dag}
+use Rattle.bf_plan.specs.Sound.{IsNamed, IsSound}
+use Rattle.bf_plan.specs.declared.plan.Dag.{Dag}
 use Rattle.bf_interval.specs.declared.interval.Interval.{Interval}
 use Rattle.bf_core.specs.Agreement.{IsOutcome}
 use Rattle.bf_core.specs.Cores.{IsJournal}

@@ -1,7 +1,7 @@
 use Rattle.std.proofs.Common.{◌≡◌, ◌<◌, length, refl, sym, subst, rules, w32, SFits}
 use Rattle.std.proofs.lemmas.Int.{to_z-of_z}
-use Rattle.bf_check.specs.declared.plan.Dag.{Dag}
-use Rattle.bf_check.specs.Plans.{task_of}
+use Rattle.bf_plan.specs.declared.plan.Dag.{Dag}
+use Rattle.bf_plan.specs.Plans.{task_of}
 use Rattle.bf_commands.specs.Programs.{launched_lost}
 use Rattle.bf_commands.proofs.ByPrograms.{given-up-there}
 use Rattle.bf_commands.proofs.run.given_up.Goals as goal

@@ -1,7 +1,7 @@
 use Rattle.std.proofs.Common.{is_some, ap, ◌∙◌}
 use Rattle.std.proofs.lemmas.Option.{unwrap_or-slice_get}
 use Rattle.std.specs.Prelude.{unwrap_or}
-use Rattle.bf_check.specs.Plans.{no_task, task_of}
+use Rattle.bf_plan.specs.Plans.{no_task, task_of}
 use Rattle.bf_core.specs.Terms.{Task}
 use Rattle.bf_core.proofs.places.is_expanded.Goals as goal
 

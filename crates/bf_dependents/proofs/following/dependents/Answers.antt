@@ -2,8 +2,8 @@ use Rattle.std.proofs.Common.{◌≡◌, ◌<◌, ℕ, [], length, ap, ◌∙◌
 use Rattle.std.proofs.lemmas.List.{get_or_default}
 use Rattle.bf_graph.specs.Reach.{row_at}
 use Rattle.bf_graph.specs.Shape.{Shape}
-use Rattle.bf_check.specs.declared.plan.Dag.{Dag}
-use Rattle.bf_check.specs.Plans.{shape_of}
+use Rattle.bf_plan.specs.declared.plan.Dag.{Dag}
+use Rattle.bf_plan.specs.Plans.{shape_of}
 use Rattle.bf_dependents.specs.Dependents.{AreDependents}
 use Rattle.bf_dependents.specs.Marks.{marks_before, AreSeeded}
 use Rattle.bf_dependents.proofs.RightMarks.{behind-read, made-read, one-row-more}

@@ -2,7 +2,7 @@ use Rattle.std.proofs.Common.{◌≡◌, ap, ◌∙◌, subst}
 use Rattle.bf_graph.specs.Edges.{IsUpstream}
 use Rattle.bf_graph.specs.Shape.{Shape}
 use Rattle.bf_graph.specs.Lookups.{IsRisingListOf}
-use Rattle.bf_check.specs.Plans.{shape_of}
+use Rattle.bf_plan.specs.Plans.{shape_of}
 use Rattle.bf_due.proofs.Adding.{below-there, few-rising}
 use Rattle.bf_due.proofs.asking.downstreams.Goals as goal
 

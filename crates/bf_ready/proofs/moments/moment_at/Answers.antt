@@ -1,5 +1,5 @@
 use Rattle.std.proofs.Common.{◌≡◌, ap, ◌∙◌, rules}
-use Rattle.bf_check.specs.declared.plan.Dag.{Dag}
+use Rattle.bf_plan.specs.declared.plan.Dag.{Dag}
 use Rattle.bf_try.specs.Tries.{name_of}
 use Rattle.bf_core.specs.declared.state.Phase.{Phase}
 use Rattle.bf_ready.proofs.Soonest.{said}

@@ -1,5 +1,5 @@
 use Rattle.std.proofs.Common.{◌≡◌, length, ap, ◌∙◌, arith}
-use Rattle.bf_check.specs.declared.plan.Dag.{Dag}
+use Rattle.bf_plan.specs.declared.plan.Dag.{Dag}
 use Rattle.bf_core.proofs.Kept.{replay-rows}
 use Rattle.bf_ready.proofs.Bests.{best-more, run-passed}
 use Rattle.bf_ready.proofs.tries.best_of_run.Goals as goal

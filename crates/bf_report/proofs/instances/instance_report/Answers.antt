@@ -1,5 +1,5 @@
 use Rattle.std.proofs.Common.{◌≡◌, ap, ◌∙◌}
-use Rattle.bf_check.specs.Plans.{task_of}
+use Rattle.bf_plan.specs.Plans.{task_of}
 use Rattle.bf_report.proofs.DatedFacts.{pulls_in_range}
 use Rattle.bf_report.proofs.instances.instance_report.Goals as goal
 

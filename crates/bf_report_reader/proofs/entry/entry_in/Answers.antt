@@ -1,5 +1,5 @@
 use Rattle.std.proofs.Common.{Some, ap, sym, ◌∙◌}
-use Rattle.bf_check.proofs.ListLemmas.{some_same}
+use Rattle.bf_plan.proofs.ListLemmas.{some_same}
 use Rattle.bf_report_reader.specs.declared.entry.Entry.TheVariants.{Tried}
 use Rattle.bf_report_reader.proofs.Spelled.{own_fields, only_never, only_tried}
 use Rattle.bf_report_reader.proofs.entry.entry_in.Goals as goal

@@ -1,5 +1,5 @@
 use Rattle.std.proofs.Common.{◌≡◌, ap, Some, sym, subst, ◌∙◌, true≢false, arith}
-use Rattle.bf_check.proofs.ListLemmas.{some_same}
+use Rattle.bf_plan.proofs.ListLemmas.{some_same}
 use Rattle.bf_report_reader.proofs.Splits.{none_stands, cut_once}
 use Rattle.bf_report_reader.proofs.Words.{moment_plain}
 use Rattle.std.proofs.lemmas.Int.{ints}

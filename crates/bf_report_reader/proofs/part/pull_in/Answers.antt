@@ -1,7 +1,7 @@
 use Rattle.std.proofs.Common.{Some, true≢false, ap, sym, subst, ◌∙◌}
 use Rattle.std.specs.Str.{IsUtf8}
-use Rattle.bf_read.specs.Ids.{is_id}
-use Rattle.bf_check.proofs.ListLemmas.{some_same}
+use Rattle.bf_plan.specs.Ids.{is_id}
+use Rattle.bf_plan.proofs.ListLemmas.{some_same}
 use Rattle.bf_report_reader.proofs.Words.{id_utf8}
 use Rattle.bf_report_reader.proofs.Spelled.{pull_fields}
 use Rattle.bf_report_reader.proofs.part.pull_in.Goals as goal

@@ -1,6 +1,6 @@
 use Rattle.std.proofs.Common.{◌≡◌, ◌∷◌, ◌++◌, true≢false, drop, ap, sym, subst, refl, ◌∙◌}
 use Rattle.std.specs.Str.{IsUtf8}
-use Rattle.bf_read.specs.Ids.{is_id}
+use Rattle.bf_plan.specs.Ids.{is_id}
 use Rattle.bf_report.specs.Report.{version_word}
 use Rattle.bf_report_reader.proofs.Words.{id_utf8, version_plain}
 use Rattle.bf_report_reader.proofs.Splits.{none_stands, cut_once}

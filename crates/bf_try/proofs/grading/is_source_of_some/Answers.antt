@@ -3,8 +3,8 @@ use Rattle.std.specs.List.{list_any}
 use Rattle.bf_graph.specs.Edges.{IsUpstream}
 use Rattle.bf_graph.specs.Lookups.{IsRisingListOf}
 use Rattle.bf_graph.specs.Shape.{Shape}
-use Rattle.bf_check.specs.Plans.{task_of}
-use Rattle.bf_check.specs.declared.plan.Dag.{Dag}
+use Rattle.bf_plan.specs.Plans.{task_of}
+use Rattle.bf_plan.specs.declared.plan.Dag.{Dag}
 use Rattle.bf_try.specs.Grades.{is_source}
 use Rattle.bf_try.proofs.Pushes.{downstreams_tell}
 use Rattle.bf_try.proofs.grading.is_source_of_some.Goals as goal

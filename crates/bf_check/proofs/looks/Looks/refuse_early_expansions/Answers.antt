@@ -8,7 +8,8 @@ use Rattle.bf_check.specs.Checking.{rule_of}
 use Rattle.bf_check.specs.Looks.{IsPlaceOfFirst}
 use Rattle.bf_check.specs.Refusals.{expands_early}
 use Rattle.bf_check.proofs.FaultLemmas.{told_by_pairs}
-use Rattle.bf_check.proofs.ListLemmas.{map-then, some_same}
+use Rattle.bf_plan.proofs.ListLemmas.{some_same}
+use Rattle.bf_check.proofs.ListLemmas.{map-then}
 use Rattle.bf_check.proofs.looks.Looks.refuse_early_expansions.Goals as goal
 
 pub refuse_at-requires-clause-first : goal.refuse_at-requires-clause-first

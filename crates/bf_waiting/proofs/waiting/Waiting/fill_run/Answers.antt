@@ -1,5 +1,5 @@
 use Rattle.std.proofs.Common.{◌≡◌, length, ap, ◌∙◌, arith}
-use Rattle.bf_check.specs.declared.plan.Dag.{Dag}
+use Rattle.bf_plan.specs.declared.plan.Dag.{Dag}
 use Rattle.bf_waiting.proofs.FillFacts.{filled-run}
 use Rattle.bf_waiting.proofs.waiting.Waiting.fill_run.Goals as goal
 

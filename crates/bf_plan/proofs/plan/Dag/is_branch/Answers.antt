@@ -1,9 +1,9 @@
 use Rattle.std.proofs.Common.{ap, ◌∙◌}
 use Rattle.std.proofs.lemmas.Option.{unwrap_or-slice_get}
 use Rattle.std.specs.Prelude.{unwrap_or}
-use Rattle.bf_check.specs.declared.plan.Task.{Task}
-use Rattle.bf_check.specs.Plans.{no_task, task_of, is_branch}
-use Rattle.bf_check.proofs.plan.Dag.is_branch.Goals as goal
+use Rattle.bf_plan.specs.declared.plan.Task.{Task}
+use Rattle.bf_plan.specs.Plans.{no_task, task_of, is_branch}
+use Rattle.bf_plan.proofs.plan.Dag.is_branch.Goals as goal
 
 pub returns-in-None : goal.returns-in-None
 unfolding task_of

@@ -1,7 +1,6 @@
 -- The ids of graphs, tasks and pools.
 use Rattle.std.specs.Prelude.{ℕ, ◌&&◌, ◌||◌, ◌==◌, List, length, Bool, nat_le}
 use Rattle.std.specs.List.{list_all}
-use Rattle.bf_read.specs.Limits.{longest_id}
 
 -- an ASCII letter or digit, or one of - . _
 abbrev pub is_id_byte : ℕ → Bool
@@ -9,4 +8,4 @@ is_id_byte b = (nat_le 97 b && nat_le b 122) || (nat_le 65 b && nat_le b 90) || 
 
 -- 1 to 250 of these
 abbrev pub is_id : List ℕ → Bool
-is_id text = nat_le 1 (length text) && nat_le (length text) longest_id && list_all is_id_byte text
+is_id text = nat_le 1 (length text) && nat_le (length text) 250 && list_all is_id_byte text

@@ -1,10 +1,10 @@
 -- The tasks of a plan.
 use Rattle.std.specs.Prelude.{ℕ, Bool, true, false, [], map, slice_index_or, None}
 use Rattle.bf_graph.specs.Shape.{Shape}
-use Rattle.bf_read.specs.declared.kinds.TaskKind.{TaskKind}
+use Rattle.bf_plan.specs.declared.kinds.TaskKind.{TaskKind}
 use Rattle.bf_rule.specs.declared.rule.Rule.{Rule}
-use Rattle.bf_check.specs.declared.plan.Task.{Task}
-use Rattle.bf_check.specs.declared.plan.Dag.{Dag}
+use Rattle.bf_plan.specs.declared.plan.Task.{Task}
+use Rattle.bf_plan.specs.declared.plan.Dag.{Dag}
 
 -- a task that asks for nothing
 abbrev pub no_task : Task

@@ -1,0 +1,5 @@
+pub mod Ids
+pub mod Kinds
+pub mod Plans
+pub mod Sound
+pub mod Checked
