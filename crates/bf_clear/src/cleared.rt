@@ -3,8 +3,8 @@ ghost use Rattle.std.specs.Prelude.{◌≡◌};
 
 use crate::looking::{instance_at, is_cleared};
 use crate::telling::answer_of_instance;
-use bf_plan::Plan;
 use bf_kept::KeptTries;
+use bf_plan::Plan;
 use bf_report::Report;
 use bf_try::Raw;
 use bf_value::{JobName, OutOfMemory, Sequence};

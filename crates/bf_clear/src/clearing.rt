@@ -7,9 +7,9 @@ ghost use Rattle.bf_clear.specs.Matching.{clear_fault, refusal};
 
 use crate::cleared::Cleared;
 use crate::matching::is_report_of;
-use bf_plan::Plan;
 use bf_dependents::{ClearFault, Seed, dependents, places_of, refuse_seeds};
 use bf_interval::Interval;
+use bf_plan::Plan;
 use bf_report::Report;
 use std::alloc::Global;
 

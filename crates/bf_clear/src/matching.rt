@@ -3,8 +3,8 @@ ghost use Rattle.std.specs.Prelude.{◌≡◌, Some, option_copied};
 ghost use Rattle.std.specs.List.{list_all, zip};
 ghost use Rattle.bf_clear.specs.Matching.{are_ids_of as ids_of, are_runs_of as runs_of, are_tasks_of as tasks_of, has_id as id_is, has_pulls_of as instance_of, is_pull_of as pull_is, is_report_of as report_of, is_run_of as run_of, is_same_interval as same_interval, is_task_of as task_of};
 
-use bf_plan::{Dag, Task};
 use bf_interval::Interval;
+use bf_plan::{Dag, Task};
 use bf_report::{InstanceReport, Pull, Report, RunReport, TaskReport, Version};
 use bf_value::Text;
 

@@ -10,9 +10,9 @@ use Rattle.bf_check.specs.Refusals as graph
 use Rattle.bf_interval.specs.declared.fault.IntervalFault.{IntervalFault}
 use Rattle.bf_interval.specs.declared.fault.IntervalFault.TheVariants as interval
 use Rattle.bf_interval.specs.Intervals as range
-use Rattle.bf_try.specs.declared.table.TableFault.{TableFault}
-use Rattle.bf_try.specs.declared.table.TableFault.TheVariants as table
-use Rattle.bf_try.specs.Tables as answers
+use Rattle.bf_table.specs.declared.table.TableFault.{TableFault}
+use Rattle.bf_table.specs.declared.table.TableFault.TheVariants as table
+use Rattle.bf_table.specs.Tables as answers
 use Rattle.bf_dependents.specs.declared.fault.ClearFault.{ClearFault}
 use Rattle.bf_dependents.specs.declared.fault.ClearFault.TheVariants as clear
 use Rattle.bf_dependents.specs.Faults as clearing

@@ -10,7 +10,7 @@ use bf_device::{Cause, WriteFault};
 use bf_interval::IntervalFault;
 use bf_read::ReadFault;
 use bf_report_reader::ReportFault;
-use bf_try::TableFault;
+use bf_table::TableFault;
 use bf_value::{OutOfMemory, Text};
 use std::alloc::{AllocError, Global};
 use std::error::Error;

@@ -4,8 +4,8 @@ use Rattle.std.proofs.lemmas.Result.{IfErr-weaker}
 use Rattle.bf_plan.specs.Checked.{Checked}
 use Rattle.bf_plan.specs.declared.plan.Dag.{Dag}
 use Rattle.bf_interval.specs.declared.interval.Interval.{Interval}
-use Rattle.bf_try.specs.declared.table.TableEntry.{TableEntry}
-use Rattle.bf_try.specs.Tables.{table_of}
+use Rattle.bf_table.specs.declared.table.TableEntry.{TableEntry}
+use Rattle.bf_table.specs.Tables.{table_of}
 use Rattle.bf_try.specs.Tries.{Look}
 use Rattle.bf_process.specs.Words.{MayGiveUp}
 use Rattle.bf_kept.specs.Kept.{MayGiveUpAnew}

@@ -19,9 +19,9 @@ use Rattle.bf_interval.specs.declared.fault.IntervalFault.TheVariants as interva
 use Rattle.bf_interval.specs.declared.interval.Interval.{Interval}
 use Rattle.bf_interval.specs.Years.{IsInYears}
 use Rattle.bf_process.specs.Words.{MayGiveUp}
-use Rattle.bf_try.specs.declared.table.TableEntry.{TableEntry}
-use Rattle.bf_try.specs.declared.table.TableFault.{TableFault}
-use Rattle.bf_try.specs.Tables.{table_of}
+use Rattle.bf_table.specs.declared.table.TableEntry.{TableEntry}
+use Rattle.bf_table.specs.declared.table.TableFault.{TableFault}
+use Rattle.bf_table.specs.Tables.{table_of}
 use Rattle.bf_device.specs.declared.sending.Cause.{Cause}
 use Rattle.bf_device.specs.declared.sending.Cause.TheVariants as cause
 use Rattle.bf_device.specs.declared.sending.WriteFault.{WriteFault}

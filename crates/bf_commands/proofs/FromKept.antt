@@ -5,7 +5,7 @@ use Rattle.bf_plan.specs.declared.plan.Dag.{Dag}
 use Rattle.bf_interval.specs.declared.interval.Interval.{Interval}
 use Rattle.bf_xcom.specs.declared.values.Given.{Given}
 use Rattle.bf_try.specs.declared.answers.Raw.{Raw}
-use Rattle.bf_try.specs.declared.table.TableEntry.{TableEntry}
+use Rattle.bf_table.specs.declared.table.TableEntry.{TableEntry}
 use Rattle.bf_try.specs.Tries.{Look}
 use Rattle.bf_core.specs.Events.{entry_in}
 use Rattle.bf_core.specs.declared.ended.Ended.{Ended}

@@ -5,9 +5,9 @@ use Rattle.std.specs.List.{list_all}
 use Rattle.bf_plan.specs.declared.plan.Dag.{Dag}
 use Rattle.bf_plan.specs.Sound.{IsSound}
 use Rattle.bf_interval.specs.declared.interval.Interval.{Interval}
-use Rattle.bf_try.specs.declared.table.TableEntry.{TableEntry}
+use Rattle.bf_table.specs.declared.table.TableEntry.{TableEntry}
 use Rattle.bf_try.specs.Tries.{Look, AreAlike}
-use Rattle.bf_try.specs.Tables.{Answering}
+use Rattle.bf_table.specs.Tables.{Answering}
 use Rattle.bf_core.proofs.Confluence.{tries-same}
 use Rattle.bf_report.specs.declared.report.Report.{Report}
 use Rattle.bf_report.specs.Report.{report_text}

@@ -7,9 +7,9 @@ use Rattle.bf_plan.specs.declared.plan.Dag.{Dag}
 use Rattle.bf_interval.specs.declared.interval.Interval.{Interval}
 use Rattle.bf_interval.specs.Runs.{IsOfRun, IsSecondTo2208}
 use Rattle.bf_interval.specs.Years.{IsInYears}
-use Rattle.bf_try.specs.declared.table.TableEntry.{TableEntry}
+use Rattle.bf_table.specs.declared.table.TableEntry.{TableEntry}
 use Rattle.bf_try.specs.Grades.{grade_of}
-use Rattle.bf_try.specs.Tables.{Answering, answer_of, dates_of}
+use Rattle.bf_table.specs.Tables.{Answering, answer_of, dates_of}
 use Rattle.bf_core.specs.Agreement.{AreRunStates, IsOutcome}
 use Rattle.bf_core.specs.Answered.{AreGraded}
 use Rattle.bf_core.specs.Events.{entry_in}

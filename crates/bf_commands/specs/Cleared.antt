@@ -10,8 +10,8 @@ use Rattle.bf_interval.specs.declared.interval.Interval.{Interval}
 use Rattle.bf_xcom.specs.declared.values.Given.{Given}
 use Rattle.bf_try.specs.declared.answers.Raw.{Raw}
 use Rattle.bf_try.specs.declared.ledger.Entry.{Entry}
-use Rattle.bf_try.specs.declared.table.TableEntry.{TableEntry}
-use Rattle.bf_try.specs.Tables.{answer_of, table_of}
+use Rattle.bf_table.specs.declared.table.TableEntry.{TableEntry}
+use Rattle.bf_table.specs.Tables.{answer_of, table_of}
 use Rattle.bf_try.specs.Tries.{Look, AreAlike}
 use Rattle.bf_core.specs.Agreement.{AreRunStates, HoldsItsTries, IsOutcome}
 use Rattle.bf_core.specs.Events.{entry_in}

@@ -3,8 +3,8 @@ use Rattle.std.specs.Prelude.{◌≡◌, ℕ, ℤ, Bool, List, Option, Ok, Err}
 use Rattle.bf_read.specs.declared.draft.Draft.{Draft}
 use Rattle.bf_check.specs.Checking.{dag_of}
 use Rattle.bf_interval.specs.declared.interval.Interval.{Interval}
-use Rattle.bf_try.specs.declared.table.TableEntry.{TableEntry}
-use Rattle.bf_try.specs.Tables.{table_of}
+use Rattle.bf_table.specs.declared.table.TableEntry.{TableEntry}
+use Rattle.bf_table.specs.Tables.{table_of}
 use Rattle.bf_command_fault.specs.declared.fault.CommandFault.{CommandFault}
 use Rattle.bf_command_fault.specs.declared.fault.CommandFault.TheVariants.{Table, Range, CannotWrite, Stopped}
 use Rattle.bf_command_fault.specs.declared.stop.StopFault.{StopFault}

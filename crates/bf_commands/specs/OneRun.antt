@@ -6,8 +6,8 @@ use Rattle.bf_check.specs.Checking.{dag_of}
 use Rattle.bf_interval.specs.declared.fault.IntervalFault.{IntervalFault}
 use Rattle.bf_interval.specs.declared.interval.Interval.{Interval}
 use Rattle.bf_interval.specs.Years.{IsInYears}
-use Rattle.bf_try.specs.declared.table.TableEntry.{TableEntry}
-use Rattle.bf_try.specs.Tables.{table_of}
+use Rattle.bf_table.specs.declared.table.TableEntry.{TableEntry}
+use Rattle.bf_table.specs.Tables.{table_of}
 use Rattle.bf_command_fault.specs.declared.fault.CommandFault.{CommandFault}
 use Rattle.bf_command_fault.specs.declared.fault.CommandFault.TheVariants.{Table, Range, CannotWrite}
 use Rattle.bf_commands.specs.Graphs.{IsGraph, IsFaultIn}

@@ -6,9 +6,9 @@ use Rattle.bf_value.specs.Names.{name_cmp}
 use Rattle.bf_plan.specs.declared.plan.Dag.{Dag}
 use Rattle.bf_interval.specs.declared.interval.Interval.{Interval}
 use Rattle.bf_try.specs.declared.ledger.Entry.{Entry}
-use Rattle.bf_try.specs.declared.table.TableEntry.{TableEntry}
+use Rattle.bf_table.specs.declared.table.TableEntry.{TableEntry}
 use Rattle.bf_try.specs.Grades.{grade_of}
-use Rattle.bf_try.specs.Tables.{Answering, table_of, answer_of, dates_of}
+use Rattle.bf_table.specs.Tables.{Answering, table_of, answer_of, dates_of}
 use Rattle.bf_try.specs.Tries.{Look}
 use Rattle.bf_core.specs.Agreement.{AreRunStates, HoldsItsTries, IsOutcome}
 use Rattle.bf_core.specs.Events.{entry_in}

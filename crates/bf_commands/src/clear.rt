@@ -6,10 +6,10 @@ ghost use Rattle.bf_commands.specs.Cleared.{AreAnswersIn, IsFaultBefore, IsFault
 use crate::over_table::table_in;
 use crate::plan::timed_plan_in;
 use crate::range::MomentRange;
-use bf_plan::Plan;
 use bf_command_fault::CommandFault;
 use bf_interval::Interval;
-use bf_try::Table;
+use bf_plan::Plan;
+use bf_table::Table;
 use std::alloc::Global;
 
 /// The answers that a table's bytes say, where there is one.

@@ -11,12 +11,12 @@ ghost use Rattle.bf_commands.specs.Cleared.{IsEndedFrom};
 
 use crate::progress::Progress;
 use crate::screen::Screen;
-use bf_plan::Plan;
 use bf_command_line::Workers;
 use bf_core::{BackfillFault, Ended};
 use bf_exec::{Watch, run_backfill};
 use bf_interval::Interval;
 use bf_kept::{Keeping, KeptTries};
+use bf_plan::Plan;
 use bf_resume::resume;
 use bf_try::TaskRunner;
 use std::alloc::Global;

@@ -3,7 +3,7 @@ ghost use Rattle.std.specs.Prelude.{◌≡◌, ℕ, ℤ, Bool, List, Option, Ok}
 ghost use Rattle.bf_plan.specs.declared.plan.Dag.{Dag as DagTerm};
 ghost use Rattle.bf_plan.specs.Sound.{IsSound};
 ghost use Rattle.bf_interval.specs.declared.interval.Interval.{Interval as IntervalTerm};
-ghost use Rattle.bf_try.specs.declared.table.TableEntry.{TableEntry as TableEntryTerm};
+ghost use Rattle.bf_table.specs.declared.table.TableEntry.{TableEntry as TableEntryTerm};
 ghost use Rattle.bf_commands.specs.Lists.{HasListing};
 ghost use Rattle.bf_commands.specs.OverTable.{IsReportOver};
 

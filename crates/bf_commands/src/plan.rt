@@ -5,9 +5,9 @@ ghost use Rattle.bf_commands.specs.Lists.{HasListing, IsDatedFault, IsRangeFault
 
 use crate::range::MomentRange;
 use bf_check::{Zone, check};
-use bf_plan::Plan;
 use bf_command_fault::CommandFault;
 use bf_interval::{Interval, intervals};
+use bf_plan::Plan;
 use bf_read::{Draft, read_graph};
 use std::alloc::Global;
 

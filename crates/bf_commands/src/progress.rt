@@ -1,9 +1,9 @@
 //! How far a backfill is, told while it goes.
 
 use crate::screen::Screen;
-use bf_plan::Plan;
 use bf_core::{Cell, Core, Event, Phase};
 use bf_exec::Observer;
+use bf_plan::Plan;
 use bf_try::Outcome;
 use bf_value::JobName;
 use std::alloc::Global;

@@ -10,11 +10,11 @@ ghost use Rattle.bf_command_fault.specs.Refusal.{Leaves, Sends};
 ghost use Rattle.bf_commands.specs.OverTable.{IsWanting};
 ghost use Rattle.bf_commands.specs.Reported.{IsReportOf, is_success as succeeds};
 
-use bf_plan::Plan;
 use bf_command_fault::CommandFault;
 use bf_core::Ended;
 use bf_device::Write;
 use bf_interval::Interval;
+use bf_plan::Plan;
 use bf_report::{RunReport, report_of, write_report};
 use bf_xcom::RunState;
 use std::alloc::Global;

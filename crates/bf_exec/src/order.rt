@@ -1,8 +1,8 @@
 //! What a backfill is asked for.
 ghost use Rattle.std.specs.Prelude.{◌≡◌, ◌≤◌, length};
 
-use bf_plan::Plan;
 use bf_interval::Interval;
+use bf_plan::Plan;
 use bf_try::{Done, RunnerFault, TaskRunner, Ticket};
 use std::alloc::Global;
 use std::thread::Parker;

@@ -10,9 +10,9 @@ ghost use Rattle.bf_sched.specs.Driving.{IsUnderWay, StaysDriven};
 ghost use Rattle.bf_sched.specs.Scheduling.{HasFinished, MayFinish};
 ghost use Rattle.bf_plain.specs.Driving.{IsIdle, IsLonger};
 
-use bf_plan::Plan;
 use bf_core::{BackfillFault, Core, Ended, Illegal};
 use bf_interval::Interval;
+use bf_plan::Plan;
 use bf_sched::{Next, Scheduler};
 use bf_try::{Done, RunnerFault, TaskRunner, Ticket};
 use bf_value::OutOfMemory;

@@ -1,5 +1,6 @@
 -- The upstreams of a plan's tasks, as the graph has them.
-use Rattle.std.proofs.Common.{◌≡◌, inl, inr, ℕ, zero, suc, ◌<◌, List, [], ◌∷◌, Contains, subst, sym, arith}
+use Rattle.std.proofs.Common.{◌≡◌, inl, inr, ℕ, zero, suc, List, [], ◌∷◌, slice_get, Contains, None, subst, refl, sym, arith}
+use Rattle.std.specs.List.{slice_index_or}
 use Rattle.std.proofs.Math.ListN.{get_or-map as get_or-map_default}
 use Rattle.bf_graph.specs.Edges.{upstreams_of, IsUpstream}
 use Rattle.bf_plan.specs.declared.plan.Task.{Task}
@@ -26,3 +27,12 @@ upstreams_of_task dag t = sym (get_or-map_default (λ (task : Task). task.upstre
 -- an upstream of a task is one in the graph
 pub is_upstream : (dag : Dag) (t u : ℕ) → IsOneOf (task_of dag t).upstreams u → IsUpstream (shape_of dag).upstreams u t
 is_upstream dag t u one = contains_one _ u (subst (λ (us : List ℕ). IsOneOf us u) (upstreams_of_task dag t) one)
+
+no_task_there : (tasks : List Task) (t : ℕ) → None ≡ slice_get tasks t → slice_index_or tasks t no_task ≡ no_task
+no_task_there [] t none = refl
+no_task_there (task ∷ tasks) zero none = cc
+no_task_there (task ∷ tasks) (suc t) none = no_task_there tasks t none
+
+pub task_beyond : (dag : Dag) (t : ℕ) → None ≡ slice_get dag.tasks t → task_of dag t ≡ no_task
+unfolding task_of
+task_beyond dag t none = no_task_there dag.tasks t none

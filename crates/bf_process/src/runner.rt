@@ -6,9 +6,9 @@ ghost use Rattle.bf_process.specs.Words.{IsContext, IsHeard, IsLost, HoldsOfWord
 
 use crate::program::not_started;
 use crate::starter::Starter;
-use bf_plan::{Plan, Task};
 use bf_interval::Interval;
 use bf_moment::Moment;
+use bf_plan::{Plan, Task};
 use bf_try::{Done, Raw, RunnerFault, TaskRunner, Ticket};
 use bf_value::{JobName, Sequence};
 use bf_xcom::{Given, JobContext, words};

@@ -8,7 +8,7 @@ use Rattle.bf_check.specs.Refusals.{IsAccepted, IsFaultOf}
 use Rattle.bf_check.specs.Schedules.{IsScheduled}
 use Rattle.bf_interval.specs.declared.fault.IntervalFault.{IntervalFault}
 use Rattle.bf_interval.specs.declared.interval.Interval.{Interval}
-use Rattle.bf_try.specs.Tables.{table_of}
+use Rattle.bf_table.specs.Tables.{table_of}
 use Rattle.bf_command_fault.specs.declared.fault.CommandFault.{CommandFault}
 use Rattle.bf_command_fault.specs.declared.fault.CommandFault.TheVariants.{Read, Check, Table, Range, CannotWrite, Stopped}
 use Rattle.bf_commands.specs.declared.check.GraphSize.{GraphSize}

@@ -1,7 +1,7 @@
 -- What commands come to, by what was read of their files.
 use Rattle.std.proofs.Common.{◌≡◌, ℕ, Bool, List, Option, string_bytes, refl}
 use Rattle.jiff.specs.declared.timestamp.Timestamp.{Timestamp}
-use Rattle.bf_try.specs.Tables.{table_of}
+use Rattle.bf_table.specs.Tables.{table_of}
 use Rattle.bf_command_line.specs.declared.forms.DryAsked.{DryAsked}
 use Rattle.bf_command_line.specs.declared.forms.GraphAsked.{GraphAsked}
 use Rattle.bf_command_line.specs.declared.forms.ListAsked.{ListAsked}

@@ -7,8 +7,8 @@ use Rattle.bf_read.specs.declared.fault.ReadFault.{ReadFault}
 use Rattle.bf_read.specs.declared.path.Path.{Path}
 use Rattle.bf_read.specs.Fields.{limit}
 use Rattle.bf_read.specs.Reading.{graph_in}
-use Rattle.bf_try.specs.declared.table.TableFault.{TableFault}
-use Rattle.bf_try.specs.Tables.{json_of_file, table_of}
+use Rattle.bf_table.specs.declared.table.TableFault.{TableFault}
+use Rattle.bf_table.specs.Tables.{json_of_file, table_of}
 use Rattle.bf_program.specs.Commands.{IsHeld, Means}
 use Rattle.bf_program.specs.Source.{IsWholeUpTo}
 

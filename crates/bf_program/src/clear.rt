@@ -1,7 +1,7 @@
 //! The command `clear`: a backfill that goes on from its report, where a task in a run is cleared with all that follows from it.
 ghost use Rattle.std.specs.Prelude.{◌≡◌, ℕ, Bool, List, IfOk, IfErr, OnOk, option_map, string_bytes};
 ghost use Rattle.bf_device.specs.Device.{HasHalted};
-ghost use Rattle.bf_try.specs.Tables.{table_of};
+ghost use Rattle.bf_table.specs.Tables.{table_of};
 ghost use Rattle.bf_report_reader.specs.Written.{AreOfRuns};
 ghost use Rattle.bf_commands.specs.Cleared.{IsPrepared};
 ghost use Rattle.bf_commands.specs.Programs.{launched, launched_lost};

@@ -1,7 +1,7 @@
 //! The files and moments that a command line names.
 ghost use Rattle.std.specs.Prelude.{◌≡◌, ◌<◌, ◌^◌, ◌⊎◌, ℕ, List, [], ◌∷◌, Option, IfOk, IfErr, IfSome, OnOk, option_map, string_bytes};
 ghost use Rattle.bf_read.specs.Reading.{graph_in};
-ghost use Rattle.bf_try.specs.Tables.{table_of};
+ghost use Rattle.bf_table.specs.Tables.{table_of};
 ghost use Rattle.bf_commands.specs.Cleared.{IsReadAs};
 ghost use Rattle.bf_program.specs.Commands.{AreReadable, IsHeld, IsNoLonger, IsNoMoment, IsReadable, IsHeldIfNamed, Means, MeansRange, OfFiles, OfFilesAndTable, graph_paths, named_paths, table_paths};
 ghost use Rattle.bf_program.specs.Files.{AreAlike, IsReadingFault, IsReportFault, MeanAlike, bytes_of};
@@ -16,7 +16,7 @@ use bf_moment::moment_in;
 use bf_read::MOST_BYTES;
 use bf_report::Report;
 use bf_report_reader::read_report;
-use bf_try::LONGEST_TABLE;
+use bf_table::LONGEST_TABLE;
 use bf_value::Text;
 use bf_zone::MOST_FILE_BYTES;
 use jiff::Timestamp;

@@ -9,9 +9,9 @@ ghost use Rattle.bf_report.specs.Values.{AreSoundInstances, IsSoundTask, AreSoun
 
 use crate::instances::instance_reports;
 use crate::report::{InstanceReport, Report, RunReport, TaskReport, Version};
-use bf_plan::{Dag, Plan, Task};
 use bf_core::{Cell, Ended, State};
 use bf_interval::Interval;
+use bf_plan::{Dag, Plan, Task};
 use bf_value::{OutOfMemory, Sequence, Text};
 use std::alloc::Global;
 

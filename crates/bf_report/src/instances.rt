@@ -7,8 +7,8 @@ ghost use Rattle.bf_report.specs.Dated.{pulls_of as pulls_in, reported_instance}
 ghost use Rattle.bf_report.specs.Values.{IsSoundValue, IsSoundOutcome, AreSoundPulls, IsSoundInstance, AreSoundInstances};
 
 use crate::report::{InstanceReport, Pull};
-use bf_plan::Dag;
 use bf_core::{Instance, Phase};
+use bf_plan::Dag;
 use bf_value::{OutOfMemory, Sequence, Xval, copy_option};
 use bf_xcom::{Outcome, TaskResult};
 use std::alloc::Global;

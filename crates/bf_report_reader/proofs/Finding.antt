@@ -1,7 +1,7 @@
 -- What memchr finds.
 use Rattle.std.proofs.Common.{◌≡◌, ℕ, zero, suc, Bool, true, false, true≢false, if◌then◌else◌, List, [], ◌∷◌, Option, None, Some, option_map, position, refl, sym, ap, ◌∙◌, arith}
 use Rattle.memchr.specs.Find.{IsFirstByte}
-use Rattle.bf_try.proofs.IndexLemmas.{position-cons}
+use Rattle.bf_plan.proofs.ListLemmas.{position-cons}
 
 -- where the first byte passes, it is found
 at_once : (test : ℕ → Bool) (x : ℕ) (xs : List ℕ) (found : Option ℕ) → test x ≡ true → IsFirstByte test (x ∷ xs) found → found ≡ Some 0

@@ -9,13 +9,13 @@ ghost use Rattle.bf_core.specs.Terms.{AreAlike};
 ghost use Rattle.bf_exec.specs.Accounts.{KeepsWorkers};
 ghost use Rattle.bf_exec.specs.Faults.{MayFail};
 
-use bf_plan::Plan;
 use bf_core::{BackfillFault, Ended};
 use bf_exec::{Observer, Watch, run_backfill};
 use bf_interval::Interval;
 use bf_kept::{Keeping, KeptTries};
 use bf_lane::Clock;
 use bf_plain::one_by_one;
+use bf_plan::Plan;
 use bf_try::TaskRunner;
 use std::alloc::Global;
 use std::sync::Wait;

@@ -1,8 +1,8 @@
 //! Orders of events: the report doesn't rest on them.
 use crate::steps::{Answered, EPOCH, End, Step, core_after};
-use bf_plan::Plan;
 use bf_core::{Core, Illegal};
 use bf_device::Memory;
+use bf_plan::Plan;
 use bf_report::{report_of, write_report};
 use bf_tests_graphs::{job, plan_of};
 use std::alloc::Global;

@@ -1,7 +1,7 @@
 //! Room in pools.
 use crate::steps::{Answered, EPOCH, End, Step, take, walk};
-use bf_plan::Plan;
 use bf_core::{Core, Illegal};
+use bf_plan::Plan;
 use bf_tests_graphs::{job, plan_of};
 use std::alloc::Global;
 use std::process::Abort;

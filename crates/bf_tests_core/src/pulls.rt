@@ -1,7 +1,7 @@
 //! What a try is given of what other tasks pushed.
 use crate::steps::{Answered, End, Step, core_after, list_of};
-use bf_plan::Plan;
 use bf_core::Core;
+use bf_plan::Plan;
 use bf_tests_graphs::{job, plan_of};
 use bf_value::{JobName, Xval};
 use std::alloc::Global;

@@ -1,7 +1,7 @@
 //! Cores, driven by hand over one run.
-use bf_plan::Plan;
 use bf_core::{Core, Event, Illegal};
 use bf_interval::Interval;
+use bf_plan::Plan;
 use bf_tests_graphs::plan_of;
 use bf_try::Outcome;
 use bf_value::{JobName, OutOfMemory, Values, Xval};

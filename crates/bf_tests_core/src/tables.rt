@@ -1,5 +1,5 @@
 //! Tables of answers: those that are refused, by their first bad entry.
-use bf_try::{Table, TableFault};
+use bf_table::{Table, TableFault};
 use bf_value::OutOfMemory;
 use std::alloc::Global;
 use std::test::Fail;

@@ -1,6 +1,6 @@
 //! The words of a command.
-use bf_plan::{ContextVariable, Word};
 use bf_moment::Moment;
+use bf_plan::{ContextVariable, Word};
 use bf_value::{OutOfMemory, Sequence, Text, Values, Xval};
 use bf_xcom::{Given, JobContext, words};
 use jiff::Timestamp;

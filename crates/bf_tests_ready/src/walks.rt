@@ -2,9 +2,9 @@
 use crate::chance::Chance;
 use crate::graphs::{TASKS, graph_of};
 use crate::looks::compare;
-use bf_plan::Plan;
 use bf_core::{Core, Event};
 use bf_interval::Interval;
+use bf_plan::Plan;
 use bf_ready::Ready;
 use bf_tests_graphs::plan_of;
 use bf_try::Outcome;

@@ -2,9 +2,9 @@
 ghost use Rattle.std.specs.Prelude.{◌≡◌, ◌≤◌, length};
 
 use crate::graphs::Graph;
-use bf_plan::Plan;
 use bf_core::{Core, Illegal};
 use bf_interval::Interval;
+use bf_plan::Plan;
 use bf_sched::{Next, Scheduler};
 use bf_tests_graphs::plan_of;
 use bf_try::{Done, Raw};

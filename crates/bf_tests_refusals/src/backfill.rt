@@ -6,9 +6,9 @@ use crate::again::{
 };
 use crate::graphs::Graph;
 use crate::replay::replay;
-use bf_plan::Plan;
 use bf_core::Ended;
 use bf_interval::Interval;
+use bf_plan::Plan;
 use bf_sched::{Next, Scheduler};
 use bf_try::Ticket;
 use std::alloc::Global;

@@ -3,9 +3,9 @@ ghost use Rattle.std.specs.Prelude.{◌≡◌, ◌≤◌, length};
 
 use crate::again::Fault;
 use crate::sameness::is_same_core;
-use bf_plan::Plan;
 use bf_core::{Core, Event, Illegal};
 use bf_interval::Interval;
+use bf_plan::Plan;
 use std::alloc::Global;
 
 fn core_again<'a>(alloc: Global, plan: &'a Plan, intervals: &[Interval]) -> Result<Core<'a>, Fault>

@@ -1,5 +1,3 @@
 pub mod Tries
 pub mod Grades
 pub mod Asked
-pub mod Tables
-pub mod TableIndex

@@ -29,7 +29,8 @@ pub struct Raw {
     pub line: Line,
 }
 
-pub(crate) fn copied(alloc: Global, bytes: &[u8]) -> Result<Sequence<u8>, OutOfMemory>
+/// Bytes, copied.
+pub fn copied(alloc: Global, bytes: &[u8]) -> Result<Sequence<u8>, OutOfMemory>
     ensures { IfOk result (λ copy. copy ≡ bytes.now) }
 {
     Ok(Sequence::from_vec(bytes.to_vec(alloc)?))

@@ -2,27 +2,20 @@
 //!
 //! A `Ticket` is the right to run one try, and `Ticket::answer` turns it into a `Done`: neither can be cloned, so a
 //! try is answered at most once. `grade` turns the raw answer into an `Outcome`, and a `Ledger` keeps the outcomes by
-//! name. `TaskRunner` is what answers tickets, here by a `Table`.
+//! name. `TaskRunner` is what answers tickets.
 #![tactic(auto)]
 
 mod answers;
 mod grading;
 mod ledger;
 mod runner;
-mod table;
-mod table_index;
-mod table_reader;
-mod table_runner;
 mod tickets;
 
-pub use answers::{Exit, Line, Raw};
+pub use answers::{Exit, Line, Raw, copied};
 pub use bf_xcom::Outcome;
 pub use grading::{
     LONGEST_VALUE, MOST_ITEMS, answer_for, each_fit_is_a_grade, fits, grade, grades_fit,
 };
 pub use ledger::{Entry, Ledger, NoteFault, alike};
 pub use runner::{RunnerFault, TaskRunner};
-pub use table::{Table, TableEntry, TableFault};
-pub use table_reader::LONGEST_TABLE;
-pub use table_runner::TableRunner;
 pub use tickets::{Done, Ticket};

@@ -1,0 +1,63 @@
+-- Finding the first entry by what entries name.
+use Rattle.std.proofs.Common.{◌≡◌, ℕ, suc, ◌<◌, ◌+◌, Bool, true, false, cond, if◌then◌else◌, List, ◌∷◌, length, get_or, drop, Option, Some, None, option_map, position, not, nat_lt, refl, sym, ap, ◌∙◌, arith, [], ◌++◌}
+use Rattle.std.specs.List.{position_or_len}
+use Rattle.std.proofs.lemmas.Bool.{ltb-true, ltb-false, lt-ltb, le-ltb}
+use Rattle.std.specs.Ordering.{is_eq, eq_by_cmp}
+use Rattle.std.specs.Cmp.{IsTotalOrder, nat_cmp_total, int_cmp_total, then_total, on_total, eq_by_cmp_equiv}
+use Rattle.std.specs.Cmp.Lexicographic.{options_total, lists_total}
+use Rattle.bf_value.proofs.ReadLemmas.{drop-item}
+use Rattle.bf_plan.proofs.ListLemmas.{position-cons}
+use Rattle.bf_table.specs.declared.table.TableEntry.{TableEntry}
+use Rattle.bf_table.specs.declared.table_index.Pattern.{Pattern}
+use Rattle.bf_table.specs.TableIndex.{earlier, first_of_key, first_of_keys, is_pattern, pattern_cmp, pattern_in}
+
+-- ---- the earliest
+
+pub earlier-assoc : (a b c : Option ℕ) → earlier (earlier a b) c ≡ earlier a (earlier b c)
+earlier-assoc None b c = refl
+earlier-assoc (Some a) None c = refl
+earlier-assoc (Some a) (Some b) None = refl
+earlier-assoc (Some a) (Some b) (Some c) = ap Some (omega arith)
+
+-- what is found for two keys
+pub two_keys : (get : Pattern → Option ℕ) (one other : Pattern) → earlier (get one) (get other) ≡ first_of_keys get (one ∷ other ∷ [])
+two_keys get one other = ap (earlier (get one)) (alone (get other))
+  where
+    alone : (o : Option ℕ) → o ≡ earlier o None
+    alone None = refl
+    alone (Some n) = refl
+
+-- what is found for two groups of keys
+pub two_groups : (get : Pattern → Option ℕ) (ones others : List Pattern) → earlier (first_of_keys get ones) (first_of_keys get others) ≡ first_of_keys get (ones ++ others)
+two_groups get [] others = refl
+two_groups get (key ∷ keys) others = earlier-assoc (get key) (first_of_keys get keys) (first_of_keys get others) ∙ ap (earlier (get key)) (two_groups get keys others)
+
+-- ---- each pattern's first entry
+
+pub pattern_cmp_total : IsTotalOrder pattern_cmp
+pattern_cmp_total = then_total (on_total (λ p. p.task) (options_total nat_cmp_total)) (then_total (on_total (λ p. p.date) (options_total (lists_total nat_cmp_total))) (then_total (on_total (λ p. p.index) (options_total int_cmp_total)) (on_total (λ p. p.attempt) (options_total int_cmp_total))))
+
+pattern_turned : (a b : Pattern) → eq_by_cmp pattern_cmp a b ≡ eq_by_cmp pattern_cmp b a
+pattern_turned a b = (eq_by_cmp_equiv pattern_cmp_total).symm a b
+
+later : (n : ℕ) (o : Option ℕ) → option_map (λ k. n + 1 + k) o ≡ option_map (λ k. n + k) (option_map suc o)
+later n None = refl
+later n (Some k) = ap Some (omega arith)
+
+at_number : (n : ℕ) (has : Bool) (rest old : Option ℕ) → old ≡ option_map (λ k. n + 1 + k) rest → cond has (Some n) old ≡ option_map (λ k. n + k) (if has then Some 0 else option_map suc rest)
+at_number n true rest old before = ap Some (omega arith)
+at_number n false rest old before = before ∙ later n rest
+
+module _ (ids : List (List ℕ)) (entries : List TableEntry) (n : ℕ) (e : TableEntry) (within : n < length entries) (is : e ≡ get_or entries n e) where
+  abbrev pub from : (key : Pattern) → ℕ → Option ℕ
+  from key i = option_map (λ k. i + k) (first_of_key ids (drop i entries) key)
+
+  opened : (key : Pattern) → from key n ≡ option_map (λ k. n + k) (if is_pattern key (pattern_in ids e) then Some 0 else option_map suc (first_of_key ids (drop (n + 1) entries) key))
+  opened key =
+      ap (λ es. option_map (λ k. n + k) (first_of_key ids es key)) (drop-item entries n e within is)
+      ∙ ap (option_map (λ k. n + k)) (position-cons (λ x. is_pattern key (pattern_in ids x)) e (drop (n + 1) entries))
+
+  pub pattern_noted : (p : Pattern) (key : Pattern) (old new : Option ℕ) → pattern_in ids e ≡ Some p → new ≡ cond (is_eq (pattern_cmp p key)) (Some n) old → old ≡ from key (n + 1) → new ≡ from key n
+  pattern_noted p key old new has step before =
+      step ∙ ap (λ b. cond b (Some n) old) (pattern_turned p key) ∙ at_number n (is_pattern key (Some p)) (first_of_key ids (drop (n + 1) entries) key) old before
+      ∙ ap (λ o. option_map (λ k. n + k) (if is_pattern key o then Some 0 else option_map suc (first_of_key ids (drop (n + 1) entries) key))) (sym has) ∙ sym (opened key)

@@ -1,0 +1,232 @@
+-- The patterns of a try are those of the entries that answer for it.
+use Rattle.std.proofs.Common.{◌≡◌, ℕ, suc, ◌==◌, ℤ, pos, Bool, true, false, ◌&&◌, ◌||◌, if◌then◌else◌, List, [], ◌∷◌, length, get_or, slice_get, Option, Some, None, option_map, option_and_then, Ordering, Less, Equal, Greater, refl, sym, ap, ap₂, ◌∙◌, arith, true≢false}
+use Rattle.std.specs.BTreeMap as tree
+use Rattle.std.specs.List.{find, list_any, position}
+use Rattle.std.specs.Option.{option_cmp}
+use Rattle.std.specs.Ordering.{nat_cmp, int_cmp, int_eq, ordering_then, is_eq}
+use Rattle.std.specs.Str.{bytes_eq}
+use Rattle.std.specs.Cmp.{IsTotalOrder, Equal-is, nat_cmp_total, int_cmp_total, eq_by_cmp_equiv, signed_Decides}
+use Rattle.std.specs.Cmp.Lexicographic.{slice_cmp, lists_total}
+use Rattle.std.specs.FinMap.{IsAntisymmetric, nat_cmp-IsAntisymmetric, int_cmp-IsAntisymmetric, slice_cmp-IsAntisymmetric}
+use Rattle.std.proofs.lemmas.List.Folds.{list_any-append}
+use Rattle.std.proofs.lemmas.List.Quantifiers.{position-Some}
+use Rattle.std.proofs.lemmas.Slice.Eq.{bytes_eq-Decides}
+use Rattle.bf_value.specs.declared.name.JobName.{JobName}
+use Rattle.bf_plan.proofs.ListLemmas.{some_same}
+use Rattle.bf_table.specs.declared.table.TableEntry.{TableEntry}
+use Rattle.bf_table.specs.declared.table_index.Pattern.{Pattern}
+use Rattle.bf_table.specs.Tables.{answers_for, is_number, is_text}
+use Rattle.bf_table.specs.TableIndex.{date_named, earlier, first_of_keys, is_pattern, keys_for, keys_with_date, keys_with_index, keys_with_task, number_named, pattern_cmp, pattern_in, IsIndexOf, pattern_of_try}
+use Rattle.bf_plan.proofs.ListLemmas.{position-cons}
+use Rattle.bf_try.proofs.Pushes.{same_answer}
+
+-- ---- the first that passes
+
+pass_same : {X : Type 0} (p q : X → Bool) (xs : List X) → ((x : X) → p x ≡ q x) → position p xs ≡ position q xs
+pass_same p q [] same = refl
+pass_same p q (x ∷ xs) same =
+    position-cons p x xs ∙ ap₂ (λ b o. if b then Some 0 else option_map suc o) (same x) (pass_same p q xs same) ∙ sym (position-cons q x xs)
+
+never_passes : {X : Type 0} (xs : List X) → position (λ x. false) xs ≡ None
+never_passes [] = refl
+never_passes (x ∷ xs) = position-cons (λ y. false) x xs ∙ ap (option_map suc) (never_passes xs)
+
+either : (a b : Bool) (m n : Option ℕ) → (if a || b then Some 0 else option_map suc (earlier m n)) ≡ earlier (if a then Some 0 else option_map suc m) (if b then Some 0 else option_map suc n)
+either true true m n = refl
+either true false m None = refl
+either true false m (Some n) = ap Some (omega arith)
+either false true None n = refl
+either false true (Some m) n = ap Some (omega arith)
+either false false None None = refl
+either false false None (Some n) = refl
+either false false (Some m) None = refl
+either false false (Some m) (Some n) = ap Some (omega arith)
+
+one_passes : {X : Type 0} (p q : X → Bool) (xs : List X) → position (λ x. p x || q x) xs ≡ earlier (position p xs) (position q xs)
+one_passes p q [] = refl
+one_passes p q (x ∷ xs) =
+    position-cons (λ y. p y || q y) x xs ∙ ap (λ o. if p x || q x then Some 0 else option_map suc o) (one_passes p q xs)
+    ∙ either (p x) (q x) (position p xs) (position q xs) ∙ ap₂ earlier (sym (position-cons p x xs)) (sym (position-cons q x xs))
+
+find_passing : {X : Type 0} (p : X → Bool) (xs : List X) → find p xs ≡ option_and_then (slice_get xs) (position p xs)
+find_passing p [] = refl
+find_passing p (x ∷ xs) = by (p x) (position p xs) (find_passing p xs) ∙ ap (option_and_then (slice_get (x ∷ xs))) (sym (position-cons p x xs))
+  where
+    by : (b : Bool) (o : Option ℕ) → find p xs ≡ option_and_then (slice_get xs) o → (if b then Some x else find p xs) ≡ option_and_then (slice_get (x ∷ xs)) (if b then Some 0 else option_map suc o)
+    by true o e = refl
+    by false None e = e
+    by false (Some n) e = e
+
+-- what is found for keys is the first that has one of them
+first_of_any : (ids : List (List ℕ)) (entries : List TableEntry) (firsts : tree.BTreeMap Pattern ℕ) (keys : List Pattern) → IsIndexOf ids entries firsts
+    → first_of_keys (tree.get pattern_cmp firsts) keys ≡ position (λ e. list_any (λ key. is_pattern key (pattern_in ids e)) keys) entries
+first_of_any ids entries firsts [] index = sym (never_passes entries)
+first_of_any ids entries firsts (key ∷ keys) index =
+    ap₂ earlier (index key) (first_of_any ids entries firsts keys index)
+    ∙ sym (one_passes (λ e. is_pattern key (pattern_in ids e)) (λ e. list_any (λ k. is_pattern k (pattern_in ids e)) keys) entries)
+
+-- ---- sixteen keys
+
+both_equal : (r s : Ordering) → is_eq (ordering_then r s) ≡ (is_eq r && is_eq s)
+both_equal Less s = refl
+both_equal Equal s = refl
+both_equal Greater s = refl
+
+list_any_same : {X : Type 0} (p q : X → Bool) (xs : List X) → ((x : X) → p x ≡ q x) → list_any p xs ≡ list_any q xs
+list_any_same p q [] same = refl
+list_any_same p q (x ∷ xs) same = ap₂ (λ a b. a || b) (same x) (list_any_same p q xs same)
+
+none_passes : {X : Type 0} (xs : List X) → list_any (λ x. false) xs ≡ false
+none_passes [] = refl
+none_passes (x ∷ xs) = none_passes xs
+
+last_part : (x y z n s : Bool) → ((x && (y && (z && n))) || ((x && (y && (z && s))) || false)) ≡ (x && (y && (z && (n || s))))
+last_part false y z n s = refl
+last_part true false z n s = refl
+last_part true true false n s = refl
+last_part true true true true s = refl
+last_part true true true false true = refl
+last_part true true true false false = refl
+
+third_part : (x y n s r : Bool) → ((x && (y && (n && r))) || (x && (y && (s && r)))) ≡ (x && (y && ((n || s) && r)))
+third_part false y n s r = refl
+third_part true false n s r = refl
+third_part true true false s r = refl
+third_part true true true s true = refl
+third_part true true true true false = refl
+third_part true true true false false = refl
+
+second_part : (x n s r : Bool) → ((x && (n && r)) || (x && (s && r))) ≡ (x && ((n || s) && r))
+second_part x n s r = third_part true x n s r
+
+first_part : (n s r : Bool) → ((n && r) || (s && r)) ≡ ((n || s) && r)
+first_part n s r = third_part true true n s r
+
+module _ (asked : Pattern) (A : Option ℕ → Bool) (B : Option (List ℕ) → Bool) (C : Option ℤ → Bool) (D : Option ℤ → Bool) where
+  abbrev has : Pattern → Bool
+  has key = A key.task && (B key.date && (C key.index && D key.attempt))
+
+  abbrev any_attempt : Bool
+  any_attempt = D None || D asked.attempt
+
+  abbrev any_index : Bool
+  any_index = C None || C asked.index
+
+  abbrev any_date : Bool
+  any_date = B None || B asked.date
+
+  with_date : (t : Option ℕ) (d : Option (List ℕ)) → list_any has (keys_with_date asked t d) ≡ (A t && (B d && (any_index && any_attempt)))
+  with_date t d =
+      list_any-append has (keys_with_index asked t d None) (keys_with_index asked t d asked.index)
+      ∙ ap₂ (λ a b. a || b) (last_part (A t) (B d) (C None) (D None) (D asked.attempt)) (last_part (A t) (B d) (C asked.index) (D None) (D asked.attempt))
+      ∙ third_part (A t) (B d) (C None) (C asked.index) any_attempt
+
+  with_task : (t : Option ℕ) → list_any has (keys_with_task asked t) ≡ (A t && (any_date && (any_index && any_attempt)))
+  with_task t =
+      list_any-append has (keys_with_date asked t None) (keys_with_date asked t asked.date) ∙ ap₂ (λ a b. a || b) (with_date t None) (with_date t asked.date)
+      ∙ second_part (A t) (B None) (B asked.date) (any_index && any_attempt)
+
+  any_key : list_any has (keys_for asked) ≡ ((A None || A asked.task) && (any_date && (any_index && any_attempt)))
+  any_key =
+      list_any-append has (keys_with_task asked None) (keys_with_task asked asked.task) ∙ ap₂ (λ a b. a || b) (with_task None) (with_task asked.task)
+      ∙ first_part (A None) (A asked.task) (any_date && (any_index && any_attempt))
+
+-- ---- what is named
+
+-- an order says that two are equal where a test does
+test_is : {X : Type 0} {R : X → X → Ordering} → IsTotalOrder R → IsAntisymmetric R → (x y : X) (b : Bool) → (b ≡ true → y ≡ x) → (y ≡ x → b ≡ true) → is_eq (R x y) ≡ b
+test_is {R = R} total same x y b right back = same_answer (is_eq (R x y)) b (λ e. back (sym (same x y ((Equal-is (R x y)).0 e)))) (λ e. ap (λ z. is_eq (R x z)) (right e) ∙ (eq_by_cmp_equiv total).refl x)
+
+named_number : (named : Option ℤ) (n : ℤ) → (is_eq (option_cmp int_cmp None named) || is_eq (option_cmp int_cmp (Some n) named)) ≡ is_number named n
+named_number None n = refl
+named_number (Some m) n = test_is int_cmp_total int_cmp-IsAntisymmetric n m (int_eq m n) (signed_Decides m n).0 (signed_Decides m n).1
+
+named_date : (named : Option (List ℕ)) (date : List ℕ) → (is_eq (option_cmp (slice_cmp nat_cmp) None named) || is_eq (option_cmp (slice_cmp nat_cmp) (Some date) named)) ≡ is_text named date
+named_date None date = refl
+named_date (Some text) date = test_is (lists_total nat_cmp_total) (slice_cmp-IsAntisymmetric nat_cmp-IsAntisymmetric) date text (bytes_eq text date) (bytes_eq-Decides text date).0 (bytes_eq-Decides text date).1
+
+-- a named task is one of these by its number; none has the id where there is no number
+abbrev task_passes : ℕ → Option (Option ℕ) → Bool
+task_passes t None = false
+task_passes t (Some number) = is_eq (option_cmp nat_cmp None number) || is_eq (option_cmp nat_cmp (Some t) number)
+
+abbrev date_passes : List ℕ → Option (Option (List ℕ)) → Bool
+date_passes date None = false
+date_passes date (Some named) = is_eq (option_cmp (slice_cmp nat_cmp) None named) || is_eq (option_cmp (slice_cmp nat_cmp) (Some date) named)
+
+module _ (ids : List (List ℕ)) (id : List ℕ) (t : ℕ) (is : position (bytes_eq id) ids ≡ Some t) where
+  numbered : (text : List ℕ) (o : Option ℕ) → position (bytes_eq text) ids ≡ o → bytes_eq text id ≡ true → o ≡ Some t
+  numbered text o at e = sym at ∙ ap (λ x. position (bytes_eq x) ids) ((bytes_eq-Decides text id).0 e) ∙ is
+
+  at_number : (text : List ℕ) (u : ℕ) → position (bytes_eq text) ids ≡ Some u → u ≡ t → bytes_eq text id ≡ true
+  at_number text u at same =
+      let one = (bytes_eq-Decides text (get_or ids u [])).0 (position-Some (bytes_eq text) ids u [] at).1 in
+      let two = (bytes_eq-Decides id (get_or ids t [])).0 (position-Some (bytes_eq id) ids t [] is).1 in
+      (bytes_eq-Decides text id).1 (one ∙ ap (λ n. get_or ids n []) same ∙ sym two)
+
+  task_named : (text : List ℕ) (o : Option ℕ) → position (bytes_eq text) ids ≡ o → task_passes t (option_map Some o) ≡ bytes_eq text id
+  task_named text None at = same_answer false (bytes_eq text id) (λ e. absurd (true≢false (sym e))) (λ e. let none : None ≡ Some t = numbered text None at e in cc)
+  task_named text (Some u) at = test_is nat_cmp_total nat_cmp-IsAntisymmetric t u (bytes_eq text id) (λ e. some_same (numbered text (Some u) at e)) (at_number text u at)
+
+  named_task : (named : Option (List ℕ)) → task_passes t (number_named ids named) ≡ is_text named id
+  named_task None = refl
+  named_task (Some text) = task_named text (position (bytes_eq text) ids) refl
+
+named_date_in : (date : List ℕ) → length date ≡ 20 → (named : Option (List ℕ)) → date_passes date (date_named named) ≡ is_text named date
+named_date_in date len None = refl
+named_date_in date len (Some text) = by (length text == 20) refl
+  where
+    by : (b : Bool) → (length text == 20) ≡ b → date_passes date (if b then Some (Some text) else None) ≡ is_text (Some text) date
+    by true e = named_date (Some text) date
+    by false e = same_answer false (bytes_eq text date) (λ f. absurd (true≢false (sym f))) (λ f. let same : length text ≡ 20 = ap length ((bytes_eq-Decides text date).0 f) ∙ len in absurd (true≢false (ap (λ n. n == 20) (sym same) ∙ e)))
+
+-- ---- the whole
+
+eq_parts : (key p : Pattern) → is_eq (pattern_cmp key p) ≡ (is_eq (option_cmp nat_cmp key.task p.task) && (is_eq (option_cmp (slice_cmp nat_cmp) key.date p.date) && (is_eq (option_cmp int_cmp key.index p.index) && is_eq (option_cmp int_cmp key.attempt p.attempt))))
+eq_parts key p =
+    let a = option_cmp nat_cmp key.task p.task in
+    let b = option_cmp (slice_cmp nat_cmp) key.date p.date in
+    let c = option_cmp int_cmp key.index p.index in
+    let d = option_cmp int_cmp key.attempt p.attempt in
+    both_equal a (ordering_then b (ordering_then c d)) ∙ ap (λ r. is_eq a && r) (both_equal b (ordering_then c d) ∙ ap (λ r. is_eq b && r) (both_equal c d))
+
+any_pattern : (t : ℕ) (d : List ℕ) (name : JobName) (p : Pattern) → list_any (λ key. is_pattern key (Some p)) (keys_for (pattern_of_try t d name))
+    ≡ (task_passes t (Some p.task) && (date_passes d (Some p.date) && (is_number p.index name.index && is_number p.attempt (pos name.attempt))))
+any_pattern t d name p =
+    let asked = pattern_of_try t d name in
+    list_any_same (λ key. is_pattern key (Some p)) (has asked (λ t. is_eq (option_cmp nat_cmp t p.task)) (λ d. is_eq (option_cmp (slice_cmp nat_cmp) d p.date)) (λ i. is_eq (option_cmp int_cmp i p.index)) (λ a. is_eq (option_cmp int_cmp a p.attempt))) (keys_for asked) (λ key. eq_parts key p)
+    ∙ any_key asked (λ t. is_eq (option_cmp nat_cmp t p.task)) (λ d. is_eq (option_cmp (slice_cmp nat_cmp) d p.date)) (λ i. is_eq (option_cmp int_cmp i p.index)) (λ a. is_eq (option_cmp int_cmp a p.attempt))
+    ∙ ap₂ (λ x y. task_passes t (Some p.task) && (date_passes d (Some p.date) && (x && y))) (named_number p.index name.index) (named_number p.attempt (pos name.attempt))
+
+four : (x y z w : Bool) → (x && (y && (z && w))) ≡ (((x && y) && z) && w)
+four false y z w = refl
+four true false z w = refl
+four true true false w = refl
+four true true true w = refl
+
+dead : (x z w : Bool) → false ≡ (((x && false) && z) && w)
+dead false z w = refl
+dead true z w = refl
+
+module _ (ids : List (List ℕ)) (t : ℕ) (id date : List ℕ) (name : JobName) (is : position (bytes_eq id) ids ≡ Some t) (len : length date ≡ 20) where
+  passes : (e : TableEntry) → list_any (λ key. is_pattern key (pattern_in ids e)) (keys_for (pattern_of_try t date name)) ≡ answers_for id date name e
+  passes e = by (number_named ids e.task) (date_named e.run) (named_task ids id t is e.task) (named_date_in date len e.run)
+    where
+      by : (m : Option (Option ℕ)) (k : Option (Option (List ℕ))) → task_passes t m ≡ is_text e.task id → date_passes date k ≡ is_text e.run date
+          → list_any (λ key. is_pattern key (option_and_then (λ task. option_map (λ d. record { task = task; date = d; index = e.index; attempt = e.attempt }) k) m)) (keys_for (pattern_of_try t date name))
+          ≡ (((is_text e.task id && is_text e.run date) && is_number e.index name.index) && is_number e.attempt (pos name.attempt))
+      by None k x y = none_passes (keys_for (pattern_of_try t date name)) ∙ ap (λ b. ((b && is_text e.run date) && is_number e.index name.index) && is_number e.attempt (pos name.attempt)) x
+      by (Some task) None x y =
+          none_passes (keys_for (pattern_of_try t date name)) ∙ dead (is_text e.task id) (is_number e.index name.index) (is_number e.attempt (pos name.attempt))
+          ∙ ap (λ b. ((is_text e.task id && b) && is_number e.index name.index) && is_number e.attempt (pos name.attempt)) y
+      by (Some task) (Some d) x y =
+          any_pattern t date name (record { task = task; date = d; index = e.index; attempt = e.attempt })
+          ∙ ap₂ (λ a b. a && (b && (is_number e.index name.index && is_number e.attempt (pos name.attempt)))) x y
+          ∙ four (is_text e.task id) (is_text e.run date) (is_number e.index name.index) (is_number e.attempt (pos name.attempt))
+
+  -- what is found by the keys is the first entry that answers
+  pub first_answers : (entries : List TableEntry) (firsts : tree.BTreeMap Pattern ℕ) → IsIndexOf ids entries firsts
+      → option_and_then (slice_get entries) (first_of_keys (tree.get pattern_cmp firsts) (keys_for (pattern_of_try t date name))) ≡ find (answers_for id date name) entries
+  first_answers entries firsts index =
+      ap (option_and_then (slice_get entries)) (first_of_any ids entries firsts (keys_for (pattern_of_try t date name)) index ∙ pass_same _ (answers_for id date name) entries passes)
+      ∙ sym (find_passing (answers_for id date name) entries)

@@ -1,0 +1,4 @@
+pub mod IndexLemmas
+pub mod KeyLemmas
+pub mod TableLemmas
+pub mod TableSize

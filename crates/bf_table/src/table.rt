@@ -1,0 +1,121 @@
+//! Tables of answers.
+ghost use Rattle.std.specs.Prelude.{◌≡◌, ◌≢◌, IfOk, IfErr, Ok, Err};
+ghost use Rattle.bf_table.specs.Tables.{fault_number, table_of};
+
+use crate::table_reader::entries_of_file;
+use bf_value::{OutOfMemory, Sequence, Text};
+use std::alloc::{AllocFailed, Global};
+use std::error::Error;
+use std::fmt;
+use std::marker::Model;
+
+/// An answer, and the tries that it answers for: those of all tasks, indexes, runs and try numbers, where it doesn't
+/// name one.
+#[derive(Debug, Drop)]
+pub struct TableEntry {
+    pub task: Option<Text>,
+    /// A map index, -1 for an unmapped task.
+    pub index: Option<i64>,
+    /// The logical date of a run, as reports spell it.
+    pub run: Option<Text>,
+    /// The number of a try, from 1.
+    pub attempt: Option<i64>,
+    pub status: u8,
+    /// The last line of the output.
+    pub line: Sequence<u8>,
+}
+
+/// A table of answers, of which the first entry that matches answers. Contracts see the list of its entries.
+#[derive(Debug, Drop)]
+pub struct Table {
+    entries: Sequence<TableEntry>,
+}
+
+impl Model for Table {
+    ghost use Rattle.std.specs.Prelude.{List};
+    ghost use Rattle.bf_table.specs.declared.table.TableEntry.{TableEntry};
+
+    ghost Value = { List TableEntry };
+
+    ghost view = { λ t. t.entries };
+}
+
+/// Why a table was not read.
+#[derive(Clone, Copy, Debug, PartialEq, Eq)]
+pub enum TableFault {
+    /// The number of the first bad entry, from 0, or none where the whole is no JSON list or is too long.
+    BadTable(Option<u32>),
+    OutOfMemory,
+}
+
+impl TableFault {
+    /// The number of the refusal, which want of memory doesn't have.
+    pub fn number(self) -> Option<u32>
+        ensures { result ≡ fault_number self }
+    {
+        match self {
+            TableFault::BadTable(_) => Some(19),
+            TableFault::OutOfMemory => None,
+        }
+    }
+}
+
+impl fmt::Display for TableFault {
+    ghost use Rattle.std.specs.Prelude.{Some};
+    ghost use Rattle.bf_table.specs.Tables.{fault_text};
+
+    ghost output = { λ fault. Some (fault_text fault) };
+
+    fn fmt<W: fmt::Write>(&self, f: &mut fmt::Formatter<W>) -> fmt::Result {
+        match self {
+            TableFault::BadTable(Some(number)) => write!(f, "bad table: {number}"),
+            TableFault::BadTable(None) => write!(f, "bad table: file"),
+            TableFault::OutOfMemory => write!(f, "out of memory"),
+        }
+    }
+}
+
+impl Error for TableFault {}
+
+impl From<OutOfMemory> for TableFault {
+    ghost use Rattle.bf_table.specs.declared.table.TableFault.TheVariants.{OutOfMemory as NoMemory};
+
+    ghost from_gives = { λ _ e. e ≡ NoMemory };
+
+    fn from(_e: OutOfMemory) -> TableFault {
+        TableFault::OutOfMemory
+    }
+}
+
+impl<T: Drop> From<AllocFailed<T>> for TableFault {
+    ghost use Rattle.bf_table.specs.declared.table.TableFault.TheVariants.{OutOfMemory as NoMemory};
+
+    ghost from_gives = { λ _ e. e ≡ NoMemory };
+
+    fn from(_e: AllocFailed<T>) -> TableFault {
+        TableFault::OutOfMemory
+    }
+}
+
+impl Table {
+    /// Reads a table: a JSON list of objects, of at most 8,388,608 bytes. Six keys may stand in an object: `task` (a
+    /// text), `index` and `try` (whole numbers) and `run` (`2024-01-31T06:05:09Z`, a moment that exists) say which
+    /// tries it answers for, `status` (a whole number from 0 to 255, by default 0) and `out` (a text, by default empty, of which
+    /// the last line counts) what it answers.
+    pub fn read(alloc: Global, bytes: &[u8]) -> Result<Table, TableFault>
+        ensures ok { IfOk result (λ table. table_of bytes.now ≡ Ok table) }
+        ensures bad { IfErr result (λ fault. fault ≢ TableFault.OutOfMemory → table_of bytes.now ≡ Err fault) }
+    {
+        let entries = entries_of_file(alloc, bytes)?;
+        Ok(Table {
+            entries: Sequence::from_vec(entries),
+        })
+    }
+
+    /// The entries.
+    pub(crate) fn as_slice(&self) -> &[TableEntry]
+        ensures { result.now ≡ self.now }
+    {
+        self.entries.as_slice()
+    }
+}

@@ -1,0 +1,198 @@
+//! Reading tables of answers.
+ghost use Rattle.std.specs.Prelude.{◌≡◌, ◌<◌, ◌^◌, length, option_map, string_bytes, Some, None, if◌then◌else◌};
+ghost use Rattle.std.specs.BTreeMap.{keys};
+ghost use Rattle.std.specs.List.{list_all};
+ghost use Rattle.std.specs.Option.{ForSome};
+ghost use Rattle.serde_json.specs.Events.{items_len};
+ghost use Rattle.serde_json.specs.Find.{as_array, as_str};
+ghost use Rattle.serde_json.specs.View.{view, items_view, members_view};
+ghost use Rattle.bf_table.specs.Tables.{is_key as key, has_known_keys as known_keys, is_entry as entry, if_there, number_of, date_in, status_in, line_in, entry_of, entries_of, entries_from, json_of_file, table_of, table_with, Gives, Reads};
+
+use crate::table::{TableEntry, TableFault};
+use bf_moment::is_long_moment;
+use bf_try::copied;
+use bf_value::{Sequence, Text, last_line};
+use serde_json::{Map, Value};
+use std::alloc::Global;
+
+/// How many bytes a table may have.
+pub const LONGEST_TABLE: usize = 8_388_608;
+
+fn is_key(name: &str) -> bool
+    ensures { result ≡ key name.now }
+{
+    matches!(name, "task" | "index" | "run" | "try" | "status" | "out")
+}
+
+fn are_keys(members: &Map<String, Value>) -> bool
+    ensures { result ≡ list_all (λ name. key (string_bytes name)) (keys members.now) }
+{
+    members.keys().all(|name| is_key(name.as_str()))
+}
+
+fn has_known_keys(members: &Map<String, Value>) -> bool
+    ensures { result ≡ known_keys (members_view members.now.entries) }
+{
+    are_keys(members)
+}
+
+fn is_entry(value: &Value) -> bool
+    ensures { result ≡ entry (view value.now) }
+{
+    match value.as_object() {
+        Some(members) => has_known_keys(members),
+        None => false,
+    }
+}
+
+fn object_at(number: u32, value: &Value) -> Result<(), TableFault>
+    ensures { Reads (Some number) (λ u. u) result (if entry (view value.now) then Some tt else None) }
+{
+    if is_entry(value) {
+        Ok(())
+    } else {
+        Err(TableFault::BadTable(Some(number)))
+    }
+}
+
+fn text_at<'a>(number: u32, value: &'a Value) -> Result<&'a str, TableFault>
+    ensures { Reads (Some number) (λ t. t.now) result (as_str (view value.entry.now)) }
+{
+    value.as_str().ok_or(TableFault::BadTable(Some(number)))
+}
+
+fn number_at(number: u32, value: &Value) -> Result<i64, TableFault>
+    ensures { Reads (Some number) (λ n. n) result (number_of (view value.now)) }
+{
+    value.as_i64().ok_or(TableFault::BadTable(Some(number)))
+}
+
+fn named_task(alloc: Global, number: u32, value: Option<&Value>) -> Result<Option<Text>, TableFault>
+    ensures { Reads (Some number) (λ t. t) result (if_there as_str (option_map (λ v. view v.now) value.entry)) }
+{
+    let Some(value) = value else {
+        return Ok(None);
+    };
+    let text = text_at(number, value)?;
+    Ok(Some(Text::copied(alloc, text)?))
+}
+
+fn named_number(number: u32, value: Option<&Value>) -> Result<Option<i64>, TableFault>
+    ensures { Reads (Some number) (λ n. n) result (if_there number_of (option_map (λ v. view v.now) value.entry)) }
+{
+    let Some(value) = value else {
+        return Ok(None);
+    };
+    Ok(Some(number_at(number, value)?))
+}
+
+fn date_at<'a>(number: u32, value: &'a Value) -> Result<&'a str, TableFault>
+    ensures { Reads (Some number) (λ t. t.now) result (date_in (view value.entry.now)) }
+{
+    let text = text_at(number, value)?;
+    if is_long_moment(text) {
+        Ok(text)
+    } else {
+        Err(TableFault::BadTable(Some(number)))
+    }
+}
+
+fn named_run(alloc: Global, number: u32, value: Option<&Value>) -> Result<Option<Text>, TableFault>
+    ensures { Reads (Some number) (λ t. t) result (if_there date_in (option_map (λ v. view v.now) value.entry)) }
+{
+    let Some(value) = value else {
+        return Ok(None);
+    };
+    let date = date_at(number, value)?;
+    Ok(Some(Text::copied(alloc, date)?))
+}
+
+fn line_at(alloc: Global, number: u32, value: Option<&Value>) -> Result<Sequence<u8>, TableFault>
+    ensures { Reads (Some number) (λ line. line) result (line_in (option_map (λ v. view v.now) value.entry)) }
+{
+    let Some(value) = value else {
+        return Ok(Sequence::new(alloc));
+    };
+    let out = text_at(number, value)?;
+    Ok(copied(alloc, last_line(out.as_bytes()))?)
+}
+
+fn status_at(number: u32, value: Option<&Value>) -> Result<u8, TableFault>
+    ensures { Reads (Some number) (λ n. n) result (status_in (option_map (λ v. view v.now) value.entry)) }
+{
+    let Some(value) = value else {
+        return Ok(0);
+    };
+    match value.as_i64() {
+        Some(status @ 0..=255) => Ok(status as u8),
+        _ => Err(TableFault::BadTable(Some(number))),
+    }
+}
+
+#[tactic(auto, unfolding(crate::specs::Tables::entry_of))]
+fn entry_at(alloc: Global, number: u32, value: &Value) -> Result<TableEntry, TableFault>
+    ensures { Reads (Some number) (λ e. e) result (entry_of (view value.now)) }
+{
+    object_at(number, value)?;
+    let task = named_task(alloc, number, value.get("task"))?;
+    let index = named_number(number, value.get("index"))?;
+    let run = named_run(alloc, number, value.get("run"))?;
+    let attempt = named_number(number, value.get("try"))?;
+    let status = status_at(number, value.get("status"))?;
+    let line = line_at(alloc, number, value.get("out"))?;
+    Ok(TableEntry {
+        task,
+        index,
+        run,
+        attempt,
+        status,
+        line,
+    })
+}
+
+fn entries_in(alloc: Global, items: &[Value]) -> Result<Vec<TableEntry>, TableFault>
+    requires { length items.now < 2 ^ 32 }
+    ensures { Gives (λ v. v.items) result (entries_from 0 (entries_of (items_view items.now))) }
+{
+    let mut entries = Vec::new(alloc);
+    for (number, item) in items.iter().enumerate() {
+        entries.push(entry_at(alloc, number as u32, item)?)?;
+    }
+    Ok(entries)
+}
+
+#[tactic(auto, unfolding(crate::specs::Tables::json_of_file))]
+fn json_of(alloc: Global, bytes: &[u8]) -> Result<Value, TableFault>
+    ensures { Reads None (λ v. view v) result (json_of_file bytes.now) }
+{
+    if bytes.len() > LONGEST_TABLE {
+        return Err(TableFault::BadTable(None));
+    }
+    match Value::from_slice(alloc, bytes) {
+        Ok(json) => Ok(json),
+        Err(e) => {
+            if e.is_memory() {
+                return Err(TableFault::OutOfMemory);
+            }
+            Err(TableFault::BadTable(None))
+        }
+    }
+}
+
+fn entries_of_json(alloc: Global, json: &Value) -> Result<Vec<TableEntry>, TableFault>
+    requires { ForSome (as_array (view json.now)) (λ items. items_len items < 2 ^ 32) }
+    ensures { Gives (λ v. v.items) result (table_with (as_array (view json.now))) }
+{
+    match json.as_array() {
+        Some(items) => entries_in(alloc, items.as_slice()),
+        None => Err(TableFault::BadTable(None)),
+    }
+}
+
+#[tactic(auto, unfolding(crate::specs::Tables::table_of))]
+pub(crate) fn entries_of_file(alloc: Global, bytes: &[u8]) -> Result<Vec<TableEntry>, TableFault>
+    ensures { Gives (λ v. v.items) result (table_of bytes.now) }
+{
+    let json = json_of(alloc, bytes)?;
+    entries_of_json(alloc, &json)
+}

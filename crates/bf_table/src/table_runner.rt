@@ -1,0 +1,220 @@
+//! A runner that answers by a table.
+ghost use Rattle.std.specs.Prelude.{◌≡◌, [], All, IfOk, find, option_and_then, option_copied, slice_get, slice_index_or, length, IfNone, IfSome};
+ghost use Rattle.std.specs.BTreeMap as tree;
+ghost use Rattle.bf_table.specs.TableIndex.{first_of_keys, keys_for, pattern_cmp, IsIndexOf};
+ghost use Rattle.bf_plan.specs.Plans.{task_of};
+ghost use Rattle.bf_moment.specs.Moment.{IsShown};
+ghost use Rattle.bf_table.specs.Tables.{answer_of, answers_for as is_for, dates_of as dates_in, is_number as number_is, is_text as text_is, raw_of as raw_in};
+
+use crate::table::{Table, TableEntry};
+use crate::table_index::{Firsts, Pattern, first_for, firsts_of};
+use bf_graph::Graph;
+use bf_moment::moment_bytes;
+use bf_plan::Plan;
+use bf_try::{Done, Raw, RunnerFault, TaskRunner, Ticket, copied};
+use bf_value::{JobName, OutOfMemory, Sequence, Text};
+use jiff::Timestamp;
+use std::alloc::Global;
+use std::marker::Model;
+
+/// Answers tries by a table: the first entry that answers for a try gives its status and its line; without one the status
+/// is 0 and the line empty.
+#[derive(Drop)]
+pub struct TableRunner<'a> {
+    alloc: Global,
+    table: Table,
+    plan: &'a Plan,
+    /// The logical dates of the runs, as reports spell them.
+    dates: Vec<[u8; 20]>,
+    firsts: Firsts,
+}
+
+impl<'a> Model for TableRunner<'a> {
+    ghost use Rattle.std.specs.Coded.{codes};
+    ghost use Rattle.bf_plan.specs.Plans.{shape_of};
+    ghost use Rattle.bf_plan.specs.contracts.plan.Dag as d;
+    ghost use Rattle.bf_table.specs.contracts.table.TableEntry as e;
+    ghost use Rattle.bf_table.specs.Tables.{Answering};
+    ghost use Rattle.bf_table.specs.TableIndex.{IsIndexOf};
+
+    ghost Value = { Answering };
+
+    ghost coded = { Prim.hlevel (codes, d.the_row.coded, e.the_row.coded) };
+
+    ghost view = { λ r. record { dag = r.plan.now.dag; dates = r.dates.items; entries = r.table } };
+
+    ghost invariant = { λ r. IsIndexOf (shape_of r.plan.now.dag).ids r.table r.firsts };
+}
+
+fn is_text(named: &Option<Text>, text: &[u8]) -> bool
+    ensures { result ≡ text_is named.now text.now }
+{
+    match named {
+        Some(named) => named.as_str().as_bytes() == text,
+        None => true,
+    }
+}
+
+fn is_number(named: Option<i64>, number: i64) -> bool
+    ensures { result ≡ number_is named number }
+{
+    match named {
+        Some(named) => named == number,
+        None => true,
+    }
+}
+
+fn answers_for(id: &[u8], date: &[u8], name: JobName, entry: &TableEntry) -> bool
+    ensures { result ≡ is_for id.now date.now name entry.now }
+{
+    is_text(&entry.task, id)
+        && is_text(&entry.run, date)
+        && is_number(entry.index, i64::from(name.index))
+        && is_number(entry.attempt, i64::from(name.attempt))
+}
+
+// A try of no task of the plan, or of no run, is looked up one entry after the other.
+fn scanned<'a>(
+    entries: &'a [TableEntry],
+    id: &[u8],
+    date: &[u8],
+    name: JobName,
+) -> Option<&'a TableEntry>
+    ensures { option_copied result ≡ find (is_for id.now date.now name) entries.entry.now }
+{
+    entries
+        .iter()
+        .find(|entry| answers_for(id, date, name, entry))
+}
+
+fn indexed<'a>(entries: &'a [TableEntry], firsts: &Firsts, asked: Pattern) -> Option<&'a TableEntry>
+    ensures { option_copied result ≡ option_and_then (slice_get entries.entry.now) (first_of_keys (tree.get pattern_cmp firsts.now) (keys_for asked)) }
+{
+    match first_for(firsts, asked) {
+        Some(number) => entries.get(number),
+        None => None,
+    }
+}
+
+fn entry_in_run<'a>(
+    entries: &'a [TableEntry],
+    firsts: &Firsts,
+    graph: &Graph,
+    id: &str,
+    date: [u8; 20],
+    name: JobName,
+) -> Option<&'a TableEntry>
+    requires index { IsIndexOf graph.now.ids entries.now firsts.now }
+    requires long { length date ≡ 20 }
+    ensures { option_copied result ≡ find (is_for id.now date name) entries.entry.now }
+{
+    match graph.number_of(id) {
+        Some(task) => indexed(entries, firsts, Pattern::of_try(task, date, name)),
+        None => scanned(entries, id.as_bytes(), &date, name),
+    }
+}
+
+#[tactic(auto, unfolding(bf_plan::specs::Plans::task_of))]
+fn id_of(plan: &Plan, task: u32) -> &str
+    ensures { result.now ≡ (task_of plan.now.dag task).id }
+{
+    match plan.dag().tasks.get(task as usize) {
+        Some(task) => task.id.as_str(),
+        None => "",
+    }
+}
+
+fn date_of(dates: &[[u8; 20]], run: u32) -> Option<[u8; 20]>
+    ensures some { IfSome result (λ date. (length date ≡ 20) × (slice_index_or dates.now run [] ≡ date)) }
+    ensures none { IfNone result (slice_index_or dates.now run [] ≡ []) }
+{
+    match dates.get(run as usize) {
+        Some(date) => {
+            let _bytes = date.as_slice();
+            Some(*date)
+        }
+        None => None,
+    }
+}
+
+fn dates_of(alloc: Global, starts: &[Timestamp]) -> Result<Vec<[u8; 20]>, OutOfMemory>
+    requires { All (λ start. IsShown start.nanosecond) starts.now }
+    ensures { IfOk result (λ dates. dates.items ≡ dates_in starts.now) }
+{
+    let mut dates = Vec::with_capacity(alloc, starts.len())?;
+    for start in starts {
+        dates.push(moment_bytes(*start))?;
+    }
+    Ok(dates)
+}
+
+fn raw_of(alloc: Global, entry: Option<&TableEntry>) -> Result<Raw, OutOfMemory>
+    ensures { IfOk result (λ raw. raw ≡ raw_in (option_copied entry.entry)) }
+{
+    match entry {
+        Some(entry) => {
+            let line = copied(alloc, entry.line.as_slice())?;
+            Ok(Raw::with_code(i32::from(entry.status), line))
+        }
+        None => Ok(Raw::with_code(0, Sequence::new(alloc))),
+    }
+}
+
+impl<'a> TableRunner<'a> {
+    ghost use Rattle.std.specs.Prelude.{All};
+
+    /// A runner that answers by the table, for the tasks of the plan and for runs with these starts.
+    pub fn new(
+        alloc: Global,
+        table: Table,
+        plan: &'a Plan,
+        starts: &[Timestamp],
+    ) -> Result<TableRunner<'a>, OutOfMemory>
+        requires { All (λ start. IsShown start.nanosecond) starts.now }
+        ensures { IfOk result (λ runner. runner ≡ record { dag = plan.now.dag; dates = dates_in starts.now; entries = table }) }
+    {
+        let dates = dates_of(alloc, starts)?;
+        let firsts = firsts_of(alloc, plan.graph(), table.as_slice())?;
+        Ok(TableRunner {
+            alloc,
+            table,
+            plan,
+            dates,
+            firsts,
+        })
+    }
+
+    fn entry_for(&self, name: JobName) -> Option<&TableEntry>
+        ensures { option_copied result ≡ find (is_for (task_of self.now.dag name.task).id (slice_index_or self.now.dates name.run []) name) self.now.entries }
+    {
+        let id = id_of(self.plan, name.task);
+        let entries = self.table.as_slice();
+        match date_of(self.dates.as_slice(), name.run) {
+            Some(date) => entry_in_run(entries, &self.firsts, self.plan.graph(), id, date, name),
+            None => scanned(entries, id.as_bytes(), &[], name),
+        }
+    }
+
+    #[tactic(auto, unfolding(crate::specs::Tables::answer_of))]
+    fn answer(&self, name: JobName) -> Result<Raw, OutOfMemory>
+        ensures { IfOk result (λ raw. raw ≡ answer_of self.now name) }
+    {
+        raw_of(self.alloc, self.entry_for(name))
+    }
+}
+
+impl TaskRunner for TableRunner<'_> {
+    ghost use Rattle.std.specs.Prelude.{◌≡◌};
+    ghost use Rattle.bf_table.specs.Tables.{answer_of};
+
+    ghost may_answer = { λ s n g r. r ≡ answer_of s n };
+
+    ghost may_give_up = { λ s n g. ⊥ };
+
+    fn run(&self, ticket: Ticket) -> Result<Done, (Ticket, RunnerFault)> {
+        match self.answer(ticket.name()) {
+            Ok(raw) => Ok(ticket.answer(raw)),
+            Err(OutOfMemory) => Err((ticket, RunnerFault::OutOfMemory)),
+        }
+    }
+}
