@@ -14,7 +14,7 @@ use Rattle.bf_core.specs.Events.{IsPresent, cell_at, cell_in, given_in, given_of
 use Rattle.bf_core.specs.Cores.{Backfill, IsReplay}
 use Rattle.bf_core.specs.Running.{running_by_place, running_tries, sum_by_place, sum_of_running, while_running}
 use Rattle.bf_core.proofs.Placing.{read-row}
-use Rattle.bf_ready.proofs.Present.{place-named, present-named}
+use Rattle.bf_core.proofs.Named.{place-named, present-named}
 
 -- ---- a sum that isn't 0 has a member that isn't
 

@@ -6,7 +6,7 @@ use Rattle.bf_value.specs.declared.name.JobName.{JobName}
 use Rattle.bf_plan.specs.Plans.{task_of}
 use Rattle.bf_plan.specs.Sound.{demand_of, pool_size}
 use Rattle.bf_pool.specs.Weights.{total_weight_of}
-use Rattle.bf_try.specs.Tries.{map_index, name_of, place_of}
+use Rattle.bf_try.specs.Tries.{name_of}
 use Rattle.bf_core.specs.declared.event.Event.{Event}
 use Rattle.bf_core.specs.declared.state.Instance.{Instance}
 use Rattle.bf_core.specs.declared.state.Phase.{Phase}
@@ -14,8 +14,8 @@ use Rattle.bf_core.specs.Clocks.{IsTimely}
 use Rattle.bf_core.specs.Cores.{Backfill, IsReplay, MayCome, WaitsLater}
 use Rattle.bf_core.specs.Events.{IsPresent, cell_at, has_room, instance_of, occupied, place_in}
 use Rattle.bf_core.proofs.Enabling.{present-there}
-use Rattle.bf_core.proofs.Kept.{replay-invariant, replay-rows}
-use Rattle.bf_core.proofs.Stuck.{placed-in}
+use Rattle.bf_core.proofs.Kept.{replay-rows}
+use Rattle.bf_core.proofs.Named.{place-named, present-named}
 use Rattle.bf_waiting.specs.declared.batches.Batch.{Batch}
 use Rattle.bf_waiting.specs.declared.delays.Delay.{Delay}
 use Rattle.bf_waiting.specs.Choices.{IsFirstTry, IsNextMoment, IsNextTry, IsPreferred, NoTry}
@@ -32,17 +32,6 @@ use Rattle.bf_waiting.proofs.Moving.{named-so}
 -- ---- names
 
 module _ (b : Backfill) (is : IsReplay b) where
-  -- the present try of an instance that waits
-  place-named : (k t i : ℕ) (x : Instance) → instance_of (cell_at b.state k t) i ≡ Some x → place_in b.dag (name_of b.dag k t i x.attempt) ≡ i
-  unfolding name_of
-  place-named k t i x held = placed-in b.dag b.state (replay-invariant b is) k t i (cell_at b.state k t) refl x held
-
-  present-named : (k t i : ℕ) (x : Instance) → instance_of (cell_at b.state k t) i ≡ Some x → x.phase ≡ Phase.Waiting → IsPresent b.dag b.state (name_of b.dag k t i x.attempt) Phase.Waiting
-  unfolding name_of
-  present-named k t i x held waits =
-      let place : place_of (task_of b.dag t) (map_index (task_of b.dag t) i) ≡ i = placed-in b.dag b.state (replay-invariant b is) k t i (cell_at b.state k t) refl x held in
-      record { held = x; is_held = rw place held; is_named = ap (map_index (task_of b.dag t)) place; is_present = refl; in_phase = waits }
-
   -- a try that may begin is of an instance that is ready
   ready-of : (m : JobName) → MayCome b (Event.Begin m) → IsReadyAt b m.run m.task (place_in b.dag m)
   ready-of m able = record {
@@ -64,7 +53,7 @@ module _ (b : Backfill) (is : IsReplay b) where
 
   -- and back
   later-of : (k t i : ℕ) (m : ℤ) (d : IsDelayedAt b k t i m) → WaitsLater b (name_of b.dag k t i d.held.attempt)
-  later-of k t i m d = record { waits = present-named k t i d.held d.is_held d.waits; moment = m; is_moment = d.is_moment; is_later = d.is_later }
+  later-of k t i m d = record { waits = present-named b is k t i d.held d.is_held Phase.Waiting d.waits; moment = m; is_moment = d.is_moment; is_later = d.is_later }
 
 -- ---- rooms
 
@@ -101,7 +90,7 @@ module _ (b : Backfill) (weights class_of : List ℕ) (classes : List Waits) (ke
       n = name_of b.dag x.run.0 x.task.0 x.first.0 r.held.attempt
 
       present : IsPresent b.dag b.state n Phase.Waiting
-      present = present-named b kept.replayed x.run.0 x.task.0 x.first.0 r.held r.is_held r.waits
+      present = present-named b kept.replayed x.run.0 x.task.0 x.first.0 r.held r.is_held Phase.Waiting r.waits
 
       same_task : n.task ≡ x.task.0
       same_task = refl

@@ -1,7 +1,0 @@
-use Rattle.std.proofs.Common.{arith}
-use Rattle.bf_core.proofs.Kept.{replay-rows}
-use Rattle.bf_ready.proofs.Soonest.{all-passed}
-use Rattle.bf_ready.proofs.moments.next_moment.Goals as goal
-
-pub returns : goal.returns
-returns c = all-passed c.args.core.now (replay-rows _ c.journal-replayed.ensures.replayed) c.loop-run.run (omega (arith, c.loop-run-test.false, c.runs-run-end.ensures.runs)) c.loop-run.soonest c.loop-run.invariant

@@ -1,5 +1,0 @@
-use Rattle.bf_ready.specs.Looks.{IsSoonest, IsTryBefore}
-use Rattle.bf_ready.proofs.moments.next_moment.Given as goal
-
-abbrev pub invariant-loop-run : goal.invariant-loop-run
-invariant-loop-run l = IsSoonest l.core (IsTryBefore l.run 0) l.soonest

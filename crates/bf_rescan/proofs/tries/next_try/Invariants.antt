@@ -1,0 +1,5 @@
+use Rattle.bf_rescan.specs.Looks.{IsBest, IsTryBefore}
+use Rattle.bf_rescan.proofs.tries.next_try.Given as goal
+
+abbrev pub invariant-loop-run : goal.invariant-loop-run
+invariant-loop-run l = IsBest l.core (IsTryBefore l.run 0) l.best

@@ -1,0 +1,65 @@
+//! The moment to wait for.
+ghost use Rattle.std.specs.Prelude.{◌≡◌, ◌<◌, ◌≤◌, ◌+◌, length, Some};
+ghost use Rattle.bf_core.specs.Cores.{IsThere};
+ghost use Rattle.bf_core.specs.Events.{cell_at, instance_of};
+ghost use Rattle.bf_waiting.specs.Choices.{IsNextMoment};
+ghost use Rattle.bf_rescan.specs.Looks.{IsSoonest, IsTryAt, IsTryBefore, IsTryOf};
+
+use bf_core::{Core, Instance, Phase, name_of};
+use bf_waiting::{instances_of, sooner};
+
+/// The later moment for which the instance at a place waits.
+fn moment_at(core: &Core<'_>, run: u32, task: u32, place: usize, instance: &Instance) -> Option<i64>
+    requires few { place ≤ 1_024 }
+    requires held { instance_of (cell_at core.now.state run task) place ≡ Some instance.now }
+    ensures { IsSoonest core.now (IsTryAt core.now.dag run task place) result }
+{
+    let _replayed = core.journal();
+    if !matches!(instance.phase, Phase::Waiting) {
+        return None;
+    }
+    core.moment(name_of(core.plan().dag(), run, task, place, instance.attempt))
+}
+
+/// The least of the later moments for which the instances of a task wait.
+fn soonest_of_task(core: &Core<'_>, run: u32, task: u32) -> Option<i64>
+    requires { IsThere core.now.dag core.now.state run task }
+    ensures { IsSoonest core.now (IsTryOf run task) result }
+{
+    let instances = instances_of(core, run, task);
+    let mut soonest = None;
+    for place in 0..instances.len() {
+        soonest = sooner(
+            soonest,
+            moment_at(core, run, task, place, &instances[place]),
+        );
+    }
+    soonest
+}
+
+/// The least of the later moments of the earlier runs and of this one.
+fn soonest_of_run(core: &Core<'_>, run: u32, earlier: Option<i64>) -> Option<i64>
+    requires run { run < length core.now.state.runs }
+    requires earlier { IsSoonest core.now (IsTryBefore run 0) earlier }
+    ensures { IsSoonest core.now (IsTryBefore (run + 1) 0) result }
+{
+    let _replayed = core.journal();
+    let mut soonest = earlier;
+    for task in 0..core.plan().dag().tasks.len() {
+        soonest = sooner(soonest, soonest_of_task(core, run, task as u32));
+    }
+    soonest
+}
+
+/// The least of the later moments for which tries wait, in seconds since 1970: at it one of them may begin, as far as
+/// the clock goes.
+pub fn next_moment(core: &Core<'_>) -> Option<i64>
+    ensures { IsNextMoment core.now result }
+{
+    let _replayed = core.journal();
+    let mut soonest = None;
+    for run in 0..core.runs() {
+        soonest = soonest_of_run(core, run, soonest);
+    }
+    soonest
+}

@@ -1,0 +1,99 @@
+//! The try that begins next.
+ghost use Rattle.std.specs.Prelude.{◌≡◌, ◌<◌, ◌≤◌, ◌+◌, length, Some};
+ghost use Rattle.bf_core.specs.Cores.{IsThere};
+ghost use Rattle.bf_core.specs.Events.{cell_at, instance_of};
+ghost use Rattle.bf_waiting.specs.Choices.{IsNextTry};
+ghost use Rattle.bf_rescan.specs.Looks.{AreWeights, IsBest, IsTryAt, IsTryBefore, IsTryOf, better_of};
+
+use bf_core::{Core, Instance, name_of};
+use bf_value::JobName;
+use bf_waiting::{instances_of, weight_of};
+
+/// The second try where it weighs more, else the first.
+fn better(weights: &[u32], best: Option<JobName>, found: Option<JobName>) -> Option<JobName>
+    ensures { result ≡ better_of weights.now best found }
+{
+    match (best, found) {
+        (None, found) => found,
+        (Some(best), None) => Some(best),
+        (Some(best), Some(found)) => {
+            if weight_of(weights, best.task) < weight_of(weights, found.task) {
+                Some(found)
+            } else {
+                Some(best)
+            }
+        }
+    }
+}
+
+/// The present try of the instance at a place, where it may begin.
+fn try_at(
+    core: &Core<'_>,
+    run: u32,
+    task: u32,
+    place: usize,
+    instance: &Instance,
+) -> Option<JobName>
+    requires few { place ≤ 1_024 }
+    requires held { instance_of (cell_at core.now.state run task) place ≡ Some instance.now }
+    ensures { IsBest core.now (IsTryAt core.now.dag run task place) result }
+{
+    let _replayed = core.journal();
+    let name = name_of(core.plan().dag(), run, task, place, instance.attempt);
+    if core.may_begin(name) {
+        Some(name)
+    } else {
+        None
+    }
+}
+
+/// The first try of a task in a run that may begin.
+fn first_of_task(core: &Core<'_>, run: u32, task: u32) -> Option<JobName>
+    requires { IsThere core.now.dag core.now.state run task }
+    ensures { IsBest core.now (IsTryOf run task) result }
+{
+    if !core.has_room(task) {
+        return None;
+    }
+    let instances = instances_of(core, run, task);
+    for place in 0..instances.len() {
+        if let Some(name) = try_at(core, run, task, place, &instances[place]) {
+            return Some(name);
+        }
+    }
+    None
+}
+
+/// The best try of the earlier runs and of this one.
+fn best_of_run(
+    core: &Core<'_>,
+    weights: &[u32],
+    run: u32,
+    earlier: Option<JobName>,
+) -> Option<JobName>
+    requires weights { AreWeights core.now.dag core.now.limits weights.now }
+    requires run { run < length core.now.state.runs }
+    requires earlier { IsBest core.now (IsTryBefore run 0) earlier }
+    ensures { IsBest core.now (IsTryBefore (run + 1) 0) result }
+{
+    let _replayed = core.journal();
+    let mut best = earlier;
+    for task in 0..core.plan().dag().tasks.len() {
+        best = better(weights, best, first_of_task(core, run, task as u32));
+    }
+    best
+}
+
+/// The try that begins next: of those that may begin now the one of the greatest total weight, and of several the first
+/// by run, in the order of the file and by map index. `weights` has the total weight of each task.
+pub fn next_try(core: &Core<'_>, weights: &[u32]) -> Option<JobName>
+    requires weights { AreWeights core.now.dag core.now.limits weights.now }
+    ensures { IsNextTry core.now result }
+{
+    let _replayed = core.journal();
+    let mut best = None;
+    for run in 0..core.runs() {
+        best = best_of_run(core, weights, run, best);
+    }
+    best
+}
