@@ -10,6 +10,7 @@ ghost use Rattle.bf_read.specs.Fields.{member_of, there as place, graph_member, 
 use crate::fault::ReadFault;
 use crate::keys::{GraphKey, TaskKey, is_graph_key, is_task_key};
 use crate::path::Path;
+use bf_plan::is_id;
 use bf_value::Text;
 use serde_json::{Map, Value};
 use std::alloc::Global;
