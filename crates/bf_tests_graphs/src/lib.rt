@@ -1,5 +1,5 @@
 //! Tests of what is read off graphs: trigger rules and weights. The plans of graph files are lent to the tests of the crates
-//! above; what is told of the files themselves is compared by tests/graph_files.sh.
+//! above; what is told of the files themselves is compared by tests/rows/graph_files.sh.
 #![tactic(auto)]
 
 mod plans;

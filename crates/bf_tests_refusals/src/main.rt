@@ -1,5 +1,5 @@
 //! Two backfills of which each call is made again where memory was wanting: whichever request for memory is refused, they come
-//! to the same events, and a refused call leaves all as it was. It prints the events; tests/refusals.sh refuses each request in
+//! to the same events, and a refused call leaves all as it was. It prints the events; tests/toolchain/calls_made_again.sh refuses each request in
 //! turn.
 #![tactic(auto)]
 

@@ -1,4 +1,4 @@
-//! Data intervals: which ones a range has. Those where a clock changes stand in tests/rows.sh too.
+//! Data intervals: which ones a range has. Those where a clock changes stand in tests/rows/small_graphs.sh too.
 use crate::zones::CENTRAL_EUROPE;
 use bf_cron::CronSpec;
 use bf_interval::{Interval, IntervalFault, intervals};
