@@ -1,9 +1,8 @@
 -- Lists, looked at one after another.
-use Rattle.std.proofs.Common.{◌≡◌, ◌⊎◌, inl, inr, ℕ, zero, suc, ◌<◌, ◌+◌, List, [], ◌∷◌, ◌++◌, length, get_or, slice_get, map, take, drop, Contains, subst, Bool, true, false, cond, nat_lt, Option, Some, None, is_none, option_map, unwrap_or, refl, sym, ap, ◌∙◌, arith, add-one}
-use Rattle.std.specs.List.{filter_map, join_with_byte, list_any, position, position_or_len, zip}
+use Rattle.std.proofs.Common.{◌≡◌, ◌⊎◌, inl, inr, ℕ, zero, suc, ◌<◌, ◌+◌, List, [], ◌∷◌, ◌++◌, length, get_or, slice_get, map, take, drop, Contains, subst, Bool, true, false, cond, nat_lt, Option, Some, None, is_none, option_map, refl, sym, ap, ◌∙◌, arith, add-one}
+use Rattle.std.specs.List.{filter_map, join_with_byte, position, position_or_len, zip}
 use Rattle.std.proofs.lemmas.Bool.{cases_lt, lt-ltb, ltb-true, ltb-false, false_from_ne_true}
 use Rattle.std.proofs.lemmas.List.{append_assoc, get_or_default, map_push}
-use Rattle.std.proofs.lemmas.List.Folds.{list_any_at}
 use Rattle.std.proofs.lemmas.List.Sums.{position_or_len_is, fails_before_first}
 use Rattle.std.proofs.lemmas.Option.{get_or_from_slice_get, slice_get_read, slice_get_within}
 use Rattle.std.proofs.Math.Seq.{take-suc}

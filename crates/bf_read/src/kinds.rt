@@ -1,5 +1,4 @@
 //! The kind and the weight rule of a task.
-ghost use Rattle.std.specs.Prelude.{◌≡◌};
 ghost use Rattle.bf_read.specs.Gives.{Gives};
 ghost use Rattle.bf_read.specs.Fields.{member_of, kind_at as kind, weight_rule_at as weight_rule};
 

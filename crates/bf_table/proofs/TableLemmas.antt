@@ -1,5 +1,5 @@
 -- Reading the entries of a table.
-use Rattle.std.proofs.Common.{◌≡◌, ℕ, zero, suc, ◌<◌, ◌≤◌, ◌+◌, Bool, true, false, ◌&&◌, if◌then◌else◌, IsUtf8, List, [], ◌∷◌, ◌++◌, length, get_or, drop, slice_get, slice_index_or, Option, Some, None, Result, Ok, Err, String, Global, string_bytes, refl, ap}
+use Rattle.std.proofs.Common.{◌≡◌, ℕ, ◌<◌, ◌≤◌, ◌+◌, Bool, true, false, ◌&&◌, if◌then◌else◌, IsUtf8, List, [], ◌∷◌, ◌++◌, length, get_or, drop, Option, Some, None, Result, Ok, Err, String, Global, string_bytes, refl, ap}
 use Rattle.std.specs.List.{list_all}
 use Rattle.std.specs.Map.{keys_of}
 use Rattle.std.specs.Str.{is_utf8}
@@ -9,9 +9,6 @@ use Rattle.serde_json.specs.Data.{Data}
 use Rattle.serde_json.specs.Read.{read}
 use Rattle.serde_json.specs.View.{view, items_view, members_view}
 use Rattle.serde_json.specs.declared.value.Value.{Value}
-use Rattle.bf_plan.specs.declared.plan.Task.{Task}
-use Rattle.bf_plan.specs.declared.plan.Dag.{Dag}
-use Rattle.bf_plan.specs.Plans.{no_task, task_of}
 use Rattle.bf_value.proofs.ReadLemmas.{drop-item}
 use Rattle.bf_table.specs.declared.table.TableEntry.{TableEntry}
 use Rattle.bf_table.specs.declared.table.TableFault.{TableFault}

@@ -3,7 +3,6 @@ use Rattle.std.proofs.Common.{◌≡◌, ℕ, ◌+◌, ◌<◌, ℤ, true, nat_l
 use Rattle.std.proofs.lemmas.Option.{slice_get_within}
 use Rattle.std.specs.FinMap as map
 use Rattle.bf_value.specs.declared.name.JobName.{JobName}
-use Rattle.bf_plan.specs.Plans.{task_of}
 use Rattle.bf_plan.specs.Sound.{demand_of, pool_size}
 use Rattle.bf_pool.specs.Weights.{total_weight_of}
 use Rattle.bf_try.specs.Tries.{name_of}
@@ -12,7 +11,7 @@ use Rattle.bf_core.specs.declared.state.Instance.{Instance}
 use Rattle.bf_core.specs.declared.state.Phase.{Phase}
 use Rattle.bf_core.specs.Clocks.{IsTimely}
 use Rattle.bf_core.specs.Cores.{Backfill, IsReplay, MayCome, WaitsLater}
-use Rattle.bf_core.specs.Events.{IsPresent, cell_at, has_room, instance_of, occupied, place_in}
+use Rattle.bf_core.specs.Events.{IsPresent, has_room, occupied, place_in}
 use Rattle.bf_core.proofs.Enabling.{present-there}
 use Rattle.bf_core.proofs.Kept.{replay-rows}
 use Rattle.bf_core.proofs.Named.{place-named, present-named}
