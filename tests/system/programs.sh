@@ -73,18 +73,72 @@ b -1 success 1 -
 LINES
 done
 
+# So they do where a task above them is cleared.
+
+clears_first() {
+    local workers=$1
+    answers 0 clear "$graph" "$work/report" --task first --run 2024-01-01 "${day[@]}" --workers "$workers" < "$work/report"
+}
+tasks "{\"id\":\"first\",\"command\":[]},
+  {\"id\":\"a\",\"upstream\":[\"first\"],\"command\":[\"sh\",\"-c\",\"echo > $work/one; cat $work/other\"]},
+  {\"id\":\"b\",\"upstream\":[\"first\"],\"command\":[\"sh\",\"-c\",\"cat $work/one; echo > $work/other\"]}"
+one_day success > "$work/report" <<'LINES'
+first -1 success 1 -
+a -1 success 1 -
+b -1 success 1 -
+LINES
+for workers in 2 8; do
+    clears_first "$workers"
+done
+
+# By one worker each program finds that no other runs, where a task above them is cleared too.
+
+alone() {
+    echo "[\"sh\",\"-c\",\"mkdir $work/only && sleep 0.05 && rmdir $work/only\"]"
+}
+tasks "{\"id\":\"first\",\"command\":[]}$(for task in a b c d; do
+    echo ",{\"id\":\"$task\",\"upstream\":[\"first\"],\"command\":$(alone)}"
+done)"
+{
+    echo 'first -1 success 1 -'
+    printf '%s -1 success 1 -\n' a b c d
+} > "$work/instances"
+ends_by 1 success < "$work/instances"
+one_day success < "$work/instances" > "$work/report"
+clears_first 1
+
+# A failed try is made again once its delay has passed. The clock goes by whole seconds, so a delay of 2 takes more than 1.
+
+tasks "{\"id\":\"a\",\"retries\":1,\"retry_delay\":2,\"command\":[\"sh\",\"-c\",\"date +%s%3N >> $work/moments; test \\\"\$0\\\" = 2\",{\"context\":\"try_number\"}]}"
+for workers in 1 2 8; do
+    rm -f "$work/moments"
+    ends_by "$workers" success <<< 'a -1 success 2 -'
+    mapfile -t moments < "$work/moments"
+    rows=$((rows + 1))
+    [[ ${#moments[@]} -eq 2 && $((moments[1] - moments[0])) -gt 1000 ]] || differs "tries at the milliseconds ${moments[*]}, by $workers workers"
+done
+
 # Progress is told on standard error: the last line when all has ended, and others no more than once a second.
 
-tasks '{"id":"a","command":["false"]},{"id":"b","upstream":["a"],"command":[]},{"id":"c","command":["sleep","2.5"]}'
-for workers in 1 8; do
-    timeout 60 "$program" run "$graph" --from 2024-01-01 --to 2024-01-02 --workers "$workers" --progress > "$work/out" 2> "$work/err" || true
+tells_progress() {
+    local lines
+    timeout 60 "$program" "$@" --from 2024-01-01 --to 2024-01-02 --progress > "$work/out" 2> "$work/err" || true
     lines=$(wc -l < "$work/err")
     rows=$((rows + 1))
     if [[ $(tail -n 1 "$work/err") != 'runs 2/2 (0 open)  tasks 6/6  running 0  waiting 0  failed 2' || $lines -gt 7 ]] ||
         [[ $(grep -c '^@run .* failed$' "$work/out") -ne 2 ]]; then
-        differs "progress, by $workers workers"
+        differs "progress, of $*"
         cat "$work/err" "$work/out"
     fi
+}
+tasks '{"id":"a","command":["false"]},{"id":"b","upstream":["a"],"command":[]},{"id":"c","command":["sleep","2.5"]}'
+echo '[{"task":"a","status":1}]' > "$table"
+for workers in 1 8; do
+    tells_progress run "$graph" --workers "$workers"
+    cp "$work/out" "$work/report"
+    tells_progress dry "$graph" "$table" --workers "$workers"
+    tells_progress clear "$graph" "$work/report" --task a --run 2024-01-01 --workers "$workers"
+    tells_progress clear "$graph" "$work/report" --task a --run 2024-01-01 --table "$table" --workers "$workers"
 done
 
 # What many programs leave behind: while the last one runs, the runner has no dead child, and as many descriptors and threads as
@@ -106,7 +160,7 @@ many=$(left_by 500)
 # A pool of one slot: each program finds that no other of its pool runs.
 
 tasks "$(for task in a b c d; do
-    echo "{\"id\":\"$task\",\"command\":[\"sh\",\"-c\",\"mkdir $work/only && sleep 0.05 && rmdir $work/only\"],\"pool\":\"p\"},"
+    echo "{\"id\":\"$task\",\"command\":$(alone),\"pool\":\"p\"},"
 done | sed '$ s/,$//')"
 sed -i 's/"schedule"/"pools":{"p":1},"schedule"/' "$graph"
 ends_in success <<'LINES'
