@@ -1,5 +1,5 @@
 //! Clearing.
-ghost use Rattle.std.specs.Prelude.{◌≡◌, ◌≤◌, length, None, IfOk, IfErr};
+ghost use Rattle.std.specs.Prelude.{◌≡◌, None, IfOk, IfErr};
 ghost use Rattle.bf_kept.specs.Kept.{AreFit};
 ghost use Rattle.bf_dependents.specs.Seeds.{places_of as places_in};
 ghost use Rattle.bf_clear.specs.Keeping.{kept_in, AreKept};
@@ -8,7 +8,7 @@ ghost use Rattle.bf_clear.specs.Matching.{clear_fault, refusal};
 use crate::cleared::Cleared;
 use crate::matching::is_report_of;
 use bf_dependents::{ClearFault, Seed, dependents, places_of, refuse_seeds};
-use bf_interval::Interval;
+use bf_interval::Runs;
 use bf_plan::Plan;
 use bf_report::Report;
 use std::alloc::Global;
@@ -17,21 +17,21 @@ use std::alloc::Global;
 /// task depends on its past, with the next run's: all that the report tells of and that isn't cleared, but for outcomes that the
 /// plan doesn't allow. Without seeds nothing is cleared.
 ///
-/// Refused is, in this order, a seed whose task is unknown, one whose run is, and a report that isn't one of the plan over the
-/// data intervals.
+/// Refused is, in this order, a seed whose task is unknown, one whose run is, and a report that isn't one of the plan over these
+/// runs.
 pub fn clear<'a>(
     alloc: Global,
     plan: &'a Plan,
-    intervals: &[Interval],
+    runs: &Runs,
     report: &'a Report,
     seeds: &[Seed],
 ) -> Result<Cleared<'a>, ClearFault>
-    requires few { length intervals.now ≤ 4_096 }
-    ensures ok { IfOk result (λ cleared. clear_fault plan.entry.now.dag intervals.now report.entry.now seeds.now ≡ None) }
-    ensures kept { IfOk result (λ cleared. AreKept plan.entry.now.dag (places_in plan.entry.now.dag intervals.now seeds.now) report.entry.now (kept_in cleared)) }
+    ensures ok { IfOk result (λ cleared. clear_fault plan.entry.now.dag runs.now report.entry.now seeds.now ≡ None) }
+    ensures kept { IfOk result (λ cleared. AreKept plan.entry.now.dag (places_in plan.entry.now.dag runs.now seeds.now) report.entry.now (kept_in cleared)) }
     ensures fit { IfOk result (λ cleared. AreFit plan.entry.now.dag (kept_in cleared)) }
-    ensures err { IfErr result (λ fault. clear_fault plan.entry.now.dag intervals.now report.entry.now seeds.now ≡ refusal fault) }
+    ensures err { IfErr result (λ fault. clear_fault plan.entry.now.dag runs.now report.entry.now seeds.now ≡ refusal fault) }
 {
+    let intervals = runs.intervals();
     refuse_seeds(plan, intervals, seeds)?;
     if !is_report_of(plan.dag(), intervals, report) {
         return Err(ClearFault::ReportMismatch);

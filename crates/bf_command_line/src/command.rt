@@ -5,7 +5,7 @@ ghost use Rattle.bf_command_line.specs.CommandLine.{answered_app, backfill_app, 
 ghost use Rattle.bf_command_line.specs.Drafts.{IsDraftOf};
 
 use crate::draft::Draft;
-use crate::workers::MOST_WORKERS;
+use bf_workers::MOST_WORKERS;
 use clap::error::ErrorKind;
 use clap::{Arg, ArgAction, Command, Error, value_parser};
 use std::alloc::{AllocError, Global};

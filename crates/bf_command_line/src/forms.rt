@@ -1,6 +1,6 @@
 //! What a command line asks for. Files are named by path, and moments stand as they were written.
 
-use crate::workers::Workers;
+use bf_workers::Workers;
 
 /// `GRAPH [--zone-file PATH]`: a graph file, and the zone file that its zone `file` means.
 #[derive(Drop)]

@@ -5,11 +5,9 @@ mod command;
 mod draft;
 mod forms;
 mod reading;
-mod workers;
 
 pub use forms::{
     Asked, ClearAsked, DryAsked, Format, GraphAsked, ListAsked, RangeAsked, RunAsked, SeedAsked,
     Shell, SingleAsked,
 };
 pub use reading::asked;
-pub use workers::Workers;

@@ -10,7 +10,7 @@ use crate::forms::{
     Asked, ClearAsked, DryAsked, Format, GraphAsked, ListAsked, RangeAsked, RunAsked, SeedAsked,
     Shell, SingleAsked,
 };
-use crate::workers::Workers;
+use bf_workers::Workers;
 use clap::{ArgMatches, Error};
 use std::alloc::{AllocError, Global};
 

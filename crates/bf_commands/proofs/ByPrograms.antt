@@ -1,5 +1,5 @@
 -- Backfills with the programs of the tasks.
-use Rattle.std.proofs.Common.{◌≡◌, ◌<◌, ℕ, Bool, List, None, Some, Option, refl, slice_get, length}
+use Rattle.std.proofs.Common.{◌≡◌, ◌<◌, List, None, Some, Option, refl, slice_get, length}
 use Rattle.std.proofs.lemmas.Option.{slice_get_within}
 use Rattle.bf_value.specs.declared.name.JobName.{JobName}
 use Rattle.bf_plan.specs.declared.plan.Dag.{Dag}
@@ -7,20 +7,12 @@ use Rattle.bf_plan.specs.declared.plan.Task.{Task}
 use Rattle.bf_xcom.specs.declared.values.Given.{Given}
 use Rattle.bf_process.specs.Words.{HoldsOfTry, IsLost, MayGiveUp}
 use Rattle.bf_interval.specs.declared.interval.Interval.{Interval}
-use Rattle.bf_core.specs.Events.{entry_in}
-use Rattle.bf_core.specs.declared.ended.Ended.{Ended}
 use Rattle.bf_core.specs.declared.fault.BackfillFault.{BackfillFault}
 use Rattle.bf_exec.specs.Faults.{MayFail}
 use Rattle.bf_command_fault.specs.declared.fault.CommandFault.{CommandFault}
 use Rattle.bf_command_fault.specs.declared.fault.CommandFault.TheVariants.{OutOfMemory, Stopped}
 use Rattle.bf_command_fault.specs.declared.stop.StopFault.{StopFault}
-use Rattle.bf_commands.specs.Programs.{Hearing, IsEndedBy, IsGivenUp, IsReportBy, IsStopOfOrWanting, IsToldOf, Losing}
-use Rattle.bf_commands.specs.Reported.{IsReportOf}
-
--- the report over the ledger of a backfill with programs that has ended
-pub reported : {may_hear : Hearing} {dag : Dag} {intervals : List Interval} {ended : Ended} → IsEndedBy may_hear dag intervals ended
-    → (text : List ℕ) (success : Bool) → IsReportOf dag intervals (entry_in ended.state.ledger) text success → IsReportBy may_hear dag intervals text success
-reported {ended = ended} is text success reports = record { ledger = ended.state.ledger; tries = is.outcome.tries; graded = is.graded; reported = reports }
+use Rattle.bf_commands.specs.Programs.{IsGivenUp, IsStopOf, IsStopOfOrWanting, IsToldOf, Losing}
 
 -- what is told of a fault that may be tells of a stop that may be
 module _ (may_give_up : JobName → Given → Type 0) (dag : Dag) where
@@ -41,3 +33,8 @@ given-up-there may_lose dag intervals name given may = go (slice_get dag.tasks n
     go : (o : Option Task) → slice_get dag.tasks name.task ≡ o → (i : Option Interval) → HoldsOfTry ⊥ (IsLost may_lose) dag name given o i → name.task < length dag.tasks
     go None e i holds = absurd holds
     go (Some task) e i holds = slice_get_within dag.tasks name.task task e
+
+-- a stop that may be for one reason may be for another
+pub stop_weaker : {P Q : JobName → Given → Type 0} → ((n : JobName) (g : Given) → P n g → Q n g) → (dag : Dag) (stop : StopFault) → IsStopOf P dag stop → IsStopOf Q dag stop
+stop_weaker is dag StopFault.CannotStart stops = tt
+stop_weaker is dag (StopFault.GaveUp task index attempt) (name, given, may, a, b, c) = (name, given, is name given may, a, b, c)

@@ -34,12 +34,12 @@ module _ (graph : List ℕ) (file table : Option (List ℕ)) (from to : ℤ) whe
 
 -- ---- the faults of what comes after it
 
-module _ (may_lose : Losing) (dag : Dag) (intervals : List Interval) (was : Report) (seed : Seed) (kept : Look) (is_kept : IsKeptOf dag intervals was seed kept) where
-  stops_again : (answers : Option (List TableEntry)) (fault : CommandFault) → IsStopOrWantingFrom kept may_lose answers dag intervals fault → IsFaultAgain may_lose answers dag intervals was seed fault
+module _ (alone : Bool) (may_lose : Losing) (dag : Dag) (intervals : List Interval) (was : Report) (seed : Seed) (kept : Look) (is_kept : IsKeptOf dag intervals was seed kept) where
+  stops_again : (answers : Option (List TableEntry)) (fault : CommandFault) → IsStopOrWantingFrom alone kept may_lose answers dag intervals fault → IsFaultAgain alone may_lose answers dag intervals was seed fault
   stops_again None =
-      stop_cases (IsFaultAgain may_lose None dag intervals was seed) (MayGiveUpAnew kept (MayGiveUp may_lose dag intervals)) dag (λ stop is. (kept, is_kept, is)) tt (λ n. tt)
-  stops_again (Some entries) = workers_cases (IsFaultAgain may_lose (Some entries) dag intervals was seed) (kept, is_kept, refl) tt (λ n. tt)
+      stop_cases (IsFaultAgain alone may_lose None dag intervals was seed) (MayGiveUpAnew kept (MayGiveUp may_lose dag intervals)) dag (λ stop is. (kept, is_kept, is)) tt (λ n. tt)
+  stops_again (Some entries) = workers_cases (IsFaultAgain alone may_lose (Some entries) dag intervals was seed) alone (λ started. (kept, is_kept, (refl, started))) tt (λ n. tt)
 
-  pub again_stop_in : (answers : Option (List TableEntry)) (r : Result Bool CommandFault) → IfErr r (IsStopOrWantingFrom kept may_lose answers dag intervals)
-      → IfErr r (IsFaultAgain may_lose answers dag intervals was seed)
+  pub again_stop_in : (answers : Option (List TableEntry)) (r : Result Bool CommandFault) → IfErr r (IsStopOrWantingFrom alone kept may_lose answers dag intervals)
+      → IfErr r (IsFaultAgain alone may_lose answers dag intervals was seed)
   again_stop_in answers r = IfErr-weaker r _ _ (stops_again answers)

@@ -1,5 +1,5 @@
 -- The faults of commands over bytes, and what they leave.
-use Rattle.std.proofs.Common.{◌≡◌, ℕ, ℤ, List, Bool, Option, Result, Ok, Err, IfErr, refl}
+use Rattle.std.proofs.Common.{◌≡◌, ℕ, ℤ, List, Bool, true, false, Option, None, Some, Result, Ok, Err, IfErr, refl, sym, ◌∙◌, subst, inl, inr}
 use Rattle.std.proofs.lemmas.Result.{IfErr-weaker}
 use Rattle.jiff.specs.declared.timestamp.Timestamp.{Timestamp}
 use Rattle.bf_value.specs.declared.name.JobName.{JobName}
@@ -17,8 +17,11 @@ use Rattle.bf_plan.specs.declared.plan.Dag.{Dag}
 use Rattle.bf_interval.specs.declared.fault.IntervalFault.{IntervalFault}
 use Rattle.bf_interval.specs.declared.fault.IntervalFault.TheVariants as interval
 use Rattle.bf_interval.specs.declared.interval.Interval.{Interval}
+use Rattle.bf_interval.specs.Runs.{IsNoRunAt, intervals_at}
 use Rattle.bf_interval.specs.Years.{IsInYears}
-use Rattle.bf_process.specs.Words.{MayGiveUp}
+use Rattle.bf_kept.specs.Kept.{MayGiveUpAnew, nothing}
+use Rattle.bf_process.specs.Words.{MayAnswer, MayGiveUp}
+use Rattle.bf_try.specs.Tries.{Look}
 use Rattle.bf_table.specs.declared.table.TableEntry.{TableEntry}
 use Rattle.bf_table.specs.declared.table.TableFault.{TableFault}
 use Rattle.bf_table.specs.Tables.{table_of}
@@ -29,29 +32,37 @@ use Rattle.bf_command_fault.specs.Refusal.{Leaves, of_cause, of_check, of_range,
 use Rattle.bf_command_fault.specs.declared.fault.CommandFault.{CommandFault}
 use Rattle.bf_command_fault.specs.declared.fault.CommandFault.TheVariants.{Table, Range, OutOfMemory, CannotWrite, Stopped}
 use Rattle.bf_command_fault.specs.declared.stop.StopFault.{StopFault}
+use Rattle.bf_commands.specs.Cleared.{IsStopOrWantingAnew, IsStopOrWantingFrom}
 use Rattle.bf_commands.specs.DatedRuns.{IsFaultOfDry, IsReportIn}
 use Rattle.bf_commands.specs.Graphs.{IsFaultIn, IsFileOf, IsPlanOf}
 use Rattle.bf_commands.specs.Lists.{HasListing, IsFaultOfList, IsRangeFault}
-use Rattle.bf_commands.specs.OneRun.{IsFaultOfSingle, IsReportAt, intervals_at}
-use Rattle.bf_commands.specs.OverTable.{IsReportOver, IsTableFault, IsWanting, IsWantingWorkers}
-use Rattle.bf_commands.specs.Programs.{Hearing, IsFaultOfRun, IsReportBy, IsRunReport, IsStopOf, IsStopOfOrWanting, IsStopOrWanting, Losing}
+use Rattle.bf_commands.specs.OneRun.{IsFaultOfSingle, IsReportAt}
+use Rattle.bf_commands.specs.OverTable.{AnswersByTable, IsReportOver, IsTableFault, IsWanting, IsWantingWorkers}
+use Rattle.bf_commands.specs.Programs.{Hearing, IsFaultOfRun, IsRunReport, IsStopOf, IsStopOfOrWanting, Losing}
+use Rattle.bf_commands.specs.Reported.{IsReportBy, IsReportFrom}
+use Rattle.bf_commands.proofs.ByPrograms.{stop_weaker}
+use Rattle.bf_commands.proofs.FromKept.{from_nothing}
 
 -- ---- the whole
 
-pub reported_at : {graph : List ℕ} {file : Option (List ℕ)} {table : List ℕ} {plan : Checked} {entries : List TableEntry} {at : Timestamp}
-    → IsPlanOf graph file plan → table_of table ≡ Ok entries → IsInYears at.nanosecond → (text : List ℕ) (success : Bool) → IsReportOver plan.dag entries (intervals_at at) text success
-    → IsReportAt graph file table at text success
-reported_at {entries = entries} is says years text success over =
-    record { draft = is.draft; entries = entries; graph_is = is.graph_is; table_says = says; in_years = years; reported = rw is.dag at over }
+pub reported_at : {graph : List ℕ} {file : Option (List ℕ)} {table : List ℕ} {plan : Checked} {entries : List TableEntry} {at : Timestamp} {runs : List Interval}
+    → IsPlanOf graph file plan → table_of table ≡ Ok entries → IsInYears at.nanosecond → runs ≡ intervals_at at → (text : List ℕ) (success : Bool)
+    → IsReportFrom nothing (AnswersByTable plan.dag entries runs) plan.dag runs text success → IsReportAt graph file table at text success
+reported_at {plan = plan} {entries = entries} {at = at} {runs = runs} is says years same text success from =
+    let over : IsReportOver plan.dag entries runs text success = from_nothing text success from in
+    record { draft = is.draft; entries = entries; graph_is = is.graph_is; table_says = says; in_years = years; reported = rw (is.dag, same) at over }
 
-module _ {graph : List ℕ} {file : Option (List ℕ)} {plan : Checked} {from to : ℤ} {found lent : List Interval} (is : IsPlanOf graph file plan) (listing : HasListing graph file from to (Ok found)) (same : lent ≡ found) where
-  pub reported_in : {table : List ℕ} {entries : List TableEntry} → table_of table ≡ Ok entries → (text : List ℕ) (success : Bool) → IsReportOver plan.dag entries lent text success
-      → IsReportIn graph file table from to text success
-  reported_in {entries = entries} says text success over =
-      record { draft = is.draft; entries = entries; found = found; graph_is = is.graph_is; table_says = says; listing = listing; reported = rw (is.dag, same) at over }
+module _ {graph : List ℕ} {file : Option (List ℕ)} {plan : Checked} {from to : ℤ} {found : List Interval} (is : IsPlanOf graph file plan) (listing : HasListing graph file from to (Ok found)) where
+  pub reported_in : {table : List ℕ} {entries : List TableEntry} → table_of table ≡ Ok entries → (text : List ℕ) (success : Bool)
+      → IsReportFrom nothing (AnswersByTable plan.dag entries found) plan.dag found text success → IsReportIn graph file table from to text success
+  reported_in {entries = entries} says text success from =
+      let over : IsReportOver plan.dag entries found text success = from_nothing text success from in
+      record { draft = is.draft; entries = entries; found = found; graph_is = is.graph_is; table_says = says; listing = listing; reported = rw is.dag at over }
 
-  pub reported_by : {may_hear : Hearing} (text : List ℕ) (success : Bool) → IsReportBy may_hear plan.dag lent text success → IsRunReport may_hear graph file from to text success
-  reported_by text success by = record { draft = is.draft; found = found; graph_is = is.graph_is; listing = listing; reported = rw (is.dag, same) at by }
+  pub reported_by : {may_hear : Hearing} (text : List ℕ) (success : Bool) → IsReportFrom nothing (MayAnswer may_hear plan.dag found) plan.dag found text success → IsRunReport may_hear graph file from to text success
+  reported_by {may_hear = may_hear} text success from =
+      let by : IsReportBy (MayAnswer may_hear plan.dag found) plan.dag found text success = from_nothing text success from in
+      record { draft = is.draft; found = found; graph_is = is.graph_is; listing = listing; reported = rw is.dag at by }
 
 -- ---- the faults of parts
 
@@ -83,10 +94,10 @@ module _ (P : CommandFault → Type 0) where
   wanting_cases memory write (CannotWrite n) is = write n
   wanting_cases memory write _ is = absurd is
 
-  -- so it is, or a worker's thread is wanting
-  pub workers_cases : P (Stopped StopFault.CannotStart) → P OutOfMemory → ((n : ℕ) → P (CannotWrite n)) → (fault : CommandFault) → IsWantingWorkers fault → P fault
-  workers_cases start memory write (Stopped StopFault.CannotStart) is = start
-  workers_cases start memory write fault is = wanting_cases memory write fault is
+  -- so it is, or where workers are started, the thread of one is wanting
+  pub workers_cases : (alone : Bool) → (alone ≡ false → P (Stopped StopFault.CannotStart)) → P OutOfMemory → ((n : ℕ) → P (CannotWrite n)) → (fault : CommandFault) → IsWantingWorkers alone fault → P fault
+  workers_cases alone start memory write (Stopped StopFault.CannotStart) is = start is
+  workers_cases alone start memory write fault is = wanting_cases memory write fault is
 
   -- a backfill with programs stops, or something is wanting
   pub stop_cases : (may_give_up : JobName → Given → Type 0) (dag : Dag) → ((stop : StopFault) → IsStopOf may_give_up dag stop → P (Stopped stop)) → P OutOfMemory → ((n : ℕ) → P (CannotWrite n))
@@ -117,38 +128,40 @@ module _ (graph : List ℕ) (file : Option (List ℕ)) (table : List ℕ) (at : 
   pub single_table : (plan : Checked) → IsPlanOf graph file plan → (fault : CommandFault) → IsTableFault table fault → IsFaultOfSingle graph file table at fault
   single_table plan said = table_cases (IsFaultOfSingle graph file table at) table (λ fault is. (said.draft, said.graph_is, is)) tt
 
-  pub single_moment : (plan : Checked) (entries : List TableEntry) → IsPlanOf graph file plan → table_of table ≡ Ok entries → ¬ (IsInYears at.nanosecond)
-      → IsFaultOfSingle graph file table at (Range IntervalFault.OutsideYears)
-  single_moment plan entries said says outside = (said.draft, said.graph_is, record { entries = entries; says = says }, refl, outside)
+  pub single_moment : (plan : Checked) (entries : List TableEntry) → IsPlanOf graph file plan → table_of table ≡ Ok entries → (fault : IntervalFault) → IsNoRunAt at fault
+      → IsFaultOfSingle graph file table at (of_range fault)
+  single_moment plan entries said says fault (inl outside) =
+      subst (λ (f : IntervalFault). IsFaultOfSingle graph file table at (of_range f)) (sym outside.0) (said.draft, said.graph_is, record { entries = entries; says = says }, refl, outside.1)
+  single_moment plan entries said says fault (inr memory) = subst (λ (f : IntervalFault). IsFaultOfSingle graph file table at (of_range f)) (sym memory) tt
 
-  pub single_wanting_in : (r : Result Bool CommandFault) → IfErr r IsWanting → IfErr r (IsFaultOfSingle graph file table at)
-  single_wanting_in r = IfErr-weaker r _ _ (wanting_cases (IsFaultOfSingle graph file table at) tt (λ n. tt))
+  -- the calling thread makes the tries
+  pub single_wanting_in : (alone : Bool) → alone ≡ true → (r : Result Bool CommandFault) → IfErr r (IsWantingWorkers alone) → IfErr r (IsFaultOfSingle graph file table at)
+  single_wanting_in alone is r = IfErr-weaker r _ _ (workers_cases (IsFaultOfSingle graph file table at) alone (λ started. (let bad : true ≡ false = sym is ∙ started in cc)) tt (λ n. tt))
 
 module _ (graph : List ℕ) (file : Option (List ℕ)) (table : List ℕ) (from to : ℤ) where
-  pub dry_table : (plan : Checked) → IsPlanOf graph file plan → (fault : CommandFault) → IsTableFault table fault → IsFaultOfDry graph file table from to fault
-  dry_table plan said = table_cases (IsFaultOfDry graph file table from to) table (λ fault is. (said.draft, said.graph_is, is)) tt
+  pub dry_table : (alone : Bool) (plan : Checked) → IsPlanOf graph file plan → (fault : CommandFault) → IsTableFault table fault → IsFaultOfDry alone graph file table from to fault
+  dry_table alone plan said = table_cases (IsFaultOfDry alone graph file table from to) table (λ fault is. (said.draft, said.graph_is, is)) tt
 
-  pub dry_range : (entries : List TableEntry) → table_of table ≡ Ok entries → (fault : CommandFault) → IsRangeFault graph file from to fault → IsFaultOfDry graph file table from to fault
-  dry_range entries says = range_cases (IsFaultOfDry graph file table from to) graph file from to (λ fault is. (record { entries = entries; says = says }, is)) tt
+  pub dry_range : (alone : Bool) (entries : List TableEntry) → table_of table ≡ Ok entries → (fault : CommandFault) → IsRangeFault graph file from to fault → IsFaultOfDry alone graph file table from to fault
+  dry_range alone entries says = range_cases (IsFaultOfDry alone graph file table from to) graph file from to (λ fault is. (record { entries = entries; says = says }, is)) tt
 
-  pub dry_stop_in : (entries : List TableEntry) → table_of table ≡ Ok entries → (found : List Interval) → HasListing graph file from to (Ok found) → (r : Result Bool CommandFault)
-      → IfErr r IsWantingWorkers → IfErr r (IsFaultOfDry graph file table from to)
-  dry_stop_in entries says found listing r =
-      IfErr-weaker r _ _ (workers_cases (IsFaultOfDry graph file table from to) (found, record { entries = entries; says = says }, listing, refl) tt (λ n. tt))
+  pub dry_stop_in : (alone : Bool) (entries : List TableEntry) → table_of table ≡ Ok entries → (found : List Interval) → HasListing graph file from to (Ok found) → (r : Result Bool CommandFault)
+      → IfErr r (IsWantingWorkers alone) → IfErr r (IsFaultOfDry alone graph file table from to)
+  dry_stop_in alone entries says found listing r =
+      IfErr-weaker r _ _ (workers_cases (IsFaultOfDry alone graph file table from to) alone (λ started. (found, record { entries = entries; says = says }, listing, refl, started)) tt (λ n. tt))
 
 module _ (may_lose : Losing) (graph : List ℕ) (file : Option (List ℕ)) (from to : ℤ) where
   pub run_stop_in : (plan : Checked) → IsPlanOf graph file plan → (found : List Interval) → HasListing graph file from to (Ok found) → (r : Result Bool CommandFault)
-      → IfErr r (IsStopOrWanting may_lose plan.dag found) → IfErr r (IsFaultOfRun may_lose graph file from to)
+      → IfErr r (IsStopOrWantingAnew nothing may_lose plan.dag found) → IfErr r (IsFaultOfRun may_lose graph file from to)
   run_stop_in plan said found listing r =
-      IfErr-weaker r _ _ (stop_cases (IsFaultOfRun may_lose graph file from to) (MayGiveUp may_lose plan.dag found) plan.dag (λ stop is. (said.draft, found, said.graph_is, listing, rw said.dag at is)) tt (λ n. tt))
+      IfErr-weaker r _ _ (stop_cases (IsFaultOfRun may_lose graph file from to) (MayGiveUpAnew nothing (MayGiveUp may_lose plan.dag found)) plan.dag
+      (λ stop is. (said.draft, found, said.graph_is, listing, rw said.dag at (stop_weaker {Q = MayGiveUp may_lose plan.dag found} (λ n g may. may.1) plan.dag stop is))) tt (λ n. tt))
 
--- what is wanting, where programs run
-pub wanting_stop : (may_lose : Losing) (dag : Dag) (found : List Interval) (r : Result Bool CommandFault) → IfErr r IsWanting → IfErr r (IsStopOrWanting may_lose dag found)
-wanting_stop may_lose dag found r = IfErr-weaker r _ _ (wanting_cases (IsStopOrWanting may_lose dag found) tt (λ n. tt))
-
--- what is wanting where a table answers
-pub wanting_workers_in : {A : Type 0} (r : Result A CommandFault) → IfErr r IsWanting → IfErr r IsWantingWorkers
-wanting_workers_in r = IfErr-weaker r _ _ (wanting_cases IsWantingWorkers tt (λ n. tt))
+-- what is wanting, whoever answers
+pub wanting_from : (alone : Bool) (kept : Look) (may_lose : Losing) (answers : Option (List TableEntry)) (dag : Dag) (found : List Interval) (r : Result Bool CommandFault) → IfErr r IsWanting
+    → IfErr r (IsStopOrWantingFrom alone kept may_lose answers dag found)
+wanting_from alone kept may_lose None dag found r = IfErr-weaker r _ _ (wanting_cases (IsStopOrWantingFrom alone kept may_lose None dag found) tt (λ n. tt))
+wanting_from alone kept may_lose (Some entries) dag found r = IfErr-weaker r _ _ (wanting_cases (IsStopOrWantingFrom alone kept may_lose (Some entries) dag found) tt (λ n. tt))
 
 -- ---- what a fault leaves
 
@@ -166,3 +179,7 @@ module _ (Halted : Type 0) (IsDue : List ℕ → Type 0) (before : Option (List 
 
   pub range_leaves : (graph : List ℕ) (file : Option (List ℕ)) (from to : ℤ) (fault : CommandFault) → IsRangeFault graph file from to fault → Leaves Halted IsDue before before fault
   range_leaves graph file from to = unwritten_leaves (IsRangeFault graph file from to) (λ n is. is)
+
+  pub no_run_leaves : (fault : IntervalFault) → Leaves Halted IsDue before before (of_range fault)
+  no_run_leaves interval.OutOfMemory = refl
+  no_run_leaves fault = refl

@@ -8,8 +8,6 @@ use Rattle.bf_zone.specs.declared.zone.Zone.{Zone}
 use Rattle.bf_interval.specs.Intervals.{IsAnswer}
 use Rattle.bf_interval.specs.declared.fault.IntervalFault.{IntervalFault}
 use Rattle.bf_interval.specs.declared.interval.Interval.{Interval}
-use Rattle.bf_interval.proofs.Ending.{intervals_end_by_2208}
-use Rattle.bf_report_reader.specs.Written.{AreOfRuns}
 use Rattle.bf_commands.specs.Graphs.{IsTimed}
 use Rattle.bf_commands.specs.Lists.{HasListing, IsListIn, IsSince1970, intervals_text}
 
@@ -38,9 +36,3 @@ since_1970 graph file from to found is k d h =
     let (interval, after, before) = is.answers.2.each k d h in
     let rises = interval.rises in
     (omega (arith, ints, years, after), omega (arith, ints, years, after, rises))
-
--- the intervals that are listed are of runs
-pub of_runs : (graph : List ℕ) (file : Option (List ℕ)) (from to : ℤ) (found : List Interval) → HasListing graph file from to (Ok found) → AreOfRuns found
-of_runs graph file from to found is =
-    let (range, few, are) = is.answers in
-    record { few = few; each = intervals_end_by_2208 is.draft.schedule is.schedule is.fires.says is.zone from to range found are; rising = are.rising }

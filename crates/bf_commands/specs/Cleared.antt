@@ -1,23 +1,17 @@
 -- What the command `clear` reports: a backfill that goes on from what is kept of a report.
-use Rattle.std.specs.Prelude.{◌≡◌, ℕ, ℤ, Bool, List, [], ◌∷◌, length, Option, Some, None, Ok, Err, option_map}
-use Rattle.std.specs.FinMap as finite
+use Rattle.std.specs.Prelude.{◌≡◌, ℕ, ℤ, Bool, false, List, [], ◌∷◌, Option, Some, None, Ok, Err, option_map}
 use Rattle.bf_value.specs.declared.name.JobName.{JobName}
-use Rattle.bf_value.specs.Names.{name_cmp}
 use Rattle.bf_read.specs.declared.draft.Draft.{Draft}
 use Rattle.bf_check.specs.Checking.{dag_of}
 use Rattle.bf_plan.specs.declared.plan.Dag.{Dag}
 use Rattle.bf_interval.specs.declared.interval.Interval.{Interval}
 use Rattle.bf_xcom.specs.declared.values.Given.{Given}
 use Rattle.bf_try.specs.declared.answers.Raw.{Raw}
-use Rattle.bf_try.specs.declared.ledger.Entry.{Entry}
 use Rattle.bf_table.specs.declared.table.TableEntry.{TableEntry}
-use Rattle.bf_table.specs.Tables.{answer_of, table_of}
-use Rattle.bf_try.specs.Tries.{Look, AreAlike}
-use Rattle.bf_core.specs.Agreement.{AreRunStates, HoldsItsTries, IsOutcome}
-use Rattle.bf_core.specs.Events.{entry_in}
-use Rattle.bf_core.specs.declared.ended.Ended.{Ended}
+use Rattle.bf_table.specs.Tables.{table_of}
+use Rattle.bf_try.specs.Tries.{Look}
 use Rattle.bf_process.specs.Words.{MayAnswer, MayGiveUp}
-use Rattle.bf_kept.specs.Kept.{AreGradedAnew, MayGiveUpAnew}
+use Rattle.bf_kept.specs.Kept.{MayGiveUpAnew}
 use Rattle.bf_report.specs.declared.report.Report.{Report}
 use Rattle.bf_report.specs.Report.{report_text}
 use Rattle.bf_report_reader.specs.Rules.{IsShownReport}
@@ -31,13 +25,13 @@ use Rattle.bf_command_fault.specs.declared.fault.CommandFault.TheVariants.{Clear
 use Rattle.bf_command_fault.specs.declared.stop.StopFault.{StopFault}
 use Rattle.bf_commands.specs.Graphs.{IsFaultIn, IsGraph}
 use Rattle.bf_commands.specs.Lists.{HasListing}
-use Rattle.bf_commands.specs.OverTable.{IsTableFault, IsWanting, IsWantingWorkers, answering}
+use Rattle.bf_commands.specs.OverTable.{AnswersByTable, IsTableFault, IsWanting, IsWantingWorkers}
 use Rattle.bf_commands.specs.Programs.{Hearing, IsStopOf, IsStopOfOrWanting, Losing}
-use Rattle.bf_commands.specs.Reported.{IsReportOf}
+use Rattle.bf_commands.specs.Reported.{IsReportFrom}
 
 -- the answers of the table where there is one, and else what is heard of the programs of a try's words
 abbrev pub MayAnswerBy : Hearing → Option (List TableEntry) → Dag → List Interval → JobName → Given → Raw → Type 0
-MayAnswerBy may_hear (Some entries) dag intervals n given raw = raw ≡ answer_of (answering dag entries intervals) n
+MayAnswerBy may_hear (Some entries) dag intervals n given raw = AnswersByTable dag entries intervals n given raw
 MayAnswerBy may_hear None dag intervals n given raw = MayAnswer may_hear dag intervals n given raw
 
 -- the bytes say a report, by the rules by which reports are read
@@ -50,16 +44,7 @@ pub record IsKeptOf (dag : Dag) (intervals : List Interval) (was : Report) (seed
   pub not_refused : clear_fault dag intervals was (seed ∷ []) ≡ None
   pub are_kept : AreKept dag (places_of dag intervals (seed ∷ [])) was kept
 
--- the text is that of the recursion's report over the ledger of a backfill in which the kept tries stand as they are kept, and
--- every other has the grade of an answer that may come; and whether every run of it is a success
-pub record IsReportFrom (kept : Look) (may_answer : JobName → Given → Raw → Type 0) (dag : Dag) (intervals : List Interval) (text : List ℕ) (success : Bool) : Type 0 where
-  pub ledger : finite.FinMap name_cmp Entry
-  pub tries : HoldsItsTries dag (length intervals) (finite.get ledger)
-  pub again : AreAlike kept (finite.get ledger)
-  pub anew : AreGradedAnew kept may_answer dag (finite.get ledger)
-  pub reported : IsReportOf dag intervals (finite.get ledger) text success
-
--- so it is with what is kept of this report where this seed is cleared
+-- the text is the report of the backfill that goes on from what is kept of this report where this seed is cleared
 pub record IsReportAfter (may_hear : Hearing) (answers : Option (List TableEntry)) (dag : Dag) (intervals : List Interval) (was : Report) (seed : Seed) (text : List ℕ) (success : Bool) : Type 0 where
   pub kept : Look
   pub kept_is : IsKeptOf dag intervals was seed kept
@@ -112,25 +97,26 @@ pub record IsUnclearable (graph : List ℕ) (file table : Option (List ℕ)) (re
   pub report_says : IsReadAs report was
   pub fault_is : clear_fault ready.dag ready.found was (seed ∷ []) ≡ Some fault
 
--- where a table answers, a worker can't be started; else the backfill stops as one of programs does, but at no try that is kept
-abbrev pub IsStopFrom : Look → Losing → Option (List TableEntry) → Dag → List Interval → StopFault → Type 0
-IsStopFrom kept may_lose (Some entries) dag intervals stop = stop ≡ StopFault.CannotStart
-IsStopFrom kept may_lose None dag intervals stop = IsStopOf (MayGiveUpAnew kept (MayGiveUp may_lose dag intervals)) dag stop
+-- where a table answers and workers are started, one can't be; else the backfill stops as one of programs does, but at no try
+-- that is kept
+abbrev pub IsStopFrom : Bool → Look → Losing → Option (List TableEntry) → Dag → List Interval → StopFault → Type 0
+IsStopFrom alone kept may_lose (Some entries) dag intervals stop = (stop ≡ StopFault.CannotStart) × (alone ≡ false)
+IsStopFrom alone kept may_lose None dag intervals stop = IsStopOf (MayGiveUpAnew kept (MayGiveUp may_lose dag intervals)) dag stop
 
 -- the fault is the first: the seed isn't cleared in the report for this; or it is, and the backfill stops; or memory or the device is wanting
-abbrev pub IsFaultAgain : Losing → Option (List TableEntry) → Dag → List Interval → Report → Seed → CommandFault → Type 0
-IsFaultAgain may_lose answers dag intervals was seed (NotCleared fault) = clear_fault dag intervals was (seed ∷ []) ≡ Some fault
-IsFaultAgain may_lose answers dag intervals was seed (Stopped stop) = (kept : Look) × IsKeptOf dag intervals was seed kept × IsStopFrom kept may_lose answers dag intervals stop
-IsFaultAgain may_lose answers dag intervals was seed fault = IsWanting fault
+abbrev pub IsFaultAgain : Bool → Losing → Option (List TableEntry) → Dag → List Interval → Report → Seed → CommandFault → Type 0
+IsFaultAgain alone may_lose answers dag intervals was seed (NotCleared fault) = clear_fault dag intervals was (seed ∷ []) ≡ Some fault
+IsFaultAgain alone may_lose answers dag intervals was seed (Stopped stop) = (kept : Look) × IsKeptOf dag intervals was seed kept × IsStopFrom alone kept may_lose answers dag intervals stop
+IsFaultAgain alone may_lose answers dag intervals was seed fault = IsWanting fault
 
 -- they have none, the bytes say a report, the seed is cleared in it, and the backfill that goes on from it stops
-pub record StopsClearing (may_lose : Losing) (graph : List ℕ) (file table : Option (List ℕ)) (report : List ℕ) (from to : ℤ) (seed : Seed) (stop : StopFault) : Type 0 where
+pub record StopsClearing (alone : Bool) (may_lose : Losing) (graph : List ℕ) (file table : Option (List ℕ)) (report : List ℕ) (from to : ℤ) (seed : Seed) (stop : StopFault) : Type 0 where
   pub ready : IsReady graph file table from to
   pub was : Report
   pub report_says : IsReadAs report was
   pub kept : Look
   pub kept_is : IsKeptOf ready.dag ready.found was seed kept
-  pub stops : IsStopFrom kept may_lose ready.answers ready.dag ready.found stop
+  pub stops : IsStopFrom alone kept may_lose ready.answers ready.dag ready.found stop
 
 -- ---- for private clauses
 
@@ -138,18 +124,12 @@ pub record StopsClearing (may_lose : Losing) (graph : List ℕ) (file table : Op
 abbrev pub IsStopOrWantingAnew : Look → Losing → Dag → List Interval → CommandFault → Type 0
 IsStopOrWantingAnew kept may_lose dag intervals fault = IsStopOfOrWanting (MayGiveUpAnew kept (MayGiveUp may_lose dag intervals)) dag fault
 
--- where a table answers, a worker can't be started; else it stops as one of programs does; or memory or the device is wanting
-abbrev pub IsStopOrWantingFrom : Look → Losing → Option (List TableEntry) → Dag → List Interval → CommandFault → Type 0
-IsStopOrWantingFrom kept may_lose (Some entries) dag intervals fault = IsWantingWorkers fault
-IsStopOrWantingFrom kept may_lose None dag intervals fault = IsStopOrWantingAnew kept may_lose dag intervals fault
+-- where a table answers and workers are started, one can't be; else it stops as one of programs does; or memory or the device is
+-- wanting
+abbrev pub IsStopOrWantingFrom : Bool → Look → Losing → Option (List TableEntry) → Dag → List Interval → CommandFault → Type 0
+IsStopOrWantingFrom alone kept may_lose (Some entries) dag intervals fault = IsWantingWorkers alone fault
+IsStopOrWantingFrom alone kept may_lose None dag intervals fault = IsStopOrWantingAnew kept may_lose dag intervals fault
 
 -- the fault is that of the table's bytes, where there are some
 abbrev pub IsFaultOfNamed : Option (List ℕ) → CommandFault → Type 0
 IsFaultOfNamed table fault = (bytes : List ℕ) × (table ≡ Some bytes) × IsTableFault bytes fault
-
--- a backfill that has ended, in which the kept tries stand as they are kept, and every other has the grade of an answer that may come
-pub record IsEndedFrom (kept : Look) (may_answer : JobName → Given → Raw → Type 0) (dag : Dag) (intervals : List Interval) (ended : Ended) : Type 0 where
-  pub outcome : IsOutcome dag (length intervals) ended.state
-  pub run_states : AreRunStates dag (entry_in ended.state.ledger) (length intervals) ended.run_states
-  pub again : AreAlike kept (entry_in ended.state.ledger)
-  pub anew : AreGradedAnew kept may_answer dag (entry_in ended.state.ledger)

@@ -1,5 +1,5 @@
 -- What the command `dry` reports: a run for each data interval of a range, over a table.
-use Rattle.std.specs.Prelude.{◌≡◌, ℕ, ℤ, Bool, List, Option, Ok, Err}
+use Rattle.std.specs.Prelude.{◌≡◌, ℕ, ℤ, Bool, false, List, Option, Ok, Err}
 use Rattle.bf_read.specs.declared.draft.Draft.{Draft}
 use Rattle.bf_check.specs.Checking.{dag_of}
 use Rattle.bf_interval.specs.declared.interval.Interval.{Interval}
@@ -22,10 +22,11 @@ pub record IsReportIn (graph : List ℕ) (file : Option (List ℕ)) (table : Lis
   pub listing : HasListing graph file from to (Ok found)
   pub reported : IsReportOver (dag_of draft) entries found text success
 
--- the fault is the first: those of the graph go before those of the table, and those of the range behind them; then a worker can't be started; or memory or the device is wanting
-abbrev pub IsFaultOfDry : List ℕ → Option (List ℕ) → List ℕ → ℤ → ℤ → CommandFault → Type 0
-IsFaultOfDry graph file table from to (Table fault) = (draft : Draft) × IsGraph graph file draft × (table_of table ≡ Err fault)
-IsFaultOfDry graph file table from to (Range fault) = IsTable table × HasListing graph file from to (Err fault)
-IsFaultOfDry graph file table from to (CannotWrite n) = Unit {0}
-IsFaultOfDry graph file table from to (Stopped stop) = (found : List Interval) × IsTable table × HasListing graph file from to (Ok found) × (stop ≡ StopFault.CannotStart)
-IsFaultOfDry graph file table from to fault = IsFaultIn graph file fault
+-- the fault is the first: those of the graph go before those of the table, and those of the range behind them; then, where workers are
+-- started, one can't be; or memory or the device is wanting
+abbrev pub IsFaultOfDry : Bool → List ℕ → Option (List ℕ) → List ℕ → ℤ → ℤ → CommandFault → Type 0
+IsFaultOfDry alone graph file table from to (Table fault) = (draft : Draft) × IsGraph graph file draft × (table_of table ≡ Err fault)
+IsFaultOfDry alone graph file table from to (Range fault) = IsTable table × HasListing graph file from to (Err fault)
+IsFaultOfDry alone graph file table from to (CannotWrite n) = Unit {0}
+IsFaultOfDry alone graph file table from to (Stopped stop) = (found : List Interval) × IsTable table × HasListing graph file from to (Ok found) × (stop ≡ StopFault.CannotStart) × (alone ≡ false)
+IsFaultOfDry alone graph file table from to fault = IsFaultIn graph file fault

@@ -4,6 +4,7 @@ use Rattle.bf_read.specs.declared.draft.Draft.{Draft}
 use Rattle.bf_read.specs.Drafts.{number_of_edges}
 use Rattle.bf_read.specs.Reading.{graph_in, graph_file_of}
 use Rattle.bf_plan.specs.Checked.{Checked}
+use Rattle.bf_plan.specs.Sound.{IsSound}
 use Rattle.bf_check.specs.Checking.{dag_of}
 use Rattle.bf_check.specs.Refusals.{IsAccepted, IsFaultOf}
 use Rattle.bf_check.specs.Schedules.{Fires, IsZoneFor}
@@ -17,10 +18,11 @@ use Rattle.bf_commands.specs.declared.check.GraphSize.{GraphSize}
 abbrev pub IsFileOf : List ℕ → Draft → Type 0
 IsFileOf bytes draft = graph_in bytes ≡ Ok (graph_file_of draft)
 
--- the graph's bytes say a graph without a fault, with this zone file
+-- the graph's bytes say a graph without a fault, with this zone file; so its tasks are sound
 pub record IsGraph (graph : List ℕ) (file : Option (List ℕ)) (draft : Draft) : Type 0 where
   pub says : IsFileOf graph draft
   pub accepted : IsAccepted draft file
+  pub sound : IsSound (dag_of draft)
 
 -- the size of a graph: its tasks and its distinct edges
 abbrev pub size_of : Draft → GraphSize

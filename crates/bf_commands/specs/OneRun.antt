@@ -1,10 +1,10 @@
 -- What the command `single` reports: one run, at a moment, over a table.
-use Rattle.std.specs.Prelude.{◌≡◌, ℕ, Bool, List, [], ◌∷◌, Option, Ok, Err}
+use Rattle.std.specs.Prelude.{◌≡◌, ℕ, Bool, List, Option, Ok, Err}
 use Rattle.jiff.specs.declared.timestamp.Timestamp.{Timestamp}
 use Rattle.bf_read.specs.declared.draft.Draft.{Draft}
 use Rattle.bf_check.specs.Checking.{dag_of}
 use Rattle.bf_interval.specs.declared.fault.IntervalFault.{IntervalFault}
-use Rattle.bf_interval.specs.declared.interval.Interval.{Interval}
+use Rattle.bf_interval.specs.Runs.{intervals_at}
 use Rattle.bf_interval.specs.Years.{IsInYears}
 use Rattle.bf_table.specs.declared.table.TableEntry.{TableEntry}
 use Rattle.bf_table.specs.Tables.{table_of}
@@ -12,10 +12,6 @@ use Rattle.bf_command_fault.specs.declared.fault.CommandFault.{CommandFault}
 use Rattle.bf_command_fault.specs.declared.fault.CommandFault.TheVariants.{Table, Range, CannotWrite}
 use Rattle.bf_commands.specs.Graphs.{IsGraph, IsFaultIn}
 use Rattle.bf_commands.specs.OverTable.{IsReportOver, IsTable}
-
--- the one interval of a run at a moment
-abbrev pub intervals_at : Timestamp → List Interval
-intervals_at at = record { start = at; end = at } ∷ []
 
 -- the bytes say a graph, which has no fault, and a table, and the text is the report of one run of this over that
 pub record IsReportAt (graph : List ℕ) (file : Option (List ℕ)) (table : List ℕ) (at : Timestamp) (text : List ℕ) (success : Bool) : Type 0 where

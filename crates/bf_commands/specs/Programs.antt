@@ -1,9 +1,7 @@
 -- What the command `run` reports: a run for each data interval of a range, with the programs of its tasks.
-use Rattle.std.specs.Prelude.{◌≡◌, ℕ, ℤ, Bool, List, length, Option, Ok, Err, String, option_map, string_bytes}
+use Rattle.std.specs.Prelude.{◌≡◌, ℕ, ℤ, Bool, List, Option, Ok, Err, String, option_map, string_bytes}
 use Rattle.std.specs.Global.{Global}
-use Rattle.std.specs.FinMap as finite
 use Rattle.bf_value.specs.declared.name.JobName.{JobName}
-use Rattle.bf_value.specs.Names.{name_cmp}
 use Rattle.bf_read.specs.declared.draft.Draft.{Draft}
 use Rattle.bf_check.specs.Checking.{dag_of}
 use Rattle.bf_plan.specs.Plans.{task_of}
@@ -11,11 +9,6 @@ use Rattle.bf_plan.specs.declared.plan.Dag.{Dag}
 use Rattle.bf_interval.specs.declared.interval.Interval.{Interval}
 use Rattle.bf_xcom.specs.declared.values.Given.{Given}
 use Rattle.bf_try.specs.declared.answers.Raw.{Raw}
-use Rattle.bf_try.specs.declared.ledger.Entry.{Entry}
-use Rattle.bf_core.specs.Agreement.{AreRunStates, HoldsItsTries, IsOutcome}
-use Rattle.bf_core.specs.Answered.{AreGraded}
-use Rattle.bf_core.specs.Events.{entry_in}
-use Rattle.bf_core.specs.declared.ended.Ended.{Ended}
 use Rattle.bf_core.specs.declared.fault.BackfillFault.{BackfillFault}
 use Rattle.bf_process.specs.Words.{MayAnswer, MayGiveUp, lost_through, through}
 use Rattle.bf_command_fault.specs.declared.fault.CommandFault.{CommandFault}
@@ -24,7 +17,7 @@ use Rattle.bf_command_fault.specs.declared.stop.StopFault.{StopFault}
 use Rattle.bf_commands.specs.Graphs.{IsGraph, IsFaultIn}
 use Rattle.bf_commands.specs.Lists.{HasListing}
 use Rattle.bf_commands.specs.OverTable.{IsWanting}
-use Rattle.bf_commands.specs.Reported.{IsReportOf}
+use Rattle.bf_commands.specs.Reported.{IsReportBy}
 
 -- what is heard of programs that are started by these words
 abbrev pub Hearing : Type 1
@@ -42,21 +35,13 @@ launched path may_hear = through (option_map string_bytes path) may_hear
 abbrev pub launched_lost : Option (String Global) → Losing → Losing
 launched_lost path may_lose = lost_through (option_map string_bytes path) may_lose
 
--- the text is that of the recursion's report over the ledger of a backfill, whose tries have the grades of what is heard of the
--- programs of their words; and whether every run of it is a success
-pub record IsReportBy (may_hear : Hearing) (dag : Dag) (intervals : List Interval) (text : List ℕ) (success : Bool) : Type 0 where
-  pub ledger : finite.FinMap name_cmp Entry
-  pub tries : HoldsItsTries dag (length intervals) (finite.get ledger)
-  pub graded : AreGraded (MayAnswer may_hear dag intervals) dag (finite.get ledger)
-  pub reported : IsReportOf dag intervals (finite.get ledger) text success
-
 -- the bytes say a graph, which has no fault, and the text is the report of its runs in the range, with the programs of its tasks
 pub record IsRunReport (may_hear : Hearing) (graph : List ℕ) (file : Option (List ℕ)) (from to : ℤ) (text : List ℕ) (success : Bool) : Type 0 where
   pub draft : Draft
   pub found : List Interval
   pub graph_is : IsGraph graph file draft
   pub listing : HasListing graph file from to (Ok found)
-  pub reported : IsReportBy may_hear (dag_of draft) found text success
+  pub reported : IsReportBy (MayAnswer may_hear (dag_of draft) found) (dag_of draft) found text success
 
 -- a worker can't be started; or a try was given up that may be, and this is its task, its index and its number
 abbrev pub IsStopOf : (JobName → Given → Type 0) → Dag → StopFault → Type 0
@@ -77,20 +62,10 @@ IsFaultOfRun may_lose graph file from to fault = IsFaultIn graph file fault
 
 -- ---- for private clauses
 
--- a backfill that has ended, whose tries have the grades of what is heard of the programs of their words
-pub record IsEndedBy (may_hear : Hearing) (dag : Dag) (intervals : List Interval) (ended : Ended) : Type 0 where
-  pub outcome : IsOutcome dag (length intervals) ended.state
-  pub run_states : AreRunStates dag (entry_in ended.state.ledger) (length intervals) ended.run_states
-  pub graded : AreGraded (MayAnswer may_hear dag intervals) dag (entry_in ended.state.ledger)
-
 -- the backfill stops; or memory or the device is wanting
 abbrev pub IsStopOfOrWanting : (JobName → Given → Type 0) → Dag → CommandFault → Type 0
 IsStopOfOrWanting may_give_up dag (Stopped stop) = IsStopOf may_give_up dag stop
 IsStopOfOrWanting may_give_up dag fault = IsWanting fault
-
--- so it is where the programs of tries are run
-abbrev pub IsStopOrWanting : Losing → Dag → List Interval → CommandFault → Type 0
-IsStopOrWanting may_lose dag intervals fault = IsStopOfOrWanting (MayGiveUp may_lose dag intervals) dag fault
 
 -- this try is told as given up; or memory is wanting
 abbrev pub IsGivenUp : Dag → JobName → CommandFault → Type 0

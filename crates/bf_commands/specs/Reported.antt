@@ -1,10 +1,22 @@
 -- The text of the report of a backfill, and whether every run of it is a success.
-use Rattle.std.specs.Prelude.{◌≡◌, ℕ, Bool, true, false, List}
+use Rattle.std.specs.Prelude.{◌≡◌, ℕ, Bool, true, false, List, length}
+use Rattle.std.specs.FinMap as finite
 use Rattle.std.specs.List.{list_all}
+use Rattle.bf_value.specs.declared.name.JobName.{JobName}
+use Rattle.bf_value.specs.Names.{name_cmp}
 use Rattle.bf_plan.specs.declared.plan.Dag.{Dag}
+use Rattle.bf_plan.specs.declared.plan.Limits.{Limits}
 use Rattle.bf_interval.specs.declared.interval.Interval.{Interval}
+use Rattle.bf_xcom.specs.declared.values.Given.{Given}
 use Rattle.bf_xcom.specs.declared.values.RunState.{RunState}
-use Rattle.bf_try.specs.Tries.{Look}
+use Rattle.bf_try.specs.declared.answers.Raw.{Raw}
+use Rattle.bf_try.specs.declared.ledger.Entry.{Entry}
+use Rattle.bf_try.specs.Tries.{AreAlike, Look}
+use Rattle.bf_kept.specs.Kept.{AreGradedAnew}
+use Rattle.bf_core.specs.Agreement.{HoldsItsTries}
+use Rattle.bf_core.specs.Answered.{AreGraded}
+use Rattle.bf_core.specs.Endings.{Ending, IsEndOf, KeepsWorkers}
+use Rattle.bf_core.specs.Events.{entry_in}
 use Rattle.bf_report.specs.declared.report.Report.{Report}
 use Rattle.bf_report.specs.Dated.{IsDated}
 use Rattle.bf_report.specs.Report.{report_text}
@@ -21,3 +33,29 @@ pub record IsReportOf (dag : Dag) (intervals : List Interval) (ledger : Look) (t
   pub kept : IsShownReport report
   pub text_is : text ≡ report_text report
   pub state : success ≡ list_all (λ run. is_success run.state) report.runs
+
+-- the text is that of the recursion's report over the ledger of a backfill, each of whose tries has the grade of an answer that may
+-- come; and whether every run of it is a success
+pub record IsReportBy (may_answer : JobName → Given → Raw → Type 0) (dag : Dag) (intervals : List Interval) (text : List ℕ) (success : Bool) : Type 0 where
+  pub ledger : finite.FinMap name_cmp Entry
+  pub tries : HoldsItsTries dag (length intervals) (finite.get ledger)
+  pub graded : AreGraded may_answer dag (finite.get ledger)
+  pub reported : IsReportOf dag intervals (finite.get ledger) text success
+
+-- so it is where the kept tries stand as they are kept, and every other has the grade of an answer that may come
+pub record IsReportFrom (kept : Look) (may_answer : JobName → Given → Raw → Type 0) (dag : Dag) (intervals : List Interval) (text : List ℕ) (success : Bool) : Type 0 where
+  pub ledger : finite.FinMap name_cmp Entry
+  pub tries : HoldsItsTries dag (length intervals) (finite.get ledger)
+  pub again : AreAlike kept (finite.get ledger)
+  pub anew : AreGradedAnew kept may_answer dag (finite.get ledger)
+  pub reported : IsReportOf dag intervals (finite.get ledger) text success
+
+-- ---- for private clauses
+
+-- the end of a backfill in which the kept tries stand as they are kept, every other has the grade of an answer that may come, and
+-- no more tries ran at once than there are workers
+pub record IsEndFrom (kept : Look) (may_answer : JobName → Given → Raw → Type 0) (dag : Dag) (limits : Limits) (runs workers : ℕ) (ending : Ending) : Type 0 where
+  pub of : IsEndOf dag limits runs ending
+  pub again : AreAlike kept (entry_in ending.state.ledger)
+  pub anew : AreGradedAnew kept may_answer dag (entry_in ending.state.ledger)
+  pub within : KeepsWorkers dag runs workers ending.journal

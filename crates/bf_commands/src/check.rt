@@ -29,6 +29,7 @@ pub fn check_graph(
         tasks: draft.tasks.len(),
         edges: draft.edge_count(),
     };
-    let _plan = check(alloc, draft, zone_file)?;
+    let (plan, _zone) = check(alloc, draft, zone_file)?;
+    let _sound = plan.dag();
     Ok(size)
 }

@@ -1,24 +1,20 @@
 //! What runs the tries of a backfill.
-ghost use Rattle.std.specs.Prelude.{◌≡◌, ◌≤◌, length, IfOk, IfErr, option_map, string_bytes};
-ghost use Rattle.bf_core.specs.Agreement.{AreRunStates, IsOutcome};
-ghost use Rattle.bf_core.specs.Answered.{AreGraded};
-ghost use Rattle.bf_core.specs.Cores.{IsJournal};
-ghost use Rattle.bf_core.specs.Events.{entry_in};
-ghost use Rattle.bf_exec.specs.Accounts.{KeepsWorkers};
+ghost use Rattle.std.specs.Prelude.{◌≡◌, IfOk, IfErr, length, option_map, string_bytes};
 ghost use Rattle.bf_exec.specs.Faults.{MayFail};
 ghost use Rattle.bf_kept.specs.Kept.{AreFit, MayGiveUpAnew};
-ghost use Rattle.bf_commands.specs.Cleared.{IsEndedFrom};
+ghost use Rattle.bf_commands.specs.OverTable.{is_alone as alone_by};
+ghost use Rattle.bf_commands.specs.Reported.{IsEndFrom};
 
 use crate::progress::Progress;
 use crate::screen::Screen;
-use bf_command_line::Workers;
 use bf_core::{BackfillFault, Ended};
-use bf_exec::{Watch, run_backfill};
-use bf_interval::Interval;
+use bf_exec::Watch;
+use bf_interval::Runs;
 use bf_kept::{Keeping, KeptTries};
 use bf_plan::Plan;
 use bf_resume::resume;
 use bf_try::TaskRunner;
+use bf_workers::Workers;
 use std::alloc::Global;
 use std::sync::Wait;
 use std::thread::Threads;
@@ -36,8 +32,32 @@ pub struct Crew<'m, RT> {
 }
 
 impl<'m, RT> Crew<'m, RT> {
-    /// Whether tries are made one after the other in this thread: one worker needs no threads, where no progress is told.
-    pub(crate) fn is_alone(&self) -> bool {
+    /// The crew that is asked for.
+    pub fn of(
+        rt: &'m RT,
+        alloc: Global,
+        workers: Workers,
+        progress: bool,
+        launcher: Option<String>,
+    ) -> Crew<'m, RT>
+        ensures machine { result.rt ≡ rt.entry }
+        ensures workers { result.workers ≡ workers }
+        ensures progress { result.progress ≡ progress }
+        ensures launcher { result.launcher ≡ launcher }
+    {
+        Crew {
+            rt,
+            alloc,
+            workers,
+            progress,
+            launcher,
+        }
+    }
+
+    /// Whether the calling thread makes the tries that a table answers: one worker needs no threads, where no progress is told.
+    pub(crate) fn is_alone(&self) -> bool
+        ensures { result ≡ alone_by self.now.workers self.now.progress }
+    {
         self.workers.count() == 1 && !self.progress
     }
 
@@ -59,56 +79,31 @@ impl<'m, RT: Screen + Threads + Wait + Clock + Sync> Crew<'m, RT> {
         }
     }
 
-    /// The end of a backfill of a plan over these data intervals, whose tries the runner answers. Its progress is told where
-    /// that is asked for.
-    pub(crate) fn backfill<R: TaskRunner + Sync, C: bf_lane::Clock + Drop>(
+    /// The end of a backfill by the workers, which goes on from tries that are kept. Its progress is told where that is asked
+    /// for.
+    pub(crate) fn resumed<'p, K: KeptTries + Sync, R: TaskRunner + Sync, C: bf_lane::Clock + Drop>(
         &self,
-        plan: &Plan,
-        intervals: &[Interval],
-        runner: &R,
-        clock: C,
-    ) -> Result<Ended, BackfillFault>
-        requires { length intervals.now ≤ 4_096 }
-        ensures outcome { IfOk result (λ ended. IsOutcome plan.now.dag (length intervals.now) ended.state) }
-        ensures run_states { IfOk result (λ ended. AreRunStates plan.now.dag (entry_in ended.state.ledger) (length intervals.now) ended.run_states) }
-        ensures graded { IfOk result (λ ended. AreGraded (R.may_answer runner.now) plan.now.dag (entry_in ended.state.ledger)) }
-        ensures journal { IfOk result (λ ended. IsJournal plan.now.dag plan.now.limits (length intervals.now) ended.journal ended.state) }
-        ensures workers { IfOk result (λ ended. KeepsWorkers plan.now.dag (length intervals.now) self.now.workers ended.journal) }
-        ensures err { IfErr result (MayFail (R.may_give_up runner.now)) }
-    {
-        let observer = self.observer(plan, intervals.len());
-        let mut watch = Watch { clock, observer };
-        let workers = self.workers.count();
-        let ended = run_backfill(
-            self.rt, self.alloc, plan, intervals, workers, runner, &mut watch,
-        );
-        if let Some(progress) = &watch.observer {
-            progress.end();
-        }
-        ended
-    }
-
-    /// The same of a backfill that goes on from tries that are kept.
-    pub(crate) fn resumed<K: KeptTries + Sync, R: TaskRunner + Sync, C: bf_lane::Clock + Drop>(
-        &self,
-        plan: &Plan,
-        intervals: &[Interval],
+        plan: &'p Plan,
+        runs: &Runs,
         keeping: &Keeping<'_, K, R>,
         clock: C,
-    ) -> Result<Ended, BackfillFault>
-        requires few { length intervals.now ≤ 4_096 }
-        requires fit { AreFit plan.now.dag (K.kept keeping.now.kept.now) }
-        ensures ended { IfOk result (IsEndedFrom (K.kept keeping.now.kept.now) (R.may_answer keeping.now.runner.now) plan.now.dag intervals.now) }
-        ensures journal { IfOk result (λ ended. IsJournal plan.now.dag plan.now.limits (length intervals.now) ended.journal ended.state) }
-        ensures workers { IfOk result (λ ended. KeepsWorkers plan.now.dag (length intervals.now) self.now.workers ended.journal) }
-        ensures err { IfErr result (MayFail (R.may_give_up keeping.now.runner.now)) }
-        ensures given_up { IfErr result (MayFail (MayGiveUpAnew (K.kept keeping.now.kept.now) (R.may_give_up keeping.now.runner.now))) }
+    ) -> Result<Ended<'p>, BackfillFault>
+        requires { AreFit plan.now.dag (K.kept keeping.now.kept.now) }
+        ensures end { IfOk result (IsEndFrom (K.kept keeping.now.kept.now) (R.may_answer keeping.now.runner.now)
+            plan.entry.now.dag plan.entry.now.limits (length runs.now) self.now.workers) }
+        ensures err { IfErr result (MayFail
+            (MayGiveUpAnew (K.kept keeping.now.kept.now) (R.may_give_up keeping.now.runner.now))) }
     {
-        let observer = self.observer(plan, intervals.len());
+        let observer = self.observer(plan, runs.count());
         let mut watch = Watch { clock, observer };
-        let workers = self.workers.count();
         let ended = resume(
-            self.rt, self.alloc, plan, intervals, workers, keeping, &mut watch,
+            self.rt,
+            self.alloc,
+            plan,
+            runs,
+            self.workers,
+            keeping,
+            &mut watch,
         );
         if let Some(progress) = &watch.observer {
             progress.end();

@@ -3,14 +3,17 @@ ghost use Rattle.std.specs.Prelude.{Bool, IfOk, IfErr, option_map};
 ghost use Rattle.bf_device.specs.Device.{HasHalted};
 ghost use Rattle.bf_command_fault.specs.Refusal.{Leaves, Sends};
 ghost use Rattle.bf_commands.specs.DatedRuns.{IsFaultOfDry, IsReportIn};
+ghost use Rattle.bf_commands.specs.OverTable.{is_alone};
 
+use crate::backfill::write_backfill;
 use crate::crew::Crew;
-use crate::over_table::{run_over_by, table_in};
-use crate::plan::timed_plan_in;
+use crate::plan::{table_in, timed_plan_in};
 use crate::range::MomentRange;
 use crate::screen::Screen;
 use bf_command_fault::CommandFault;
 use bf_device::Write;
+use bf_kept::NothingKept;
+use bf_process::Starter;
 use std::sync::Wait;
 use std::thread::Threads;
 use std::time::Clock;
@@ -18,7 +21,7 @@ use std::time::Clock;
 /// Runs a graph once for each data interval of its schedule that starts in the range, its ends included, with
 /// its tries answered by a table, and writes the report. Says whether every run is a success. The graph's faults go
 /// before the table's, and these before the range's. The text is the same however many workers there are.
-pub fn run_dry<RT: Screen + Threads + Wait + Clock + Sync, W: Write>(
+pub fn run_dry<RT: Starter + Screen + Threads + Wait + Clock + Sync, W: Write>(
     crew: &Crew<'_, RT>,
     graph: &[u8],
     zone_file: Option<&[u8]>,
@@ -29,7 +32,7 @@ pub fn run_dry<RT: Screen + Threads + Wait + Clock + Sync, W: Write>(
     ensures ok { IfOk result (λ success. Sends (λ text.
         IsReportIn graph.now (option_map (λ s. s.now) zone_file.entry) table.now range.from.nanosecond range.to.nanosecond text success)
         (W.written out.old) (W.written out.new)) }
-    ensures fault { IfErr result (IsFaultOfDry graph.now (option_map (λ s. s.now) zone_file.entry) table.now range.from.nanosecond range.to.nanosecond) }
+    ensures fault { IfErr result (IsFaultOfDry (is_alone crew.now.workers crew.now.progress) graph.now (option_map (λ s. s.now) zone_file.entry) table.now range.from.nanosecond range.to.nanosecond) }
     ensures left { IfErr result (Leaves (HasHalted (W.failures out.old) (W.failures out.new)
         (W.interruptions out.old) (W.interruptions out.new))
         (λ text. (success : Bool)
@@ -38,6 +41,6 @@ pub fn run_dry<RT: Screen + Threads + Wait + Clock + Sync, W: Write>(
 {
     let timed = timed_plan_in(crew.alloc, graph, zone_file)?;
     let table = table_in(crew.alloc, table)?;
-    let found = timed.intervals(crew.alloc, range)?;
-    run_over_by(crew, &timed.plan, table, &found, out)
+    let runs = timed.runs(crew.alloc, range)?;
+    write_backfill(crew, &timed.plan, &runs, &NothingKept, Some(table), out)
 }

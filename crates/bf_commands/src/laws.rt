@@ -1,10 +1,13 @@
 //! What holds of the definitions. These functions do nothing: their contracts are the laws.
 ghost use Rattle.std.specs.Prelude.{◌≡◌, ℕ, ℤ, Bool, List, Option, Ok};
+ghost use Rattle.jiff.specs.declared.timestamp.Timestamp.{Timestamp as TimestampTerm};
 ghost use Rattle.bf_plan.specs.declared.plan.Dag.{Dag as DagTerm};
 ghost use Rattle.bf_plan.specs.Sound.{IsSound};
 ghost use Rattle.bf_interval.specs.declared.interval.Interval.{Interval as IntervalTerm};
 ghost use Rattle.bf_table.specs.declared.table.TableEntry.{TableEntry as TableEntryTerm};
+ghost use Rattle.bf_commands.specs.DatedRuns.{IsReportIn};
 ghost use Rattle.bf_commands.specs.Lists.{HasListing};
+ghost use Rattle.bf_commands.specs.OneRun.{IsReportAt};
 ghost use Rattle.bf_commands.specs.OverTable.{IsReportOver};
 
 /// A graph file, a zone file and a range have one listing.
@@ -17,5 +20,20 @@ pub fn one_list()
 pub fn one_report()
     ensures { (dag : DagTerm) → IsSound dag → (table : List TableEntryTerm) (intervals : List IntervalTerm) (one two : List ℕ) (success other : Bool)
         → IsReportOver dag table intervals one success → IsReportOver dag table intervals two other
+        → (one ≡ two) × (success ≡ other) }
+{}
+
+/// The bytes of a graph file, of a zone file and of a table, and a range, have one report. So what `dry` prints rests on them
+/// alone, and not on how many workers there are.
+pub fn one_dry_report()
+    ensures { (graph : List ℕ) (file : Option (List ℕ)) (table : List ℕ) (from to : ℤ) (one two : List ℕ) (success other : Bool)
+        → IsReportIn graph file table from to one success → IsReportIn graph file table from to two other
+        → (one ≡ two) × (success ≡ other) }
+{}
+
+/// So it is with a moment, and what `single` prints.
+pub fn one_single_report()
+    ensures { (graph : List ℕ) (file : Option (List ℕ)) (table : List ℕ) (at : TimestampTerm) (one two : List ℕ) (success other : Bool)
+        → IsReportAt graph file table at one success → IsReportAt graph file table at two other
         → (one ≡ two) × (success ≡ other) }
 {}

@@ -50,8 +50,8 @@ pub fn run_list<W: Write>(
         (IsListIn graph.now (option_map (λ s. s.now) zone_file.entry) range.from.nanosecond range.to.nanosecond)
         (W.written out.old) (W.written out.new)) }
 {
-    let found = dated_plan_in(alloc, graph, zone_file, range)?.intervals;
-    let text = text_of(alloc, &found)?;
+    let runs = dated_plan_in(alloc, graph, zone_file, range)?.runs;
+    let text = text_of(alloc, runs.intervals())?;
     send(out, text.as_bytes())?;
     Ok(())
 }

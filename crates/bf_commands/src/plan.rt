@@ -1,14 +1,18 @@
-//! The plans of graph files.
+//! The plans of graph files, and the tables that answer their tries.
 ghost use Rattle.std.specs.Prelude.{◌≡◌, ℕ, List, Option, option_map, IfOk, IfErr, Ok};
+ghost use Rattle.bf_interval.specs.Runs.{IsSaid};
+ghost use Rattle.bf_table.specs.Tables.{table_of};
 ghost use Rattle.bf_commands.specs.Graphs.{IsFileOf, IsFaultIn, IsPlanOf, IsTimed};
 ghost use Rattle.bf_commands.specs.Lists.{HasListing, IsDatedFault, IsRangeFault};
+ghost use Rattle.bf_commands.specs.OverTable.{IsTableFault};
 
 use crate::range::MomentRange;
 use bf_check::{Zone, check};
 use bf_command_fault::CommandFault;
-use bf_interval::{Interval, intervals};
+use bf_interval::Runs;
 use bf_plan::Plan;
 use bf_read::{Draft, read_graph};
+use bf_table::Table;
 use std::alloc::Global;
 
 /// The plan of a graph file, and the zone of its schedule.
@@ -19,21 +23,27 @@ pub(crate) struct TimedPlan {
 }
 
 impl TimedPlan {
-    /// The data intervals of the plan's schedule that start in the range.
-    pub(crate) fn intervals(
-        &self,
-        alloc: Global,
-        range: MomentRange,
-    ) -> Result<Vec<Interval>, CommandFault>
-        ensures ok { IfOk result (λ found. (graph : List ℕ) (file : Option (List ℕ)) → IsTimed graph file self.now.plan.schedule self.now.zone
-            → HasListing graph file range.from.nanosecond range.to.nanosecond (Ok found.items)) }
+    /// A run for each data interval of the plan's schedule that starts in the range.
+    pub(crate) fn runs(&self, alloc: Global, range: MomentRange) -> Result<Runs, CommandFault>
+        requires { IsSaid self.now.plan.schedule }
+        ensures ok { IfOk result (λ runs. (graph : List ℕ) (file : Option (List ℕ)) → IsTimed graph file self.now.plan.schedule self.now.zone
+            → HasListing graph file range.from.nanosecond range.to.nanosecond (Ok runs)) }
         ensures fault { IfErr result (λ f. (graph : List ℕ) (file : Option (List ℕ)) → IsTimed graph file self.now.plan.schedule self.now.zone
             → IsRangeFault graph file range.from.nanosecond range.to.nanosecond f) }
     {
         let zone = self.zone.as_time_zone();
-        let found = intervals(alloc, self.plan.schedule(), &zone, range.from, range.to)?;
-        Ok(found)
+        let runs = Runs::in_range(alloc, self.plan.schedule(), &zone, range.from, range.to)?;
+        Ok(runs)
     }
+}
+
+/// The table that a file says.
+pub(crate) fn table_in(alloc: Global, bytes: &[u8]) -> Result<Table, CommandFault>
+    ensures ok { IfOk result (λ table. table_of bytes.now ≡ Ok table) }
+    ensures fault { IfErr result (IsTableFault bytes.now) }
+{
+    let table = Table::read(alloc, bytes)?;
+    Ok(table)
 }
 
 /// What a graph file says.
@@ -57,17 +67,18 @@ pub(crate) fn timed_plan_in(
 {
     let draft = draft_in(alloc, graph)?;
     let (plan, zone) = check(alloc, draft, zone_file)?;
+    let _sound = plan.dag();
     Ok(TimedPlan { plan, zone })
 }
 
-/// The plan of a graph file, and the data intervals of its runs.
+/// The plan of a graph file, and its runs.
 #[derive(Drop)]
 pub(crate) struct DatedPlan {
     pub(crate) plan: Plan,
-    pub(crate) intervals: Vec<Interval>,
+    pub(crate) runs: Runs,
 }
 
-/// The plan of a graph file, and the data intervals of its schedule that start in the range, its ends included, in order.
+/// The plan of a graph file, and a run for each data interval of its schedule that starts in the range, its ends included.
 pub(crate) fn dated_plan_in(
     alloc: Global,
     graph: &[u8],
@@ -75,14 +86,14 @@ pub(crate) fn dated_plan_in(
     range: MomentRange,
 ) -> Result<DatedPlan, CommandFault>
     ensures plan { IfOk result (λ dated. IsPlanOf graph.now (option_map (λ s. s.now) zone_file.entry) dated.plan) }
-    ensures intervals { IfOk result (λ dated. HasListing graph.now (option_map (λ s. s.now) zone_file.entry)
-        range.from.nanosecond range.to.nanosecond (Ok dated.intervals.items)) }
+    ensures listing { IfOk result (λ dated. HasListing graph.now (option_map (λ s. s.now) zone_file.entry)
+        range.from.nanosecond range.to.nanosecond (Ok dated.runs)) }
     ensures fault { IfErr result (IsDatedFault graph.now (option_map (λ s. s.now) zone_file.entry) range.from.nanosecond range.to.nanosecond) }
 {
     let timed = timed_plan_in(alloc, graph, zone_file)?;
-    let intervals = timed.intervals(alloc, range)?;
+    let runs = timed.runs(alloc, range)?;
     Ok(DatedPlan {
         plan: timed.plan,
-        intervals,
+        runs,
     })
 }

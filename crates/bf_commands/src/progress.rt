@@ -145,6 +145,8 @@ impl<'m, RT: Screen + Clock> Progress<'m, RT> {
 }
 
 impl<'m, RT: Screen + Clock> Observer for Progress<'m, RT> {
+    ghost shows = { λ _ _ _ _. Unit {0} };
+
     fn saw(&mut self, event: &Event, core: &Core<'_>, running: u32) {
         self.counts.running = running;
         self.counts.note(event, core);

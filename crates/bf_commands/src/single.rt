@@ -6,17 +6,26 @@ ghost use Rattle.bf_device.specs.Device.{HasHalted};
 ghost use Rattle.bf_command_fault.specs.Refusal.{Leaves, Sends};
 ghost use Rattle.bf_commands.specs.OneRun.{IsFaultOfSingle, IsReportAt};
 
-use crate::over_table::{run_over, table_in};
-use crate::plan::timed_plan_in;
+use crate::backfill::write_backfill;
+use crate::crew::Crew;
+use crate::plan::{table_in, timed_plan_in};
+use crate::screen::Screen;
 use bf_command_fault::CommandFault;
 use bf_device::Write;
-use bf_interval::{Interval, IntervalFault, is_in_years};
+use bf_interval::Runs;
+use bf_kept::NothingKept;
+use bf_process::Starter;
+use bf_workers::Workers;
 use jiff::Timestamp;
 use std::alloc::Global;
+use std::sync::Wait;
+use std::thread::Threads;
+use std::time::Clock;
 
 /// Runs a graph once, at this moment of whole seconds, with its tries answered by a table, and writes the report. Says
 /// whether the run is a success. The graph's faults go before the table's, and these before the moment's.
-pub fn run_single<W: Write>(
+pub fn run_single<RT: Starter + Screen + Threads + Wait + Clock + Sync, W: Write>(
+    rt: &RT,
     alloc: Global,
     graph: &[u8],
     zone_file: Option<&[u8]>,
@@ -35,9 +44,7 @@ pub fn run_single<W: Write>(
 {
     let timed = timed_plan_in(alloc, graph, zone_file)?;
     let table = table_in(alloc, table)?;
-    if !is_in_years(at) {
-        return Err(CommandFault::Range(IntervalFault::OutsideYears));
-    }
-    let intervals = [Interval { start: at, end: at }];
-    run_over(alloc, &timed.plan, table, &intervals, out)
+    let runs = Runs::at(alloc, at)?;
+    let crew = Crew::of(rt, alloc, Workers::one(), false, None);
+    write_backfill(&crew, &timed.plan, &runs, &NothingKept, Some(table), out)
 }

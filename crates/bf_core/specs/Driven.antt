@@ -3,25 +3,23 @@ use Rattle.std.specs.Prelude.{◌≡◌, ℕ}
 use Rattle.bf_plan.specs.Sound.{AreLimits}
 use Rattle.bf_try.specs.declared.answers.Raw.{Raw}
 use Rattle.bf_core.specs.Terms.{Dag, Given, JobName, Limits}
-use Rattle.bf_core.specs.Events.{HasEnded, entry_in}
-use Rattle.bf_core.specs.Agreement.{AreRunStates, IsOutcome}
-use Rattle.bf_core.specs.Cores.{Backfill, IsJournal, IsReplay}
+use Rattle.bf_core.specs.Events.{entry_in}
+use Rattle.bf_core.specs.Cores.{Backfill, IsReplay}
 use Rattle.bf_core.specs.Answered.{AreGraded}
-use Rattle.bf_core.specs.declared.ended.Ended.{Ended}
+use Rattle.bf_core.specs.Endings.{Ending, IsEndOf, KeepsWorkers}
 
--- a backfill of the plan and of so many runs, whose tries so far have grades of answers that may be given
-pub record IsDriven (may_answer : JobName → Given → Raw → Type 0) (planned : Dag) (within : Limits) (many : ℕ) (backfill : Backfill) : Type 0 where
+-- a backfill of the plan and of so many runs by so many workers, whose tries so far have grades of answers that may be given
+pub record IsDriven (may_answer : JobName → Given → Raw → Type 0) (planned : Dag) (within : Limits) (many workers : ℕ) (backfill : Backfill) : Type 0 where
   pub dag : backfill.dag ≡ planned
   pub limits : backfill.limits ≡ within
   pub runs : backfill.runs ≡ many
   pub replayed : IsReplay backfill
   pub limits_fit : AreLimits backfill.dag backfill.limits
   pub graded : AreGraded may_answer backfill.dag (entry_in backfill.state.ledger)
+  pub kept : KeepsWorkers backfill.dag backfill.runs workers backfill.journal
 
 -- what a backfill that is driven to its end comes to
-pub record IsOver (may_answer : JobName → Given → Raw → Type 0) (dag : Dag) (limits : Limits) (runs : ℕ) (ended : Ended) : Type 0 where
-  pub closed : HasEnded ended.state
-  pub outcome : IsOutcome dag runs ended.state
-  pub run_states : AreRunStates dag (entry_in ended.state.ledger) runs ended.run_states
-  pub graded : AreGraded may_answer dag (entry_in ended.state.ledger)
-  pub journal : IsJournal dag limits runs ended.journal ended.state
+pub record IsOver (may_answer : JobName → Given → Raw → Type 0) (dag : Dag) (limits : Limits) (runs workers : ℕ) (ending : Ending) : Type 0 where
+  pub of : IsEndOf dag limits runs ending
+  pub graded : AreGraded may_answer dag (entry_in ending.state.ledger)
+  pub kept : KeepsWorkers dag runs workers ending.journal

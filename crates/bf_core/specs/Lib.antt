@@ -11,4 +11,5 @@ pub mod Checks
 pub mod Tries
 pub mod Running
 pub mod Answered
+pub mod Endings
 pub mod Driven

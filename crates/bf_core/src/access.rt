@@ -4,8 +4,9 @@ ghost use Rattle.std.specs.List.{list_all};
 ghost use Rattle.std.specs.FinMap as map;
 ghost use Rattle.bf_core.specs.Terms.{Event as EventTerm, Ledger as Look, pool_size};
 ghost use Rattle.bf_core.specs.Events.{cell_at, row_of, entry_in, occupied, HasEnded, is_closed};
-ghost use Rattle.bf_core.specs.Agreement.{Holds, Agrees, IsOutcome, AreRunStates};
-ghost use Rattle.bf_core.specs.Cores.{IsThere, IsJournal, IsReplay, MayCome};
+ghost use Rattle.bf_core.specs.Agreement.{Holds, Agrees};
+ghost use Rattle.bf_core.specs.Cores.{IsThere, IsReplay, MayCome};
+ghost use Rattle.bf_core.specs.Endings.{ending_of};
 ghost use Rattle.bf_core.specs.Clocks.{IsTimely};
 ghost use Rattle.bf_core.specs.Few.{AreFew};
 ghost use Rattle.bf_core.specs.Checks.{AreStatesOf};
@@ -89,13 +90,10 @@ impl<'a> Core<'a> {
         are_closed(self.state.runs.as_slice())
     }
 
-    /// What the backfill came to, where it has ended; else the core is handed back. The cells are the recursion's over
-    /// the ledger, which holds just the tries that the recursion asks for; the journal leads to them.
-    pub fn into_ended(self) -> Result<Ended, Core<'a>>
-        ensures ok { IfOk result (λ ended. HasEnded self.entry.state × (ended.state ≡ self.entry.state) × (ended.journal ≡ self.entry.journal)) }
-        ensures journal { IfOk result (λ ended. IsJournal self.entry.dag self.entry.limits self.entry.runs ended.journal ended.state) }
-        ensures outcome { OnOk result (IsOutcome self.entry.dag self.entry.runs self.entry.state) }
-        ensures run_states { IfOk result (λ ended. AreRunStates self.entry.dag (entry_in self.entry.state.ledger) self.entry.runs ended.run_states) }
+    /// What the backfill came to, where it has ended; else the core is handed back.
+    pub fn into_ended(self) -> Result<Ended<'a>, Core<'a>>
+        ensures ok { IfOk result (λ ended. ended ≡ ending_of self.entry ended.run_states) }
+        ensures closed { OnOk result (HasEnded self.entry.state) }
         ensures back { IfErr result (λ core. (core ≡ self.entry) × ¬ (HasEnded self.entry.state)) }
     {
         if !self.is_ended() {
@@ -104,7 +102,7 @@ impl<'a> Core<'a> {
         let Core {
             alloc: _,
             plan,
-            runs: _,
+            runs,
             pools: _,
             state,
             clock: _,
@@ -115,6 +113,8 @@ impl<'a> Core<'a> {
         } = self;
         write_states(plan, state.runs.as_slice(), &mut run_states);
         Ok(Ended {
+            plan,
+            runs,
             state,
             run_states: Sequence::from_vec(run_states),
             journal: Sequence::from_vec(journal),

@@ -4,6 +4,7 @@ ghost use Rattle.std.specs.List.{list_any};
 ghost use Rattle.bf_core.specs.Recursion.{is_leaf as leaf, fails_run, run_fails as fails, run_state_of};
 ghost use Rattle.bf_core.specs.Events.{value_in, value_or_blocked};
 ghost use Rattle.bf_core.specs.Words.{is_failed_instance, instances_fail};
+ghost use Rattle.bf_core.specs.Endings.{IsEnd};
 ghost use Rattle.bf_core.specs.declared.state.Cell.{Cell as CellTerm};
 
 use crate::event::Event;
@@ -13,14 +14,70 @@ use bf_plan::Plan;
 use bf_try::Outcome;
 use bf_value::Sequence;
 use bf_xcom::RunState;
+use std::marker::Model;
 
-/// A backfill whose runs are all closed: its cells and the ledger of its tries, the state of each run in order of
-/// date, and the events that led to it.
+/// A backfill of a plan whose runs are all closed: its cells and the ledger of its tries, the state of each run in order of
+/// date, and the events that led to it. Its cells and the states of its runs are the recursion's over its ledger, which holds
+/// exactly the tries that the recursion asks for; its journal is legal, and no pool ever had more slots occupied than it has.
 #[derive(Drop)]
-pub struct Ended {
-    pub state: State,
-    pub run_states: Sequence<RunState>,
-    pub journal: Sequence<Event>,
+pub struct Ended<'p> {
+    pub(crate) plan: &'p Plan,
+    pub(crate) runs: u32,
+    pub(crate) state: State,
+    pub(crate) run_states: Sequence<RunState>,
+    pub(crate) journal: Sequence<Event>,
+}
+
+impl<'p> Model for Ended<'p> {
+    ghost use Rattle.bf_core.specs.Endings.{Ending, IsEnd};
+    ghost use Rattle.bf_plan.specs.contracts.plan.Dag as d;
+    ghost use Rattle.bf_plan.specs.contracts.plan.Limits as l;
+    ghost use Rattle.bf_xcom.specs.contracts.values.RunState as r;
+    ghost use Rattle.bf_core.specs.contracts.state.State as s;
+    ghost use Rattle.bf_core.specs.contracts.event.Event as e;
+    ghost use Rattle.std.specs.Coded.{codes};
+
+    ghost Value = { Ending };
+
+    ghost coded = { Prim.hlevel (codes, d.the_row.coded, l.the_row.coded, r.the_row.coded, s.the_row.coded, e.the_row.coded) };
+
+    ghost view = { λ e. record { dag = e.plan.now.dag; limits = e.plan.now.limits; runs = e.runs; state = e.state; run_states = e.run_states; journal = e.journal } };
+
+    ghost invariant = { λ e. IsEnd (record { dag = e.plan.now.dag; limits = e.plan.now.limits; runs = e.runs; state = e.state; run_states = e.run_states; journal = e.journal }) };
+}
+
+impl<'p> Ended<'p> {
+    /// The plan that was run.
+    pub fn plan(&self) -> &'p Plan
+        ensures dag { result.now.dag ≡ self.now.dag }
+        ensures limits { result.now.limits ≡ self.now.limits }
+    {
+        self.plan
+    }
+
+    /// The cells of all runs, and the ledger.
+    pub fn state(&self) -> &State
+        ensures state { result.now ≡ self.now.state }
+        ensures end { IsEnd self.now }
+    {
+        &self.state
+    }
+
+    /// The state of each run, in order of date.
+    pub fn run_states(&self) -> &[RunState]
+        ensures run_states { result.now ≡ self.now.run_states }
+        ensures end { IsEnd self.now }
+    {
+        self.run_states.as_slice()
+    }
+
+    /// The events that led to the end.
+    pub fn journal(&self) -> &[Event]
+        ensures journal { result.now ≡ self.now.journal }
+        ensures end { IsEnd self.now }
+    {
+        self.journal.as_slice()
+    }
 }
 
 /// Whether no task has this one as an upstream.

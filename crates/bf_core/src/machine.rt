@@ -1,5 +1,5 @@
 //! The core: the state of a backfill, the events that led to it, and what one more event does.
-ghost use Rattle.std.specs.Prelude.{◌≡◌, ◌≤◌, ◌<◌, length, OnOk, OnErr, IfOk, IfErr, IfSome, IfNone};
+ghost use Rattle.std.specs.Prelude.{◌≡◌, length, OnOk, OnErr, IfOk, IfErr, IfSome, IfNone};
 ghost use Rattle.bf_core.specs.Events.{next_run, decision_in};
 ghost use Rattle.bf_core.specs.Cores.{deciding, opening, HasCome, IsRefusal, MayCome};
 ghost use Rattle.bf_core.specs.Tries.{IsBeginning};
@@ -12,7 +12,7 @@ use crate::opening::unopened_runs;
 use crate::places::place_of;
 use crate::state::{RunPhase, State};
 use crate::trying::Change;
-use bf_interval::Interval;
+use bf_interval::Runs;
 use bf_plan::{Demand, Plan};
 use bf_pool::{NoRoom, Pools};
 use bf_try::Ledger;
@@ -59,26 +59,22 @@ impl<'a> Model for Core<'a> {
 }
 
 impl<'a> Core<'a> {
-    /// The core of a plan over these data intervals, of which nothing has happened yet.
-    pub fn new(
-        alloc: Global,
-        plan: &'a Plan,
-        intervals: &[Interval],
-    ) -> Result<Core<'a>, OutOfMemory>
-        requires { length intervals.now ≤ 4_096 }
-        ensures { IfOk result (λ core. core ≡ opening plan.entry.now.dag plan.entry.now.limits (length intervals.now)) }
+    /// The core of a plan over these runs, of which nothing has happened yet.
+    pub fn new(alloc: Global, plan: &'a Plan, runs: &Runs) -> Result<Core<'a>, OutOfMemory>
+        ensures { IfOk result (λ core. core ≡ opening plan.entry.now.dag plan.entry.now.limits (length runs.now)) }
     {
-        let runs = unopened_runs(alloc, plan.dag().tasks.len(), intervals.len())?;
-        let run_states = vec![in alloc; RunState::Success; intervals.len()]?;
+        let count = runs.count();
+        let cells = unopened_runs(alloc, plan.dag().tasks.len(), count)?;
+        let run_states = vec![in alloc; RunState::Success; count]?;
         let pools = Pools::new(alloc, plan)?;
         let _fit = plan.limits();
         Ok(Core {
             alloc,
             plan,
-            runs: intervals.len() as u32,
+            runs: count as u32,
             pools,
             state: State {
-                runs,
+                runs: cells,
                 ledger: Ledger::new(alloc),
             },
             clock: Clock {

@@ -1,5 +1,5 @@
 -- What a device was given, and what it gave.
-use Rattle.std.specs.Prelude.{◌≡◌, ℕ, zero, suc, ◌+◌, ◌%◌, ◌^◌, ◌⊎◌, List, [], ◌∷◌, ◌++◌, Option, option_map, Result, Ok, Err}
+use Rattle.std.specs.Prelude.{◌≡◌, ◌≤◌, ℕ, zero, suc, ◌+◌, ◌%◌, ◌^◌, ◌⊎◌, List, [], ◌∷◌, ◌++◌, Option, option_map, Result, Ok, Err}
 use Rattle.bf_device.specs.declared.device.Halt.{Halt}
 use Rattle.bf_device.specs.declared.device.Halt.TheVariants.{Again, Failed}
 
@@ -40,3 +40,8 @@ read_failed (Err Failed) = 1
 abbrev pub HasHalted : ℕ → ℕ → ℕ → ℕ → Type 0
 HasHalted failures_old failures_new interruptions_old interruptions_new =
     WentOn 1 failures_old failures_new ⊎ WentOn 1_001 interruptions_old interruptions_new
+
+-- no call failed, and there were no more interruptions than a call goes on after
+abbrev pub HasGoneOn : ℕ → ℕ → ℕ → ℕ → Type 0
+HasGoneOn failures_old failures_new interruptions_old interruptions_new =
+    WentOn 0 failures_old failures_new × ((n : ℕ) × (n ≤ 1_000) × WentOn n interruptions_old interruptions_new)

@@ -1,6 +1,6 @@
 //! A text sent to a device.
 ghost use Rattle.std.specs.Prelude.{◌≡◌, ◌≤◌, ◌⊎◌, length, take, OnOk, IfErr};
-ghost use Rattle.bf_device.specs.Device.{sent, WentOn, HasHalted};
+ghost use Rattle.bf_device.specs.Device.{sent, WentOn, HasHalted, HasGoneOn};
 
 use crate::device::{Halt, MOST_INTERRUPTIONS, Write};
 use thiserror::Error;
@@ -40,6 +40,8 @@ pub fn send<W: Write>(out: &mut W, text: &[u8]) -> Result<(), WriteFault>
         × (W.written out.new ≡ sent (W.written out.old) (take fault.sent text.now))) }
     ensures only_io { IfErr result (λ fault. fault.cause ≡ Cause.Io) }
     ensures halted { IfErr result (λ _. HasHalted (W.failures out.old) (W.failures out.new)
+        (W.interruptions out.old) (W.interruptions out.new)) }
+    ensures went_on { OnOk result (HasGoneOn (W.failures out.old) (W.failures out.new)
         (W.interruptions out.old) (W.interruptions out.new)) }
 {
     let mut sent = 0;

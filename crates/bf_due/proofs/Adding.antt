@@ -18,18 +18,18 @@ use Rattle.bf_due.specs.declared.agenda.Step.{Step}
 use Rattle.bf_due.specs.declared.agenda.Turn.{Turn}
 use Rattle.bf_due.specs.declared.progress.Progress.{Progress}
 use Rattle.bf_due.specs.declared.news.News.{News}
-use Rattle.bf_due.specs.Cursors.{AreReached}
+use Rattle.bf_due.specs.Cursors.{AreNoted}
 use Rattle.bf_due.specs.Stirring.{is_settled, matters}
-use Rattle.bf_due.specs.Dues.{Asks, AsksAll, HasAdded, IsAround, IsBelow, IsCloseOf, IsDue, IsOfFirst, IsOfRun, IsOfRunBelow, IsOfTask, IsOpening, IsRanked, IsStirred, IsUnder}
+use Rattle.bf_due.specs.Dues.{Asks, AsksAll, HasAdded, IsAround, IsBelow, IsCloseOf, IsDueStep, IsOfFirst, IsOfRun, IsOfRunBelow, IsOfTask, IsOpening, IsRanked, IsStirred, IsUnder}
 use Rattle.bf_due.proofs.Reached.{held-at, row-put}
 
 module _ (b : Backfill) where
   -- nothing is added where none of these may come
-  pub none-added : (P : Step → Type 0) (old : List Step) → ((x : Step) → P x → IsDue b x → ⊥) → HasAdded b P old old
+  pub none-added : (P : Step → Type 0) (old : List Step) → ((x : Step) → P x → IsDueStep b x → ⊥) → HasAdded b P old old
   none-added P old none = record { kept = λ x c. c; added = λ x p due. absurd (none x p due); ranked = λ h. h }
 
   -- those of one kind, and then those of another
-  pub then-added : (P Q R : Step → Type 0) (old mid new : List Step) → ((x : Step) → R x → IsDue b x → P x ⊎ Q x) → HasAdded b P old mid → HasAdded b Q mid new → HasAdded b R old new
+  pub then-added : (P Q R : Step → Type 0) (old mid new : List Step) → ((x : Step) → R x → IsDueStep b x → P x ⊎ Q x) → HasAdded b P old mid → HasAdded b Q mid new → HasAdded b R old new
   then-added P Q R old mid new split first second = record {
     kept = λ x c. second.kept x (first.kept x c);
     added = λ x r due. elim (split x r due) [ inl p ↦ second.kept x (first.added x p due) | inr q ↦ second.added x q due ];
@@ -41,7 +41,7 @@ module _ (b : Backfill) where
   fewer-added P Q old new fewer all = record { kept = all.kept; added = λ x q due. all.added x (fewer x q) due; ranked = all.ranked }
 
   -- one step was added, and no other of these may come
-  pub one-added : (P : Step → Type 0) (step : Step) (old new : List Step) → IsRanked b.dag step → ((x : Step) → P x → IsDue b x → x ≡ step) → Contains new step →
+  pub one-added : (P : Step → Type 0) (step : Step) (old new : List Step) → IsRanked b.dag step → ((x : Step) → P x → IsDueStep b x → x ≡ step) → Contains new step →
       ((x : Step) → Contains old x → Contains new x) → ((x : Step) → Contains new x → (x ≡ step) ⊎ Contains old x) → HasAdded b P old new
   one-added P step old new is_ranked only there kept from = record {
     kept = kept;
@@ -60,7 +60,7 @@ step_of true x = Step.Expand x
 step_of false x = Step.Settle x
 
 -- where the task may not be decided, no step of it may come
-pub none-decides : (b : Backfill) (k t : ℕ) → ¬ (IsDecidable b.dag b.state k t) → (x : Step) → IsOfTask k t x → IsDue b x → ⊥
+pub none-decides : (b : Backfill) (k t : ℕ) → ¬ (IsDecidable b.dag b.state k t) → (x : Step) → IsOfTask k t x → IsDueStep b x → ⊥
 none-decides b k t none (Step.Close j) of due = absurd of
 none-decides b k t none Step.Open of due = absurd of
 none-decides b k t none (Step.Settle y) of due = none (subst₂ (λ (j u : ℕ). IsDecidable b.dag b.state j u) of.0 of.1 due.1.0.0)
@@ -122,7 +122,7 @@ none-below-zero k (Step.Expand y) of = omega (arith, of.1)
 
 -- ---- the steps of runs
 
-run-split : (b : Backfill) (k : ℕ) (x : Step) → IsOfRun k x → IsDue b x → IsBelow k (length b.dag.tasks) x ⊎ IsCloseOf k x
+run-split : (b : Backfill) (k : ℕ) (x : Step) → IsOfRun k x → IsDueStep b x → IsBelow k (length b.dag.tasks) x ⊎ IsCloseOf k x
 run-split b k (Step.Close j) of due = inr of
 run-split b k Step.Open of due = absurd of
 run-split b k (Step.Settle y) of due = inl (of, due.1.0.0.is_task)
@@ -185,11 +185,11 @@ is-opening (Step.Expand y) of = absurd of
 
 -- ---- with what is noted
 
-pub asks-none : (b : Backfill) (k : ℕ) (P : Step → Type 0) (row : Progress) (old : List Step) → ((x : Step) → P x → IsDue b x → ⊥) → Asks b k P row row old old
+pub asks-none : (b : Backfill) (k : ℕ) (P : Step → Type 0) (row : Progress) (old : List Step) → ((x : Step) → P x → IsDueStep b x → ⊥) → Asks b k P row row old old
 asks-none b k P row old none = λ is. (is, none-added b P old none)
 
 -- those of one kind, and then those of another
-then-asks : (b : Backfill) (k : ℕ) (P Q R : Step → Type 0) (first second third : Progress) (old mid new : List Step) → ((x : Step) → R x → IsDue b x → P x ⊎ Q x) →
+then-asks : (b : Backfill) (k : ℕ) (P Q R : Step → Type 0) (first second third : Progress) (old mid new : List Step) → ((x : Step) → R x → IsDueStep b x → P x ⊎ Q x) →
     Asks b k P first second old mid → Asks b k Q second third mid new → Asks b k R first third old new
 then-asks b k P Q R first second third old mid new split p q = λ is.
     let here : _ = p is in
@@ -241,7 +241,7 @@ around-asked b s n first second third old mid new p q = λ reached.
 
 -- while the task isn't settled there is nothing to ask of the next run
 pub around-open : (b : Backfill) (s : State) (n : News) (first second : List Progress) (old new : List Step) →
-    AsksAll b (IsUnder b.dag s n) first second old new → (AreReached b first → is_settled s n.run n.task ≡ false) → AsksAll b (IsAround b.dag s n) first second old new
+    AsksAll b (IsUnder b.dag s n) first second old new → (AreNoted b first → is_settled s n.run n.task ≡ false) → AsksAll b (IsAround b.dag s n) first second old new
 around-open b s n first second old new p unsettled = λ reached.
     ((p reached).0, fewer-added b _ _ old new (λ x of. only x (unsettled reached) (around-split b.dag s n x of)) (p reached).1)
   where
@@ -251,24 +251,24 @@ around-open b s n first second old new p unsettled = λ reached.
 
 -- ---- where there is none
 
-pub no-close : (b : Backfill) (k : ℕ) → ¬ (MayCome b (Event.Close k)) → (x : Step) → IsCloseOf k x → IsDue b x → ⊥
+pub no-close : (b : Backfill) (k : ℕ) → ¬ (MayCome b (Event.Close k)) → (x : Step) → IsCloseOf k x → IsDueStep b x → ⊥
 no-close b k none (Step.Close j) of due = none (subst (λ (i : ℕ). MayCome b (Event.Close i)) of due.1)
 no-close b k none Step.Open of due = of
 no-close b k none (Step.Settle y) of due = of
 no-close b k none (Step.Expand y) of due = of
 
 -- a run without a row is not there, so none of its steps may come
-pub no-run : (b : Backfill) (k n : ℕ) → length b.state.runs ≤ n → n ≤ k → (x : Step) → IsOfRun k x → IsDue b x → ⊥
+pub no-run : (b : Backfill) (k n : ℕ) → length b.state.runs ≤ n → n ≤ k → (x : Step) → IsOfRun k x → IsDueStep b x → ⊥
 no-run b k n few l (Step.Close j) of due = let there : j < length b.state.runs = open-run b.state j due.1.0.0 in omega (arith, few, l, of, there)
 no-run b k n few l Step.Open of due = of
 no-run b k n few l (Step.Settle y) of due = let there : y.run < length b.state.runs = open-run b.state y.run due.1.0.0.run_is_open in omega (arith, few, l, of, there)
 no-run b k n few l (Step.Expand y) of due = let there : y.run < length b.state.runs = open-run b.state y.run due.1.0.0.run_is_open in omega (arith, few, l, of, there)
 
-pub no-task : (b : Backfill) (k t n : ℕ) → length b.state.runs ≤ n → n ≤ k → (x : Step) → IsOfTask k t x → IsDue b x → ⊥
+pub no-task : (b : Backfill) (k t n : ℕ) → length b.state.runs ≤ n → n ≤ k → (x : Step) → IsOfTask k t x → IsDueStep b x → ⊥
 no-task b k t n few l (Step.Close j) of due = of
 no-task b k t n few l Step.Open of due = of
 no-task b k t n few l (Step.Settle y) of due = no-run b k n few l (Step.Settle y) of.0 due
 no-task b k t n few l (Step.Expand y) of due = no-run b k n few l (Step.Expand y) of.0 due
 
-pub skipped : (b : Backfill) (P : Step → Type 0) (rows : List Progress) (old : List Step) → ((x : Step) → P x → IsDue b x → ⊥) → AsksAll b P rows rows old old
+pub skipped : (b : Backfill) (P : Step → Type 0) (rows : List Progress) (old : List Step) → ((x : Step) → P x → IsDueStep b x → ⊥) → AsksAll b P rows rows old old
 skipped b P rows old none = λ reached. (reached, none-added b P old none)

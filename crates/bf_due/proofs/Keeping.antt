@@ -19,8 +19,8 @@ use Rattle.bf_due.specs.declared.agenda.Turn.{Turn}
 use Rattle.bf_due.specs.Steps.{ComesBefore, IsEarlier, IsNextStep, IsStep}
 use Rattle.bf_due.specs.Agendas.{Comes, TurnComes, event_of}
 use Rattle.bf_due.specs.declared.progress.Progress.{Progress}
-use Rattle.bf_due.specs.Cursors.{AreReached}
-use Rattle.bf_due.specs.Dues.{AsksAll, Concerns, HasAdded, IsCleaned, IsOfRunBelow, IsOpening, IsRanked, IsUpToDate, Kept, SpeaksOfTask}
+use Rattle.bf_due.specs.Cursors.{AreNoted}
+use Rattle.bf_due.specs.Dues.{AsksAll, Concerns, HasAdded, IsPruned, IsOfRunBelow, IsOpening, IsRanked, IsUpToDate, Kept, SpeaksOfTask}
 use Rattle.bf_due.proofs.Adding.{one-rank}
 use Rattle.bf_due.proofs.AgendaFacts.{top-in, no-items}
 use Rattle.bf_due.proofs.Newly.{newly-due}
@@ -58,7 +58,7 @@ speaks b now e is was able same = speaks-as now.dag b.dag now.state b.state (ap 
 
 -- what is kept is up to date after the event, where it was so before it
 pub keeps : (b now : Backfill) (e : Event) → IsReplay now → MayCome b e → now ≡ moved b e → (old : Kept) → IsUpToDate b old → (rows after : List Progress) (mid new : List Step) →
-    AsksAll now (Concerns now.dag now.state e) old.progress rows old.steps mid → ((n : Backfill) → AreReached n rows → AreReached n after) → IsCleaned now mid new → (room : ℕ) → IsUpToDate now (record { steps = new; room = room; progress = after })
+    AsksAll now (Concerns now.dag now.state e) old.progress rows old.steps mid → ((n : Backfill) → AreNoted n rows → AreNoted n after) → IsPruned now mid new → (room : ℕ) → IsUpToDate now (record { steps = new; room = room; progress = after })
 keeps b now e was able same old is rows after mid new asks forgets cleaned room = record {
   replayed = was;
   ranking = subst (λ (d : Dag). Ranking (shape_of d).upstreams) (sym dags) is.ranking;
@@ -71,7 +71,7 @@ keeps b now e was able same old is rows after mid new asks forgets cleaned room 
   reached = forgets now (asks reached).0;
 }
   where
-    reached : AreReached now old.progress
+    reached : AreNoted now old.progress
     reached = reached-stays b now e able same old.progress is.reached
 
     added : HasAdded now (Concerns now.dag now.state e) old.steps mid
@@ -81,7 +81,7 @@ keeps b now e was able same old is rows after mid new asks forgets cleaned room 
     dags = ap (λ (n : Backfill). n.dag) same
 
 -- room that was made, and rows that were made, leave it up to date
-pub room-made : (b : Backfill) (old new : Kept) → new.steps ≡ old.steps → (AreReached b old.progress → AreReached b new.progress) → IsUpToDate b old → IsUpToDate b new
+pub room-made : (b : Backfill) (old new : Kept) → new.steps ≡ old.steps → (AreNoted b old.progress → AreNoted b new.progress) → IsUpToDate b old → IsUpToDate b new
 room-made b old new steps rows is = record {
   replayed = is.replayed;
   ranking = is.ranking;
@@ -105,7 +105,7 @@ opened-step b is (Step.Expand x) may = inl (open-before b.dag b.runs b.state (re
 
 -- the steps of the opened runs, and then the opening of the next
 pub starts : (b : Backfill) → IsReplay b → Ranking (shape_of b.dag).upstreams → (first second new : List Step) →
-    HasAdded b (IsOfRunBelow (next_run b.state)) [] first → HasAdded b IsOpening first second → IsCleaned b second new → (room : ℕ) (rows : List Progress) → rows ≡ [] → IsUpToDate b (record { steps = new; room = room; progress = rows })
+    HasAdded b (IsOfRunBelow (next_run b.state)) [] first → HasAdded b IsOpening first second → IsPruned b second new → (room : ℕ) (rows : List Progress) → rows ≡ [] → IsUpToDate b (record { steps = new; room = room; progress = rows })
 starts b is ranking first second new runs opening cleaned room rows no_rows = record {
   replayed = is;
   ranking = ranking;

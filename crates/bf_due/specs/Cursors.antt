@@ -41,12 +41,12 @@ abbrev pub AreFinished : Cell → ℕ → Type 0
 AreFinished cell count = (place : ℕ) → place < count → HasFinished cell place
 
 -- what is noted of the run is right
-pub record IsReached (backfill : Backfill) (run : ℕ) (row : Progress) : Type 0 where
+pub record IsNoted (backfill : Backfill) (run : ℕ) (row : Progress) : Type 0 where
   pub passed : (task : ℕ) → ArePassed (is_early backfill.dag task) backfill.dag backfill.state run task (slice_index row.passed.items task)
   pub upstreams : (task : ℕ) → ArePassed false backfill.dag backfill.state run task (slice_index row.settled_upstreams.items task)
   pub finished : (task : ℕ) → AreFinished (cell_at backfill.state run task) (slice_index row.finished.items task)
   pub settled : (task : ℕ) → task < row.settled → is_some (value_in (cell_at backfill.state run task)) ≡ true
 
 -- the same, of the row of each run
-abbrev pub AreReached : Backfill → List Progress → Type 0
-AreReached backfill rows = (run : ℕ) (row : Progress) → slice_get rows run ≡ Some row → IsReached backfill run row
+abbrev pub AreNoted : Backfill → List Progress → Type 0
+AreNoted backfill rows = (run : ℕ) (row : Progress) → slice_get rows run ≡ Some row → IsNoted backfill run row

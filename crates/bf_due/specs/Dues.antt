@@ -11,7 +11,7 @@ use Rattle.bf_core.specs.Events.{next_run}
 use Rattle.bf_due.specs.declared.agenda.Step.{Step}
 use Rattle.bf_due.specs.declared.news.News.{News}
 use Rattle.bf_due.specs.declared.progress.Progress.{Progress}
-use Rattle.bf_due.specs.Cursors.{AreReached, IsReached}
+use Rattle.bf_due.specs.Cursors.{AreNoted, IsNoted}
 use Rattle.bf_due.specs.Agendas.{event_of}
 use Rattle.bf_due.specs.Stirring.{decided_at, ended_at, is_settled, matters}
 
@@ -30,17 +30,17 @@ IsRanked dag (Step.Expand turn) = IsRank (shape_of dag).upstreams turn.task turn
 IsRanked dag step = Unit {0}
 
 -- the step may come
-abbrev pub IsDue : Backfill → Step → Type 0
-IsDue backfill step = IsRanked backfill.dag step × MayCome backfill (event_of step)
+abbrev pub IsDueStep : Backfill → Step → Type 0
+IsDueStep backfill step = IsRanked backfill.dag step × MayCome backfill (event_of step)
 
 -- each step that may come is on the agenda, and the first on it may come
 pub record IsUpToDate (backfill : Backfill) (kept : Kept) : Type 0 where
   pub replayed : IsReplay backfill
   pub ranking : Ranking (shape_of backfill.dag).upstreams
-  pub holds : (step : Step) → IsDue backfill step → Contains kept.steps step
+  pub holds : (step : Step) → IsDueStep backfill step → Contains kept.steps step
   pub ranked : (step : Step) → Contains kept.steps step → IsRanked backfill.dag step
   pub live : IfSome (slice_get kept.steps 0) (λ step. MayCome backfill (event_of step))
-  pub reached : AreReached backfill kept.progress
+  pub reached : AreNoted backfill kept.progress
 
 -- ---- what an event may make possible
 
@@ -145,8 +145,8 @@ abbrev pub HasRoom : Dag → List Step → ℕ → Type 0
 HasRoom dag steps room = length steps + (length dag.tasks + 2) ≤ room
 
 -- so it is with what is kept, which has a row for each run
-abbrev pub HasRoomFor : Backfill → Kept → Type 0
-HasRoomFor backfill kept = HasRoom backfill.dag kept.steps kept.room × (backfill.runs ≤ length kept.progress)
+abbrev pub HasRoomForSteps : Backfill → Kept → Type 0
+HasRoomForSteps backfill kept = HasRoom backfill.dag kept.steps kept.room × (backfill.runs ≤ length kept.progress)
 
 -- ---- while it is kept
 
@@ -157,19 +157,19 @@ AreRanked dag steps = (step : Step) → Contains steps step → IsRanked dag ste
 -- of these steps those that may come now were added
 pub record HasAdded (backfill : Backfill) (These : Step → Type 0) (old new : List Step) : Type 0 where
   pub kept : (step : Step) → Contains old step → Contains new step
-  pub added : (step : Step) → These step → IsDue backfill step → Contains new step
+  pub added : (step : Step) → These step → IsDueStep backfill step → Contains new step
   pub ranked : AreRanked backfill.dag old → AreRanked backfill.dag new
 
 -- first steps were taken out that may not come now
-pub record IsCleaned (backfill : Backfill) (old new : List Step) : Type 0 where
+pub record IsPruned (backfill : Backfill) (old new : List Step) : Type 0 where
   pub kept : (step : Step) → Contains old step → MayCome backfill (event_of step) → Contains new step
   pub fewer : (step : Step) → Contains new step → Contains old step
   pub live : IfSome (slice_get new 0) (λ step. MayCome backfill (event_of step))
 
 -- what was noted of the run is still right, where it was, and of these steps those that may come now were added
 abbrev pub Asks : Backfill → ℕ → (Step → Type 0) → Progress → Progress → List Step → List Step → Type 0
-Asks backfill run These before after old new = IsReached backfill run before → IsReached backfill run after × HasAdded backfill These old new
+Asks backfill run These before after old new = IsNoted backfill run before → IsNoted backfill run after × HasAdded backfill These old new
 
 -- so it is with what was noted of all runs
 abbrev pub AsksAll : Backfill → (Step → Type 0) → List Progress → List Progress → List Step → List Step → Type 0
-AsksAll backfill These before after old new = AreReached backfill before → AreReached backfill after × HasAdded backfill These old new
+AsksAll backfill These before after old new = AreNoted backfill before → AreNoted backfill after × HasAdded backfill These old new

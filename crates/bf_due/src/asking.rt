@@ -7,8 +7,8 @@ ghost use Rattle.bf_core.specs.Events.{IsDecidable};
 ghost use Rattle.bf_core.specs.Cores.{IsThere, MayCome, deciding};
 ghost use Rattle.bf_due.specs.declared.agenda.Step.{Step as StepTerm};
 ghost use Rattle.bf_due.specs.Agendas.{event_of};
-ghost use Rattle.bf_due.specs.Dues.{Asks, AsksAll, Concerns, HasAdded, HasRoom, IsAround, IsBelow, IsCleaned, IsCloseOf, IsDue, IsOfFirst, IsOfRun, IsOfTask, IsOpening, IsStirred, IsUnder, SpeaksOfTask, newest};
-ghost use Rattle.bf_due.specs.Cursors.{IsReached};
+ghost use Rattle.bf_due.specs.Dues.{Asks, AsksAll, Concerns, HasAdded, HasRoom, IsAround, IsBelow, IsPruned, IsCloseOf, IsDueStep, IsOfFirst, IsOfRun, IsOfTask, IsOpening, IsStirred, IsUnder, SpeaksOfTask, newest};
+ghost use Rattle.bf_due.specs.Cursors.{IsNoted};
 ghost use Rattle.bf_due.specs.Stirring.{knows_past as knows_past_of, looks_beyond as looks_beyond_of, matters as matters_to};
 
 use crate::agenda::{Agenda, Step, Turn};
@@ -56,8 +56,8 @@ fn may_come(core: &Core<'_>, step: Step) -> bool
 /// The step that decides a task, where it may be decided now.
 fn decision(core: &Core<'_>, run: u32, task: u32) -> Option<Step>
     requires { task < length core.now.dag.tasks }
-    ensures due { IfSome result (IsDue core.now) }
-    ensures each { (x : StepTerm) → IsOfTask run task x → IsDue core.now x → result ≡ Some x }
+    ensures due { IfSome result (IsDueStep core.now) }
+    ensures each { (x : StepTerm) → IsOfTask run task x → IsDueStep core.now x → result ≡ Some x }
 {
     let rank = core.plan().graph().rank(task);
     let turn = Turn { run, rank, task };
@@ -140,8 +140,8 @@ fn knows_past(core: &Core<'_>, run: u32, task: u32) -> bool
 /// Whether news may let a task be decided that is below theirs.
 fn matters(row: &mut Progress, core: &Core<'_>, news: News, task: u32) -> bool
     requires { task < length core.now.dag.tasks }
-    ensures matters { IsReached core.now news.run row.old → result ≡ false → matters_to core.now.dag core.now.state news task ≡ false }
-    ensures reached { IsReached core.now news.run row.old → IsReached core.now news.run row.new }
+    ensures matters { IsNoted core.now news.run row.old → result ≡ false → matters_to core.now.dag core.now.state news task ≡ false }
+    ensures reached { IsNoted core.now news.run row.old → IsNoted core.now news.run row.new }
 {
     if looks_beyond(core, news.task, task) {
         return true;
@@ -309,7 +309,7 @@ pub(crate) fn ask_after(
 
 /// Takes out the first steps while they may not come.
 pub(crate) fn clean(agenda: &mut Agenda, core: &Core<'_>)
-    ensures { IsCleaned core.now agenda.old.items agenda.new.items }
+    ensures { IsPruned core.now agenda.old.items agenda.new.items }
 {
     while let Some(step) = agenda.first() {
         if may_come(core, step) {

@@ -5,8 +5,8 @@ ghost use Rattle.bf_plan.specs.Plans.{shape_of};
 ghost use Rattle.bf_core.specs.Events.{next_run};
 ghost use Rattle.bf_core.specs.Cores.{Backfill, IsReplay, IsThere, MayCome, moved};
 ghost use Rattle.bf_due.specs.Steps.{IsNextStep};
-ghost use Rattle.bf_due.specs.Cursors.{AreReached};
-ghost use Rattle.bf_due.specs.Dues.{HasAdded, HasRoomFor, IsOfRunBelow, IsUpToDate, SpeaksOfTask};
+ghost use Rattle.bf_due.specs.Cursors.{AreNoted};
+ghost use Rattle.bf_due.specs.Dues.{HasAdded, HasRoomForSteps, IsOfRunBelow, IsUpToDate, SpeaksOfTask};
 
 use crate::agenda::Agenda;
 use crate::asking::{add_open, ask_after, ask_run, clean};
@@ -89,7 +89,7 @@ fn runs(core: &Core<'_>) -> u32
 
 /// Makes a row for each run.
 fn make_rows(alloc: Global, rows: &mut Vec<Progress>, runs: u32) -> Result<(), OutOfMemory>
-    ensures reached { (b : Backfill) → AreReached b rows.old.items → AreReached b rows.new.items }
+    ensures reached { (b : Backfill) → AreNoted b rows.old.items → AreNoted b rows.new.items }
     ensures rows { OnOk result (runs ≤ length rows.new.items) }
 {
     for _run in rows.len()..runs as usize {
@@ -115,7 +115,7 @@ fn prepare(
     run: u32,
     tasks: usize,
 ) -> Result<(), OutOfMemory>
-    ensures reached { (b : Backfill) → AreReached b rows.old.items → AreReached b rows.new.items }
+    ensures reached { (b : Backfill) → AreNoted b rows.old.items → AreNoted b rows.new.items }
     ensures len { length rows.new.items ≡ length rows.old.items }
 {
     if (run as usize) < rows.len() && rows[run as usize].passed.is_empty() {
@@ -132,7 +132,7 @@ fn make_rows_for(
     core: &Core<'_>,
     event: &Event,
 ) -> Result<(), OutOfMemory>
-    ensures reached { (b : Backfill) → AreReached b rows.old.items → AreReached b rows.new.items }
+    ensures reached { (b : Backfill) → AreNoted b rows.old.items → AreNoted b rows.new.items }
     ensures rows { OnOk result (core.now.runs ≤ length rows.new.items) }
 {
     make_rows(alloc, rows, runs(core))?;
@@ -144,7 +144,7 @@ fn make_rows_for(
 
 /// Lets go of what was noted of a run that an event has closed.
 fn forget_closed(alloc: Global, rows: &mut Vec<Progress>, event: &Event)
-    ensures { (b : Backfill) → AreReached b rows.old.items → AreReached b rows.new.items }
+    ensures { (b : Backfill) → AreNoted b rows.old.items → AreNoted b rows.new.items }
 {
     if let Event::Close { run } = event {
         if (*run as usize) < rows.len() {
@@ -174,7 +174,7 @@ impl Due {
     /// Makes room for what one more event may make possible. Refused or not, what is kept stays up to date.
     pub fn make_room(&mut self, core: &Core<'_>, event: &Event) -> Result<(), OutOfMemory>
         ensures kept { (b : Backfill) → IsUpToDate b self.old → IsUpToDate b self.new }
-        ensures room { OnOk result (HasRoomFor core.now self.new) }
+        ensures room { OnOk result (HasRoomForSteps core.now self.new) }
     {
         make_rows_for(self.alloc, &mut self.progress, core, event)?;
         self.agenda.make_room(core.plan().dag().tasks.len() + 2)
@@ -182,7 +182,7 @@ impl Due {
 
     /// Takes in an event that has come, for which there is room. It takes no memory.
     pub fn on_event(&mut self, core: &Core<'_>, event: &Event)
-        requires { HasRoomFor core.now self.old }
+        requires { HasRoomForSteps core.now self.old }
         ensures { (b : Backfill) → MayCome b event.now → core.now ≡ moved b event.now → IsUpToDate b self.old → IsUpToDate core.now self.new }
     {
         let _runs = runs(core);

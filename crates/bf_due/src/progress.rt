@@ -5,7 +5,7 @@ ghost use Rattle.bf_core.specs.Events.{IsDecidable, cell_at, value_in};
 ghost use Rattle.bf_core.specs.Cores.{Backfill, MayCome};
 ghost use Rattle.bf_core.specs.declared.event.Event.{Event as EventTerm};
 ghost use Rattle.bf_core.specs.declared.state.Cell.{Cell as CellTerm};
-ghost use Rattle.bf_due.specs.Cursors.{AreFinished, ArePassed, Awaits, IsFinished, IsReached, is_early as early, lets};
+ghost use Rattle.bf_due.specs.Cursors.{AreFinished, ArePassed, Awaits, IsFinished, IsNoted, is_early as early, lets};
 ghost use Rattle.bf_due.specs.Stirring.{all_settled};
 
 use bf_core::{Cell, Core, Instance, Phase};
@@ -85,7 +85,7 @@ fn is_early(core: &Core<'_>, task: u32) -> bool
 impl Progress {
     /// Nothing is known, and nothing noted of a task. It takes no memory.
     pub fn unknown(alloc: Global) -> Progress
-        ensures { (b : Backfill) (k : ℕ) → IsReached b k result }
+        ensures { (b : Backfill) (k : ℕ) → IsNoted b k result }
     {
         Progress {
             passed: Vec::new(alloc),
@@ -97,7 +97,7 @@ impl Progress {
 
     /// Nothing is known of so many tasks.
     pub fn new(alloc: Global, tasks: usize) -> Result<Progress, OutOfMemory>
-        ensures { IfOk result (λ row. (b : Backfill) (k : ℕ) → IsReached b k row) }
+        ensures { IfOk result (λ row. (b : Backfill) (k : ℕ) → IsNoted b k row) }
     {
         Ok(Progress {
             passed: vec![in alloc; 0; tasks]?,
@@ -109,7 +109,7 @@ impl Progress {
 
     /// Notes that so many instances of a task have finished.
     fn note_finished(&mut self, task: u32, finished: u32)
-        ensures reached { (b : Backfill) (k : ℕ) → IsReached b k self.old → AreFinished (cell_at b.state k task) finished → IsReached b k self.new }
+        ensures reached { (b : Backfill) (k : ℕ) → IsNoted b k self.old → AreFinished (cell_at b.state k task) finished → IsNoted b k self.new }
         ensures settled { self.new.settled ≡ self.old.settled }
     {
         if (task as usize) < self.finished.len() {
@@ -119,7 +119,7 @@ impl Progress {
 
     /// Notes that so many upstreams of a task let it be decided.
     fn note_passed(&mut self, task: u32, passed: u32)
-        ensures { (b : Backfill) (k : ℕ) → IsReached b k self.old → ArePassed (early b.dag task) b.dag b.state k task passed → IsReached b k self.new }
+        ensures { (b : Backfill) (k : ℕ) → IsNoted b k self.old → ArePassed (early b.dag task) b.dag b.state k task passed → IsNoted b k self.new }
     {
         if (task as usize) < self.passed.len() {
             self.passed[task as usize] = passed;
@@ -128,7 +128,7 @@ impl Progress {
 
     /// Notes that so many upstreams of a task are settled.
     fn note_settled(&mut self, task: u32, settled: u32)
-        ensures { (b : Backfill) (k : ℕ) → IsReached b k self.old → ArePassed false b.dag b.state k task settled → IsReached b k self.new }
+        ensures { (b : Backfill) (k : ℕ) → IsNoted b k self.old → ArePassed false b.dag b.state k task settled → IsNoted b k self.new }
     {
         if (task as usize) < self.settled_upstreams.len() {
             self.settled_upstreams[task as usize] = settled;
@@ -138,8 +138,8 @@ impl Progress {
     /// Whether all of these instances of a task have finished.
     fn have_finished(&mut self, instances: &[Instance], task: u32) -> bool
         requires { length instances.now ≤ 1_024 }
-        ensures finished { (b : Backfill) (k : ℕ) → IsReached b k self.old → cell_at b.state k task ≡ CellTerm.Ran instances.now → result ≡ is_some (value_in (CellTerm.Ran instances.now)) }
-        ensures reached { (b : Backfill) (k : ℕ) → IsReached b k self.old → cell_at b.state k task ≡ CellTerm.Ran instances.now → IsReached b k self.new }
+        ensures finished { (b : Backfill) (k : ℕ) → IsNoted b k self.old → cell_at b.state k task ≡ CellTerm.Ran instances.now → result ≡ is_some (value_in (CellTerm.Ran instances.now)) }
+        ensures reached { (b : Backfill) (k : ℕ) → IsNoted b k self.old → cell_at b.state k task ≡ CellTerm.Ran instances.now → IsNoted b k self.new }
         ensures settled { self.new.settled ≡ self.old.settled }
     {
         let from = number_at(self.finished.as_slice(), task);
@@ -150,8 +150,8 @@ impl Progress {
 
     /// Whether a task is settled.
     pub fn is_settled(&mut self, core: &Core<'_>, run: u32, task: u32) -> bool
-        ensures settled { IsReached core.now run self.old → result ≡ is_some (value_in (cell_at core.now.state run task)) }
-        ensures reached { IsReached core.now run self.old → IsReached core.now run self.new }
+        ensures settled { IsNoted core.now run self.old → result ≡ is_some (value_in (cell_at core.now.state run task)) }
+        ensures reached { IsNoted core.now run self.old → IsNoted core.now run self.new }
         ensures same { self.new.settled ≡ self.old.settled }
     {
         match instances_of(core, run, task) {
@@ -162,8 +162,8 @@ impl Progress {
 
     /// Whether nothing more of an upstream is waited for: it is settled, or need not be for who looks early.
     fn lets_decide(&mut self, core: &Core<'_>, run: u32, upstream: u32, early: bool) -> bool
-        ensures lets { IsReached core.now run self.old → result ≡ lets early core.now.dag core.now.state run upstream }
-        ensures reached { IsReached core.now run self.old → IsReached core.now run self.new }
+        ensures lets { IsNoted core.now run self.old → result ≡ lets early core.now.dag core.now.state run upstream }
+        ensures reached { IsNoted core.now run self.old → IsNoted core.now run self.new }
     {
         self.is_settled(core, run, upstream) || (early && !core.plan().dag().is_branch(upstream))
     }
@@ -178,9 +178,9 @@ impl Progress {
         early: bool,
     ) -> usize
         requires { task < length core.now.dag.tasks }
-        ensures passed { IsReached core.now run self.old → ArePassed early core.now.dag core.now.state run task from → ArePassed early core.now.dag core.now.state run task result }
-        ensures awaits { IsReached core.now run self.old → result < length (task_of core.now.dag task).upstreams → Awaits early core.now.dag core.now.state run task result }
-        ensures reached { IsReached core.now run self.old → IsReached core.now run self.new }
+        ensures passed { IsNoted core.now run self.old → ArePassed early core.now.dag core.now.state run task from → ArePassed early core.now.dag core.now.state run task result }
+        ensures awaits { IsNoted core.now run self.old → result < length (task_of core.now.dag task).upstreams → Awaits early core.now.dag core.now.state run task result }
+        ensures reached { IsNoted core.now run self.old → IsNoted core.now run self.new }
         ensures within { result ≤ length (task_of core.now.dag task).upstreams }
     {
         let upstreams = upstreams_of(core, task);
@@ -195,8 +195,8 @@ impl Progress {
     /// Whether no upstream of a task keeps it from being decided.
     pub fn lets_be_decided(&mut self, core: &Core<'_>, run: u32, task: u32) -> bool
         requires { task < length core.now.dag.tasks }
-        ensures awaits { IsReached core.now run self.old → result ≡ false → ¬ (IsDecidable core.now.dag core.now.state run task) }
-        ensures reached { IsReached core.now run self.old → IsReached core.now run self.new }
+        ensures awaits { IsNoted core.now run self.old → result ≡ false → ¬ (IsDecidable core.now.dag core.now.state run task) }
+        ensures reached { IsNoted core.now run self.old → IsNoted core.now run self.new }
     {
         let upstreams = upstreams_of(core, task);
         let from = number_at(self.passed.as_slice(), task);
@@ -209,8 +209,8 @@ impl Progress {
     /// Whether each upstream of a task is settled.
     pub fn are_settled(&mut self, core: &Core<'_>, run: u32, task: u32) -> bool
         requires { task < length core.now.dag.tasks }
-        ensures unsettled { IsReached core.now run self.old → result ≡ false → all_settled core.now.dag core.now.state run task ≡ false }
-        ensures reached { IsReached core.now run self.old → IsReached core.now run self.new }
+        ensures unsettled { IsNoted core.now run self.old → result ≡ false → all_settled core.now.dag core.now.state run task ≡ false }
+        ensures reached { IsNoted core.now run self.old → IsNoted core.now run self.new }
     {
         let upstreams = upstreams_of(core, task);
         let from = number_at(self.settled_upstreams.as_slice(), task);
@@ -221,8 +221,8 @@ impl Progress {
 
     /// Whether each task is settled.
     pub fn is_over(&mut self, core: &Core<'_>, run: u32) -> bool
-        ensures unsettled { IsReached core.now run self.old → result ≡ false → ¬ (MayCome core.now (EventTerm.Close run)) }
-        ensures reached { IsReached core.now run self.old → IsReached core.now run self.new }
+        ensures unsettled { IsNoted core.now run self.old → result ≡ false → ¬ (MayCome core.now (EventTerm.Close run)) }
+        ensures reached { IsNoted core.now run self.old → IsNoted core.now run self.new }
     {
         let _replayed = core.journal();
         let tasks = core.plan().dag().tasks.len() as u32;

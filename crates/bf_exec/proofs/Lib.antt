@@ -1,6 +1,7 @@
 pub mod Sums
 pub mod Keeping
 pub mod Members
+pub mod Shown
 pub mod Turning
 pub mod Closing
 pub mod Opening

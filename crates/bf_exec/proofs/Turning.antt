@@ -19,7 +19,7 @@ use Rattle.bf_lane.specs.Rounds.{IsGathered, IsSubmitted}
 use Rattle.bf_exec.specs.Accounts.{IsInStep}
 use Rattle.bf_sched.specs.Driving.{StaysDriven}
 use Rattle.bf_sched.proofs.Driving.{finished_driven, same_driven, stays_driven, ticked_driven}
-use Rattle.bf_exec.specs.Turns.{AreInStep, EndsBy, EndsWait, HasAwaited, HasCaughtUp, HasStranger, IsHaltOf, IsLeftBy, IsStrange, MustAwait}
+use Rattle.bf_exec.specs.Turns.{AreInStep, EndsBy, EndsWait, HasAwaited, HasCaughtUp, HasStranger, IsHaltBy, IsHaltOf, IsLeftBy, IsStrange, MustAwait}
 use Rattle.bf_exec.specs.declared.halt.Halt.{Halt}
 use Rattle.bf_exec.proofs.Keeping.{IsStill, begin-in_step, end-in_step, still-in_step, tick-in_step}
 use Rattle.bf_exec.proofs.Sums.{first-idle, some-idle}
@@ -63,7 +63,7 @@ stepped_in_step lanes s t h before =
 
 pub begun_in_step : (lanes next : List Scheduled) (s t : Schedule) (at : ℕ) (ticket : Asked) → HasBegun s ticket t → IsSubmitted lanes next at ticket → AreInStep lanes s → AreInStep next t
 begun_in_step lanes next s t at ticket h sent before =
-    moved_in_step lanes next s t (Event.Begin ticket.name) h.new_is (begin-in_step lanes next s.backfill s.workers at ticket before h.is_first.may_begin h.worker_free h.is_ticket.1 sent)
+    moved_in_step lanes next s t (Event.Begin ticket.name) h.new_is (begin-in_step lanes next s.backfill s.workers at ticket before h.is_first.may_begin h.is_ticket.1 sent)
 
 pub gathered_in_step : (lanes next : List Scheduled) (now : ℤ) (s t : Schedule) (at : ℕ) (done : Answered) → EndsBy now done s t → IsGathered lanes next at (Done done) → AreInStep lanes s → AreInStep next t
 gathered_in_step lanes next now s t at done h got before =
@@ -87,9 +87,9 @@ idle_there lanes s t ticket is h is_none =
 pub idle_at : (lanes : List Scheduled) (at : ℕ) → Some at ≡ position is_idle lanes → IsIdleAt lanes at
 idle_at lanes at is = first-idle lanes at (sym is)
 
--- ---- strangers
+-- ---- halts
 
-pub strange_halt : (lanes next : List Scheduled) (s t : Schedule) (at : ℕ) (done : Answered) → IsStrange done s t → IsGathered lanes next at (Done done) → AreInStep lanes s → HasStranger lanes next
+strange_halt : (lanes next : List Scheduled) (s t : Schedule) (at : ℕ) (done : Answered) → IsStrange done s t → IsGathered lanes next at (Done done) → AreInStep lanes s → HasStranger lanes next
 strange_halt lanes next s t at done h got before = record {
   at = at;
   answer = done;
@@ -99,6 +99,12 @@ strange_halt lanes next s t at done h got before = record {
   got = got;
   refused = h.refused;
 }
+
+-- why the try of a gathered answer didn't end is why the turn halts
+pub halted_by : (lanes next : List Scheduled) (s t : Schedule) (at : ℕ) (done : Answered) (halt : Halt) → IsHaltBy done s t halt → IsGathered lanes next at (Done done) → AreInStep lanes s → IsHaltOf lanes next halt
+halted_by lanes next s t at done Halt.OutOfMemory h got before = inr (record { at = at; answer = Done done; got = got; is_other = tt })
+halted_by lanes next s t at done (Halt.Runner n) h got before = absurd h
+halted_by lanes next s t at done Halt.Stranger h got before = strange_halt lanes next s t at done h got before
 
 pub left_by : (lanes next : List Scheduled) (halt : Halt) → IsHaltOf lanes next halt → IsLeftBy next halt
 left_by lanes next Halt.OutOfMemory h = tt

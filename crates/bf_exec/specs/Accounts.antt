@@ -1,11 +1,8 @@
 -- What the lanes and the backfill have in common: the tries that run.
-use Rattle.std.specs.Prelude.{◌≡◌, ◌≤◌, ◌+◌, ◌++◌, ℕ, true, List, [], ◌∷◌, length, sum_by}
+use Rattle.std.specs.Prelude.{◌≡◌, ◌+◌, ℕ, true, List, [], ◌∷◌, length, sum_by}
 use Rattle.bf_try.specs.Asked.{Asked}
-use Rattle.bf_core.specs.Terms.{Dag}
-use Rattle.bf_core.specs.declared.event.Event.{Event}
-use Rattle.bf_core.specs.Events.{replay, start}
 use Rattle.bf_core.specs.Cores.{Backfill, IsReplay}
-use Rattle.bf_core.specs.Running.{running_now, running_tries}
+use Rattle.bf_core.specs.Running.{running_tries}
 use Rattle.bf_lane.specs.Lanes.{all_runs, answered, asked}
 use Rattle.bf_lane.specs.Open.{Scheduled, scheduled}
 
@@ -21,10 +18,6 @@ gathered_sum h lanes = sum_by (λ lane. sum_by h (answered lane.gathered)) lanes
 pub record IsAccounted (lanes : List Scheduled) (b : Backfill) : Type 0 where
   pub equal : (h : Asked → ℕ) → submitted_sum h lanes ≡ gathered_sum h lanes + running_tries h b.dag b.state
 
--- at most so many tries run after each beginning of the journal
-pub record KeepsWorkers (dag : Dag) (runs workers : ℕ) (journal : List Event) : Type 0 where
-  pub within : (before rest : List Event) → journal ≡ before ++ rest → running_now (replay dag (start dag runs) before) ≤ workers
-
 -- no lane was told to stop
 abbrev pub NoneStopped : List Scheduled → Type 0
 NoneStopped [] = Unit {0}
@@ -35,10 +28,9 @@ abbrev pub AreUnused : List Scheduled → Type 0
 AreUnused [] = Unit {0}
 AreUnused (lane ∷ lanes) = (lane ≡ scheduled [] []) × AreUnused lanes
 
--- there is a lane for each worker; what runs is what was submitted and not gathered; and never ran more tries than there are workers
+-- there is a lane for each worker, and what runs is what was submitted and not gathered
 pub record IsInStep (lanes : List Scheduled) (b : Backfill) (workers : ℕ) : Type 0 where
   pub replayed : IsReplay b
   pub lane_each : length lanes ≡ workers
   pub none_stopped : NoneStopped lanes
   pub accounted : IsAccounted lanes b
-  pub within : KeepsWorkers b.dag b.runs workers b.journal

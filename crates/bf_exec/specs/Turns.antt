@@ -9,7 +9,9 @@ use Rattle.bf_core.specs.Cores.{Backfill}
 use Rattle.bf_core.specs.Events.{HasEnded}
 use Rattle.bf_ready.specs.Choices.{IsFirstMoment}
 use Rattle.bf_sched.specs.Scheduling.{HasBegun, HasFinished, HasStepped, HasTicked, MayFinish, MustWait, Schedule, WaitsUntil}
+use Rattle.bf_lane.specs.declared.messages.Answer.{Answer}
 use Rattle.bf_lane.specs.declared.messages.Answer.TheVariants.{Done, Gave}
+use Rattle.bf_lane.specs.Lanes.{IsNoGivingUp}
 use Rattle.bf_lane.specs.Open.{Scheduled}
 use Rattle.bf_lane.specs.Rounds.{IsGathered, IsSubmitted}
 use Rattle.bf_exec.specs.Accounts.{IsInStep}
@@ -124,9 +126,16 @@ pub record HasStranger (lanes after : List Scheduled) : Type 0 where
   pub got : IsGathered lanes after at (Done answer)
   pub refused : ¬ (MayFinish backfill answer)
 
--- the try that is named was gathered as given up
+-- an answer was gathered by which no try is given up
+pub record HasGatheredOther (lanes after : List Scheduled) : Type 0 where
+  pub at : ℕ
+  pub answer : Answer
+  pub got : IsGathered lanes after at answer
+  pub is_other : IsNoGivingUp answer
+
+-- memory was wanting before a try was given up, or the try that is named was gathered as given up, or a stranger was gathered
 abbrev pub IsHaltOf : List Scheduled → List Scheduled → Halt → Type 0
-IsHaltOf lanes after Halt.OutOfMemory = Unit {0}
+IsHaltOf lanes after Halt.OutOfMemory = (after ≡ lanes) ⊎ HasGatheredOther lanes after
 IsHaltOf lanes after (Halt.Runner n) = GaveUpOn lanes after n
 IsHaltOf lanes after Halt.Stranger = HasStranger lanes after
 

@@ -5,6 +5,7 @@ ghost use Rattle.bf_lane.specs.Closing.{ClosesAll};
 ghost use Rattle.bf_lane.specs.Lanes.{IsAllowedBy};
 ghost use Rattle.bf_lane.specs.Rounds.{IsGathered};
 ghost use Rattle.bf_exec.specs.Faults.{MayHalt};
+ghost use Rattle.bf_exec.specs.Shown.{HasShown, ShowsLast};
 ghost use Rattle.bf_exec.specs.Turns.{AreInStep, EndsBy, EndsWait, HasCaughtUp, IsHaltBy, IsHaltOf, IsPast, IsTurn};
 ghost use Rattle.bf_sched.specs.Driving.{StaysDriven};
 
@@ -40,7 +41,9 @@ impl<'s, K: Service> Model for Executor<'s, K> {
 }
 
 /// Shows the observer the event that came last.
-fn show<O: Observer>(scheduler: &Scheduler<'_>, observer: &mut O) {
+fn show<O: Observer>(scheduler: &Scheduler<'_>, observer: &mut O)
+    ensures { ShowsLast O.shows observer.old observer.new scheduler.now.backfill }
+{
     if let Some(event) = scheduler.journal().last() {
         observer.saw(event, scheduler.core(), scheduler.running());
     }
@@ -53,6 +56,7 @@ fn catch_up<C: Clock, O: Observer>(
 ) -> Result<(), OutOfMemory>
     ensures ok { OnOk result (HasCaughtUp (C.last watch.new.clock) scheduler.old scheduler.new) }
     ensures same { OnErr result (scheduler.new ≡ scheduler.old) }
+    ensures shown { HasShown O.shows watch.old.observer watch.new.observer scheduler.old.backfill scheduler.new.backfill }
 {
     let moment = watch.clock.now().min(LAST_MOMENT);
     if scheduler.tick(moment)? {
@@ -69,6 +73,7 @@ fn end<C: Clock, O: Observer>(
 ) -> Result<(), Halt>
     ensures ok { OnOk result (EndsBy (C.last watch.new.clock) done scheduler.old scheduler.new) }
     ensures err { IfErr result (IsHaltBy done scheduler.old scheduler.new) }
+    ensures shown { HasShown O.shows watch.old.observer watch.new.observer scheduler.old.backfill scheduler.new.backfill }
 {
     catch_up(scheduler, watch)?;
     match scheduler.finish(done) {
@@ -115,7 +120,7 @@ impl<'s, K: Service + Send + Sync + 's> Executor<'s, K> {
     }
 
     /// Waits for an answer, until a moment where one is given, and ends the try of the answer.
-    #[tactic(auto, using(crate::proofs::Turning::gathered_in_step, bf_sched::proofs::Driving::same_driven, crate::proofs::Turning::strange_halt))]
+    #[tactic(auto, using(crate::proofs::Turning::gathered_in_step, bf_sched::proofs::Driving::same_driven, crate::proofs::Turning::halted_by, crate::proofs::Shown::still_shown))]
     fn wait<W: Wait, C: Clock, O: Observer>(
         &mut self,
         rt: &W,
@@ -130,6 +135,7 @@ impl<'s, K: Service + Send + Sync + 's> Executor<'s, K> {
         ensures driven { OnOk result (StaysDriven K.answers scheduler.old scheduler.new) }
         ensures err { IfErr result (IsHaltOf self.old self.new) }
         ensures fault { IfErr result (MayHalt K.gives_up) }
+        ensures shown { HasShown O.shows watch.old.observer watch.new.observer scheduler.old.backfill scheduler.new.backfill }
     {
         let Some((_, answer)) = self.gather(rt, &mut watch.clock, until) else {
             return Ok(());
@@ -143,7 +149,8 @@ impl<'s, K: Service + Send + Sync + 's> Executor<'s, K> {
 
     /// One turn of the scheduling loop, in which the clock of the backfill catches up first: an event comes by itself, or a
     /// try begins and is submitted, or where nothing can come an answer is gathered and ends its try, unless the moment comes
-    /// before for which a try waits. False where the backfill has ended. After a halt only `close` may follow.
+    /// before for which a try waits. False where the backfill has ended. After a halt only `close` may follow. The observer is
+    /// shown each event.
     pub fn turn<W: Wait, C: Clock, O: Observer>(
         &mut self,
         rt: &W,
@@ -156,6 +163,7 @@ impl<'s, K: Service + Send + Sync + 's> Executor<'s, K> {
         ensures driven { OnOk result (StaysDriven K.answers scheduler.old scheduler.new) }
         ensures err { IfErr result (IsHaltOf self.old self.new) }
         ensures fault { IfErr result (MayHalt K.gives_up) }
+        ensures shown { HasShown O.shows watch.old.observer watch.new.observer scheduler.old.backfill scheduler.new.backfill }
     {
         catch_up(scheduler, watch)?;
         match scheduler.next()? {

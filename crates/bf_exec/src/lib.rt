@@ -4,8 +4,7 @@
 //! try begins and is submitted over the lane of a worker that has none, or an answer is gathered and ends its try.
 //!
 //! What runs is always what was submitted and not gathered, each try with what it is given, and never are more tries running
-//! than there are workers. That the tries in each pool fit it is said of every legal list of events, by
-//! `bf_core::legal_lists_keep_pools`. No clause says that threads are used, or how long anything takes.
+//! than there are workers. No clause says that threads are used, or how long anything takes.
 #![tactic(auto)]
 
 mod executor;

@@ -1,63 +1,36 @@
-//! What a backfill is asked for.
-ghost use Rattle.std.specs.Prelude.{◌≡◌, ◌≤◌, length};
-
-use bf_interval::Interval;
+//! What a backfill is asked for, and what its workers share.
+use bf_interval::Runs;
 use bf_plan::Plan;
 use bf_try::{Done, RunnerFault, TaskRunner, Ticket};
+use bf_workers::Workers;
 use std::alloc::Global;
 use std::thread::Parker;
 
-/// A plan and data intervals. A trait, so that the scope of the threads sees one reference without a lifetime inside.
-pub(crate) trait Planned {
-    ghost use Rattle.std.specs.Prelude.{ℕ, ◌≤◌};
-    ghost use Rattle.bf_core.specs.Terms.{Dag, Limits};
+/// A plan, its runs, and how many workers there are.
+#[derive(Drop)]
+pub(crate) struct Order<'p, 'r> {
+    pub plan: &'p Plan,
+    pub runs: &'r Runs,
+    pub workers: Workers,
+}
 
-    ghost dag: { Self → Dag };
-
-    ghost limits: { Self → Limits };
-
-    ghost runs: { Self → ℕ };
-
-    fn plan(&self) -> &Plan
-        ensures dag { result.now.dag ≡ dag self.now }
-        ensures limits { result.now.limits ≡ limits self.now };
-
-    fn intervals(&self) -> &[Interval]
-        ensures { length result.now ≡ runs self.now };
-
+/// What the workers share. A trait, so that the scope of the threads sees one reference without a lifetime inside.
+pub(crate) trait Shared {
     fn alloc(&self) -> Global;
 
     /// On which the scheduler sleeps while there is no answer.
     fn answered(&self) -> &Parker;
 }
 
-/// A plan and data intervals, with the runner of the tries.
+/// The runner of the tries, and what the scheduler sleeps on.
 #[derive(Drop)]
-pub(crate) struct Order<'p, 'i, 'r, R> {
+pub(crate) struct Desk<'r, R> {
     pub alloc: Global,
-    pub plan: &'p Plan,
-    pub intervals: &'i [Interval],
     pub runner: &'r R,
     pub answered: Parker,
 }
 
-impl<'p, 'i, 'r, R> Planned for Order<'p, 'i, 'r, R> {
-    ghost use Rattle.std.specs.Prelude.{length};
-
-    ghost dag = { λ o. o.plan.now.dag };
-
-    ghost limits = { λ o. o.plan.now.limits };
-
-    ghost runs = { λ o. length o.intervals.now };
-
-    fn plan(&self) -> &Plan {
-        self.plan
-    }
-
-    fn intervals(&self) -> &[Interval] {
-        self.intervals
-    }
-
+impl<'r, R> Shared for Desk<'r, R> {
     fn alloc(&self) -> Global {
         self.alloc
     }
@@ -67,10 +40,10 @@ impl<'p, 'i, 'r, R> Planned for Order<'p, 'i, 'r, R> {
     }
 }
 
-impl<'p, 'i, 'r, R: TaskRunner> TaskRunner for Order<'p, 'i, 'r, R> {
-    ghost may_answer = { λ o n g r. R.may_answer o.runner.now n g r };
+impl<'r, R: TaskRunner> TaskRunner for Desk<'r, R> {
+    ghost may_answer = { λ d n g r. R.may_answer d.runner.now n g r };
 
-    ghost may_give_up = { λ o n g. R.may_give_up o.runner.now n g };
+    ghost may_give_up = { λ d n g. R.may_give_up d.runner.now n g };
 
     fn run(&self, ticket: Ticket) -> Result<Done, (Ticket, RunnerFault)> {
         self.runner.run(ticket)

@@ -1,13 +1,13 @@
 //! Backfills by several workers.
-ghost use Rattle.std.specs.Prelude.{◌≡◌, ◌≢◌, ◌≤◌, IfOk, IfErr, OnOk, length};
-ghost use Rattle.bf_core.specs.Agreement.{AreRunStates, IsOutcome};
+ghost use Rattle.std.specs.Prelude.{◌≡◌, ◌≢◌, IfOk, IfErr, OnOk, length};
 ghost use Rattle.bf_core.specs.Answered.{AreGraded};
-ghost use Rattle.bf_core.specs.Cores.{IsJournal};
 ghost use Rattle.bf_core.specs.Driven.{IsOver};
+ghost use Rattle.bf_core.specs.Endings.{IsEndOf, KeepsWorkers};
 ghost use Rattle.bf_core.specs.Events.{HasEnded, entry_in};
 ghost use Rattle.bf_lane.specs.Open.{Fulfils};
-ghost use Rattle.bf_exec.specs.Accounts.{AreUnused, KeepsWorkers};
+ghost use Rattle.bf_exec.specs.Accounts.{AreUnused};
 ghost use Rattle.bf_exec.specs.Faults.{IsFaultOf, MayFail, MayHalt};
+ghost use Rattle.bf_exec.specs.Shown.{HasShown, WasShown};
 ghost use Rattle.bf_exec.specs.Starting.{AreFresh};
 ghost use Rattle.bf_sched.specs.Driving.{StaysDriven};
 ghost use Rattle.bf_exec.specs.Turns.{AreInStep, IsLeftBy};
@@ -15,15 +15,16 @@ ghost use Rattle.bf_exec.specs.declared.halt.Halt.{Halt as HaltTerm};
 
 use crate::executor::Executor;
 use crate::halt::Halt;
-use crate::order::{Order, Planned};
+use crate::order::{Desk, Order, Shared};
 use crate::starting::{all_fresh, all_started};
 use crate::watch::{Observer, Watch};
 use bf_core::{BackfillFault, Core, Ended};
-use bf_interval::Interval;
+use bf_interval::Runs;
 use bf_lane::{Clock, Queues, Seats, Service};
 use bf_plan::Plan;
 use bf_sched::Scheduler;
 use bf_try::TaskRunner;
+use bf_workers::Workers;
 use std::alloc::Global;
 use std::marker::Brand;
 use std::sync::Wait;
@@ -44,6 +45,7 @@ fn all_turns<'s, K: Service + Send + Sync + 's, W: Wait, C: Clock, O: Observer>(
     ensures driven { OnOk result (StaysDriven K.answers scheduler.old scheduler.new) }
     ensures left { IfErr result (IsLeftBy executor.new) }
     ensures fault { IfErr result (MayHalt K.gives_up) }
+    ensures shown { HasShown O.shows watch.old.observer watch.new.observer scheduler.old.backfill scheduler.new.backfill }
 {
     for _ in rt.forever() {
         if !executor.turn(rt, scheduler, watch)? {
@@ -54,32 +56,29 @@ fn all_turns<'s, K: Service + Send + Sync + 's, W: Wait, C: Clock, O: Observer>(
 }
 
 /// Drives a backfill to its end.
-fn drive<'s, K, W, P, C, O>(
+fn drive<'s, 'p, K, W, C, O>(
     rt: &W,
+    alloc: Global,
     executor: &mut Executor<'s, K>,
-    order: &P,
+    order: &Order<'p, '_>,
     watch: &mut Watch<C, O>,
-) -> Result<Ended, Halt>
+) -> Result<Ended<'p>, Halt>
 where
     K: Service + Send + Sync + 's,
     W: Wait,
-    P: Planned,
     C: Clock,
     O: Observer,
-    requires few { P.runs order.now ≤ 4_096 }
-    requires one { 1 ≤ length executor.old }
-    requires some { length executor.old ≤ 64 }
+    requires lanes { length executor.old ≡ order.now.workers }
     requires unused { AreUnused executor.old }
-    ensures over { IfOk result (IsOver K.answers (P.dag order.now) (P.limits order.now) (P.runs order.now)) }
-    ensures workers { IfOk result (λ ended. KeepsWorkers (P.dag order.now) (P.runs order.now) (length executor.old) ended.journal) }
+    ensures over { IfOk result (IsOver K.answers order.now.plan.now.dag order.now.plan.now.limits (length order.now.runs.now) order.now.workers) }
     ensures left { IfErr result (IsLeftBy executor.new) }
     ensures fault { IfErr result (MayHalt K.gives_up) }
+    ensures shown { IfOk result (WasShown O.shows order.now.plan.now.dag (length order.now.runs.now) watch.old.observer watch.new.observer) }
 {
-    let plan = order.plan();
-    let _sound = plan.dag();
-    let _fit = plan.limits();
-    let core = Core::new(order.alloc(), plan, order.intervals())?;
-    let mut scheduler = Scheduler::new(order.alloc(), core, executor.lanes() as u32)?;
+    let _sound = order.plan.dag();
+    let _fit = order.plan.limits();
+    let core = Core::new(alloc, order.plan, order.runs)?;
+    let mut scheduler = Scheduler::new(alloc, core, order.workers)?;
     all_turns(rt, executor, &mut scheduler, watch)?;
     match scheduler.into_ended() {
         Ok(ended) => Ok(ended),
@@ -101,32 +100,31 @@ fn fault_of(halt: Halt) -> BackfillFault
 
 /// Starts the workers, drives the backfill, and joins the workers.
 #[tactic(auto, using(crate::proofs::Closing::may_fail))]
-fn in_scope<'s, K, E, W, P, C, O>(
+fn in_scope<'s, 'p, K, E, W, D, C, O>(
     scope: &Scope<'s, E>,
     rt: &'s W,
     queues: &'s [Queues<K>],
     seats: Vec<Seats<K>>,
-    order: &'s P,
+    desk: &'s D,
+    order: &Order<'p, '_>,
     watch: &mut Watch<C, O>,
-) -> Result<Ended, BackfillFault>
+) -> Result<Ended<'p>, BackfillFault>
 where
     K: Service + Send + Sync + 's,
     W: Threads + Wait + Sync,
-    P: TaskRunner + Planned + Sync,
+    D: TaskRunner + Shared + Sync,
     C: Clock,
     O: Observer,
-    requires few { P.runs order.now ≤ 4_096 }
-    requires one { 1 ≤ length seats.items }
-    requires some { length seats.items ≤ 64 }
+    requires many { length seats.items ≡ order.now.workers }
     requires fresh { AreFresh queues.now seats.items }
-    requires fulfils { Fulfils (P.may_answer order.now) (P.may_give_up order.now) K.answers K.gives_up }
-    ensures over { IfOk result (IsOver K.answers (P.dag order.now) (P.limits order.now) (P.runs order.now)) }
-    ensures workers { IfOk result (λ ended. KeepsWorkers (P.dag order.now) (P.runs order.now) (length seats.items) ended.journal) }
+    requires fulfils { Fulfils (D.may_answer desk.now) (D.may_give_up desk.now) K.answers K.gives_up }
+    ensures over { IfOk result (IsOver K.answers order.now.plan.now.dag order.now.plan.now.limits (length order.now.runs.now) order.now.workers) }
     ensures fault { IfErr result (MayFail K.gives_up) }
+    ensures shown { IfOk result (WasShown O.shows order.now.plan.now.dag (length order.now.runs.now) watch.old.observer watch.new.observer) }
 {
-    let lanes = all_started(scope, rt, queues, seats, order)?;
+    let lanes = all_started(scope, rt, queues, seats, desk)?;
     let mut executor = Executor::of(lanes);
-    let ended = drive(rt, &mut executor, order, watch);
+    let ended = drive(rt, desk.alloc(), &mut executor, order, watch);
     drop(executor.close(rt));
     match ended {
         Ok(ended) => Ok(ended),
@@ -135,77 +133,69 @@ where
     }
 }
 
-/// Runs an order by so many workers.
-fn run_order<K, W, P, C, O>(
+/// Runs an order by its workers, which share the desk.
+fn run_order<'p, K, W, D, C, O>(
     rt: &W,
-    workers: u32,
-    order: &P,
+    desk: &D,
+    order: &Order<'p, '_>,
     watch: &mut Watch<C, O>,
-) -> Result<Ended, BackfillFault>
+) -> Result<Ended<'p>, BackfillFault>
 where
     K: Service + Send + Sync,
     W: Threads + Wait + Sync,
-    P: TaskRunner + Planned + Sync,
+    D: TaskRunner + Shared + Sync,
     C: Clock,
     O: Observer,
-    requires few { P.runs order.now ≤ 4_096 }
-    requires one { 1 ≤ workers }
-    requires some { workers ≤ 64 }
-    requires fulfils { Fulfils (P.may_answer order.now) (P.may_give_up order.now) K.answers K.gives_up }
-    ensures over { IfOk result (IsOver K.answers (P.dag order.now) (P.limits order.now) (P.runs order.now)) }
-    ensures workers { IfOk result (λ ended. KeepsWorkers (P.dag order.now) (P.runs order.now) workers ended.journal) }
+    requires { Fulfils (D.may_answer desk.now) (D.may_give_up desk.now) K.answers K.gives_up }
+    ensures over { IfOk result (IsOver K.answers order.now.plan.now.dag order.now.plan.now.limits (length order.now.runs.now) order.now.workers) }
     ensures fault { IfErr result (MayFail K.gives_up) }
 {
-    let (queues, seats) = all_fresh::<K>(order.alloc(), workers)?;
+    let (queues, seats) = all_fresh::<K>(desk.alloc(), order.workers)?;
     let rows = queues.as_slice();
     let ended = thread::scope(
         thread::scope_env(),
         rt,
-        |scope| -> Result<Ended, BackfillFault>
-            requires few { P.runs order.now ≤ 4_096 }
-            requires one { 1 ≤ length seats.items }
-            requires some { length seats.items ≤ 64 }
+        |scope| -> Result<Ended<'_>, BackfillFault>
+            requires many { length seats.items ≡ order.now.workers }
             requires fresh { AreFresh rows.now seats.items }
-            requires fulfils { Fulfils (P.may_answer order.now) (P.may_give_up order.now) K.answers K.gives_up }
-            ensures over { IfOk result (IsOver K.answers (P.dag order.entry.now) (P.limits order.entry.now) (P.runs order.entry.now)) }
-            ensures workers { IfOk result (λ ended. KeepsWorkers (P.dag order.entry.now) (P.runs order.entry.now) (length seats.items) ended.journal) }
+            requires fulfils { Fulfils (D.may_answer desk.now) (D.may_give_up desk.now) K.answers K.gives_up }
+            ensures over { IfOk result (IsOver K.answers order.entry.now.plan.now.dag order.entry.now.plan.now.limits (length order.entry.now.runs.now) order.entry.now.workers) }
             ensures fault { IfErr result (MayFail K.gives_up) }
-        { in_scope(scope, rt, rows, seats, order, watch) },
+        { in_scope(scope, rt, rows, seats, desk, order, watch) },
     );
     ended
 }
 
-/// The end of a backfill of a plan over these data intervals, whose tries the runner answers, by so many workers at once. The
-/// clock says when tries may begin that wait for a moment; the observer is shown each event as it comes. After a fault no
-/// try begins, those that run are waited for, and all threads have ended.
+/// The end of a backfill of a plan over these runs, whose tries the runner answers, by so many workers at once. The clock
+/// says when tries may begin that wait for a moment; the observer is shown each event as it comes. After a fault no try
+/// begins, those that run are waited for, and all threads have ended.
 ///
 /// A try that the runner gives up is the fault `Runner`, and a thread that can't be started is `Start`.
-pub fn run_backfill<W: Threads + Wait + Sync, R: TaskRunner + Sync, C: Clock, O: Observer>(
+pub fn run_backfill<'p, W: Threads + Wait + Sync, R: TaskRunner + Sync, C: Clock, O: Observer>(
     rt: &W,
     alloc: Global,
-    plan: &Plan,
-    intervals: &[Interval],
-    workers: u32,
+    plan: &'p Plan,
+    runs: &Runs,
+    workers: Workers,
     runner: &R,
     watch: &mut Watch<C, O>,
-) -> Result<Ended, BackfillFault>
-    requires few { length intervals.now ≤ 4_096 }
-    requires one { 1 ≤ workers }
-    requires some { workers ≤ 64 }
-    ensures ended { IfOk result (λ ended. HasEnded ended.state) }
-    ensures outcome { IfOk result (λ ended. IsOutcome plan.now.dag (length intervals.now) ended.state) }
-    ensures run_states { IfOk result (λ ended. AreRunStates plan.now.dag (entry_in ended.state.ledger) (length intervals.now) ended.run_states) }
-    ensures graded { IfOk result (λ ended. AreGraded (R.may_answer runner.now) plan.now.dag (entry_in ended.state.ledger)) }
-    ensures journal { IfOk result (λ ended. IsJournal plan.now.dag plan.now.limits (length intervals.now) ended.journal ended.state) }
-    ensures workers { IfOk result (λ ended. KeepsWorkers plan.now.dag (length intervals.now) workers ended.journal) }
+) -> Result<Ended<'p>, BackfillFault>
+    ensures of { IfOk result (IsEndOf plan.entry.now.dag plan.entry.now.limits (length runs.now)) }
+    ensures graded { IfOk result (λ ended.
+        AreGraded (R.may_answer runner.now) plan.entry.now.dag (entry_in ended.state.ledger)) }
+    ensures workers { IfOk result (λ ended.
+        KeepsWorkers plan.entry.now.dag (length runs.now) workers ended.journal) }
     ensures err { IfErr result (MayFail (R.may_give_up runner.now)) }
 {
-    let order = Order {
+    let desk = Desk {
         alloc,
-        plan,
-        intervals,
         runner,
         answered: Parker::new(),
     };
-    run_order::<Brand, W, Order<'_, '_, '_, R>, C, O>(rt, workers, &order, watch)
+    let order = Order {
+        plan,
+        runs,
+        workers,
+    };
+    run_order::<Brand, W, Desk<'_, R>, C, O>(rt, &desk, &order, watch)
 }

@@ -5,11 +5,12 @@ ghost use Rattle.bf_exec.specs.Accounts.{AreUnused};
 ghost use Rattle.bf_exec.specs.Faults.{MayFail};
 ghost use Rattle.bf_exec.specs.Starting.{AreFresh};
 
-use crate::order::Planned;
+use crate::order::Shared;
 use bf_core::BackfillFault;
 use bf_lane::{Lane, Lanes, Queues, Seats, Service, fresh};
 use bf_try::TaskRunner;
 use bf_value::OutOfMemory;
+use bf_workers::Workers;
 use std::alloc::Global;
 use std::sync::Wait;
 use std::thread::{Scope, Threads};
@@ -17,14 +18,14 @@ use std::thread::{Scope, Threads};
 /// The queues of so many lanes, and their seats.
 pub(crate) fn all_fresh<K: Service>(
     alloc: Global,
-    workers: u32,
+    workers: Workers,
 ) -> Result<(Vec<Queues<K>>, Vec<Seats<K>>), OutOfMemory>
     ensures fresh { IfOk result (λ q. AreFresh q.0.items q.1.items) }
     ensures many { IfOk result (λ q. vec_len q.1 ≡ workers) }
 {
     let mut queues = Vec::new(alloc);
     let mut seats = Vec::new(alloc);
-    for _made in 0..workers {
+    for _made in 0..workers.count() {
         queues.reserve(1)?;
         seats.reserve(1)?;
         let (queue, seat) = fresh::<K>(alloc)?;
@@ -35,27 +36,27 @@ pub(crate) fn all_fresh<K: Service>(
 }
 
 /// Starts a worker for each lane. Where one can't be started, those that were are stopped, and have ended.
-pub(crate) fn all_started<'s, K, E, W, O>(
+pub(crate) fn all_started<'s, K, E, W, D>(
     scope: &Scope<'s, E>,
     rt: &'s W,
     queues: &'s [Queues<K>],
     seats: Vec<Seats<K>>,
-    order: &'s O,
+    desk: &'s D,
 ) -> Result<Lanes<'s, K>, BackfillFault>
 where
     K: Service + Send + Sync + 's,
     W: Threads + Wait + Sync,
-    O: TaskRunner + Planned + Sync,
+    D: TaskRunner + Shared + Sync,
     requires fresh { AreFresh queues.now seats.items }
-    requires fulfils { Fulfils (O.may_answer order.now) (O.may_give_up order.now) K.answers K.gives_up }
+    requires fulfils { Fulfils (D.may_answer desk.now) (D.may_give_up desk.now) K.answers K.gives_up }
     ensures unused { IfOk result AreUnused }
     ensures many { IfOk result (λ lanes. length lanes ≡ length seats.items) }
     ensures fault { IfErr result (MayFail K.gives_up) }
 {
-    let mut lanes = Lanes::new(order.alloc(), order.answered());
+    let mut lanes = Lanes::new(desk.alloc(), desk.answered());
     let mut at = 0usize;
     for seat in seats {
-        match Lane::start(scope, rt, &queues[at], seat, order.answered(), order) {
+        match Lane::start(scope, rt, &queues[at], seat, desk.answered(), desk) {
             Ok(lane) => {
                 if lanes.push(lane, rt).is_err() {
                     drop(lanes.close(rt));

@@ -3,12 +3,23 @@ use bf_core::{Core, Event};
 
 /// Is shown each event of a backfill when it has come. Nothing that comes of the backfill rests on it.
 pub trait Observer {
+    ghost use Rattle.std.specs.Prelude.{ℕ};
+    ghost use Rattle.bf_core.specs.declared.event.Event.{Event};
+
+    /// What it may become when it is shown an event, while so many tries run.
+    ghost shows: { Self → Event → ℕ → Self → Type 0 };
+
     /// This event has come to the backfill, and so many tries run now.
-    fn saw(&mut self, event: &Event, core: &Core<'_>, running: u32);
+    fn saw(&mut self, event: &Event, core: &Core<'_>, running: u32)
+        ensures { shows self.old event.now running self.new };
 }
 
 /// The observer that there may be.
 impl<O: Observer> Observer for Option<O> {
+    ghost use Rattle.bf_exec.specs.Shown.{IsShownTo};
+
+    ghost shows = { IsShownTo O.shows };
+
     fn saw(&mut self, event: &Event, core: &Core<'_>, running: u32) {
         if let Some(observer) = self {
             observer.saw(event, core, running);
@@ -21,6 +32,8 @@ impl<O: Observer> Observer for Option<O> {
 pub struct Silent;
 
 impl Observer for Silent {
+    ghost shows = { λ _ _ _ _. Unit {0} };
+
     fn saw(&mut self, _event: &Event, _core: &Core<'_>, _running: u32) {}
 }
 

@@ -9,3 +9,4 @@ mod Places
 mod Meeting
 mod OneAnswer
 pub mod Ending
+pub mod OfRuns

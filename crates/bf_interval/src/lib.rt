@@ -6,7 +6,7 @@
 //! which daylight saving time begins and ends. A data interval is a fire with the next one, and a range has
 //! those that start in it.
 //!
-//! `intervals` lists them. It looks only at the minutes from two days before the range up to the first fire
+//! `intervals` lists them, and `Runs` are the listed intervals of a backfill. It looks only at the minutes from two days before the range up to the first fire
 //! after it, and at those that can give a fire before that one: no clock is as far as two days from UTC.
 #![tactic(auto)]
 
@@ -16,10 +16,12 @@ mod interval;
 mod laws;
 mod listing;
 mod rising;
+mod runs;
 mod years;
 
 pub use fault::IntervalFault;
 pub use interval::Interval;
 pub use laws::{intervals_end_by_2208, intervals_meet, one_answer, one_listing};
 pub use listing::{MOST_RUNS, intervals};
+pub use runs::Runs;
 pub use years::{FIRST_NANOSECOND, LAST_NANOSECOND, is_in_years};

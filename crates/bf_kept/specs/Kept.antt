@@ -8,6 +8,10 @@ use Rattle.bf_try.specs.declared.ledger.Entry.{Entry}
 use Rattle.bf_try.specs.Grades.{fits, grade_of, GradesTo}
 use Rattle.bf_try.specs.Tries.{Look}
 
+-- no try is kept
+abbrev pub nothing : Look
+nothing n = None
+
 -- an entry with this name and this Given is kept
 abbrev pub IsKept : Look → JobName → Given → Entry → Type 0
 IsKept kept n given e = (kept n ≡ Some e) × (e.given ≡ given)

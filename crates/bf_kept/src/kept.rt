@@ -24,6 +24,25 @@ pub trait KeptTries {
         ensures { IfOk result (IsAnsweredBy (kept self.now) name given.now) };
 }
 
+/// Nothing is kept.
+#[derive(Clone, Copy, Debug)]
+pub struct NothingKept;
+
+impl KeptTries for NothingKept {
+    ghost use Rattle.bf_kept.specs.Kept.{nothing};
+
+    ghost kept = { λ _. nothing };
+
+    fn answer(
+        &self,
+        _alloc: Global,
+        _name: JobName,
+        _given: &Given,
+    ) -> Result<Option<Raw>, OutOfMemory> {
+        Ok(None)
+    }
+}
+
 /// All tries of a ledger are kept.
 impl KeptTries for Ledger {
     ghost use Rattle.std.specs.FinMap as map;

@@ -8,4 +8,4 @@ mod keeping;
 mod kept;
 
 pub use keeping::Keeping;
-pub use kept::KeptTries;
+pub use kept::{KeptTries, NothingKept};

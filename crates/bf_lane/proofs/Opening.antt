@@ -69,7 +69,7 @@ module _ (may_answer : JobName → Given → Raw → Type 0) (may_give_up : JobN
       let stopped : (js : List Job) → asked (js ++ Stop ∷ []) ≡ asked js = λ js. asked-append js (Stop ∷ []) ∙ append-nil (asked js) in
       let sent_is : answered sent ≡ asked (submitted ++ Stop ∷ []) = h.same ∙ ap asked (sym all) ∙ sym (stopped submitted) in
       record {
-        taken_all = ap (λ js. asked (js ++ Stop ∷ [])) (sym all);
+        taken_is = ap (λ js. js ++ Stop ∷ []) (sym all);
         sent_all = sent_is;
         gathered_all = ap answered (sym same) ∙ sent_is;
         allowed = subst (All (IsAllowedBy may_answer may_give_up)) same h.allowed;

@@ -38,6 +38,12 @@ IsAllowedBy may_answer may_give_up (Done d) = may_answer d.name d.given d.raw
 IsAllowedBy may_answer may_give_up (Gave t fault.OutOfMemory) = Unit {0}
 IsAllowedBy may_answer may_give_up (Gave t fault.GaveUp) = may_give_up t.name t.given
 
+-- the answer is one by which no try is given up
+abbrev pub IsNoGivingUp : Answer → Type 0
+IsNoGivingUp (Done d) = Unit {0}
+IsNoGivingUp (Gave t fault.OutOfMemory) = Unit {0}
+IsNoGivingUp (Gave t fault.GaveUp) = ⊥
+
 -- each try that was taken has its answer, in order, and the runner allows it
 pub record Answers (may_answer : JobName → Given → Raw → Type 0) (may_give_up : JobName → Given → Type 0) (taken : List Job) (sent : List Answer) : Type 0 where
   pub same : answered sent ≡ asked taken
@@ -49,9 +55,9 @@ pub record FourLists : Type 0 where
   pub sent : List Answer
   pub gathered : List Answer
 
--- the four lists have the same tries in the same order, and each answer is allowed
+-- all that was submitted was taken, each of its tries has its answer, in the same order, and each answer is allowed
 pub record IsClosed (may_answer : JobName → Given → Raw → Type 0) (may_give_up : JobName → Given → Type 0) (l : FourLists) : Type 0 where
-  pub taken_all : asked l.taken ≡ asked l.submitted
+  pub taken_is : l.taken ≡ l.submitted
   pub sent_all : answered l.sent ≡ asked l.submitted
   pub gathered_all : answered l.gathered ≡ asked l.submitted
   pub allowed : All (IsAllowedBy may_answer may_give_up) l.gathered

@@ -1,4 +1,7 @@
 //! The time until which an answer is waited for.
+ghost use Rattle.std.specs.Prelude.{◌≡◌, pos};
+
+use std::marker::Model;
 use std::sync::Wait;
 use std::thread::Parker;
 use std::time::Duration;
@@ -50,27 +53,44 @@ impl<'c, C: std::time::Clock> Clock for MachineClock<'c, C> {
     }
 }
 
-/// A clock that stands still, and jumps to each moment that is waited for.
+/// A clock that stands still, and jumps to each moment that is waited for. Contracts see what it shows.
 #[derive(Clone, Copy, Debug, Drop)]
 pub struct Jump {
     at: i64,
 }
 
+impl Model for Jump {
+    ghost use Rattle.std.specs.Prelude.{ℤ};
+
+    ghost Value = { ℤ };
+
+    ghost view = { λ clock. clock.at };
+
+    ghost inverse = { λ shown. record { at = shown } };
+}
+
 impl Jump {
     /// A clock at the beginning of 1970.
-    pub fn new() -> Jump {
+    pub fn new() -> Jump
+        ensures { result ≡ pos 0 }
+    {
         Jump { at: 0 }
     }
 }
 
 impl Clock for Jump {
-    ghost last = { λ clock. clock.at };
+    ghost last = { λ clock. clock };
 
-    fn now(&mut self) -> i64 {
+    fn now(&mut self) -> i64
+        ensures told { result ≡ self.old }
+        ensures same { self.new ≡ self.old }
+    {
         self.at
     }
 
-    fn pause<W: Wait>(&mut self, _rt: &W, _sleep: &Parker, until: i64) {
+    fn pause<W: Wait>(&mut self, _rt: &W, _sleep: &Parker, until: i64)
+        ensures { self.new ≡ until }
+    {
         self.at = until;
     }
 }

@@ -1,22 +1,33 @@
 //! A backfill, driven to its end.
-ghost use Rattle.std.specs.Prelude.{◌≡◌, ◌≤◌, ◌+◌, length, true, false, OnOk, IfOk, IfErr};
-ghost use Rattle.bf_core.specs.Agreement.{AreRunStates, IsOutcome};
+ghost use Rattle.std.specs.Prelude.{◌≡◌, ◌+◌, length, true, false, OnOk, IfOk, IfErr};
 ghost use Rattle.bf_core.specs.Answered.{AreGraded, MayFault};
-ghost use Rattle.bf_core.specs.Cores.{IsJournal};
 ghost use Rattle.bf_core.specs.Driven.{IsOver};
+ghost use Rattle.bf_core.specs.Endings.{IsEndOf, KeepsWorkers};
 ghost use Rattle.bf_core.specs.Events.{HasEnded, entry_in};
 ghost use Rattle.bf_core.specs.Running.{running_now};
 ghost use Rattle.bf_sched.specs.Driving.{IsUnderWay, StaysDriven};
 ghost use Rattle.bf_sched.specs.Scheduling.{HasFinished, MayFinish};
-ghost use Rattle.bf_plain.specs.Driving.{IsIdle, IsLonger};
+ghost use Rattle.bf_plain.specs.Driving.{IsIdle, IsLonger, fault_by};
+ghost use Rattle.bf_plain.specs.Ticks.{TicksSo, TicksToFirstMoments};
 
 use bf_core::{BackfillFault, Core, Ended, Illegal};
-use bf_interval::Interval;
+use bf_interval::Runs;
 use bf_plan::Plan;
 use bf_sched::{Next, Scheduler};
 use bf_try::{Done, RunnerFault, TaskRunner, Ticket};
 use bf_value::OutOfMemory;
+use bf_workers::Workers;
 use std::alloc::Global;
+
+/// The fault that comes of a try without an answer.
+fn fault_of(ticket: Ticket, fault: RunnerFault) -> BackfillFault
+    ensures { result ≡ fault_by ticket fault }
+{
+    match fault {
+        RunnerFault::OutOfMemory => BackfillFault::OutOfMemory,
+        RunnerFault::GaveUp => BackfillFault::Runner(ticket.name()),
+    }
+}
 
 /// The runner's answer to a try.
 fn answer_to<R: TaskRunner>(runner: &R, ticket: Ticket) -> Result<Done, BackfillFault>
@@ -25,8 +36,7 @@ fn answer_to<R: TaskRunner>(runner: &R, ticket: Ticket) -> Result<Done, Backfill
 {
     match runner.run(ticket) {
         Ok(done) => Ok(done),
-        Err((_, RunnerFault::OutOfMemory)) => Err(BackfillFault::OutOfMemory),
-        Err((ticket, RunnerFault::GaveUp)) => Err(BackfillFault::Runner(ticket.name())),
+        Err((ticket, fault)) => Err(fault_of(ticket, fault)),
     }
 }
 
@@ -53,6 +63,7 @@ fn make_try<R: TaskRunner>(
     ensures counted { OnOk result (running_now scheduler.new.backfill.state + 1 ≡ running_now scheduler.old.backfill.state) }
     ensures longer { OnOk result (IsLonger scheduler.old scheduler.new) }
     ensures err { IfErr result (MayFault (R.may_give_up runner.now)) }
+    ensures ticks { OnOk result (TicksSo scheduler.old scheduler.new) }
 {
     let _replayed = scheduler.journal();
     let done = answer_to(runner, ticket)?;
@@ -69,6 +80,7 @@ fn turn<R: TaskRunner>(runner: &R, scheduler: &mut Scheduler<'_>) -> Result<bool
     ensures longer { IfOk result (λ went_on. went_on ≡ true → IsLonger scheduler.old scheduler.new) }
     ensures ended { IfOk result (λ went_on. went_on ≡ false → HasEnded scheduler.new.backfill.state) }
     ensures err { IfErr result (MayFault (R.may_give_up runner.now)) }
+    ensures ticks { OnOk result (TicksSo scheduler.old scheduler.new) }
 {
     let _replayed = scheduler.journal();
     match scheduler.next()? {
@@ -94,6 +106,7 @@ fn all_turns<R: TaskRunner>(runner: &R, scheduler: &mut Scheduler<'_>) -> Result
     ensures driven { OnOk result (StaysDriven (R.may_answer runner.now) scheduler.old scheduler.new) }
     ensures ended { OnOk result (HasEnded scheduler.new.backfill.state) }
     ensures err { IfErr result (MayFault (R.may_give_up runner.now)) }
+    ensures ticks { OnOk result (TicksSo scheduler.old scheduler.new) }
 {
     // what the proof of its end goes by
     let mut events = scheduler.journal().len();
@@ -104,20 +117,21 @@ fn all_turns<R: TaskRunner>(runner: &R, scheduler: &mut Scheduler<'_>) -> Result
 }
 
 /// Drives a backfill from its start to its end.
-fn drive<R: TaskRunner>(
+fn drive<'p, R: TaskRunner>(
     alloc: Global,
-    plan: &Plan,
-    intervals: &[Interval],
+    plan: &'p Plan,
+    runs: &Runs,
     runner: &R,
-) -> Result<Ended, BackfillFault>
-    requires few { length intervals.now ≤ 4_096 }
-    ensures over { IfOk result (IsOver (R.may_answer runner.now) plan.now.dag plan.now.limits (length intervals.now)) }
+) -> Result<Ended<'p>, BackfillFault>
+    ensures over { IfOk result (IsOver (R.may_answer runner.now) plan.entry.now.dag plan.entry.now.limits (length runs.now) 1) }
     ensures err { IfErr result (MayFault (R.may_give_up runner.now)) }
+    ensures ticks { IfOk result (λ ended.
+        TicksToFirstMoments plan.entry.now.dag plan.entry.now.limits (length runs.now) ended.journal) }
 {
     let _sound = plan.dag();
     let _fit = plan.limits();
-    let core = Core::new(alloc, plan, intervals)?;
-    let mut scheduler = Scheduler::new(alloc, core, 1)?;
+    let core = Core::new(alloc, plan, runs)?;
+    let mut scheduler = Scheduler::new(alloc, core, Workers::one())?;
     all_turns(runner, &mut scheduler)?;
     match scheduler.into_ended() {
         Ok(ended) => Ok(ended),
@@ -125,21 +139,22 @@ fn drive<R: TaskRunner>(
     }
 }
 
-/// The end of a backfill of a plan over these data intervals, whose tries the runner answers, one after the other in this
-/// thread. A try that waits for a moment is made once nothing else is left to do, and no time passes.
-pub fn one_by_one<R: TaskRunner>(
+/// The end of a backfill of a plan over these runs, whose tries the runner answers, one after the other in this thread. A
+/// try that waits for a moment is made once nothing else is left to do, and no time passes.
+pub fn one_by_one<'p, R: TaskRunner>(
     alloc: Global,
-    plan: &Plan,
-    intervals: &[Interval],
+    plan: &'p Plan,
+    runs: &Runs,
     runner: &R,
-) -> Result<Ended, BackfillFault>
-    requires few { length intervals.now ≤ 4_096 }
-    ensures ended { IfOk result (λ ended. HasEnded ended.state) }
-    ensures outcome { IfOk result (λ ended. IsOutcome plan.now.dag (length intervals.now) ended.state) }
-    ensures run_states { IfOk result (λ ended. AreRunStates plan.now.dag (entry_in ended.state.ledger) (length intervals.now) ended.run_states) }
-    ensures graded { IfOk result (λ ended. AreGraded (R.may_answer runner.now) plan.now.dag (entry_in ended.state.ledger)) }
-    ensures journal { IfOk result (λ ended. IsJournal plan.now.dag plan.now.limits (length intervals.now) ended.journal ended.state) }
+) -> Result<Ended<'p>, BackfillFault>
+    ensures of { IfOk result (IsEndOf plan.entry.now.dag plan.entry.now.limits (length runs.now)) }
+    ensures graded { IfOk result (λ ended.
+        AreGraded (R.may_answer runner.now) plan.entry.now.dag (entry_in ended.state.ledger)) }
+    ensures workers { IfOk result (λ ended.
+        KeepsWorkers plan.entry.now.dag (length runs.now) 1 ended.journal) }
     ensures err { IfErr result (MayFault (R.may_give_up runner.now)) }
+    ensures ticks { IfOk result (λ ended.
+        TicksToFirstMoments plan.entry.now.dag plan.entry.now.limits (length runs.now) ended.journal) }
 {
-    drive(alloc, plan, intervals, runner)
+    drive(alloc, plan, runs, runner)
 }

@@ -1,7 +1,7 @@
 //! The last line of an output, which is read up to a limit.
-ghost use Rattle.std.specs.Prelude.{◌≡◌, IfOk, IfSome};
+ghost use Rattle.std.specs.Prelude.{◌≡◌, ◌≢◌, IfOk, IfSome};
 ghost use Rattle.bf_try.specs.declared.answers.Line.{Line as LineTerm};
-ghost use Rattle.bf_device.specs.Device.{HasHalted};
+ghost use Rattle.bf_device.specs.Device.{HasHalted, HasGoneOn};
 ghost use Rattle.bf_process.specs.Output.{IsLineOf};
 
 use bf_device::{Halt, MOST_INTERRUPTIONS, Read};
@@ -21,6 +21,9 @@ pub fn line_of<R: Read>(alloc: Global, device: &mut R) -> Result<Line, OutOfMemo
     ensures line { IfOk result (λ line. IfSome (R.left device.old) (λ output. IsLineOf output line)) }
     ensures halted { IfOk result (λ line. line ≡ LineTerm.ReadFault →
         HasHalted (R.failures device.old) (R.failures device.new)
+        (R.interruptions device.old) (R.interruptions device.new)) }
+    ensures went_on { IfOk result (λ line. line ≢ LineTerm.ReadFault →
+        HasGoneOn (R.failures device.old) (R.failures device.new)
         (R.interruptions device.old) (R.interruptions device.new)) }
 {
     let mut bytes = Vec::new(alloc);

@@ -1,6 +1,6 @@
 //! A program that is started, read and waited for.
-ghost use Rattle.std.specs.Prelude.{◌≡◌, None, Some, IsSome, IfOk, IfErr, IfSome, IfNone, option_map};
-ghost use Rattle.std.specs.Process.{child_status, command_program, command_args, exit_code};
+ghost use Rattle.std.specs.Prelude.{◌≡◌, ℕ, List, false, None, Some, IsSome, IfOk, IfErr, IfSome, IfNone, option_map};
+ghost use Rattle.std.specs.Process.{child_status, clears_env, command_program, command_args, command_dir, command_var, exit_code};
 ghost use Rattle.bf_graph.specs.Shape.{texts};
 ghost use Rattle.bf_try.specs.declared.answers.Line.{Line as LineTerm};
 ghost use Rattle.bf_process.specs.Output.{IsLineOf, exit_in, not_started as nothing_started};
@@ -23,10 +23,13 @@ pub(crate) fn not_started(alloc: Global) -> Raw
     }
 }
 
-/// The command of a program with these arguments.
+/// The command of a program with these arguments, which has this process's folder and environment.
 fn command_of(alloc: Global, program: &str, arguments: &[String]) -> Result<Command, OutOfMemory>
     ensures program { IfOk result (λ command. command_program command ≡ program.now) }
     ensures arguments { IfOk result (λ command. command_args command ≡ texts arguments.now) }
+    ensures folder { IfOk result (λ command. command_dir command ≡ None) }
+    ensures environment { IfOk result (λ command. clears_env command ≡ false) }
+    ensures variables { IfOk result (λ command. (k : List ℕ) → command_var command k ≡ None) }
 {
     let mut command = Command::new(alloc, program)?;
     for argument in arguments {

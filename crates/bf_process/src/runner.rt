@@ -6,7 +6,7 @@ ghost use Rattle.bf_process.specs.Words.{IsContext, IsHeard, IsLost, HoldsOfWord
 
 use crate::program::not_started;
 use crate::starter::Starter;
-use bf_interval::Interval;
+use bf_interval::{Interval, Runs};
 use bf_moment::Moment;
 use bf_plan::{Plan, Task};
 use bf_try::{Done, Raw, RunnerFault, TaskRunner, Ticket};
@@ -48,20 +48,19 @@ impl<'s, 'p, 'i, 'l, S> Model for ProcessRunner<'s, 'p, 'i, 'l, S> {
 }
 
 impl<'s, 'p, 'i, 'l, S: Starter> ProcessRunner<'s, 'p, 'i, 'l, S> {
-    /// A runner of the tasks of a plan, in runs of these data intervals, by the launcher of this path where there is one. It
-    /// takes no memory before it runs a try.
+    /// A runner of the tasks of a plan in these runs, by the launcher of this path where there is one. It takes no memory
+    /// before it runs a try.
     pub fn new(
         starter: &'s S,
         alloc: Global,
         plan: &'p Plan,
-        intervals: &'i [Interval],
+        runs: &'i Runs,
         launcher: Option<&'l str>,
     ) -> ProcessRunner<'s, 'p, 'i, 'l, S>
-        requires { All IsShownInterval intervals.now }
         ensures { result ≡ record {
           starter = starter.now;
           dag = plan.now.dag;
-          intervals = intervals.now;
+          intervals = runs.now;
           launcher = option_map (λ l. l.now) launcher.entry;
         } }
     {
@@ -69,7 +68,7 @@ impl<'s, 'p, 'i, 'l, S: Starter> ProcessRunner<'s, 'p, 'i, 'l, S> {
             starter,
             alloc,
             plan,
-            intervals,
+            intervals: runs.intervals(),
             launcher,
         }
     }

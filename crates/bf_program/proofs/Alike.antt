@@ -36,7 +36,7 @@ module _ (read held : List ℕ) (one two : Option (List ℕ)) (alike : AreAlike 
   file_of draft is = sym alike.says ∙ is
 
   pub graph_of : (draft : Draft) → IsGraph read one draft → IsGraph held two draft
-  graph_of draft is = record { says = file_of draft is.says; accepted = accepted draft is.accepted }
+  graph_of draft is = record { says = file_of draft is.says; accepted = accepted draft is.accepted; sound = is.sound }
 
   pub fault_in : (fault : CommandFault) → IsFaultIn read one fault → IsFaultIn held two fault
   fault_in (Read fault) is = sym alike.says ∙ is
@@ -103,9 +103,9 @@ module _ (read held : List ℕ) (one two : Option (List ℕ)) (alike : AreAlike 
     single_fault at (CannotWrite n) is = tt
     single_fault at fault is = fault_in fault is
 
-    pub dry_fault : (from to : ℤ) (fault : CommandFault) → IsFaultOfDry read one table from to fault → IsFaultOfDry held two other from to fault
-    dry_fault from to (Table fault) is = (is.0, graph_of is.0 is.1, sym same ∙ is.2)
-    dry_fault from to (Range fault) is = (a_table is.0, listing_of from to _ is.1)
-    dry_fault from to (CannotWrite n) is = tt
-    dry_fault from to (Stopped stop) is = (is.0, a_table is.1, listing_of from to _ is.2, is.3)
-    dry_fault from to fault is = fault_in fault is
+    pub dry_fault : (alone : Bool) (from to : ℤ) (fault : CommandFault) → IsFaultOfDry alone read one table from to fault → IsFaultOfDry alone held two other from to fault
+    dry_fault alone from to (Table fault) is = (is.0, graph_of is.0 is.1, sym same ∙ is.2)
+    dry_fault alone from to (Range fault) is = (a_table is.0, listing_of from to _ is.1)
+    dry_fault alone from to (CannotWrite n) is = tt
+    dry_fault alone from to (Stopped stop) is = (is.0, a_table is.1, listing_of from to _ is.2, is.3, is.4)
+    dry_fault alone from to fault is = fault_in fault is

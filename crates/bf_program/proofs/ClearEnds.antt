@@ -1,7 +1,8 @@
 -- What the command `clear` comes to, by what was read of its files.
-use Rattle.std.proofs.Common.{◌≡◌, ℕ, ℤ, Bool, List, Option, Some, option_map, string_bytes, refl, sym, ◌∙◌, subst, inl, inr}
+use Rattle.std.proofs.Common.{◌≡◌, ℕ, ℤ, Bool, List, Option, Some, option_map, string_bytes, refl, sym, ◌∙◌, subst, inl, inr, arith}
 use Rattle.bf_plan.specs.declared.plan.Dag.{Dag}
 use Rattle.bf_interval.specs.declared.interval.Interval.{Interval}
+use Rattle.bf_device.specs.Device.{HasHalted}
 use Rattle.bf_table.specs.declared.table.TableEntry.{TableEntry}
 use Rattle.bf_table.specs.Tables.{table_of}
 use Rattle.bf_report.specs.declared.report.Report.{Report as Reported}
@@ -17,6 +18,7 @@ use Rattle.bf_command_fault.specs.declared.fault.CommandFault.{CommandFault}
 use Rattle.bf_command_fault.specs.declared.fault.CommandFault.TheVariants.{Read, Check, Table, Range, Report, Clear, OutOfMemory, CannotRead, CannotWrite, Stopped}
 use Rattle.bf_commands.specs.declared.range.MomentRange.{MomentRange}
 use Rattle.bf_commands.specs.Cleared.{IsFaultAgain, IsFaultBefore, IsPrepared, IsReadAs, IsReady, IsReportAfter}
+use Rattle.bf_commands.specs.OverTable.{is_alone}
 use Rattle.bf_commands.specs.Programs.{Hearing, Losing, launched, launched_lost}
 use Rattle.bf_commands.proofs.Faults.{unwritten_leaves}
 use Rattle.bf_program.specs.Commands.{AreReadable, Files, IsClearAnswer, IsClearFault, IsHeld, IsHeldIfNamed, IsNoLonger, IsReadable, IsUntold, MeansRange, MeansSeed, OfFilesAndNamedTable, clear_paths, table_named}
@@ -24,11 +26,12 @@ use Rattle.bf_program.specs.Files.{AreAlike, IsFaultAfterFile, IsOfBytes, IsPrep
 use Rattle.bf_program.proofs.Alike.{fault_in, graph_of, listing_of}
 use Rattle.bf_program.proofs.Exits.{reading_cases}
 
--- why a report isn't read
-pub read_fault : (path : List ℕ) (file : Option (Option (List ℕ))) → IsReadable file → (fault : ReportFault) → ((held : List ℕ) → IsHeld file held → IsNoLonger held → Tells held fault)
-    → IsReportFault path file (of_report fault)
-read_fault path file readable report.OutOfMemory tells = tt
-read_fault path file readable fault tells = (readable, tells)
+-- why a report isn't read, of bytes in memory, which no device keeps back
+pub read_fault : (path : List ℕ) (file : Option (Option (List ℕ))) → IsReadable file → (fault : ReportFault) → (fault ≡ report.Io → HasHalted 0 0 0 0)
+    → ((held : List ℕ) → IsHeld file held → IsNoLonger held → Tells held fault) → IsReportFault path file (of_report fault)
+read_fault path file readable report.OutOfMemory halted tells = tt
+read_fault path file readable report.Io halted tells = elim (halted refl) [ inl failed ↦ omega (arith, failed) | inr interrupted ↦ omega (arith, interrupted) ]
+read_fault path file readable fault halted tells = (readable, tells)
 
 -- nothing went out then
 pub report_leaves : (Halted : Type 0) (IsDue : List ℕ → Type 0) (before : Option (List ℕ)) (path : List ℕ) (file : Option (Option (List ℕ))) (fault : CommandFault) → IsReportFault path file fault → Leaves Halted IsDue before before fault
@@ -100,6 +103,7 @@ module _ (may_lose : Losing) (files : Files) (asked : ClearAsked) (range : Momen
     ready graph held other are holds = record { dag = dag; found = found; answers = answers; prepared = prepared_held graph held other are holds }
 
     clear_report : (fault : CommandFault) → IsReportFault (string_bytes asked.report) (files (string_bytes asked.report)) fault → IsClearFault may_lose files asked fault
+    clear_report (Report report.Io) is = absurd is
     clear_report (Report fault) is =
         (range, means, seed, means_seed, (readable, is.0, λ graph held other are holds reported told short. (ready graph held other are holds, is.1 reported told short)))
     clear_report OutOfMemory is = (range, means, seed, means_seed, tt)
@@ -108,7 +112,7 @@ module _ (may_lose : Losing) (files : Files) (asked : ClearAsked) (range : Momen
     clear_report fault is = absurd is
 
     module _ (report_readable : IsReadable (files (string_bytes asked.report))) (was : Reported) (says : (held : List ℕ) → IsHeld (files (string_bytes asked.report)) held → IsNoLonger held → IsReadAs held was) where
-      clear_again : (fault : CommandFault) → IsFaultAgain (launched_lost asked.launcher may_lose) answers dag found was seed fault → IsClearFault may_lose files asked fault
+      clear_again : (fault : CommandFault) → IsFaultAgain (is_alone asked.workers asked.progress) (launched_lost asked.launcher may_lose) answers dag found was seed fault → IsClearFault may_lose files asked fault
       clear_again (Clear fault) is =
           (range, means, seed, means_seed, (readable, report_readable, λ graph held other are holds reported told short. (record { ready = ready graph held other are holds; was = was; report_says = says reported told short; fault_is = is })))
       clear_again OutOfMemory is = (range, means, seed, means_seed, tt)
@@ -142,7 +146,7 @@ module _ (may_lose : Losing) (files : Files) (asked : ClearAsked) (range : Momen
 
     -- the report is read in a file that nothing has changed
     module _ (file : Option (Option (List ℕ))) (stays : file ≡ files (string_bytes asked.report)) where
-      pub clear_going_on : (fault : CommandFault) → IsFaultAfterFile (launched_lost asked.launcher may_lose) answers dag found (string_bytes asked.report) file seed fault → IsClearFault may_lose files asked fault
+      pub clear_going_on : (fault : CommandFault) → IsFaultAfterFile (is_alone asked.workers asked.progress) (launched_lost asked.launcher may_lose) answers dag found (string_bytes asked.report) file seed fault → IsClearFault may_lose files asked fault
       clear_going_on fault (inl report) = clear_report fault (subst (λ (f : Option (Option (List ℕ))). IsReportFault (string_bytes asked.report) f fault) stays report)
       clear_going_on fault (inr (was, is, again)) = clear_again (subst IsReadable stays is.readable) was (λ held told short. is.says held (stays ∙ told) short) fault again
 

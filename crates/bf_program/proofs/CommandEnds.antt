@@ -18,6 +18,7 @@ use Rattle.bf_command_fault.specs.Status.{of_runs}
 use Rattle.bf_commands.specs.declared.check.GraphSize.{GraphSize}
 use Rattle.bf_commands.specs.declared.range.MomentRange.{MomentRange}
 use Rattle.bf_commands.specs.DatedRuns.{IsFaultOfDry, IsReportIn}
+use Rattle.bf_commands.specs.OverTable.{is_alone}
 use Rattle.bf_commands.specs.Graphs.{IsFaultIn, IsSizeOf}
 use Rattle.bf_commands.specs.Lists.{IsFaultOfList, IsListIn}
 use Rattle.bf_commands.specs.OneRun.{IsFaultOfSingle, IsReportAt}
@@ -123,11 +124,11 @@ module _ {files : Files} (asked : DryAsked) (range : MomentRange) (means : Means
     text_is = λ graph other held are holds. (let same = bytes.alike graph other held are holds in report_in read graph zone held same.0 table other same.1 range.from.nanosecond range.to.nanosecond text success is);
   }
 
-  pub dry_files : (fault : CommandFault) → IsFaultOfDry read zone table range.from.nanosecond range.to.nanosecond fault → IsDryFault files asked fault
+  pub dry_files : (fault : CommandFault) → IsFaultOfDry (is_alone asked.workers asked.progress) read zone table range.from.nanosecond range.to.nanosecond fault → IsDryFault files asked fault
   dry_files BadMoment is = absurd is
   dry_files OutOfMemory is = (range, means, tt)
   dry_files (CannotRead path) is = absurd is
-  dry_files fault is = (range, means, (bytes.readable, λ graph other held are holds. (let same = bytes.alike graph other held are holds in dry_fault read graph zone held same.0 table other same.1 range.from.nanosecond range.to.nanosecond fault is)))
+  dry_files fault is = (range, means, (bytes.readable, λ graph other held are holds. (let same = bytes.alike graph other held are holds in dry_fault read graph zone held same.0 table other same.1 (is_alone asked.workers asked.progress) range.from.nanosecond range.to.nanosecond fault is)))
 
 -- ---- `run`
 

@@ -1,5 +1,6 @@
 -- How lines end.
-use Rattle.std.proofs.Common.{◌≡◌, ◌≢◌, ◌≤◌, ℕ, Bool, true, false, List, [], ◌∷◌, Option, None, Result, Ok, Err, IfOk, IfErr, IsErr, IsSome, OnErr, refl, sym, inl, inr, ap, subst, arith}
+use Rattle.std.proofs.Common.{◌≡◌, ◌≢◌, ◌≤◌, ℕ, Bool, true, false, List, [], ◌∷◌, Option, None, Result, Ok, Err, IfOk, IfErr, IsErr, IsSome, OnErr, refl, sym, inl, inr, ap, ◌∙◌, subst, length, take, arith}
+use Rattle.std.proofs.lemmas.Result.{IfErr-weaker}
 use Rattle.clap.specs.Words.{HasKind, IsAmong, Kinds, Row, Text, kind_of}
 use Rattle.clap.specs.declared.error.Error.{Error}
 use Rattle.clap.specs.declared.error.kind.ErrorKind.{ErrorKind}
@@ -7,15 +8,19 @@ use Rattle.clap.specs.declared.error.kind.ErrorKind.TheVariants as kind
 use Rattle.bf_command_line.specs.declared.forms.Asked.{Asked}
 use Rattle.bf_command_line.specs.declared.forms.Asked.TheVariants as asked
 use Rattle.bf_command_line.specs.Asked.{IsAskedBy}
-use Rattle.bf_command_fault.specs.Refusal.{Leaves, Sends, number_of}
+use Rattle.bf_device.specs.declared.sending.Cause.TheVariants as cause
+use Rattle.bf_device.specs.declared.sending.WriteFault.{WriteFault}
+use Rattle.bf_device.specs.Device.{sent}
+use Rattle.bf_command_fault.specs.Refusal.{Leaves, Sends, number_of, of_write}
 use Rattle.bf_command_fault.specs.Status.{code_of, of_runs}
 use Rattle.bf_command_fault.specs.declared.fault.CommandFault.{CommandFault}
 use Rattle.bf_command_fault.specs.declared.fault.CommandFault.TheVariants.{OutOfMemory}
 use Rattle.bf_command_fault.specs.declared.status.Status.{Status}
-use Rattle.bf_command_fault.proofs.Leaving.{refusal_leaves}
+use Rattle.bf_command_fault.proofs.Leaving.{leaves_due, refusal_leaves, send_leaves}
+use Rattle.bf_commands.proofs.Faults.{write_wanting}
 use Rattle.bf_commands.specs.Programs.{Hearing, Losing}
 use Rattle.bf_program.specs.Commands.{Files, IsAnswer, IsDone, IsFault, MayBeFaulted, MayTell, Tells}
-use Rattle.bf_program.specs.Shown.{EndsAs, shown_as}
+use Rattle.bf_program.specs.Shown.{EndsAs, IsUnshown, ShowsHelp, shown_as}
 
 -- ---- lines that `clap` answers
 
@@ -36,6 +41,32 @@ pub shown_ends : (kinds : Kinds) (e : Error) (r : Result Status CommandFault) �
 shown_ends kinds e (Err f) has memory ok = tt
 shown_ends kinds e (Ok s) (inl none) memory ok = let bad = memory none in cc
 shown_ends kinds e (Ok s) (inr among) memory ok = rw ok (kind_ends kinds (kind_of e) among)
+
+-- what doesn't go to standard error is help
+pub help_by : (k : ErrorKind) (stderr : Bool) → ((k ≢ kind.DisplayHelp) × (k ≢ kind.DisplayVersion) → stderr ≡ true) → stderr ≡ false → shown_as k ≡ Status.Success
+help_by kind.DisplayHelp stderr goes other = refl
+help_by kind.DisplayVersion stderr goes other = refl
+help_by k stderr goes other = let goes_there : stderr ≡ true = goes ((λ is. (cc)), (λ is. (cc))) in cc
+
+-- help that the device doesn't take
+pub help_unshown : (Halted IsHelp : Type 0) (before after : Option (List ℕ)) (text : List ℕ) → IsHelp → (fault : WriteFault) → (fault.sent ≤ length text) × (after ≡ sent before (take fault.sent text)) → fault.cause ≡ cause.Io → Halted
+    → IsUnshown IsHelp Halted before after (of_write fault)
+help_unshown Halted IsHelp before after text help fault part only halted = (write_wanting fault, send_leaves Halted (λ due. IsHelp) before after text help fault part only halted)
+
+help_among : (kinds : Kinds) (k : ErrorKind) → shown_as k ≡ Status.Success → IsAmong k kinds → ShowsHelp kinds
+help_among [] k help among = elim among [ ]
+help_among (x ∷ xs) k help (inl e) = inl (ap shown_as (sym e) ∙ help)
+help_among (x ∷ xs) k help (inr among) = inr (help_among xs k help among)
+
+help_of : (kinds : Kinds) (e : Error) → HasKind kinds e → shown_as (kind_of e) ≡ Status.Success → ShowsHelp kinds
+help_of kinds e (inl none) help = let bad : Status.Refused ≡ Status.Success = ap shown_as (sym none) ∙ help in cc
+help_of kinds e (inr among) help = help_among kinds (kind_of e) help among
+
+-- why an error isn't shown is why its line isn't
+pub line_unshown : (Halted : Type 0) (before after : Option (List ℕ)) (kinds : Kinds) (e : Error) (r : Result Status CommandFault) → HasKind kinds e
+    → IfErr r (IsUnshown (shown_as (kind_of e) ≡ Status.Success) Halted before after) → IfErr r (IsUnshown (ShowsHelp kinds) Halted before after)
+line_unshown Halted before after kinds e r has =
+    IfErr-weaker r _ _ (λ fault is. (is.0, leaves_due Halted (λ text. shown_as (kind_of e) ≡ Status.Success) (λ text. ShowsHelp kinds) (λ text help. help_of kinds e has help) before after fault is.1))
 
 among_none : (kinds : Kinds) (k : ErrorKind) → kinds ≡ [] → IsAmong k kinds → ⊥
 among_none kinds k none among = let is : IsAmong k [] = subst (λ (ks : Kinds). IsAmong k ks) none among in elim is [ ]
@@ -79,6 +110,7 @@ LineEnds may_hear may_lose files matched Halted before after kinds told err r = 
   untouched : OnErr r (err ≡ err);
   line : kinds ≢ [] → IfOk r (λ s. EndsAs kinds (code_of s));
   fault : kinds ≢ [] → IfErr r (λ f. number_of f ≡ None);
+  unshown : kinds ≢ [] → IfErr r (IsUnshown (ShowsHelp kinds) Halted before after);
   done : kinds ≡ [] → IfOk r (λ s. IsDone may_hear files matched before after (code_of s));
   why : kinds ≡ [] → IfErr r (λ f. MayBeFaulted may_hear may_lose files matched Halted before after f);
 }
@@ -105,6 +137,7 @@ module _ (may_hear : Hearing) (may_lose : Losing) (files : Files) (matched : Opt
         untouched = tt;
         line = λ some. absurd (some none);
         fault = λ some. tt;
+        unshown = λ some. tt;
         done = λ fine. record { asked = a; asks = subst (IsAskedBy matched) same asks; text = sends.0; status = s; answer = sends.1; written = sends.2; code_is = refl };
         why = λ fine. tt;
       }
@@ -116,6 +149,7 @@ module _ (may_hear : Hearing) (may_lose : Losing) (files : Files) (matched : Opt
     untouched = refl;
     line = λ some. tt;
     fault = λ some. absurd (some none);
+    unshown = λ some. absurd (some none);
     done = λ fine. tt;
     why = λ fine. may (subst (IsAskedBy matched) same asks) f is left;
   }

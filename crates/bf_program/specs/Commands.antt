@@ -20,6 +20,7 @@ use Rattle.bf_command_line.specs.Asked.{IsAskedBy}
 use Rattle.bf_command_line.specs.CommandLine.{backfill_app}
 use Rattle.bf_command_line.specs.Wrongs as line
 use Rattle.bf_report_reader.specs.Faults.{Tells as TellsFault}
+use Rattle.bf_report_reader.specs.declared.fault.ReportFault.{ReportFault}
 use Rattle.bf_command_fault.specs.declared.fault.CommandFault.{CommandFault}
 use Rattle.bf_command_fault.specs.declared.fault.CommandFault.TheVariants.{BadMoment, Clear as NotCleared, OutOfMemory, CannotRead, CannotWrite, Report as BadReport, Stopped}
 use Rattle.bf_command_fault.specs.declared.status.Status.{Status}
@@ -32,6 +33,7 @@ use Rattle.bf_commands.specs.DatedRuns.{IsFaultOfDry, IsReportIn}
 use Rattle.bf_commands.specs.Graphs.{IsFaultIn, IsSizeOf}
 use Rattle.bf_commands.specs.Lists.{IsFaultOfList, IsListIn}
 use Rattle.bf_commands.specs.OneRun.{IsFaultOfSingle, IsReportAt}
+use Rattle.bf_commands.specs.OverTable.{is_alone}
 use Rattle.bf_commands.specs.Programs.{Hearing, Losing, IsFaultOfRun, IsRunReport, launched, launched_lost}
 use Rattle.bf_program.specs.Texts.{IsDeviceFault, IsPrinted, completions_text, schema_text}
 
@@ -260,7 +262,7 @@ abbrev pub IsDryFault : Files → DryAsked → CommandFault → Type 0
 IsDryFault files asked BadMoment = IsNoMoment (string_bytes asked.range.from) ⊎ IsNoMoment (string_bytes asked.range.to)
 IsDryFault files asked fault = (range : MomentRange) × MeansRange asked.range range × IsFaultOfFiles files (table_paths asked.graph (string_bytes asked.table))
     (OfFilesAndTable files asked.graph (string_bytes asked.table) (λ graph zone table.
-    IsFaultOfDry graph zone table range.from.nanosecond range.to.nanosecond fault)) fault
+    IsFaultOfDry (is_alone asked.workers asked.progress) graph zone table range.from.nanosecond range.to.nanosecond fault)) fault
 
 -- moments come first: a text is no moment; or they mean a range, and the fault is the first of the files, the graph, the range and what stops the backfill
 abbrev pub IsRunFault : Losing → Files → RunAsked → CommandFault → Type 0
@@ -280,12 +282,13 @@ IsFaultOfClear may_lose files asked range seed (CannotRead path) =
     IsFirstUntold files (clear_paths asked.graph (table_named asked)) path ⊎ (AreReadable files (clear_paths asked.graph (table_named asked))
     × (path ≡ string_bytes asked.report) × IsUntold (files path)
     × OfFilesAndNamedTable files asked.graph (table_named asked) (λ graph zone table. IsReady graph zone table range.from.nanosecond range.to.nanosecond))
+IsFaultOfClear may_lose files asked range seed (BadReport ReportFault.Io) = ⊥
 IsFaultOfClear may_lose files asked range seed (BadReport fault) = OfReadClearFiles files asked (λ graph zone table report.
     IsReady graph zone table range.from.nanosecond range.to.nanosecond × TellsFault report fault)
 IsFaultOfClear may_lose files asked range seed (NotCleared fault) = OfReadClearFiles files asked (λ graph zone table report.
     IsUnclearable graph zone table report range.from.nanosecond range.to.nanosecond seed fault)
 IsFaultOfClear may_lose files asked range seed (Stopped stop) = OfReadClearFiles files asked (λ graph zone table report.
-    StopsClearing (launched_lost asked.launcher may_lose) graph zone table report range.from.nanosecond range.to.nanosecond seed stop)
+    StopsClearing (is_alone asked.workers asked.progress) (launched_lost asked.launcher may_lose) graph zone table report range.from.nanosecond range.to.nanosecond seed stop)
 IsFaultOfClear may_lose files asked range seed (CannotWrite n) = AreReadable files (clear_paths asked.graph (table_named asked)) × IsReadable (files (string_bytes asked.report))
 IsFaultOfClear may_lose files asked range seed OutOfMemory = Unit {0}
 IsFaultOfClear may_lose files asked range seed fault = AreReadable files (clear_paths asked.graph (table_named asked))

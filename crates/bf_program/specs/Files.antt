@@ -5,6 +5,7 @@ use Rattle.jiff.specs.Types.{TimeZone}
 use Rattle.bf_read.specs.Reading.{graph_in}
 use Rattle.bf_zone.specs.Zones.{Asked, IsZone}
 use Rattle.bf_report_reader.specs.Faults.{Tells}
+use Rattle.bf_report_reader.specs.declared.fault.ReportFault.{ReportFault}
 use Rattle.bf_plan.specs.declared.plan.Dag.{Dag}
 use Rattle.bf_dependents.specs.declared.seeds.Seed.{Seed}
 use Rattle.bf_interval.specs.declared.interval.Interval.{Interval}
@@ -56,6 +57,7 @@ IsPreparingFault files asked path range fault =
 -- the report's file can't be read, or it holds no report; or memory is wanting
 abbrev pub IsReportFault : List ℕ → Option (Option (List ℕ)) → CommandFault → Type 0
 IsReportFault path file (CannotRead p) = (p ≡ path) × IsUntold file
+IsReportFault path file (BadReport ReportFault.Io) = ⊥
 IsReportFault path file (BadReport fault) = IsReadable file × ((held : List ℕ) → IsHeld file held → IsNoLonger held → Tells held fault)
 IsReportFault path file OutOfMemory = Unit {0}
 IsReportFault path file _ = ⊥
@@ -72,6 +74,6 @@ pub record IsReportAfterFile (may_hear : Hearing) (answers : Option (List TableE
   pub reported : IsReportAfter may_hear answers dag found was seed text success
 
 -- the fault of a report's file, or else of the backfill that goes on from its report
-abbrev pub IsFaultAfterFile : Losing → Option (List TableEntry) → Dag → List Interval → List ℕ → Option (Option (List ℕ)) → Seed → CommandFault → Type 0
-IsFaultAfterFile may_lose answers dag found path file seed fault =
-    IsReportFault path file fault ⊎ ((was : Report) × IsReadOf file was × IsFaultAgain may_lose answers dag found was seed fault)
+abbrev pub IsFaultAfterFile : Bool → Losing → Option (List TableEntry) → Dag → List Interval → List ℕ → Option (Option (List ℕ)) → Seed → CommandFault → Type 0
+IsFaultAfterFile alone may_lose answers dag found path file seed fault =
+    IsReportFault path file fault ⊎ ((was : Report) × IsReadOf file was × IsFaultAgain alone may_lose answers dag found was seed fault)

@@ -2,8 +2,8 @@
 ghost use Rattle.std.specs.Prelude.{◌≡◌, ℕ, Bool, List, IfOk, IfErr, OnOk, option_map, string_bytes};
 ghost use Rattle.bf_device.specs.Device.{HasHalted};
 ghost use Rattle.bf_table.specs.Tables.{table_of};
-ghost use Rattle.bf_report_reader.specs.Written.{AreOfRuns};
 ghost use Rattle.bf_commands.specs.Cleared.{IsPrepared};
+ghost use Rattle.bf_commands.specs.OverTable.{is_alone};
 ghost use Rattle.bf_commands.specs.Programs.{launched, launched_lost};
 ghost use Rattle.bf_command_fault.specs.Refusal.{Leaves, Sends};
 ghost use Rattle.bf_command_fault.specs.declared.status.Status.{Status as StatusTerm};
@@ -79,8 +79,7 @@ fn prepared_in<S: Source>(
     files: &mut S,
 ) -> Result<Prepared, CommandFault>
     ensures said { IfOk result (λ p. IsOfBytes (S.file files.old) graph (option_map string_bytes table) (λ bytes zone entries.
-        IsPrepared bytes zone entries range.from.nanosecond range.to.nanosecond p.plan.dag p.intervals.items p.answers)) }
-    ensures of_runs { IfOk result (λ p. AreOfRuns p.intervals.items) }
+        IsPrepared bytes zone entries range.from.nanosecond range.to.nanosecond p.plan.dag p.runs p.answers)) }
     ensures readable { OnOk result (AreReadable (S.file files.old) (clear_paths graph (option_map string_bytes table))) }
     ensures fault { IfErr result (IsPreparingFault (S.file files.old) graph (option_map string_bytes table) range) }
     ensures stays { (p : List ℕ) → S.file files.new p ≡ S.file files.old p }
@@ -104,25 +103,19 @@ fn go_on<RT: Starter + Screen + Threads + Wait + Clock + Sync, S: Source, W: Wri
     files: &mut S,
     out: &mut W,
 ) -> Result<bool, CommandFault>
-    requires { AreOfRuns prepared.intervals.items }
     ensures ok { IfOk result (λ success. Sends (λ text. IsReportAfterFile (launched crew.now.launcher (RT.may_hear crew.now.rt.now))
-        prepared.answers prepared.plan.dag prepared.intervals.items (S.file files.old (string_bytes report)) seed text success)
+        prepared.answers prepared.plan.dag prepared.runs (S.file files.old (string_bytes report)) seed text success)
         (W.written out.old) (W.written out.new)) }
-    ensures fault { IfErr result (IsFaultAfterFile (launched_lost crew.now.launcher (RT.may_lose crew.now.rt.now))
-        prepared.answers prepared.plan.dag prepared.intervals.items (string_bytes report) (S.file files.old (string_bytes report)) seed) }
+    ensures fault { IfErr result (IsFaultAfterFile (is_alone crew.now.workers crew.now.progress) (launched_lost crew.now.launcher (RT.may_lose crew.now.rt.now))
+        prepared.answers prepared.plan.dag prepared.runs (string_bytes report) (S.file files.old (string_bytes report)) seed) }
     ensures left { IfErr result (Leaves (HasHalted (W.failures out.old) (W.failures out.new)
         (W.interruptions out.old) (W.interruptions out.new))
         (λ text. (success : Bool) × IsReportAfterFile (launched crew.now.launcher (RT.may_hear crew.now.rt.now))
-        prepared.answers prepared.plan.dag prepared.intervals.items (S.file files.old (string_bytes report)) seed text success)
+        prepared.answers prepared.plan.dag prepared.runs (S.file files.old (string_bytes report)) seed text success)
         (W.written out.old) (W.written out.new)) }
 {
-    let Prepared {
-        plan,
-        intervals,
-        answers,
-    } = prepared;
     let report = report_in(crew.alloc, report, files)?;
-    run_again(crew, &plan, &intervals, &report, seed, answers, out)
+    run_again(crew, prepared, &report, seed, out)
 }
 
 /// The moments are looked at first. Then the files are read but for the report, and what they hold is looked at; then the
@@ -145,13 +138,7 @@ pub fn clear_answered<RT: Starter + Screen + Threads + Wait + Clock + Sync, S: S
     let range = range_of(&asked.range)?;
     let seed = seed_of(asked.seed)?;
     let prepared = prepared_in(alloc, asked.graph, asked.table, range, files)?;
-    let crew = Crew {
-        rt,
-        alloc,
-        workers: asked.workers,
-        progress: asked.progress,
-        launcher: asked.launcher,
-    };
+    let crew = Crew::of(rt, alloc, asked.workers, asked.progress, asked.launcher);
     let succeeded = go_on(&crew, prepared, asked.report, seed, files, out)?;
     Ok(Status::of_runs(succeeded))
 }

@@ -1,8 +1,9 @@
 //! The system's files.
-ghost use Rattle.std.specs.Prelude.{◌≡◌, ◌≤◌, IfOk, IfSome, None, take, vec_len};
+ghost use Rattle.std.specs.Prelude.{◌≡◌, ◌≤◌, IfOk, IfErr, IfSome, OnOk, None, take, vec_len};
+ghost use Rattle.bf_device.specs.Device.{HasHalted};
 
 use crate::source::{Source, SourceFault};
-use bf_device::{Halt, MOST_INTERRUPTIONS};
+use bf_device::{Halt, Input, MOST_INTERRUPTIONS, Read};
 use std::alloc::Global;
 use std::fs::File;
 use std::io;
@@ -50,34 +51,34 @@ impl<'a, R: Files> Source for Disk<'a, R> {
         path: &str,
         count: usize,
     ) -> Result<Vec<u8>, SourceFault> {
-        let mut file = File::open(self.rt, path)?;
+        let mut file = Input::new(File::open(self.rt, path)?);
         first_read(alloc, &mut file, count)
     }
 }
 
-/// Reads up to `count` bytes, in whatever pieces the reader gives.
-fn first_read<R: io::Read>(
-    alloc: Global,
-    reader: &mut R,
-    count: usize,
-) -> Result<Vec<u8>, SourceFault>
+/// Reads up to `count` bytes, in whatever pieces a device gives. It gives up where a read fails, and at the 1,001st interruption.
+fn first_read<R: Read>(alloc: Global, device: &mut R, count: usize) -> Result<Vec<u8>, SourceFault>
     ensures bound { IfOk result (λ bytes. vec_len bytes ≤ count) }
-    ensures first { IfOk result (λ bytes. IfSome (R.remaining reader.old) (λ held. bytes.items ≡ take count held)) }
+    ensures first { IfOk result (λ bytes. IfSome (R.left device.old) (λ held. bytes.items ≡ take count held)) }
+    ensures halted { IfErr result (λ fault. fault ≡ SourceFault.CannotRead →
+        HasHalted (R.failures device.old) (R.failures device.new)
+        (R.interruptions device.old) (R.interruptions device.new)) }
 {
     let mut bytes = Vec::new(alloc);
     let mut chunk = [0; CHUNK];
     let mut interruptions = 0;
     while bytes.len() < count {
         let room = CHUNK.min(count - bytes.len());
-        match reader.read(&mut chunk[..room]) {
-            Ok(0) => break,
+        match device.read(&mut chunk[..room]) {
+            Ok(0) => return Ok(bytes),
             Ok(n) => bytes.extend_from_slice(&chunk[..n])?,
-            Err(error) => {
-                if Halt::of(&error) == Halt::Failed || interruptions == MOST_INTERRUPTIONS {
-                    return Err(error.into());
+            Err(Halt::Again) => {
+                if interruptions == MOST_INTERRUPTIONS {
+                    return Err(SourceFault::CannotRead);
                 }
                 interruptions += 1;
             }
+            Err(Halt::Failed) => return Err(SourceFault::CannotRead),
         }
     }
     Ok(bytes)

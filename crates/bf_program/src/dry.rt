@@ -11,13 +11,14 @@ use bf_command_fault::{CommandFault, Status};
 use bf_command_line::DryAsked;
 use bf_commands::{Crew, Screen, run_dry};
 use bf_device::Write;
+use bf_process::Starter;
 use std::alloc::Global;
 use std::sync::Wait;
 use std::thread::Threads;
 use std::time::Clock;
 
 /// The moments are looked at first. Then the files are read, and only then what they hold is looked at.
-pub fn dry_answered<RT: Screen + Threads + Wait + Clock + Sync, S: Source, W: Write>(
+pub fn dry_answered<RT: Starter + Screen + Threads + Wait + Clock + Sync, S: Source, W: Write>(
     rt: &RT,
     alloc: Global,
     asked: DryAsked,
@@ -35,13 +36,7 @@ pub fn dry_answered<RT: Screen + Threads + Wait + Clock + Sync, S: Source, W: Wr
     let range = range_of(&asked.range)?;
     let files = files_with_table(alloc, asked.graph, asked.table, files)?;
     let graph = &files.graph;
-    let crew = Crew {
-        rt,
-        alloc,
-        workers: asked.workers,
-        progress: asked.progress,
-        launcher: None,
-    };
+    let crew = Crew::of(rt, alloc, asked.workers, asked.progress, None);
     let succeeded = run_dry(
         &crew,
         &graph.graph,

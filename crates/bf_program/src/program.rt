@@ -6,7 +6,7 @@ ghost use Rattle.bf_command_fault.specs.Refusal.{number_of};
 ghost use Rattle.bf_command_fault.specs.Status.{code_of};
 ghost use Rattle.bf_command_fault.specs.declared.fault.CommandFault.{CommandFault as FaultTerm};
 ghost use Rattle.bf_program.specs.Commands.{IsDone, IsTold, MayBeFaulted, MayTell, Tells, found_in, wrongs_of};
-ghost use Rattle.bf_program.specs.Shown.{shown_as, EndsAs};
+ghost use Rattle.bf_program.specs.Shown.{shown_as, EndsAs, IsUnshown, ShowsHelp};
 
 use crate::check::check_answered;
 use crate::clear::clear_answered;
@@ -59,6 +59,15 @@ where
         (E.interruptions err.old) (E.interruptions err.new))
         (E.written err.old) (E.written err.new) fault result }
 
+    // Of a wrong line, and of help: which fault came, and what is told of it.
+    ensures unshown { wrongs_of words.now ≢ [] → result ≡ 3 → (fault : FaultTerm)
+        × IsUnshown (ShowsHelp (wrongs_of words.now)) (HasHalted (W.failures out.old) (W.failures out.new)
+        (W.interruptions out.old) (W.interruptions out.new))
+        (W.written out.old) (W.written out.new) fault
+        × MayTell (HasHalted (E.failures err.old) (E.failures err.new)
+        (E.interruptions err.old) (E.interruptions err.new))
+        (E.written err.old) (E.written err.new) fault result }
+
     // Of any line: a fault is told as one.
     ensures fault { result ≡ 3 → (fault : FaultTerm)
         × Tells (HasHalted (E.failures err.old) (E.failures err.new)
@@ -88,6 +97,10 @@ where
     ensures untouched { OnErr result (err.new ≡ err.old) }
     ensures line { wrongs_of words.now ≢ [] → IfOk result (λ s. EndsAs (wrongs_of words.now) (code_of s)) }
     ensures fault { wrongs_of words.now ≢ [] → IfErr result (λ f. number_of f ≡ None) }
+    ensures unshown { wrongs_of words.now ≢ [] → IfErr result (IsUnshown
+        (ShowsHelp (wrongs_of words.now)) (HasHalted (W.failures out.old) (W.failures out.new)
+        (W.interruptions out.old) (W.interruptions out.new))
+        (W.written out.old) (W.written out.new)) }
     ensures done { wrongs_of words.now ≡ [] → IfOk result (λ s.
         IsDone (RT.may_hear rt.now) (S.file files.old) (found_in words.now) (W.written out.old) (W.written out.new) (code_of s)) }
     ensures why { wrongs_of words.now ≡ [] → IfErr result (λ f. MayBeFaulted (RT.may_hear rt.now) (RT.may_lose rt.now) (S.file files.old) (found_in words.now)
@@ -98,7 +111,7 @@ where
     match asked(alloc, words) {
         Ok(Asked::Check(check)) => check_answered(alloc, check, files, out),
         Ok(Asked::List(list)) => list_answered(alloc, list, files, out),
-        Ok(Asked::Single(single)) => single_answered(alloc, single, files, out),
+        Ok(Asked::Single(single)) => single_answered(rt, alloc, single, files, out),
         Ok(Asked::Dry(dry)) => dry_answered(rt, alloc, dry, files, out),
         Ok(Asked::Run(ran)) => run_answered(rt, alloc, ran, files, out),
         Ok(Asked::Clear(clear)) => clear_answered(rt, alloc, clear, files, out),
@@ -120,6 +133,10 @@ fn shown<W: Write, E: Write>(
     ensures wanting { kind_of error.now ≡ ErrorKind.OutOfMemory → IfErr result (λ f. f ≡ CommandFault.OutOfMemory) }
     ensures kept { kind_of error.now ≡ ErrorKind.OutOfMemory → W.written out.new ≡ W.written out.old }
     ensures fault { IfErr result (λ f. number_of f ≡ None) }
+    ensures unshown { IfErr result (IsUnshown (shown_as (kind_of error.now) ≡ Status.Success)
+        (HasHalted (W.failures out.old) (W.failures out.new)
+        (W.interruptions out.old) (W.interruptions out.new))
+        (W.written out.old) (W.written out.new)) }
     ensures untouched { OnErr result (err.new ≡ err.old) }
     ensures help { IfOk result (λ s. s ≢ Status.Refused → E.written err.new ≡ E.written err.old) }
     ensures wrong { IfOk result (λ s. s ≡ Status.Refused → W.written out.new ≡ W.written out.old) }

@@ -35,13 +35,7 @@ pub fn run_answered<RT: Starter + Screen + Threads + Wait + Clock + Sync, S: Sou
 {
     let range = range_of(&asked.range)?;
     let files = graph_files(alloc, asked.graph, files)?;
-    let crew = Crew {
-        rt,
-        alloc,
-        workers: asked.workers,
-        progress: asked.progress,
-        launcher: asked.launcher,
-    };
+    let crew = Crew::of(rt, alloc, asked.workers, asked.progress, asked.launcher);
     let succeeded = run_programs(&crew, &files.graph, files.zone_file(), range, out)?;
     Ok(Status::of_runs(succeeded))
 }

@@ -9,12 +9,17 @@ use crate::input::{files_with_table, moment_of};
 use crate::source::Source;
 use bf_command_fault::{CommandFault, Status};
 use bf_command_line::SingleAsked;
-use bf_commands::run_single;
+use bf_commands::{Screen, run_single};
 use bf_device::Write;
+use bf_process::Starter;
 use std::alloc::Global;
+use std::sync::Wait;
+use std::thread::Threads;
+use std::time::Clock;
 
 /// The moment is looked at first. Then the files are read, and only then what they hold is looked at.
-pub fn single_answered<S: Source, W: Write>(
+pub fn single_answered<RT: Starter + Screen + Threads + Wait + Clock + Sync, S: Source, W: Write>(
+    rt: &RT,
     alloc: Global,
     asked: SingleAsked,
     files: &mut S,
@@ -32,6 +37,7 @@ pub fn single_answered<S: Source, W: Write>(
     let files = files_with_table(alloc, asked.graph, asked.table, files)?;
     let graph = &files.graph;
     let succeeded = run_single(
+        rt,
         alloc,
         &graph.graph,
         graph.zone_file(),

@@ -1,8 +1,8 @@
 //! A core, and what comes next of it.
 ghost use Rattle.std.specs.Prelude.{◌≡◌, Some, IfOk, IfErr, OnOk, OnErr, option_copied};
-ghost use Rattle.bf_core.specs.Agreement.{AreRunStates, IsOutcome};
-ghost use Rattle.bf_core.specs.Events.{HasEnded, entry_in};
-ghost use Rattle.bf_core.specs.Cores.{Backfill, HasCome, IsJournal, IsRefusal, IsReplay, MayCome, moved};
+ghost use Rattle.bf_core.specs.Events.{HasEnded};
+ghost use Rattle.bf_core.specs.Cores.{Backfill, HasCome, IsRefusal, IsReplay, MayCome, moved};
+ghost use Rattle.bf_core.specs.Endings.{ending_of};
 ghost use Rattle.bf_core.specs.declared.event.Event.{Event as EventTerm};
 ghost use Rattle.bf_ready.specs.Choices.{IsNextMoment, IsNextStep, IsNextTry};
 
@@ -117,11 +117,9 @@ impl<'a> Ready<'a> {
     }
 
     /// What the backfill came to, where it has ended; else it is handed back.
-    pub fn into_ended(self) -> Result<Ended, Ready<'a>>
-        ensures ok { IfOk result (λ ended. HasEnded self.entry.state × (ended.state ≡ self.entry.state) × (ended.journal ≡ self.entry.journal)) }
-        ensures journal { IfOk result (λ ended. IsJournal self.entry.dag self.entry.limits self.entry.runs ended.journal ended.state) }
-        ensures outcome { OnOk result (IsOutcome self.entry.dag self.entry.runs self.entry.state) }
-        ensures run_states { IfOk result (λ ended. AreRunStates self.entry.dag (entry_in self.entry.state.ledger) self.entry.runs ended.run_states) }
+    pub fn into_ended(self) -> Result<Ended<'a>, Ready<'a>>
+        ensures ok { IfOk result (λ ended. ended ≡ ending_of self.entry ended.run_states) }
+        ensures closed { OnOk result (HasEnded self.entry.state) }
         ensures back { IfErr result (λ ready. (ready ≡ self.entry) × ¬ (HasEnded self.entry.state)) }
     {
         let Ready { core, due, waiting } = self;

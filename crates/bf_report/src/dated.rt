@@ -10,9 +10,10 @@ ghost use Rattle.bf_report.specs.Values.{AreSoundInstances, IsSoundTask, AreSoun
 use crate::instances::instance_reports;
 use crate::report::{InstanceReport, Report, RunReport, TaskReport, Version};
 use bf_core::{Cell, Ended, State};
-use bf_interval::Interval;
-use bf_plan::{Dag, Plan, Task};
+use bf_interval::{Interval, Runs};
+use bf_plan::{Dag, Task};
 use bf_value::{OutOfMemory, Sequence, Text};
+use bf_xcom::RunState;
 use std::alloc::Global;
 
 fn reported_of(is_expanded: bool, mut instances: Vec<InstanceReport>) -> TaskReport
@@ -112,50 +113,43 @@ fn run_reports(
     alloc: Global,
     dag: &Dag,
     intervals: &[Interval],
-    ended: &Ended,
+    state: &State,
+    states: &[RunState],
 ) -> Result<Sequence<RunReport>, OutOfMemory>
     requires dag { IsSound dag.now }
     requires few_runs { length intervals.now ≤ 4_096 }
     requires shown { All IsShownInterval intervals.now }
-    requires outcome { IsOutcome dag.now (length intervals.now) ended.now.state }
-    requires run_states { AreRunStates dag.now (entry_in ended.now.state.ledger) (length intervals.now) ended.now.run_states }
-    ensures dated { IfOk result (λ runs. AreDated dag.now (entry_in ended.now.state.ledger) 0 intervals.now runs) }
+    requires outcome { IsOutcome dag.now (length intervals.now) state.now }
+    requires run_states { AreRunStates dag.now (entry_in state.now.ledger) (length intervals.now) states.now }
+    ensures dated { IfOk result (λ runs. AreDated dag.now (entry_in state.now.ledger) 0 intervals.now runs) }
     ensures sound { IfOk result AreSoundRuns }
 {
-    let states = ended.run_states.as_slice();
     let mut runs = Vec::with_capacity(alloc, intervals.len())?;
     for run in 0..intervals.len() {
         runs.push(RunReport {
             interval: intervals[run],
             state: states[run],
-            tasks: task_reports(alloc, dag, &ended.state, run as u32)?,
+            tasks: task_reports(alloc, dag, state, run as u32)?,
         })?;
     }
     Ok(Sequence::from_vec(runs))
 }
 
-/// The report, of version 2, of a backfill of the plan over the intervals that has ended: the states and the cells of
-/// the recursion over the ledger of its tries. So each instance is told with the result of its last try, and with the
-/// item and the pulled values of its entries in the ledger, which are one for all its tries; a pulled value stands
-/// under the id of the task that it was pulled from.
-pub fn report_of(
-    alloc: Global,
-    plan: &Plan,
-    intervals: &[Interval],
-    ended: &Ended,
-) -> Result<Report, OutOfMemory>
-    requires few_runs { length intervals.now ≤ 4_096 }
-    requires shown { All IsShownInterval intervals.now }
-    requires outcome { IsOutcome plan.now.dag (length intervals.now) ended.now.state }
-    requires run_states { AreRunStates plan.now.dag (entry_in ended.now.state.ledger) (length intervals.now) ended.now.run_states }
-    ensures dated { IfOk result (IsDated plan.now.dag intervals.now (entry_in ended.now.state.ledger)) }
+/// The report, of version 2, of a backfill over these runs that has ended: the states and the cells of the recursion over
+/// the ledger of its tries. So each instance is told with the result of its last try, and with the item and the pulled
+/// values of its entries in the ledger, which are one for all its tries; a pulled value stands under the id of the task
+/// that it was pulled from.
+pub fn report_of(alloc: Global, runs: &Runs, ended: &Ended<'_>) -> Result<Report, OutOfMemory>
+    requires { length runs.now ≡ ended.now.runs }
+    ensures dated { IfOk result (IsDated ended.now.dag runs.now (entry_in ended.now.state.ledger)) }
     ensures sound { IfOk result HasSoundValues }
 {
-    let dag = plan.dag();
+    let dag = ended.plan().dag();
+    let intervals = runs.intervals();
     Ok(Report {
         version: Version::Two,
         dag_id: dag.id.copy(alloc)?,
         tasks: shown_ids(alloc, dag, intervals)?,
-        runs: run_reports(alloc, dag, intervals, ended)?,
+        runs: run_reports(alloc, dag, intervals, ended.state(), ended.run_states())?,
     })
 }

@@ -1,6 +1,6 @@
 //! Reports to devices.
 ghost use Rattle.std.specs.Prelude.{◌≡◌, ◌≤◌, length, take, OnOk, IfErr};
-ghost use Rattle.bf_device.specs.Device.{sent, HasHalted};
+ghost use Rattle.bf_device.specs.Device.{sent, HasHalted, HasGoneOn};
 ghost use Rattle.bf_report.specs.Report.{report_text};
 
 use crate::lines::text_of_report;
@@ -15,6 +15,8 @@ pub fn write_report<W: Write>(alloc: Global, report: &Report, out: &mut W) -> Re
     ensures part { IfErr result (λ fault. (fault.sent ≤ length (report_text report.now))
         × (W.written out.new ≡ sent (W.written out.old) (take fault.sent (report_text report.now)))) }
     ensures io { IfErr result (λ fault. fault.cause ≡ Cause.Io → HasHalted (W.failures out.old) (W.failures out.new)
+        (W.interruptions out.old) (W.interruptions out.new)) }
+    ensures went_on { OnOk result (HasGoneOn (W.failures out.old) (W.failures out.new)
         (W.interruptions out.old) (W.interruptions out.new)) }
     ensures memory { IfErr result (λ fault. fault.cause ≡ Cause.OutOfMemory → fault.sent ≡ 0) }
 {

@@ -16,7 +16,7 @@ use Rattle.bf_value.proofs.TextLemmas.{IsUtf8-text_of}
 use Rattle.bf_plan.specs.Ids.{is_id}
 use Rattle.bf_value.specs.Distinct.{AreDistinct}
 use Rattle.bf_interval.specs.declared.interval.Interval.{Interval}
-use Rattle.bf_interval.specs.Runs.{IsSecondTo2208, IsOfRun}
+use Rattle.bf_interval.specs.Runs.{AreOfRuns, IsOfRun, IsSecondTo2208}
 use Rattle.bf_plan.specs.declared.plan.Task.{Task}
 use Rattle.bf_plan.specs.declared.plan.Dag.{Dag}
 use Rattle.bf_plan.specs.Plans.{task_of, no_task}
@@ -59,7 +59,6 @@ use Rattle.bf_report_reader.specs.Beginning.{has_item}
 use Rattle.bf_report_reader.specs.Rules.{MayHaveItem, AreToldPulls, IsShownInstance, IsShownTask, IsShownRun, IsShownReport, Rise}
 use Rattle.bf_report_reader.specs.Runs.{IsReportMoment, IsRunInterval}
 use Rattle.bf_plan.specs.Sound.{IsNamed}
-use Rattle.bf_report_reader.specs.Written.{AreOfRuns}
 use Rattle.bf_report_reader.proofs.Given.{IsPushed, FitsValue, AreFittingResults, told_value, pulled_told, items_pushed}
 
 -- ---- data intervals

@@ -13,4 +13,3 @@ pub mod Steps
 pub mod Extensions
 pub mod Faults
 pub mod Refusals
-pub mod Written

@@ -13,7 +13,7 @@ ghost use Rattle.bf_report.specs.Values.{HasSoundValues};
 ghost use Rattle.bf_report.specs.declared.report.Report.{Report};
 ghost use Rattle.bf_report.specs.Report.{report_text};
 ghost use Rattle.bf_report_reader.specs.Rules.{IsShownReport};
-ghost use Rattle.bf_report_reader.specs.Written.{AreOfRuns};
+ghost use Rattle.bf_interval.specs.Runs.{AreOfRuns};
 
 /// No two reports have one text.
 pub fn no_two_reports_have_one_text()

@@ -1,7 +1,7 @@
 //! Reports from devices.
 ghost use Rattle.std.specs.Prelude.{◌≡◌, ◌≢◌, ◌<◌, ◌≤◌, ◌+◌, ◌++◌, ◌∷◌, [], List, ℕ, length, IfOk, OnOk, IfErr, IfSome, IfNone, codes, if◌then◌else◌};
 ghost use Rattle.std.specs.Io.KnownBytes.{Consumes, IsAtEnd};
-ghost use Rattle.bf_device.specs.Device.{HasHalted};
+ghost use Rattle.bf_device.specs.Device.{HasHalted, HasGoneOn};
 ghost use Rattle.bf_report.specs.Report.{version_word, report_text};
 ghost use Rattle.bf_report_reader.specs.Reads.{IsWord, Finds};
 ghost use Rattle.bf_report_reader.specs.Held.{held_bytes, ahead, Tallies, Breaks};
@@ -335,6 +335,9 @@ fn read_rest<R: Read>(
     ensures rules { OnOk result (IsShownReport (so_far beginning.new)) }
     ensures tells { IfErr result (λ fault. IfSome (ahead lines.old.held (R.left device.old))
         (λ bytes. Tells (opening_text (so_far beginning.old) ++ bytes) fault)) }
+    ensures tallied { OnOk result (Tallies
+        lines.old.held.interruptions (R.interruptions device.old) (R.failures device.old)
+        lines.new.held.interruptions (R.interruptions device.new) (R.failures device.new)) }
     ensures halted { IfErr result (λ fault. fault ≡ ReportFault.Io
         → Breaks lines.old.held.interruptions (R.interruptions device.old) (R.failures device.old)
         (R.interruptions device.new) (R.failures device.new)) }
@@ -362,6 +365,8 @@ fn read_all<R: Read>(
     ensures io { IfErr result (λ fault. fault ≡ ReportFault.Io → HasHalted
         (R.failures device.old) (R.failures device.new)
         (R.interruptions device.old) (R.interruptions device.new)) }
+    ensures went_on { OnOk result (HasGoneOn (R.failures device.old) (R.failures device.new)
+        (R.interruptions device.old) (R.interruptions device.new)) }
 {
     let mut beginning = read_head(alloc, lines, device)?;
     read_rest(alloc, lines, device, &mut beginning)?;
@@ -378,6 +383,8 @@ pub fn read_report<R: Read>(alloc: Global, device: &mut R) -> Result<Report, Rep
         IfSome (R.left device.old) (λ bytes. IsReportText bytes → IsFromOutside fault)) }
     ensures io { IfErr result (λ fault. fault ≡ ReportFault.Io → HasHalted
         (R.failures device.old) (R.failures device.new)
+        (R.interruptions device.old) (R.interruptions device.new)) }
+    ensures went_on { OnOk result (HasGoneOn (R.failures device.old) (R.failures device.new)
         (R.interruptions device.old) (R.interruptions device.new)) }
 {
     let mut lines = Lines::new(alloc)?;

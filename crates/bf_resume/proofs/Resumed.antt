@@ -3,10 +3,8 @@ use Rattle.std.proofs.Common.{◌≡◌, inl, inr, sym, ap, ◌∙◌, subst}
 use Rattle.bf_try.specs.declared.answers.Raw.{Raw}
 use Rattle.bf_try.specs.Grades.{grade_of}
 use Rattle.bf_core.specs.Terms.{Dag, Given, JobName, Ledger, AreAlike, outcome_of}
-use Rattle.bf_core.specs.Answered.{AreGraded, MayFault}
-use Rattle.bf_core.specs.declared.fault.BackfillFault.{BackfillFault}
-use Rattle.bf_exec.specs.Faults.{MayFail}
-use Rattle.bf_kept.specs.Kept.{IsAnswer, IsKeptAnswer, AreFit, AreGradedAnew, MayGiveUpAnew}
+use Rattle.bf_core.specs.Answered.{AreGraded}
+use Rattle.bf_kept.specs.Kept.{IsAnswer, IsKeptAnswer, AreFit, AreGradedAnew}
 
 module _ (dag : Dag) (kept ledger : Ledger) (may_answer : JobName → Given → Raw → Type 0) (fit : AreFit dag kept) (graded : AreGraded (IsAnswer kept may_answer) dag ledger) where
   -- a kept answer has the grade that was kept
@@ -37,14 +35,3 @@ module _ (dag : Dag) (kept ledger : Ledger) (may_answer : JobName → Given → 
           let was : _ = before n is.held is.is_kept.0 in
           (was.0, subst (λ (g : Given). may_answer n g was.0) is.is_kept.1 was.1, same ∙ (again n e.given raw is ∙ was.2))
       go (raw, inr may, same) = (raw, may.1, same)
-
--- a fault of a try that isn't kept is one of the runner
-pub may_fail_anew : (kept : Ledger) (may_give_up : JobName → Given → Type 0) (fault : BackfillFault) → MayFail (MayGiveUpAnew kept may_give_up) fault → MayFail may_give_up fault
-may_fail_anew kept may_give_up BackfillFault.OutOfMemory may = may
-may_fail_anew kept may_give_up (BackfillFault.Runner name) (given, may) = (given, may.1)
-may_fail_anew kept may_give_up BackfillFault.Start may = may
-
-pub may_fault_anew : (kept : Ledger) (may_give_up : JobName → Given → Type 0) (fault : BackfillFault) → MayFault (MayGiveUpAnew kept may_give_up) fault → MayFault may_give_up fault
-may_fault_anew kept may_give_up BackfillFault.OutOfMemory may = may
-may_fault_anew kept may_give_up (BackfillFault.Runner name) (given, may) = (given, may.1)
-may_fault_anew kept may_give_up BackfillFault.Start may = may

@@ -38,7 +38,7 @@ end-running b replayed n o able = let m : _ = running-by b replayed (Event.End n
 -- the scheduler is kept by an event, where the number of running tries is kept in step
 kept : (b new : Backfill) (workers running now : ℕ) (e : Event) → IsScheduler b workers running → new ≡ moved b e →
     now ≡ running_now (after b.dag b.state e) → now ≤ workers → IsScheduler new workers now
-kept b new workers running now e is to counted within = rw to (record { some = is.some; few = is.few; counted = counted; within = within })
+kept b new workers running now e is to counted within = rw to (record { counted = counted; within = within })
 
 pub step-keeps : (b new : Backfill) (workers running : ℕ) (e : Event) → IsReplay b → IsScheduler b workers running → IsFirstStep b e → new ≡ moved b e →
     IsScheduler new workers running

@@ -99,7 +99,5 @@ IsRefused backfill done fault =
 -- ---- what a scheduler keeps
 
 pub record IsScheduler (backfill : Backfill) (workers running : ℕ) : Type 0 where
-  pub some : 1 ≤ workers
-  pub few : workers ≤ 64
   pub counted : running ≡ running_now backfill.state
   pub within : running ≤ workers

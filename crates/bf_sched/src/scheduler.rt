@@ -1,9 +1,9 @@
 //! The choice of events.
 ghost use Rattle.std.specs.Prelude.{◌≡◌, ◌≤◌, OnOk, OnErr, IfOk, IfErr};
 ghost use Rattle.bf_try.specs.Grades.{grade_of};
-ghost use Rattle.bf_core.specs.Agreement.{IsOutcome, AreRunStates};
-ghost use Rattle.bf_core.specs.Events.{HasEnded, entry_in};
-ghost use Rattle.bf_core.specs.Cores.{IsJournal, IsRefusal, IsReplay, MayCome, moved};
+ghost use Rattle.bf_core.specs.Events.{HasEnded};
+ghost use Rattle.bf_core.specs.Cores.{IsRefusal, IsReplay, MayCome, moved};
+ghost use Rattle.bf_core.specs.Endings.{ending_of};
 ghost use Rattle.bf_core.specs.Running.{running_now};
 ghost use Rattle.bf_core.specs.declared.event.Event.{Event as EventTerm};
 ghost use Rattle.bf_ready.specs.Choices.{IsNextMoment};
@@ -14,6 +14,7 @@ use bf_core::{Core, Ended, Event, Illegal};
 use bf_ready::Ready;
 use bf_try::{Done, Outcome, Ticket, grade};
 use bf_value::{JobName, OutOfMemory};
+use bf_workers::Workers;
 use std::alloc::Global;
 use std::marker::Model;
 
@@ -22,7 +23,7 @@ use std::marker::Model;
 pub struct Scheduler<'a> {
     alloc: Global,
     ready: Ready<'a>,
-    workers: u32,
+    workers: Workers,
     /// How many tries run.
     running: u32,
 }
@@ -107,11 +108,13 @@ fn grade_answer(alloc: Global, core: &Core<'_>, done: &Done) -> Result<Outcome, 
 }
 
 impl<'a> Scheduler<'a> {
-    /// The scheduler of a backfill in which no try runs, for 1 to 64 workers.
-    pub fn new(alloc: Global, core: Core<'a>, workers: u32) -> Result<Scheduler<'a>, OutOfMemory>
-        requires some { 1 ≤ workers }
-        requires few { workers ≤ 64 }
-        requires idle { running_now core.state ≡ 0 }
+    /// The scheduler of a backfill in which no try runs, for so many workers.
+    pub fn new(
+        alloc: Global,
+        core: Core<'a>,
+        workers: Workers,
+    ) -> Result<Scheduler<'a>, OutOfMemory>
+        requires { running_now core.state ≡ 0 }
         ensures { IfOk result (λ s. s ≡ record { backfill = core.entry; workers = workers }) }
     {
         Ok(Scheduler {
@@ -149,7 +152,7 @@ impl<'a> Scheduler<'a> {
             advance(&mut self.ready, event)?;
             return Ok(Next::Stepped);
         }
-        if self.running < self.workers {
+        if self.running < self.workers.count() {
             if let Some(name) = self.ready.next_try() {
                 let ticket = begin(self.alloc, &mut self.ready, name)?;
                 self.running += 1;
@@ -228,11 +231,9 @@ impl<'a> Scheduler<'a> {
     }
 
     /// What the backfill came to, where it has ended; else the scheduler is handed back.
-    pub fn into_ended(self) -> Result<Ended, Scheduler<'a>>
-        ensures ok { IfOk result (λ ended. HasEnded self.entry.backfill.state × (ended.state ≡ self.entry.backfill.state) × (ended.journal ≡ self.entry.backfill.journal)) }
-        ensures journal { IfOk result (λ ended. IsJournal self.entry.backfill.dag self.entry.backfill.limits self.entry.backfill.runs ended.journal ended.state) }
-        ensures outcome { OnOk result (IsOutcome self.entry.backfill.dag self.entry.backfill.runs self.entry.backfill.state) }
-        ensures run_states { IfOk result (λ ended. AreRunStates self.entry.backfill.dag (entry_in self.entry.backfill.state.ledger) self.entry.backfill.runs ended.run_states) }
+    pub fn into_ended(self) -> Result<Ended<'a>, Scheduler<'a>>
+        ensures ok { IfOk result (λ ended. ended ≡ ending_of self.entry.backfill ended.run_states) }
+        ensures closed { OnOk result (HasEnded self.entry.backfill.state) }
         ensures back { IfErr result (λ s. (s ≡ self.entry) × ¬ (HasEnded self.entry.backfill.state)) }
     {
         let Scheduler {

@@ -1,10 +1,10 @@
 //! Orders of events: the report doesn't rest on them.
-use crate::steps::{Answered, EPOCH, End, Step, core_after};
+use crate::steps::{Answered, End, Step, core_after};
 use bf_core::{Core, Illegal};
 use bf_device::Memory;
 use bf_plan::Plan;
 use bf_report::{report_of, write_report};
-use bf_tests_graphs::{job, plan_of};
+use bf_tests_graphs::{epoch_run, job, plan_of};
 use std::alloc::Global;
 use std::process::Abort;
 use std::test::Fail;
@@ -22,11 +22,11 @@ const REPORT: &str = "@backfill 2 d\n\
 
 /// The text of the report of a backfill over one run that has ended; empty where it hasn't.
 fn written(alloc: Global, core: Core<'_>) -> Result<Vec<u8>, Fail> {
-    let plan = core.plan();
     let mut out = Memory::new(alloc);
+    let runs = epoch_run(alloc)?;
     if let Ok(ended) = core.into_ended() {
-        if ended.run_states.len() == 1 {
-            let report = report_of(alloc, plan, &[EPOCH], &ended)?;
+        if ended.run_states().len() == runs.count() {
+            let report = report_of(alloc, &runs, &ended)?;
             write_report(alloc, &report, &mut out)?;
         }
     }

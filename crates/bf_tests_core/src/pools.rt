@@ -1,8 +1,8 @@
 //! Room in pools.
-use crate::steps::{Answered, EPOCH, End, Step, take, walk};
+use crate::steps::{Answered, End, Step, take, walk};
 use bf_core::{Core, Illegal};
 use bf_plan::Plan;
-use bf_tests_graphs::{job, plan_of};
+use bf_tests_graphs::{epoch_run, job, plan_of};
 use std::alloc::Global;
 use std::process::Abort;
 use std::test::Fail;
@@ -66,7 +66,7 @@ fn occupied_from_start(
     begins: &[Answered],
     ends: &[Answered],
 ) -> Result<(u32, u32), Fail> {
-    let mut core = Core::new(alloc, plan, &[EPOCH])?;
+    let mut core = Core::new(alloc, plan, &epoch_run(alloc)?)?;
     occupied_in_turn(rt, alloc, &mut core, begins, ends)
 }
 

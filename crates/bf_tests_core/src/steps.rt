@@ -1,20 +1,12 @@
 //! Cores, driven by hand over one run.
 use bf_core::{Core, Event, Illegal};
-use bf_interval::Interval;
 use bf_plan::Plan;
-use bf_tests_graphs::plan_of;
+use bf_tests_graphs::{epoch_run, plan_of};
 use bf_try::Outcome;
 use bf_value::{JobName, OutOfMemory, Values, Xval};
-use jiff::Timestamp;
 use std::alloc::Global;
 use std::process::Abort;
 use std::test::Fail;
-
-/// The data interval of the run.
-pub const EPOCH: Interval = Interval {
-    start: Timestamp::UNIX_EPOCH,
-    end: Timestamp::UNIX_EPOCH,
-};
 
 /// How a try ends.
 #[derive(Clone, Copy)]
@@ -94,7 +86,7 @@ pub fn core_after<'a>(
     plan: &'a Plan,
     steps: &[Answered],
 ) -> Result<Core<'a>, Fail> {
-    let mut core = Core::new(alloc, plan, &[EPOCH])?;
+    let mut core = Core::new(alloc, plan, &epoch_run(alloc)?)?;
     take(rt, alloc, &mut core, steps)?;
     Ok(core)
 }

@@ -3,21 +3,14 @@ use crate::chance::Chance;
 use crate::graphs::{TASKS, graph_of};
 use crate::looks::compare;
 use bf_core::{Core, Event};
-use bf_interval::Interval;
 use bf_plan::Plan;
 use bf_ready::Ready;
-use bf_tests_graphs::plan_of;
+use bf_tests_graphs::{daily_runs, plan_of};
 use bf_try::Outcome;
 use bf_value::{JobName, OutOfMemory, Text, Values, Xval};
-use jiff::Timestamp;
 use std::alloc::Global;
 use std::process::Abort;
 use std::test::Fail;
-
-const EPOCH: Interval = Interval {
-    start: Timestamp::UNIX_EPOCH,
-    end: Timestamp::UNIX_EPOCH,
-};
 
 const RUNS: u32 = 3;
 
@@ -172,7 +165,8 @@ fn drive(
 }
 
 fn walk_over(rt: &impl Abort, alloc: Global, plan: &Plan, chance: &mut Chance) -> Result<(), Fail> {
-    let core = Core::new(alloc, plan, &[EPOCH, EPOCH, EPOCH])?;
+    let runs = daily_runs(alloc, RUNS).ok_or("there are no such runs")?;
+    let core = Core::new(alloc, plan, &runs)?;
     let mut ready = Ready::of(alloc, core)?;
     drive(rt, alloc, chance, &mut ready)
 }

@@ -1,14 +1,15 @@
 //! Calls that are made again where memory was wanting.
-ghost use Rattle.std.specs.Prelude.{◌≡◌, ◌≤◌, length};
+ghost use Rattle.std.specs.Prelude.{◌≡◌};
 
 use crate::graphs::Graph;
 use bf_core::{Core, Illegal};
-use bf_interval::Interval;
+use bf_interval::Runs;
 use bf_plan::Plan;
 use bf_sched::{Next, Scheduler};
-use bf_tests_graphs::plan_of;
+use bf_tests_graphs::{daily_runs, plan_of};
 use bf_try::{Done, Raw};
 use bf_value::{JobName, OutOfMemory};
+use bf_workers::Workers;
 use std::alloc::Global;
 use thiserror::Error;
 
@@ -60,31 +61,29 @@ pub fn plan_again(alloc: Global, graph: Graph) -> Result<Plan, Fault> {
     plan_of(alloc, graph.file()).map_err(|_| Fault::Twice)
 }
 
+/// The runs of so many days.
+pub fn runs_again(alloc: Global, days: u32) -> Result<Runs, Fault> {
+    if let Some(runs) = daily_runs(alloc, days) {
+        return Ok(runs);
+    }
+    daily_runs(alloc, days).ok_or(Fault::Twice)
+}
+
 /// The scheduler of a backfill by one worker.
-fn scheduler<'a>(
-    alloc: Global,
-    plan: &'a Plan,
-    intervals: &[Interval],
-) -> Result<Scheduler<'a>, OutOfMemory>
-    requires { length intervals.now ≤ 4_096 }
-{
-    let _sound = plan.dag();
-    let _fit = plan.limits();
-    let core = Core::new(alloc, plan, intervals)?;
-    Scheduler::new(alloc, core, 1)
+fn scheduler<'a>(alloc: Global, plan: &'a Plan, runs: &Runs) -> Result<Scheduler<'a>, OutOfMemory> {
+    let core = Core::new(alloc, plan, runs)?;
+    Scheduler::new(alloc, core, Workers::one())
 }
 
 pub fn scheduler_again<'a>(
     alloc: Global,
     plan: &'a Plan,
-    intervals: &[Interval],
-) -> Result<Scheduler<'a>, Fault>
-    requires { length intervals.now ≤ 4_096 }
-{
-    if let Ok(scheduler) = scheduler(alloc, plan, intervals) {
+    runs: &Runs,
+) -> Result<Scheduler<'a>, Fault> {
+    if let Ok(scheduler) = scheduler(alloc, plan, runs) {
         return Ok(scheduler);
     }
-    scheduler(alloc, plan, intervals).map_err(|_| Fault::Twice)
+    scheduler(alloc, plan, runs).map_err(|_| Fault::Twice)
 }
 
 /// What comes next.

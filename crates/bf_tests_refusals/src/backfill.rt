@@ -1,13 +1,11 @@
 //! A backfill by one worker, each call made again where memory was wanting, and its journal, let come again.
-ghost use Rattle.std.specs.Prelude.{◌≡◌, ◌≤◌, length};
-
 use crate::again::{
-    Fault, finish_again, next_again, plan_again, raw_again, scheduler_again, tick_again,
+    Fault, finish_again, next_again, raw_again, runs_again, scheduler_again, tick_again,
 };
 use crate::graphs::Graph;
 use crate::replay::replay;
 use bf_core::Ended;
-use bf_interval::Interval;
+use bf_interval::Runs;
 use bf_plan::Plan;
 use bf_sched::{Next, Scheduler};
 use bf_try::Ticket;
@@ -51,37 +49,26 @@ fn all_turns(alloc: Global, graph: Graph, scheduler: &mut Scheduler<'_>) -> Resu
 }
 
 /// The end of the backfill of a plan.
-fn ended_of(
+fn ended_of<'p>(
     alloc: Global,
     graph: Graph,
-    plan: &Plan,
-    intervals: &[Interval],
-) -> Result<Ended, Fault>
-    requires { length intervals.now ≤ 4_096 }
-{
-    let mut scheduler = scheduler_again(alloc, plan, intervals)?;
+    plan: &'p Plan,
+    runs: &Runs,
+) -> Result<Ended<'p>, Fault> {
+    let mut scheduler = scheduler_again(alloc, plan, runs)?;
     all_turns(alloc, graph, &mut scheduler)?;
     scheduler.into_ended().map_err(|_| Fault::Stopped)
 }
 
-/// The same, where its journal comes again.
-fn replayed(
+/// The end of the backfill of a plan over so many days, whose journal comes again.
+pub fn backfill<'p>(
     alloc: Global,
     graph: Graph,
-    plan: &Plan,
-    intervals: &[Interval],
-) -> Result<Ended, Fault>
-    requires { length intervals.now ≤ 4_096 }
-{
-    let ended = ended_of(alloc, graph, plan, intervals)?;
-    replay(alloc, plan, intervals, ended.journal.as_slice())?;
+    plan: &'p Plan,
+    days: u32,
+) -> Result<Ended<'p>, Fault> {
+    let runs = runs_again(alloc, days)?;
+    let ended = ended_of(alloc, graph, plan, &runs)?;
+    replay(alloc, plan, &runs, ended.journal())?;
     Ok(ended)
-}
-
-/// What the backfill of a graph over these data intervals comes to.
-pub fn backfill(alloc: Global, graph: Graph, intervals: &[Interval]) -> Result<Ended, Fault>
-    requires { length intervals.now ≤ 4_096 }
-{
-    let plan = plan_again(alloc, graph)?;
-    replayed(alloc, graph, &plan, intervals)
 }

@@ -10,24 +10,23 @@ mod replay;
 mod sameness;
 mod shown;
 
-use crate::again::Fault;
+use crate::again::{Fault, plan_again};
 use crate::backfill::backfill;
 use crate::graphs::Graph;
 use crate::shown::show;
-use bf_interval::Interval;
-use jiff::Timestamp;
+use std::alloc::Global;
 use std::process::ExitCode;
 
-const EPOCH: Interval = Interval {
-    start: Timestamp::UNIX_EPOCH,
-    end: Timestamp::UNIX_EPOCH,
-};
+/// Prints the events of the backfill of a graph over so many days, and says whether all were.
+fn tell_of(rt: &HostRuntime, alloc: Global, graph: Graph, days: u32) -> Result<bool, Fault> {
+    let plan = plan_again(alloc, graph)?;
+    let ended = backfill(alloc, graph, &plan, days)?;
+    Ok(show(rt, ended.journal()))
+}
 
-/// Prints the events of both, and says whether all were.
+/// The same of both.
 fn tell(rt: &HostRuntime) -> Result<bool, Fault> {
-    let delayed = backfill(rt.alloc(), Graph::Delayed, &[EPOCH, EPOCH])?;
-    let expanded = backfill(rt.alloc(), Graph::Expanded, &[EPOCH])?;
-    Ok(show(rt, delayed.journal.as_slice()) && show(rt, expanded.journal.as_slice()))
+    Ok(tell_of(rt, rt.alloc(), Graph::Delayed, 2)? && tell_of(rt, rt.alloc(), Graph::Expanded, 1)?)
 }
 
 fn main(rt: HostRuntime) -> ExitCode {

@@ -1,20 +1,16 @@
 //! The events of a journal, let come again to two cores, of which one shows how the other was.
-ghost use Rattle.std.specs.Prelude.{◌≡◌, ◌≤◌, length};
-
 use crate::again::Fault;
 use crate::sameness::is_same_core;
 use bf_core::{Core, Event, Illegal};
-use bf_interval::Interval;
+use bf_interval::Runs;
 use bf_plan::Plan;
 use std::alloc::Global;
 
-fn core_again<'a>(alloc: Global, plan: &'a Plan, intervals: &[Interval]) -> Result<Core<'a>, Fault>
-    requires { length intervals.now ≤ 4_096 }
-{
-    if let Ok(core) = Core::new(alloc, plan, intervals) {
+fn core_again<'a>(alloc: Global, plan: &'a Plan, runs: &Runs) -> Result<Core<'a>, Fault> {
+    if let Ok(core) = Core::new(alloc, plan, runs) {
         return Ok(core);
     }
-    Core::new(alloc, plan, intervals).map_err(|_| Fault::Twice)
+    Core::new(alloc, plan, runs).map_err(|_| Fault::Twice)
 }
 
 fn copy_again(alloc: Global, event: &Event) -> Result<Event, Fault> {
@@ -95,13 +91,11 @@ impl<'a, 'b> Cores<'a, 'b> {
 fn both<'a, 'b>(
     alloc: Global,
     plan: &'a Plan,
-    intervals: &[Interval],
+    runs: &Runs,
     journal: &'b [Event],
-) -> Result<Cores<'a, 'b>, Fault>
-    requires { length intervals.now ≤ 4_096 }
-{
-    let core = core_again(alloc, plan, intervals)?;
-    let behind = core_again(alloc, plan, intervals)?;
+) -> Result<Cores<'a, 'b>, Fault> {
+    let core = core_again(alloc, plan, runs)?;
+    let behind = core_again(alloc, plan, runs)?;
     Ok(Cores {
         journal,
         core,
@@ -110,13 +104,6 @@ fn both<'a, 'b>(
 }
 
 /// Lets each event of a journal come, up to the end of the backfill.
-pub fn replay(
-    alloc: Global,
-    plan: &Plan,
-    intervals: &[Interval],
-    journal: &[Event],
-) -> Result<(), Fault>
-    requires { length intervals.now ≤ 4_096 }
-{
-    both(alloc, plan, intervals, journal)?.replay(alloc)
+pub fn replay(alloc: Global, plan: &Plan, runs: &Runs, journal: &[Event]) -> Result<(), Fault> {
+    both(alloc, plan, runs, journal)?.replay(alloc)
 }

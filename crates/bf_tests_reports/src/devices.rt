@@ -1,8 +1,10 @@
 //! Devices that halt: those of this project, and readers and writers of std that raise errors.
 use crate::reports::{FULL, ONE};
 use bf_device::{Bytes, Cause, Halt, Halting, Input, Memory, Output, WriteFault};
+use bf_process::line_of;
 use bf_report::{Report, write_report};
 use bf_report_reader::{ReportFault, read_report};
+use bf_try::Line;
 use std::alloc::Global;
 use std::io;
 use std::test::Fail;
@@ -105,6 +107,39 @@ fn an_earlier_bad_line_comes_before_a_read_that_fails(rt: HostRuntime) -> Result
     for (call, fault) in [(6, ReportFault::Io), (7, ReportFault::BadLine(1))] {
         let found = read_halting(rt.alloc(), "@end 0\n", Halt::Failed, call, 1)?;
         assert_eq!(rt; found, Some(fault));
+    }
+    Ok(())
+}
+
+/// What a program prints: two lines, of which the last has no line feed.
+const OUTPUT: &str = "one\ntwo";
+
+/// Reads an output from a device that gives one byte a call and halts at some. Gives its last line.
+fn line_halting(alloc: Global, halt: Halt, first: usize, times: u64) -> Result<Line, Fail> {
+    let bytes = Bytes::new(OUTPUT.as_bytes().to_vec(alloc)?);
+    let mut device = Halting::new(bytes, halt, first as u64, times);
+    Ok(line_of(alloc, &mut device)?)
+}
+
+// A read that fails is not made again, though the next would give the rest.
+#[test]
+fn an_output_that_halts_for_good_has_no_line(rt: HostRuntime) -> Result<(), Fail> {
+    for (halt, times) in [(Halt::Failed, 1), (Halt::Again, 1_001)] {
+        for call in 0..=OUTPUT.len() {
+            let line = line_halting(rt.alloc(), halt, call, times)?;
+            assert!(rt; matches!(line, Line::ReadFault));
+        }
+    }
+    Ok(())
+}
+
+#[test]
+fn a_thousand_interruptions_of_an_output_are_nothing(rt: HostRuntime) -> Result<(), Fail> {
+    for call in 0..=OUTPUT.len() {
+        let Line::Bytes(line) = line_halting(rt.alloc(), Halt::Again, call, 1_000)? else {
+            return Err(Fail::from("it has no line"));
+        };
+        assert_eq!(rt; line.as_slice(), b"two".as_slice());
     }
     Ok(())
 }

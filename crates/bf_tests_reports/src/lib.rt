@@ -1,4 +1,4 @@
-//! Tests of reports: their text, what is read of it, and the devices that they go to and come from.
+//! Tests of reports: their text, what is read of it, and the devices that they go to and come from, as outputs of programs do.
 #![tactic(auto)]
 
 #[cfg(test)]

@@ -77,8 +77,8 @@ fn are(rt: &impl Abort, calls: &[AtomicU64; 4], wanted: [u64; 4]) {
 fn each_try_is_asked_once(rt: HostRuntime) -> Result<(), Fail> {
     for workers in [1u32, 2, 8] {
         let runner = Counting::new(rt.alloc());
-        let ended = backfill(&rt, rt.alloc(), RETRIED, workers, &runner)??;
-        assert_eq!(rt; ended.run_states.as_slice(), [RunState::Success].as_slice());
+        let told = backfill(&rt, rt.alloc(), RETRIED, workers, &runner)??;
+        assert_eq!(rt; told.run_states.as_slice(), [RunState::Success].as_slice());
         are(&rt, &runner.first, [0, 1, 1, 1]);
         are(&rt, &runner.second, [0, 1, 0, 0]);
     }

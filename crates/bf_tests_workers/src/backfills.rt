@@ -1,23 +1,37 @@
 //! Backfills of one run, without waiting.
-ghost use Rattle.std.specs.Prelude.{◌≤◌};
-
 use bf_core::{BackfillFault, Ended, Event};
 use bf_exec::{Silent, Watch, run_backfill};
-use bf_interval::Interval;
 use bf_lane::Jump;
-use bf_tests_graphs::plan_of;
+use bf_plain::one_by_one;
+use bf_tests_graphs::{epoch_run, plan_of};
 use bf_try::TaskRunner;
 use bf_value::{JobName, OutOfMemory};
-use jiff::Timestamp;
+use bf_workers::Workers;
+use bf_xcom::RunState;
 use std::alloc::Global;
 use std::sync::Wait;
 use std::test::Fail;
 use std::thread::Threads;
 
-const EPOCH: Interval = Interval {
-    start: Timestamp::UNIX_EPOCH,
-    end: Timestamp::UNIX_EPOCH,
-};
+/// What a backfill came to: the states of its runs, and its tries in the order in which they began.
+#[derive(Drop)]
+pub struct Told {
+    pub run_states: Vec<RunState>,
+    pub begun: Vec<JobName>,
+}
+
+fn told_of(
+    alloc: Global,
+    ended: Result<Ended<'_>, BackfillFault>,
+) -> Result<Result<Told, BackfillFault>, Fail> {
+    match ended {
+        Ok(ended) => Ok(Ok(Told {
+            run_states: ended.run_states().to_vec(alloc)?,
+            begun: begun(alloc, ended.journal())?,
+        })),
+        Err(fault) => Ok(Err(fault)),
+    }
+}
 
 /// What a run of a graph comes to by so many workers. The clock jumps to each moment that a try waits for.
 pub fn backfill<W: Threads + Wait + Sync, R: TaskRunner + Sync>(
@@ -26,20 +40,31 @@ pub fn backfill<W: Threads + Wait + Sync, R: TaskRunner + Sync>(
     graph: &str,
     workers: u32,
     runner: &R,
-) -> Result<Result<Ended, BackfillFault>, Fail>
-    requires one { 1 ≤ workers }
-    requires some { workers ≤ 64 }
-{
+) -> Result<Result<Told, BackfillFault>, Fail> {
     let plan = plan_of(alloc, graph)?;
+    let runs = epoch_run(alloc)?;
+    let workers = Workers::new(workers).ok_or("there can't be so many workers")?;
     let mut watch = Watch {
         clock: Jump::new(),
         observer: Silent,
     };
-    Ok(run_backfill(rt, alloc, &plan, &[EPOCH], workers, runner, &mut watch))
+    let ended = run_backfill(rt, alloc, &plan, &runs, workers, runner, &mut watch);
+    told_of(alloc, ended)
+}
+
+/// What a run of a graph comes to in the thread that asks.
+pub fn alone<R: TaskRunner>(
+    alloc: Global,
+    graph: &str,
+    runner: &R,
+) -> Result<Result<Told, BackfillFault>, Fail> {
+    let plan = plan_of(alloc, graph)?;
+    let runs = epoch_run(alloc)?;
+    told_of(alloc, one_by_one(alloc, &plan, &runs, runner))
 }
 
 /// The tries in the order in which they began.
-pub fn begun(alloc: Global, journal: &[Event]) -> Result<Vec<JobName>, OutOfMemory> {
+fn begun(alloc: Global, journal: &[Event]) -> Result<Vec<JobName>, OutOfMemory> {
     let mut names = Vec::new(alloc);
     for event in journal {
         if let Event::Begin(name) = event {

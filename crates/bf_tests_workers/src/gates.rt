@@ -71,8 +71,8 @@ impl TaskRunner for Gate {
 fn two_tries_run_at_the_same_time(rt: HostRuntime) -> Result<(), Fail> {
     for (first_waits, second_waits) in [(true, false), (false, true), (true, true)] {
         let gate = Gate::new(rt.alloc(), first_waits, second_waits);
-        let ended = backfill(&rt, rt.alloc(), TWO, 2, &gate)??;
-        assert_eq!(rt; ended.run_states.as_slice(), [RunState::Success].as_slice());
+        let told = backfill(&rt, rt.alloc(), TWO, 2, &gate)??;
+        assert_eq!(rt; told.run_states.as_slice(), [RunState::Success].as_slice());
     }
     Ok(())
 }

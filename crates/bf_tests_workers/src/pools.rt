@@ -1,5 +1,5 @@
 //! The order in which tries begin, and the slots that they hold.
-use crate::backfills::{backfill, begun};
+use crate::backfills::backfill;
 use bf_tests_graphs::job;
 use bf_try::{Done, Raw, RunnerFault, TaskRunner, Ticket};
 use bf_value::{JobName, Sequence};
@@ -75,10 +75,9 @@ impl TaskRunner for Slots {
 fn tries_begin_by_weight_where_their_pool_has_room(rt: HostRuntime) -> Result<(), Fail> {
     for workers in [1u32, 2, 8] {
         let runner = Slots::new(rt.alloc(), false);
-        let ended = backfill(&rt, rt.alloc(), WEIGHED, workers, &runner)??;
-        let names = begun(rt.alloc(), ended.journal.as_slice())?;
+        let told = backfill(&rt, rt.alloc(), WEIGHED, workers, &runner)??;
         assert_eq!(rt;
-            names.as_slice(),
+            told.begun.as_slice(),
             [job(1, -1, 1), job(2, -1, 1), job(0, -1, 1)].as_slice()
         );
         assert_eq!(rt; runner.most.load(Ordering::SeqCst), 2);
@@ -89,10 +88,9 @@ fn tries_begin_by_weight_where_their_pool_has_room(rt: HostRuntime) -> Result<()
 #[test]
 fn others_begin_while_a_retry_waits(rt: HostRuntime) -> Result<(), Fail> {
     let runner = Slots::new(rt.alloc(), true);
-    let ended = backfill(&rt, rt.alloc(), DELAYED, 1, &runner)??;
-    let names = begun(rt.alloc(), ended.journal.as_slice())?;
+    let told = backfill(&rt, rt.alloc(), DELAYED, 1, &runner)??;
     assert_eq!(rt;
-        names.as_slice(),
+        told.begun.as_slice(),
         [job(0, -1, 1), job(1, -1, 1), job(0, -1, 2)].as_slice()
     );
     Ok(())

@@ -1,35 +1,42 @@
-use Rattle.std.proofs.Common.{sym, subst}
-use Rattle.bf_report_reader.specs.Written.{AreOfRuns}
+use Rattle.bf_commands.specs.OverTable.{is_alone}
 use Rattle.bf_commands.proofs.Faults.{dry_range, dry_stop_in, dry_table, range_leaves, reported_in, table_leaves}
-use Rattle.bf_commands.proofs.ListedIntervals.{of_runs}
+use Rattle.bf_commands.proofs.FromKept.{nothing_fits}
 use Rattle.bf_commands.proofs.Results.{handed_on, leaves_as, sends_as}
+use Rattle.bf_commands.proofs.Sharing.{shared}
 use Rattle.bf_commands.proofs.dry.run_dry.Goals as goal
 
 pub returns-in_err-table-clause-fault : goal.returns-in_err-table-clause-fault
 returns-in_err-table-clause-fault g c =
-    handed_on _ _ c.from_residual-in_err-table.ensures.1 (dry_table c.args.graph.now _ c.args.table.now _ _ _ c.in_ok-timed.ensures.plan _ c.in_err-table.ensures.fault)
+    handed_on _ _ c.from_residual-in_err-table.ensures.1
+    (dry_table c.args.graph.now _ c.args.table.now _ _ (is_alone c.args.crew.now.workers c.args.crew.now.progress) _ c.in_ok-timed.ensures.plan _ c.in_err-table.ensures.fault)
 
 pub returns-in_err-table-clause-left : goal.returns-in_err-table-clause-left
 returns-in_err-table-clause-left g c = handed_on _ _ c.from_residual-in_err-table.ensures.1 (table_leaves _ _ _ c.args.table.now _ c.in_err-table.ensures.fault)
 
-pub returns-in_err-found-clause-fault : goal.returns-in_err-found-clause-fault
-returns-in_err-found-clause-fault g c =
-    handed_on _ _ c.from_residual-in_err-found.ensures.1
-    (dry_range c.args.graph.now _ c.args.table.now _ _ _ c.in_ok-table.ensures.ok _ (c.in_err-found.ensures.fault c.args.graph.now _ c.in_ok-timed.ensures.zone))
+pub runs-requires : goal.runs-requires
+runs-requires g c = (c.in_ok-timed.ensures.zone.draft.schedule, c.in_ok-timed.ensures.zone.fires.says)
 
-pub returns-in_err-found-clause-left : goal.returns-in_err-found-clause-left
-returns-in_err-found-clause-left g c =
-    handed_on _ _ c.from_residual-in_err-found.ensures.1 (range_leaves _ _ _ c.args.graph.now _ _ _ _ (c.in_err-found.ensures.fault c.args.graph.now _ c.in_ok-timed.ensures.zone))
+pub returns-in_err-runs-clause-fault : goal.returns-in_err-runs-clause-fault
+returns-in_err-runs-clause-fault g c =
+    handed_on _ _ c.from_residual-in_err-runs.ensures.1
+    (dry_range c.args.graph.now _ c.args.table.now _ _ (is_alone c.args.crew.now.workers c.args.crew.now.progress) _ c.in_ok-table.ensures.ok _ (c.in_err-runs.ensures.fault c.args.graph.now _ c.in_ok-timed.ensures.zone))
 
-pub run_over_by-requires-clause-of_runs : goal.run_over_by-requires-clause-of_runs
-run_over_by-requires-clause-of_runs g c = λ lifetimes within.
-    subst AreOfRuns (sym c.deref.ensures.value) (of_runs c.args.graph.now _ _ _ _ (c.in_ok-found.ensures.ok c.args.graph.now _ c.in_ok-timed.ensures.zone))
+pub returns-in_err-runs-clause-left : goal.returns-in_err-runs-clause-left
+returns-in_err-runs-clause-left g c =
+    handed_on _ _ c.from_residual-in_err-runs.ensures.1 (range_leaves _ _ _ c.args.graph.now _ _ _ _ (c.in_err-runs.ensures.fault c.args.graph.now _ c.in_ok-timed.ensures.zone))
+
+pub write_backfill-requires-sync-K : goal.write_backfill-requires-sync-K
+write_backfill-requires-sync-K g c κs = search shared depth 40 fits 20000
+
+pub write_backfill-requires-clause-fit : goal.write_backfill-requires-clause-fit
+write_backfill-requires-clause-fit g c κs held = nothing_fits c.in_ok-timed.timed.plan.dag
 
 pub returns : goal.returns
 returns g c =
-    let is = reported_in c.in_ok-timed.ensures.plan (c.in_ok-found.ensures.ok c.args.graph.now _ c.in_ok-timed.ensures.zone) c.deref.ensures.value c.in_ok-table.ensures.ok in
+    let listing = c.in_ok-runs.ensures.ok c.args.graph.now _ c.in_ok-timed.ensures.zone in
+    let is = reported_in c.in_ok-timed.ensures.plan listing c.in_ok-table.ensures.ok in
     record {
-      ok = sends_as is _ _ _ c.run_over_by.ensures.ok;
-      fault = dry_stop_in c.args.graph.now _ c.args.table.now _ _ _ c.in_ok-table.ensures.ok _ (c.in_ok-found.ensures.ok c.args.graph.now _ c.in_ok-timed.ensures.zone) _ c.run_over_by.ensures.wanting;
-      left = leaves_as is _ _ _ _ c.run_over_by.ensures.left;
+      ok = sends_as is _ _ _ c.write_backfill.ensures.ok;
+      fault = dry_stop_in c.args.graph.now _ c.args.table.now _ _ (is_alone c.args.crew.now.workers c.args.crew.now.progress) _ c.in_ok-table.ensures.ok _ listing _ c.write_backfill.ensures.stop;
+      left = leaves_as is _ _ _ _ c.write_backfill.ensures.left;
     }

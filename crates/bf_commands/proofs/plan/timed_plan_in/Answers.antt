@@ -1,3 +1,5 @@
+use Rattle.std.proofs.Common.{subst}
+use Rattle.bf_plan.specs.Sound.{IsSound}
 use Rattle.bf_commands.specs.Graphs.{IsGraph}
 use Rattle.bf_commands.proofs.Faults.{check_fault}
 use Rattle.bf_commands.proofs.Results.{handed_on}
@@ -11,7 +13,7 @@ returns-in_err-plan-clause-fault c = handed_on _ _ c.from_residual-in_err-plan.e
 
 pub returns : goal.returns
 returns c =
-    let is : IsGraph c.args.graph.now _ c.in_ok-draft.draft = record { says = c.in_ok-draft.ensures.ok; accepted = c.in_ok-plan.ensures.accepted } in
+    let is : IsGraph c.args.graph.now _ c.in_ok-draft.draft = record { says = c.in_ok-draft.ensures.ok; accepted = c.in_ok-plan.ensures.accepted; sound = subst IsSound c.in_ok-plan.ensures.dag c.dag-sound.ensures.sound } in
     record {
       plan = record { draft = c.in_ok-draft.draft; graph_is = is; dag = c.in_ok-plan.ensures.dag };
       zone = record { draft = c.in_ok-draft.draft; graph_is = is; fires = c.in_ok-plan.ensures.schedule; zone_is = c.in_ok-plan.ensures.zone };

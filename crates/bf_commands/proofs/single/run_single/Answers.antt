@@ -1,8 +1,9 @@
-use Rattle.std.proofs.Common.{rules}
-use Rattle.bf_interval.specs.Years.{IsInYears}
-use Rattle.bf_commands.proofs.Faults.{reported_at, single_moment, single_table, single_wanting_in, table_leaves}
-use Rattle.bf_commands.proofs.Over.{of_run_at}
+use Rattle.std.proofs.Common.{◌≡◌, true, refl, rules}
+use Rattle.bf_commands.specs.OverTable.{is_alone}
+use Rattle.bf_commands.proofs.Faults.{no_run_leaves, reported_at, single_moment, single_table, single_wanting_in, table_leaves}
+use Rattle.bf_commands.proofs.FromKept.{nothing_fits}
 use Rattle.bf_commands.proofs.Results.{handed_on, leaves_as, sends_as}
+use Rattle.bf_commands.proofs.Sharing.{shared}
 use Rattle.bf_commands.proofs.single.run_single.Goals as goal
 
 pub returns-in_err-table-clause-fault : goal.returns-in_err-table-clause-fault
@@ -12,21 +13,26 @@ returns-in_err-table-clause-fault g c =
 pub returns-in_err-table-clause-left : goal.returns-in_err-table-clause-left
 returns-in_err-table-clause-left g c = handed_on _ _ c.from_residual-in_err-table.ensures.1 (table_leaves _ _ _ c.args.table.now _ c.in_err-table.ensures.fault)
 
-pub run_over-requires : goal.run_over-requires
-run_over-requires g c =
-    let inside : IsInYears c.args.at.nanosecond = search rules in
-    of_run_at c.args.at inside (c.requires inside)
+pub returns-in_err-runs-clause-fault : goal.returns-in_err-runs-clause-fault
+returns-in_err-runs-clause-fault g c =
+    handed_on _ _ c.from_residual-in_err-runs.ensures.1 (single_moment c.args.graph.now _ c.args.table.now c.args.at _ _ c.in_ok-timed.ensures.plan c.in_ok-table.ensures.ok _ c.in_err-runs.ensures.err)
 
-pub returns-then-not-is_in_years-clause-fault : goal.returns-then-not-is_in_years-clause-fault
-returns-then-not-is_in_years-clause-fault g c =
-    single_moment c.args.graph.now _ c.args.table.now c.args.at _ _ c.in_ok-timed.ensures.plan c.in_ok-table.ensures.ok (λ inside. (let yes = c.is_in_years.ensures.1 inside in search rules))
+pub returns-in_err-runs-clause-left : goal.returns-in_err-runs-clause-left
+returns-in_err-runs-clause-left g c = handed_on _ _ c.from_residual-in_err-runs.ensures.1 (no_run_leaves _ _ _ _)
+
+pub write_backfill-requires-sync-K : goal.write_backfill-requires-sync-K
+write_backfill-requires-sync-K g c κs = search shared depth 40 fits 20000
+
+pub write_backfill-requires-clause-fit : goal.write_backfill-requires-clause-fit
+write_backfill-requires-clause-fit g c κs held = nothing_fits c.in_ok-timed.timed.plan.dag
 
 pub returns : goal.returns
 returns g c =
-    let inside : IsInYears c.args.at.nanosecond = search rules in
-    let is = reported_at {table = c.args.table.now} {at = c.args.at} c.in_ok-timed.ensures.plan c.in_ok-table.ensures.ok inside in
+    let in_years = c.in_ok-runs.ensures.ok in
+    let is = reported_at {table = c.args.table.now} {at = c.args.at} c.in_ok-timed.ensures.plan c.in_ok-table.ensures.ok in_years.0 in_years.1 in
+    let alone : is_alone c.of-crew.result.workers c.of-crew.result.progress ≡ true = rw (c.of-crew.ensures.workers, c.of-crew.ensures.progress, c.one.ensures) refl in
     record {
-      ok = sends_as is _ _ _ c.run_over.ensures.ok;
-      fault = single_wanting_in c.args.graph.now _ c.args.table.now c.args.at _ c.run_over.ensures.wanting;
-      left = leaves_as is _ _ _ _ c.run_over.ensures.left;
+      ok = sends_as is _ _ _ c.write_backfill.ensures.ok;
+      fault = single_wanting_in c.args.graph.now _ c.args.table.now c.args.at _ alone _ c.write_backfill.ensures.stop;
+      left = leaves_as is _ _ _ _ c.write_backfill.ensures.left;
     }

@@ -11,17 +11,14 @@ returns-in_err-report-clause-left g c = handed_on _ _ c.from_residual.ensures.1 
 pub returns-clause-fault : goal.returns-clause-fault
 returns-clause-fault g c =
     let read = c.in_ok-report.ensures in
-    let fault : _ = rw c.deref.ensures.value at c.run_again.ensures.fault in
-    IfErr-weaker c.run_again.result _ _ (λ f is. inr (c.in_ok-report.report, record { readable = read.readable; says = read.says }, is)) fault
+    IfErr-weaker c.run_again.result _ _ (λ f is. inr (c.in_ok-report.report, record { readable = read.readable; says = read.says }, is)) c.run_again.ensures.fault
 
 pub returns-clause-left : goal.returns-clause-left
 returns-clause-left g c =
     let read = c.in_ok-report.ensures in
-    let left : _ = rw c.deref.ensures.value at c.run_again.ensures.left in
-    leaves_due_in _ _ _ (λ text due. (due.0, record { was = c.in_ok-report.report; read = record { readable = read.readable; says = read.says }; reported = due.1 })) _ _ c.run_again.result left
+    leaves_due_in _ _ _ (λ text due. (due.0, record { was = c.in_ok-report.report; read = record { readable = read.readable; says = read.says }; reported = due.1 })) _ _ c.run_again.result c.run_again.ensures.left
 
 pub returns-clause-ok : goal.returns-clause-ok
 returns-clause-ok g c =
     let read = c.in_ok-report.ensures in
-    let ok : _ = rw c.deref.ensures.value at c.run_again.ensures.ok in
-    IfOk-weaker c.run_again.result _ _ (λ success sends. (sends.0, record { was = c.in_ok-report.report; read = record { readable = read.readable; says = read.says }; reported = sends.1 }, sends.2)) ok
+    IfOk-weaker c.run_again.result _ _ (λ success sends. (sends.0, record { was = c.in_ok-report.report; read = record { readable = read.readable; says = read.says }; reported = sends.1 }, sends.2)) c.run_again.ensures.ok

@@ -1,13 +1,16 @@
 use Rattle.std.proofs.Common.{◌≤◌, vec_len, ◌+◌, ◌-◌}
 use Rattle.std.specs.Io.KnownBytes.{Consumes}
+use Rattle.bf_device.specs.Device.{WentOn}
 use Rattle.bf_program.proofs.disk.first_read.Given as goal
 
--- the bytes so far were taken off what the reader had
+-- the bytes so far were taken off what the device had, and no read failed
 abbrev pub invariant-loop-chunk : goal.invariant-loop-chunk
 invariant-loop-chunk g l = record {
   short : vec_len l.bytes ≤ l.count;
   few : l.interruptions ≤ 1000;
-  taken : Consumes (g.R.Read.remaining l.initial.reader) (g.R.Read.remaining l.reader) l.bytes.items;
+  taken : Consumes (g.R.Read.left l.initial.device) (g.R.Read.left l.device) l.bytes.items;
+  interrupted : WentOn l.interruptions (g.R.Read.interruptions l.initial.device) (g.R.Read.interruptions l.device);
+  unfailed : WentOn 0 (g.R.Read.failures l.initial.device) (g.R.Read.failures l.device);
 }
 
 abbrev pub decreases-loop-chunk : goal.decreases-loop-chunk

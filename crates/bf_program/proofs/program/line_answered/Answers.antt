@@ -1,8 +1,11 @@
-use Rattle.bf_program.proofs.Ends.{line_ends, shown_ends, shown_may}
+use Rattle.bf_program.proofs.Ends.{line_ends, line_unshown, shown_ends, shown_may}
 use Rattle.bf_program.proofs.program.line_answered.Goals as goal
 
 pub returns-in-Err-clause-line : goal.returns-in-Err-clause-line
 returns-in-Err-clause-line g c = λ wrong. shown_ends _ c.in-Err.error _ c.in-Err.ensures.err c.shown.ensures.memory c.shown.ensures.ok
+
+pub returns-in-Err-clause-unshown : goal.returns-in-Err-clause-unshown
+returns-in-Err-clause-unshown g c = λ wrong. line_unshown _ _ _ _ c.in-Err.error _ c.in-Err.ensures.err c.shown.ensures.unshown
 
 pub returns-in-Err-clause-why : goal.returns-in-Err-clause-why
 returns-in-Err-clause-why g c = λ none. shown_may (g.RT.Starter.may_hear c.args.rt.now) (g.RT.Starter.may_lose c.args.rt.now) _ _ _ _ _ _ c.in-Err.error _ c.in-Err.ensures.err none c.shown.ensures.wanting c.shown.ensures.kept

@@ -8,10 +8,9 @@ pub loop-run-preserved : goal.loop-run-preserved
 loop-run-preserved c = record {
   dated =
       let k : ℕ = c.loop-run.run in
-      let states : _ = c.as_slice-states.ensures in
-      rw c.in_ok-push.ensures.items (dated-next c.args.dag.now (entry_in c.args.ended.now.state.ledger) c.args.intervals.now k _ c.loop-run.runs.items _ c.loop-run-test.true c.index-intervals-run.is c.loop-run.invariant.dated
+      rw c.in_ok-push.ensures.items (dated-next c.args.dag.now (entry_in c.args.state.now.ledger) c.args.intervals.now k _ c.loop-run.runs.items _ c.loop-run-test.true c.index-intervals-run.is c.loop-run.invariant.dated
       refl
-      (rw states (read-row c.args.ended.now.run_states k _ _ (c.requires.run_states.1 k c.loop-run-test.true)))
-      (c.in_ok-task_reports.ensures.reports ∙ outcome-reports c.args.dag.now _ c.args.ended.now.state c.requires.outcome k c.loop-run-test.true));
+      (read-row c.args.states.now k _ _ (c.requires.run_states.1 k c.loop-run-test.true))
+      (c.in_ok-task_reports.ensures.reports ∙ outcome-reports c.args.dag.now _ c.args.state.now c.requires.outcome k c.loop-run-test.true));
   sound = rw c.in_ok-push.ensures.items (all_more _ c.loop-run.runs.items _ c.loop-run.invariant.sound c.in_ok-task_reports.ensures.sound);
 }

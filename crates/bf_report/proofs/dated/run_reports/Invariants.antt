@@ -6,6 +6,6 @@ use Rattle.bf_report.proofs.dated.run_reports.Given as goal
 
 abbrev pub invariant-loop-run : goal.invariant-loop-run
 invariant-loop-run l = record {
-  dated : AreDated l.dag (entry_in l.ended.state.ledger) 0 (take l.run l.intervals) l.runs.items;
+  dated : AreDated l.dag (entry_in l.state.ledger) 0 (take l.run l.intervals) l.runs.items;
   sound : AreSoundRuns l.runs.items;
 }

@@ -23,3 +23,12 @@ pub returns-clause-ok : goal.returns-clause-ok
 returns-clause-ok g c =
     let all = reads_twice (g.R.Read.left c.args.device.now) _ _ [] (opening_text (so_far c.in_ok-beginning.beginning)) (report_text (so_far c.read_rest.new.beginning)) c.in_ok-beginning.ensures.ok c.in_ok-read_rest.ensures.ok in
     ends_there (g.R.Read.left c.args.device.now) _ (report_text (so_far c.read_rest.new.beginning)) all c.in_ok-read_rest.ensures.end
+
+pub returns-clause-went_on : goal.returns-clause-went_on
+returns-clause-went_on g c =
+    let base = g.R.Read.interruptions c.args.device.now in
+    let failed = g.R.Read.failures c.args.device.now in
+    let first : IsTallied base failed c.args.lines.now.held.interruptions base failed = (omega (arith, c.requires.tallied), omega arith) in
+    let last = c.in_ok-read_rest.ensures.tallied base failed (c.in_ok-beginning.ensures.tallied base failed first) in
+    let held = c.read_rest.new.lines.held in
+    (last.1, (held.interruptions, held.few, last.0))

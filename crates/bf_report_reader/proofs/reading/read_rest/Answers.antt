@@ -15,3 +15,6 @@ pub returns-clause-ok : goal.returns-clause-ok
 returns-clause-ok g c =
     let text = report_text (so_far c.read_lines.new.beginning) in
     reads_more _ _ _ (opening_text (so_far c.args.beginning.now)) text text [] c.in_ok-read_lines.ensures.ok c.in_ok-has_more.ensures.same (sym (append-nil text))
+
+pub returns-clause-tallied : goal.returns-clause-tallied
+returns-clause-tallied g c = λ base failed t. c.in_ok-has_more.ensures.tallied base failed (c.in_ok-read_lines.ensures.tallied base failed t)

@@ -1,20 +1,16 @@
-use Rattle.std.proofs.lemmas.Result.{IfOk-weaker, IfErr-weaker}
+use Rattle.std.proofs.lemmas.Result.{IfOk-weaker}
 use Rattle.bf_core.specs.Events.{entry_in}
-use Rattle.bf_resume.proofs.Resumed.{kept_alike, graded_anew, graded_all, may_fail_anew}
+use Rattle.bf_resume.proofs.Resumed.{kept_alike, graded_anew, graded_all}
 use Rattle.bf_resume.proofs.resuming.resume.Goals as goal
 
 pub returns-clause-again : goal.returns-clause-again
 returns-clause-again g c =
-    IfOk-weaker c.run_backfill.result _ _ (λ ended graded. kept_alike c.args.plan.now.dag (g.K.KeptTries.kept c.args.keeping.now.kept.now) (entry_in ended.state.ledger) (g.R.TaskRunner.may_answer c.args.keeping.now.runner.now) c.requires.fit graded) c.run_backfill.ensures.graded
+    IfOk-weaker c.run_backfill.result _ _ (λ ended graded. kept_alike c.args.plan.now.dag (g.K.KeptTries.kept c.args.keeping.now.kept.now) (entry_in ended.state.ledger) (g.R.TaskRunner.may_answer c.args.keeping.now.runner.now) c.requires graded) c.run_backfill.ensures.graded
 
 pub returns-clause-anew : goal.returns-clause-anew
 returns-clause-anew g c =
-    IfOk-weaker c.run_backfill.result _ _ (λ ended graded. graded_anew c.args.plan.now.dag (g.K.KeptTries.kept c.args.keeping.now.kept.now) (entry_in ended.state.ledger) (g.R.TaskRunner.may_answer c.args.keeping.now.runner.now) c.requires.fit graded) c.run_backfill.ensures.graded
+    IfOk-weaker c.run_backfill.result _ _ (λ ended graded. graded_anew c.args.plan.now.dag (g.K.KeptTries.kept c.args.keeping.now.kept.now) (entry_in ended.state.ledger) (g.R.TaskRunner.may_answer c.args.keeping.now.runner.now) c.requires graded) c.run_backfill.ensures.graded
 
 pub returns-clause-all : goal.returns-clause-all
 returns-clause-all g c = λ before.
-    IfOk-weaker c.run_backfill.result _ _ (λ ended graded. graded_all c.args.plan.now.dag (g.K.KeptTries.kept c.args.keeping.now.kept.now) (entry_in ended.state.ledger) (g.R.TaskRunner.may_answer c.args.keeping.now.runner.now) c.requires.fit graded before) c.run_backfill.ensures.graded
-
-pub returns-clause-err : goal.returns-clause-err
-returns-clause-err g c =
-    IfErr-weaker c.run_backfill.result _ _ (may_fail_anew (g.K.KeptTries.kept c.args.keeping.now.kept.now) (g.R.TaskRunner.may_give_up c.args.keeping.now.runner.now)) c.run_backfill.ensures.err
+    IfOk-weaker c.run_backfill.result _ _ (λ ended graded. graded_all c.args.plan.now.dag (g.K.KeptTries.kept c.args.keeping.now.kept.now) (entry_in ended.state.ledger) (g.R.TaskRunner.may_answer c.args.keeping.now.runner.now) c.requires graded before) c.run_backfill.ensures.graded

@@ -1,8 +1,8 @@
-use Rattle.bf_due.specs.Cursors.{ArePassed, IsReached}
+use Rattle.bf_due.specs.Cursors.{ArePassed, IsNoted}
 use Rattle.bf_due.proofs.progress.Progress.first_awaited.Given as goal
 
 abbrev pub invariant-loop-place : goal.invariant-loop-place
 invariant-loop-place l = record {
-  passed : IsReached l.core l.run l.initial.self → ArePassed l.early l.core.dag l.core.state l.run l.task l.from → ArePassed l.early l.core.dag l.core.state l.run l.task l.place;
-  reached : IsReached l.core l.run l.initial.self → IsReached l.core l.run l.self;
+  passed : IsNoted l.core l.run l.initial.self → ArePassed l.early l.core.dag l.core.state l.run l.task l.from → ArePassed l.early l.core.dag l.core.state l.run l.task l.place;
+  reached : IsNoted l.core l.run l.initial.self → IsNoted l.core l.run l.self;
 }

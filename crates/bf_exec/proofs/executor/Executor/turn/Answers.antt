@@ -1,11 +1,13 @@
-use Rattle.std.proofs.Common.{◌≡◌, List, refl, sym, subst, inl, inr}
+use Rattle.std.proofs.Common.{◌≡◌, List, ap, refl, sym, subst, inl, inr}
 use Rattle.bf_lane.specs.Open.{Scheduled}
 use Rattle.bf_lane.specs.Rounds.{IsSubmitted}
 use Rattle.bf_sched.specs.declared.next.Next.{Next}
-use Rattle.bf_sched.specs.Scheduling.{HasBegun, HasStepped, IsNext, MustWait, WaitsUntil}
+use Rattle.bf_sched.specs.Scheduling.{HasBegun, HasStepped, IsNext, MustWait, Schedule, WaitsUntil}
+use Rattle.bf_core.specs.declared.event.Event.{Event}
 use Rattle.bf_core.specs.Events.{HasEnded}
 use Rattle.bf_exec.specs.Turns.{AreInStep}
 use Rattle.bf_sched.proofs.Driving.{begun_driven, same_driven, stays_driven, stepped_driven}
+use Rattle.bf_exec.proofs.Shown.{acted_shown, awaited_shown, idle_shown}
 use Rattle.bf_exec.proofs.Turning.{awaited, awaited_driven, awaited_in_step, begun_in_step, caught_up_driven, caught_up_in_step, idle_at, idle_there, must_until, must_wait, stepped_in_step}
 use Rattle.bf_exec.proofs.executor.Executor.turn.Goals as goal
 
@@ -108,3 +110,55 @@ returns-in-Ended-clause-driven g c =
     let p = c.catch_up.new.scheduler in
     let ended : HasEnded p.backfill.state × (c.next.new.self ≡ p) = subst (λ (n : Next). IsNext p n c.next.new.self) c.in-Ended.is c.in_ok-next.ensures.ok in
     stays_driven may c.args.scheduler.now p c.next.new.self (caught_up_driven may _ c.args.scheduler.now p c.in_ok-catch_up.ensures.ok) (same_driven may p c.next.new.self ended.1)
+
+pub returns-in_err-next-clause-shown : goal.returns-in_err-next-clause-shown
+returns-in_err-next-clause-shown g c =
+    idle_shown g.O.Observer.shows c.args.watch.now.observer c.catch_up.new.watch.observer c.args.scheduler.now c.catch_up.new.scheduler c.next.new.self c.in_ok-catch_up.ensures.shown c.in_err-next.ensures.same
+
+pub returns-in-Stepped-clause-shown : goal.returns-in-Stepped-clause-shown
+returns-in-Stepped-clause-shown g c =
+    let p = c.catch_up.new.scheduler in
+    let stepped : HasStepped p c.next.new.self = subst (λ (n : Next). IsNext p n c.next.new.self) c.in-Stepped.is c.in_ok-next.ensures.ok in
+    acted_shown g.O.Observer.shows c.args.watch.now.observer c.catch_up.new.watch.observer c.show.new.observer c.args.scheduler.now p c.next.new.self stepped.event
+    c.in_ok-catch_up.ensures.shown (ap (λ (s : Schedule). s.backfill) stepped.new_is) c.show.ensures
+
+pub returns-in-Some-clause-shown : goal.returns-in-Some-clause-shown
+returns-in-Some-clause-shown g c =
+    let p = c.catch_up.new.scheduler in
+    let begun : HasBegun p c.in-Go.ticket c.next.new.self = subst (λ (n : Next). IsNext p n c.next.new.self) c.in-Go.is c.in_ok-next.ensures.ok in
+    acted_shown g.O.Observer.shows c.args.watch.now.observer c.catch_up.new.watch.observer c.show-in-Go.new.observer c.args.scheduler.now p c.next.new.self (Event.Begin c.in-Go.ticket.name)
+    c.in_ok-catch_up.ensures.shown (ap (λ (s : Schedule). s.backfill) begun.new_is) c.show-in-Go.ensures
+
+pub returns-in_ok-wait-in-Wait-clause-shown : goal.returns-in_ok-wait-in-Wait-clause-shown
+returns-in_ok-wait-in-Wait-clause-shown g c =
+    let p = c.catch_up.new.scheduler in
+    let must : MustWait p c.next.new.self = subst (λ (n : Next). IsNext p n c.next.new.self) c.in-Wait.is c.in_ok-next.ensures.ok in
+    awaited_shown g.O.Observer.shows c.args.watch.now.observer c.catch_up.new.watch.observer c.wait.new.watch.observer c.args.scheduler.now p c.next.new.self c.wait.new.scheduler
+    c.in_ok-catch_up.ensures.shown must.new_is c.wait.ensures.shown
+
+pub returns-in_err-wait-in-Wait-clause-shown : goal.returns-in_err-wait-in-Wait-clause-shown
+returns-in_err-wait-in-Wait-clause-shown g c =
+    let p = c.catch_up.new.scheduler in
+    let must : MustWait p c.next.new.self = subst (λ (n : Next). IsNext p n c.next.new.self) c.in-Wait.is c.in_ok-next.ensures.ok in
+    awaited_shown g.O.Observer.shows c.args.watch.now.observer c.catch_up.new.watch.observer c.wait.new.watch.observer c.args.scheduler.now p c.next.new.self c.wait.new.scheduler
+    c.in_ok-catch_up.ensures.shown must.new_is c.wait.ensures.shown
+
+pub returns-in_ok-wait-in-Until-clause-shown : goal.returns-in_ok-wait-in-Until-clause-shown
+returns-in_ok-wait-in-Until-clause-shown g c =
+    let p = c.catch_up.new.scheduler in
+    let must : WaitsUntil p c.in-Until.moment c.next.new.self = subst (λ (n : Next). IsNext p n c.next.new.self) c.in-Until.is c.in_ok-next.ensures.ok in
+    awaited_shown g.O.Observer.shows c.args.watch.now.observer c.catch_up.new.watch.observer c.wait-in-Until.new.watch.observer c.args.scheduler.now p c.next.new.self c.wait-in-Until.new.scheduler
+    c.in_ok-catch_up.ensures.shown must.new_is c.wait-in-Until.ensures.shown
+
+pub returns-in_err-wait-in-Until-clause-shown : goal.returns-in_err-wait-in-Until-clause-shown
+returns-in_err-wait-in-Until-clause-shown g c =
+    let p = c.catch_up.new.scheduler in
+    let must : WaitsUntil p c.in-Until.moment c.next.new.self = subst (λ (n : Next). IsNext p n c.next.new.self) c.in-Until.is c.in_ok-next.ensures.ok in
+    awaited_shown g.O.Observer.shows c.args.watch.now.observer c.catch_up.new.watch.observer c.wait-in-Until.new.watch.observer c.args.scheduler.now p c.next.new.self c.wait-in-Until.new.scheduler
+    c.in_ok-catch_up.ensures.shown must.new_is c.wait-in-Until.ensures.shown
+
+pub returns-in-Ended-clause-shown : goal.returns-in-Ended-clause-shown
+returns-in-Ended-clause-shown g c =
+    let p = c.catch_up.new.scheduler in
+    let ended : HasEnded p.backfill.state × (c.next.new.self ≡ p) = subst (λ (n : Next). IsNext p n c.next.new.self) c.in-Ended.is c.in_ok-next.ensures.ok in
+    idle_shown g.O.Observer.shows c.args.watch.now.observer c.catch_up.new.watch.observer c.args.scheduler.now p c.next.new.self c.in_ok-catch_up.ensures.shown ended.1

@@ -1,0 +1,10 @@
+use Rattle.bf_commands.proofs.FromKept.{fault_weaker}
+use Rattle.bf_commands.proofs.backfill.ended_alone.Goals as goal
+
+pub stopped_alone-requires : goal.stopped_alone-requires
+stopped_alone-requires g c = fault_weaker (λ n given may. may.1) _ (c.in-Err.ensures {u = tt}).err
+
+pub returns-in-Ok-clause-end : goal.returns-in-Ok-clause-end
+returns-in-Ok-clause-end g c =
+    let is = c.in-Ok.ensures {u = tt} in
+    record { of = is.of; again = is.again; anew = is.anew; within = is.workers }

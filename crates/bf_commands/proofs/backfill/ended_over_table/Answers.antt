@@ -1,0 +1,39 @@
+use Rattle.std.proofs.Common.{◌≡◌, Bool, ℕ, length, sym, ◌∙◌, subst}
+use Rattle.std.proofs.lemmas.Result.{IfErr-weaker, IfOk-weaker}
+use Rattle.bf_table.specs.Tables.{answer_of}
+use Rattle.bf_commands.specs.OverTable.{IsUnsent, IsWantingWorkers, is_alone}
+use Rattle.bf_commands.specs.Reported.{IsEndFrom}
+use Rattle.bf_commands.proofs.FromKept.{end_over, fail_weaker}
+use Rattle.bf_commands.proofs.Over.{alone_one}
+use Rattle.bf_commands.proofs.backfill.ended_over_table.Goals as goal
+
+pub stopped_over_table-requires : goal.stopped_over_table-requires
+stopped_over_table-requires g c = fail_weaker (λ n given may. may.1) _ (c.in-Err.ensures {u = tt}).err
+
+pub returns-then-is_alone-clause-end : goal.returns-then-is_alone-clause-end
+returns-then-is_alone-clause-end g c =
+    let kept = g.K.KeptTries.kept c.args.kept.now in
+    let dag = c.args.plan.now.dag in
+    let limits = c.args.plan.now.limits in
+    let runner = c.in_ok-runner.runner in
+    let runs = length c.args.runs.now in
+    let workers = c.args.crew.now.workers in
+    let many = alone_one c.args.crew.now.workers c.args.crew.now.progress (sym c.is_alone.ensures ∙ c.if-is_alone.true) in
+    IfOk-weaker c.ended_alone.result _ _
+    (λ ended is. end_over kept dag c.args.table c.args.runs.now runner limits runs workers ended c.in_ok-runner.ensures
+    (subst (λ (w : ℕ). IsEndFrom kept (λ n given raw. raw ≡ answer_of runner n) dag limits runs w ended) (sym many) is))
+    c.ended_alone.ensures.end
+
+pub returns-then-is_alone-clause-wanting : goal.returns-then-is_alone-clause-wanting
+returns-then-is_alone-clause-wanting g c =
+    IfErr-weaker c.ended_alone.result _ _ (λ fault is. subst (IsWantingWorkers (is_alone c.args.crew.now.workers c.args.crew.now.progress)) (sym is) tt) c.ended_alone.ensures.memory
+
+pub returns-then-is_alone-clause-unsent : goal.returns-then-is_alone-clause-unsent
+returns-then-is_alone-clause-unsent g c = IfErr-weaker c.ended_alone.result _ _ (λ fault is. subst IsUnsent (sym is) tt) c.ended_alone.ensures.memory
+
+pub returns-in-Ok-clause-end : goal.returns-in-Ok-clause-end
+returns-in-Ok-clause-end g c =
+    end_over (g.K.KeptTries.kept c.args.kept.now) c.args.plan.now.dag c.args.table c.args.runs.now c.in_ok-runner.runner c.args.plan.now.limits _ c.args.crew.now.workers c.in-Ok.ended c.in_ok-runner.ensures (c.in-Ok.ensures {u = tt}).end
+
+pub returns-clause-wanting : goal.returns-clause-wanting
+returns-clause-wanting g c = subst (λ (b : Bool). IsWantingWorkers b c.stopped_over_table.result) (sym c.if-is_alone.false ∙ c.is_alone.ensures) c.stopped_over_table.ensures.wanting

@@ -1,0 +1,182 @@
+//! A backfill that goes on from tries that are kept, if any, to its report.
+ghost use Rattle.std.specs.Prelude.{◌≡◌, Bool, None, IfOk, IfErr, length, map};
+ghost use Rattle.bf_kept.specs.Kept.{AreFit};
+ghost use Rattle.bf_process.specs.Words.{MayAnswer};
+ghost use Rattle.bf_table.specs.Tables.{answer_of};
+ghost use Rattle.bf_device.specs.Device.{HasHalted};
+ghost use Rattle.bf_command_fault.specs.Refusal.{Leaves, Sends};
+ghost use Rattle.bf_commands.specs.Cleared.{IsStopOrWantingAnew, IsStopOrWantingFrom, MayAnswerBy};
+ghost use Rattle.bf_commands.specs.OverTable.{AnswersByTable, IsUnsent, IsWantingWorkers, answering, is_alone};
+ghost use Rattle.bf_commands.specs.Programs.{launched, launched_lost};
+ghost use Rattle.bf_commands.specs.Reported.{IsEndFrom, IsReportFrom};
+
+use crate::crew::Crew;
+use crate::reported::write_ended;
+use crate::screen::Screen;
+use crate::stop::{stopped_alone, stopped_by_programs, stopped_over_table};
+use bf_command_fault::CommandFault;
+use bf_core::Ended;
+use bf_device::Write;
+use bf_interval::{Interval, Runs};
+use bf_kept::{Keeping, KeptTries};
+use bf_lane::{Jump, MachineClock};
+use bf_plan::Plan;
+use bf_process::{ProcessRunner, Starter};
+use bf_resume::resume_one_by_one;
+use bf_table::{Table, TableRunner};
+use bf_value::OutOfMemory;
+use jiff::Timestamp;
+use std::alloc::Global;
+use std::sync::Wait;
+use std::thread::Threads;
+use std::time::Clock;
+
+fn starts_of(alloc: Global, intervals: &[Interval]) -> Result<Vec<Timestamp>, OutOfMemory>
+    ensures { IfOk result (λ starts. starts.items ≡ map (λ i. i.start) intervals.now) }
+{
+    Ok(
+        intervals
+            .iter()
+            .map(|interval| interval.start)
+            .collect(alloc)?,
+    )
+}
+
+/// A table's answers to the tries of these runs.
+fn runner_over<'p>(
+    alloc: Global,
+    plan: &'p Plan,
+    table: Table,
+    runs: &Runs,
+) -> Result<TableRunner<'p>, OutOfMemory>
+    ensures { IfOk result (λ runner. runner ≡ answering plan.entry.now.dag table runs.now) }
+{
+    let starts = starts_of(alloc, runs.intervals())?;
+    TableRunner::new(alloc, table, plan, &starts)
+}
+
+/// The end of a backfill in which a table answers what isn't kept, and the calling thread makes the tries.
+fn ended_alone<'p, K: KeptTries>(
+    plan: &'p Plan,
+    runs: &Runs,
+    keeping: &Keeping<'_, K, TableRunner<'_>>,
+) -> Result<Ended<'p>, CommandFault>
+    requires { AreFit plan.now.dag (K.kept keeping.now.kept.now) }
+    ensures end { IfOk result (IsEndFrom (K.kept keeping.now.kept.now) (λ n given raw. raw ≡ answer_of keeping.now.runner.now n)
+        plan.entry.now.dag plan.entry.now.limits (length runs.now) 1) }
+    ensures memory { IfErr result (λ fault. fault ≡ CommandFault.OutOfMemory) }
+{
+    match resume_one_by_one(keeping.alloc, plan, runs, keeping) {
+        Ok(ended) => Ok(ended),
+        Err(fault) => Err(stopped_alone(&fault)),
+    }
+}
+
+/// The end of a backfill in which a table answers what isn't kept. A delay takes no time.
+fn ended_over_table<'p, RT: Screen + Threads + Wait + Clock + Sync, K: KeptTries + Sync>(
+    crew: &Crew<'_, RT>,
+    plan: &'p Plan,
+    runs: &Runs,
+    kept: &K,
+    table: Table,
+) -> Result<Ended<'p>, CommandFault>
+    requires { AreFit plan.now.dag (K.kept kept.now) }
+    ensures end { IfOk result (IsEndFrom (K.kept kept.now) (AnswersByTable plan.entry.now.dag table runs.now)
+        plan.entry.now.dag plan.entry.now.limits (length runs.now) crew.now.workers) }
+    ensures wanting { IfErr result (IsWantingWorkers (is_alone crew.now.workers crew.now.progress)) }
+    ensures unsent { IfErr result IsUnsent }
+{
+    let runner = runner_over(crew.alloc, plan, table, runs)?;
+    let keeping = Keeping {
+        alloc: crew.alloc,
+        kept,
+        runner: &runner,
+    };
+    if crew.is_alone() {
+        return ended_alone(plan, runs, &keeping);
+    }
+    match crew.resumed(plan, runs, &keeping, Jump::new()) {
+        Ok(ended) => Ok(ended),
+        Err(fault) => Err(stopped_over_table(&fault)),
+    }
+}
+
+/// The end of a backfill in which programs answer what isn't kept.
+fn ended_by_programs<'p, RT: Starter + Screen + Threads + Wait + Clock + Sync, K: KeptTries + Sync>(
+    crew: &Crew<'_, RT>,
+    plan: &'p Plan,
+    runs: &Runs,
+    kept: &K,
+) -> Result<Ended<'p>, CommandFault>
+    requires { AreFit plan.now.dag (K.kept kept.now) }
+    ensures end { IfOk result (IsEndFrom (K.kept kept.now)
+        (MayAnswer (launched crew.now.launcher (RT.may_hear crew.now.rt.now)) plan.entry.now.dag runs.now)
+        plan.entry.now.dag plan.entry.now.limits (length runs.now) crew.now.workers) }
+    ensures stop { IfErr result (IsStopOrWantingAnew (K.kept kept.now)
+        (launched_lost crew.now.launcher (RT.may_lose crew.now.rt.now)) plan.entry.now.dag runs.now) }
+    ensures unsent { IfErr result IsUnsent }
+{
+    let runner = ProcessRunner::new(crew.rt, crew.alloc, plan, runs, crew.launcher());
+    let keeping = Keeping {
+        alloc: crew.alloc,
+        kept,
+        runner: &runner,
+    };
+    match crew.resumed(plan, runs, &keeping, MachineClock::new(crew.rt)) {
+        Ok(ended) => Ok(ended),
+        Err(fault) => Err(stopped_by_programs(crew, plan, runs.intervals(), &fault)),
+    }
+}
+
+/// The end of a backfill in which a table answers what isn't kept, where there is one, and else the programs of the tasks.
+fn ended<'p, RT: Starter + Screen + Threads + Wait + Clock + Sync, K: KeptTries + Sync>(
+    crew: &Crew<'_, RT>,
+    plan: &'p Plan,
+    runs: &Runs,
+    kept: &K,
+    answers: Option<Table>,
+) -> Result<Ended<'p>, CommandFault>
+    requires { AreFit plan.now.dag (K.kept kept.now) }
+    ensures end { IfOk result (IsEndFrom (K.kept kept.now)
+        (MayAnswerBy (launched crew.now.launcher (RT.may_hear crew.now.rt.now)) answers plan.entry.now.dag runs.now)
+        plan.entry.now.dag plan.entry.now.limits (length runs.now) crew.now.workers) }
+    ensures stop { IfErr result (IsStopOrWantingFrom (is_alone crew.now.workers crew.now.progress) (K.kept kept.now)
+        (launched_lost crew.now.launcher (RT.may_lose crew.now.rt.now)) answers plan.entry.now.dag runs.now) }
+    ensures unsent { IfErr result IsUnsent }
+{
+    match answers {
+        Some(table) => ended_over_table(crew, plan, runs, kept, table),
+        None => ended_by_programs(crew, plan, runs, kept),
+    }
+}
+
+/// Writes the report of a backfill that goes on from what is kept, and says whether every run is a success. A table answers
+/// what isn't kept, where there is one, and else the programs of the tasks.
+pub(crate) fn write_backfill<
+    RT: Starter + Screen + Threads + Wait + Clock + Sync,
+    K: KeptTries + Sync,
+    W: Write,
+>(
+    crew: &Crew<'_, RT>,
+    plan: &Plan,
+    runs: &Runs,
+    kept: &K,
+    answers: Option<Table>,
+    out: &mut W,
+) -> Result<bool, CommandFault>
+    requires fit { AreFit plan.now.dag (K.kept kept.now) }
+    ensures ok { IfOk result (λ success. Sends (λ text. IsReportFrom (K.kept kept.now)
+        (MayAnswerBy (launched crew.now.launcher (RT.may_hear crew.now.rt.now)) answers plan.now.dag runs.now)
+        plan.now.dag runs.now text success) (W.written out.old) (W.written out.new)) }
+    ensures stop { IfErr result (IsStopOrWantingFrom (is_alone crew.now.workers crew.now.progress) (K.kept kept.now)
+        (launched_lost crew.now.launcher (RT.may_lose crew.now.rt.now)) answers plan.now.dag runs.now) }
+    ensures left { IfErr result (Leaves (HasHalted (W.failures out.old) (W.failures out.new)
+        (W.interruptions out.old) (W.interruptions out.new))
+        (λ text. (success : Bool) × IsReportFrom (K.kept kept.now)
+        (MayAnswerBy (launched crew.now.launcher (RT.may_hear crew.now.rt.now)) answers plan.now.dag runs.now)
+        plan.now.dag runs.now text success) (W.written out.old) (W.written out.new)) }
+{
+    let ended = ended(crew, plan, runs, kept, answers)?;
+    let _end = ended.state();
+    write_ended(crew.alloc, runs, &ended, out)
+}
