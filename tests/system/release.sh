@@ -28,7 +28,7 @@ tar -x -f "dist/$name.tar.gz" -C "$work/unpacked"
     printf '%s\n' backfill PROVED LICENSE README.md CONTRIBUTING.md \
         docs/{backfill.1,ARCHITECTURE.md,DECISIONS.md,FORMATS.md,FROM_AIRFLOW.md,PROOFS.md,SPECIFICATION.md,SPEED.md}
     printf '%s\n' completions/backfill.{bash,fish,zsh} schemas/{graph,table}.schema.json
-    git ls-files examples
+    git ls-files examples python
 } | sed "s#^#./$name/#" | sort > "$work/wanted"
 holds 'the files' diff "$work/wanted" "$work/found"
 for file in backfill PROVED; do

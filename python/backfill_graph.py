@@ -1,0 +1,640 @@
+"""Graph files for `backfill`, written in the manner of Airflow's DAGs.
+
+    from backfill_graph import Graph, Task, context, pull
+
+    with Graph("shops", schedule="@daily", pools={"database": 2}) as graph:
+        shops = Task("list_shops", ["python3", "shops.py", context.logical_date], retries=2)
+        count = Task("count", ["python3", "count.py", shops.item], expand=shops, pool="database")
+        total = Task("total", ["python3", "total.py", pull(count)])
+        shops >> count >> total
+    print(graph.to_json())
+
+What `backfill check` would refuse is a GraphError where it is written, or at the end of the `with` block where that takes the whole
+graph, as a pull from a task that may not have settled; its words and numbers are those of `backfill check`.
+
+And the other way round: `python3 backfill_graph.py < graph.json` prints such a program for a graph file.
+"""
+
+from __future__ import annotations
+
+import datetime
+import json
+import keyword
+import re
+import sys
+from types import TracebackType
+from typing import Any, Dict, Iterator, List, Mapping, Optional, Sequence, Set, TextIO, Tuple, Type, TypeVar, Union
+
+__all__ = ["Branch", "Graph", "GraphError", "Group", "Task", "Word", "context", "item", "pull"]
+
+RULES = (
+    *("all_success", "all_failed", "all_done", "all_skipped", "one_success", "one_failed", "one_done"),
+    *("none_failed", "none_failed_min_one_success", "none_skipped", "always"),
+)
+# Under these rules a task may be decided before its upstreams have settled.
+EARLY_RULES = ("one_success", "one_failed", "one_done", "always")
+WEIGHT_RULES = ("downstream", "upstream", "absolute")
+CONTEXTS = ("logical_date", "data_interval_start", "data_interval_end", "dag_id", "task_id", "map_index", "try_number")
+
+MOST_BYTES = 8_388_608
+MOST_TASKS = 2_000
+MOST_EDGES = 20_000
+MOST_WORDS = 64
+MOST_PULLS = 16
+LONGEST_TEXT = 4_096
+DEFAULT_POOL = "default_pool"
+DEFAULT_SLOTS = 128
+# The least and the greatest number that each key takes.
+BOUNDS: Mapping[str, Tuple[int, int]] = {
+    "max_active_runs": (1, 4_096),
+    "retries": (0, 100),
+    "retry_delay": (0, 86_400),
+    "pool_slots": (1, 1_000_000),
+    "priority_weight": (0, 1_000_000),
+}
+# The keys that Graph(.., defaults=..) may give to each task.
+DEFAULT_KEYS = ("rule", "depends_on_past", "retries", "retry_delay", "pool", "pool_slots", "priority_weight", "weight_rule")
+
+
+class GraphError(ValueError):
+    """What `backfill check` refuses, by its number and words; without a number, what can't be said in a graph file."""
+
+    def __init__(self, words: str, number: Optional[int] = None, line: Optional[str] = None) -> None:
+        told = words if number is None else f"refused {number} {words}"
+        super().__init__(told if line is None else f"{told} ({line})")
+        self.words = words
+        self.number = number
+
+
+# ---- words of a command
+
+
+class Word:
+    """A word of a command that isn't a text: a value of the context, a pull, or an item."""
+
+    def __init__(self, key: str, value: Union[str, bool], python: str, source: Optional[Task] = None) -> None:
+        self.key = key
+        self.value = value
+        self.source = source
+        self._python = python
+
+    def __repr__(self) -> str:
+        return self._python
+
+
+class Context:
+    """What a try is told of itself, as words."""
+
+    def __getattr__(self, name: str) -> Word:
+        if name not in CONTEXTS:
+            raise AttributeError(f"a context has no {name}, but {', '.join(CONTEXTS)}")
+        return Word("context", name, f"context.{name}")
+
+
+context = Context()
+# The item of a task's instance, whatever the task is expanded over.
+item = Word("item", True, "item")
+
+
+def pull(task: Union[Task, str]) -> Word:
+    """The value that a task has pushed: of an expanded task the list of its values."""
+    task_id = task if isinstance(task, str) else task.id
+    return Word("pull", task_id, f"pull({task_id!r})")
+
+
+# ---- schedules
+
+PRESETS = {
+    "@hourly": "0 * * * *",
+    "@daily": "0 0 * * *",
+    "@weekly": "0 0 * * 0",
+    "@monthly": "0 0 1 * *",
+    "@quarterly": "0 0 1 */3 *",
+    "@yearly": "0 0 1 1 *",
+}
+MONTHS = {name: number for number, name in enumerate("jan feb mar apr may jun jul aug sep oct nov dec".split(), 1)}
+WEEKDAYS = {name: number for number, name in enumerate("sun mon tue wed thu fri sat".split())}
+# Minute, hour, day of the month, month, day of the week: the least and the greatest number, and names.
+FIELDS: Tuple[Tuple[int, int, Mapping[str, int]], ...] = ((0, 59, {}), (0, 23, {}), (1, 31, {}), (1, 12, MONTHS), (0, 7, WEEKDAYS))
+# In these years each date falls on each weekday that it ever falls on.
+YEARS = range(2000, 2028)
+
+
+def _cron_number(text: str, least: int, greatest: int, names: Mapping[str, int]) -> int:
+    if text.isascii() and text.lower() in names:
+        return names[text.lower()]
+    if not re.fullmatch("[0-9]{1,2}", text) or not least <= int(text) <= greatest:
+        raise GraphError("bad cron", 11)
+    return int(text)
+
+
+def _cron_values(text: str, least: int, greatest: int, names: Mapping[str, int]) -> Set[int]:
+    """The values of an item: `*`, `a`, `a-b`, `*/n` or `a-b/n`."""
+    span, slash, step = text.partition("/")
+    if slash and not (re.fullmatch("[0-9]{1,2}", step) and 1 <= int(step) <= 59):
+        raise GraphError("bad cron", 11)
+    steps = int(step) if slash else 1
+    if span == "*":
+        return set(range(least, greatest + 1, steps))
+    first, dash, last = span.partition("-")
+    start = _cron_number(first, least, greatest, names)
+    end = _cron_number(last, least, greatest, names) if dash else start
+    if slash and not dash or end < start:
+        raise GraphError("bad cron", 11)
+    return set(range(start, end + 1, steps))
+
+
+def _check_schedule(schedule: str) -> None:
+    texts = re.split("[ \t]+", PRESETS.get(schedule, schedule).strip(" \t"))
+    if len(texts) != len(FIELDS):
+        raise GraphError("bad cron", 11)
+    values = [{value for part in text.split(",") for value in _cron_values(part, *field)} for text, field in zip(texts, FIELDS)]
+    days, months, weekdays = values[2], values[3], {value % 7 for value in values[4]}
+    either = texts[2] != "*" and texts[4] != "*"
+    for year in YEARS:
+        for month in months:
+            for day in range(1, 32):
+                try:
+                    weekday = datetime.date(year, month, day).isoweekday() % 7
+                except ValueError:
+                    break
+                if (day in days or weekday in weekdays) if either else (day in days and weekday in weekdays):
+                    return
+    raise GraphError("never fires", 12)
+
+
+# ---- zones
+
+_NAME = r"(?:[A-Za-z]{3,}|<[A-Za-z0-9+-]{3,}>)"
+_CLOCK = r"[+-]?[0-9]{1,3}(?::[0-9]{2}(?::[0-9]{2})?)?"
+_DAY = r"M[0-9]{1,2}\.[0-9]\.[0-9]|J?[0-9]{1,3}"
+_ZONE_RULE = re.compile(rf"{_NAME}({_CLOCK})(?:{_NAME}({_CLOCK})?,({_DAY})(?:/({_CLOCK}))?,({_DAY})(?:/({_CLOCK}))?)?")
+
+
+def _is_clock(text: str, most_hours: int) -> bool:
+    hours, minutes, seconds = [*map(int, text.lstrip("+-").split(":")), 0, 0][:3]
+    return hours <= most_hours and max(minutes, seconds) <= 59
+
+
+def _is_rule_day(text: str) -> bool:
+    if text[0] == "M":
+        month, week, weekday = map(int, text[1:].split("."))
+        return 1 <= month <= 12 and 1 <= week <= 5 and weekday <= 6
+    if text[0] == "J":
+        return 1 <= int(text[1:]) <= 365
+    return int(text) <= 365
+
+
+def _check_zone(zone: str) -> None:
+    """`UTC`, `file`, an offset, or a POSIX rule."""
+    if zone in ("UTC", "file") or re.fullmatch("[+-]([01][0-9]|2[0-3]):[0-5][0-9]", zone):
+        return
+    match = _ZONE_RULE.fullmatch(zone)
+    if match is None:
+        raise GraphError("bad zone", 13)
+    standard, daylight, start, start_time, end, end_time = match.groups()
+    offsets = [offset for offset in (standard, daylight) if offset]
+    days = [day for day in (start, end) if day]
+    times = [time for time in (start_time, end_time) if time]
+    if not (all(_is_clock(text, 24) for text in offsets) and all(_is_clock(text, 167) for text in times) and all(map(_is_rule_day, days))):
+        raise GraphError("bad zone", 13)
+
+
+# ---- tasks
+
+
+def _is_id(text: object) -> bool:
+    return isinstance(text, str) and re.fullmatch("[A-Za-z0-9._-]{1,250}", text) is not None
+
+
+def _check_number(key: str, value: int, path: str) -> None:
+    if not isinstance(value, int) or isinstance(value, bool):
+        raise GraphError(f"shape: {path}", 2)
+    least, greatest = BOUNDS[key]
+    if not least <= value <= greatest:
+        raise GraphError(f"limit passed: {path}", 5)
+
+
+def _text(value: object, path: str) -> str:
+    if not isinstance(value, str):
+        raise GraphError(f"shape: {path}", 2)
+    return value
+
+
+def _list(values: Sequence[Any], path: str) -> Sequence[Any]:
+    if not isinstance(values, (list, tuple)):
+        raise GraphError(f"shape: {path}", 2)
+    return values
+
+
+def _id_of(task: Union[Task, str], path: str) -> str:
+    return task.id if isinstance(task, Task) else _text(task, path)
+
+
+Tasks = Union["Task", Sequence["Task"]]
+Behind = TypeVar("Behind", "Task", Sequence["Task"])
+
+
+def _all_of(tasks: Tasks) -> Sequence[Task]:
+    return [tasks] if isinstance(tasks, Task) else tasks
+
+
+def _link(upstreams: Tasks, downstreams: Tasks) -> None:
+    for upstream in _all_of(upstreams):
+        for downstream in _all_of(downstreams):
+            downstream.graph._add_edge(upstream, downstream)
+
+
+class Task:
+    """A task of the graph whose `with` block is open, or of `graph`.
+
+    The keys are those of a graph file, and one that isn't given isn't written. `upstream` takes tasks or ids, and so does `expand`; tasks
+    are also put behind each other by `>>` and `<<`, as `extract >> [load, check] >> publish`.
+    """
+
+    kind: Optional[str] = None
+    id: str
+
+    def __init__(
+        self,
+        task_id: str,
+        command: Sequence[Union[str, Word]] = (),
+        *,
+        upstream: Sequence[Union[Task, str]] = (),
+        rule: Optional[str] = None,
+        expand: Union[Task, str, None] = None,
+        depends_on_past: Optional[bool] = None,
+        retries: Optional[int] = None,
+        retry_delay: Optional[int] = None,
+        pool: Optional[str] = None,
+        pool_slots: Optional[int] = None,
+        priority_weight: Optional[int] = None,
+        weight_rule: Optional[str] = None,
+        graph: Optional[Graph] = None,
+    ) -> None:
+        self.graph = graph if graph is not None else Graph.current()
+        path = f"tasks[{len(self.graph.tasks)}]"
+        self.id = self.graph.prefix + _text(task_id, f"{path}.id")
+        self.command = list(_list(command, f"{path}.command"))
+        # (a dict for its order, and to find an id at once)
+        self.upstream = {_id_of(each, f"{path}.upstream"): None for each in _list(upstream, f"{path}.upstream")}
+        self.expand = None if expand is None else _id_of(expand, f"{path}.expand")
+        given: Dict[str, Any] = {
+            **{"rule": rule, "depends_on_past": depends_on_past, "retries": retries, "retry_delay": retry_delay, "pool": pool},
+            **{"pool_slots": pool_slots, "priority_weight": priority_weight, "weight_rule": weight_rule},
+        }
+        self.keys = {key: self.graph.defaults.get(key) if value is None else value for key, value in given.items()}
+        self.line = _line_of_caller()
+        self.graph._add_task(self)
+
+    def __repr__(self) -> str:
+        return f"{type(self).__name__}({self.id!r})"
+
+    @property
+    def item(self) -> Word:
+        """The item of an instance of a task that is expanded over this one."""
+        return Word("item", True, f"{self!r}.item", self)
+
+    def __rshift__(self, downstreams: Behind) -> Behind:
+        _link(self, downstreams)
+        return downstreams
+
+    def __lshift__(self, upstreams: Behind) -> Behind:
+        _link(upstreams, self)
+        return upstreams
+
+    def __rrshift__(self, upstreams: Sequence[Task]) -> Task:
+        _link(upstreams, self)
+        return self
+
+    def __rlshift__(self, downstreams: Sequence[Task]) -> Task:
+        _link(self, downstreams)
+        return self
+
+    def to_dict(self) -> Dict[str, Any]:
+        """The task as it stands in a graph file."""
+        words = [word if isinstance(word, str) else {word.key: word.value} for word in self.command]
+        keys: Dict[str, Any] = {
+            **{"id": self.id, "upstream": list(self.upstream) or None, "rule": self.keys["rule"], "kind": self.kind},
+            **{"command": words or None, "expand": self.expand},
+            **self.keys,
+        }
+        return {key: value for key, value in keys.items() if value is not None}
+
+
+class Branch(Task):
+    """A task whose value names the direct downstreams that are followed. It isn't expanded."""
+
+    kind = "branch"
+
+
+def _line_of_caller() -> str:
+    """Where the program stands that makes a task: its file and line."""
+    frame = sys._getframe(1)
+    while frame.f_back is not None and frame.f_globals.get("__name__") == __name__:
+        frame = frame.f_back
+    return f"{frame.f_code.co_filename}:{frame.f_lineno}"
+
+
+# ---- graphs
+
+
+class Group:
+    """A prefix of the ids of the tasks in its `with` block, as Airflow's task groups have one: `load.` for the group `load`."""
+
+    def __init__(self, graph: Graph, name: str) -> None:
+        self._graph = graph
+        self._name = name
+
+    def __enter__(self) -> Group:
+        self._outer = self._graph.prefix
+        self._graph.prefix = f"{self._outer}{self._name}."
+        return self
+
+    def __exit__(self, kind: Optional[Type[BaseException]], error: Optional[BaseException], trace: Optional[TracebackType]) -> None:
+        self._graph.prefix = self._outer
+
+
+class Graph:
+    """A task graph. In its `with` block tasks are made; at the end of the block the whole is checked."""
+
+    _open: List[Graph] = []
+
+    def __init__(
+        self,
+        dag_id: str,
+        *,
+        schedule: str,
+        zone: Optional[str] = None,
+        max_active_runs: Optional[int] = None,
+        pools: Optional[Mapping[str, int]] = None,
+        defaults: Optional[Mapping[str, Any]] = None,
+    ) -> None:
+        self.dag_id = dag_id
+        self.schedule = schedule
+        self.zone = zone
+        self.max_active_runs = max_active_runs
+        if not isinstance(pools, (Mapping, type(None))):
+            raise GraphError("shape: pools", 2)
+        self.pools = None if pools is None else dict(pools)
+        self.defaults = dict(defaults or {})
+        self.tasks: Dict[str, Task] = {}
+        self.prefix = ""
+        self._edges = 0
+        self._below: Dict[str, List[str]] = {}
+        self._check_keys()
+
+    def _check_keys(self) -> None:
+        for path, value in (("dag_id", self.dag_id), ("schedule", self.schedule), ("zone", "UTC" if self.zone is None else self.zone)):
+            if not isinstance(value, str):
+                raise GraphError(f"shape: {path}", 2)
+        if not _is_id(self.dag_id):
+            raise GraphError("bad name: dag_id", 3)
+        if self.max_active_runs is not None:
+            _check_number("max_active_runs", self.max_active_runs, "max_active_runs")
+        for name, slots in sorted((self.pools or {}).items()):
+            if not isinstance(slots, int) or isinstance(slots, bool):
+                raise GraphError("shape: pools", 2)
+            if not _is_id(name):
+                raise GraphError("bad name: pools", 3)
+            if not 1 <= slots <= BOUNDS["pool_slots"][1]:
+                raise GraphError("limit passed: pools", 5)
+        for key in self.defaults:
+            if key not in DEFAULT_KEYS:
+                raise GraphError(f"no default for {key!r}, but for {', '.join(DEFAULT_KEYS)}")
+        _check_schedule(self.schedule)
+        _check_zone("UTC" if self.zone is None else self.zone)
+
+    # ---- the block
+
+    @classmethod
+    def current(cls) -> Graph:
+        """The graph whose block is open, the innermost of several."""
+        if not cls._open:
+            raise GraphError("no graph's `with` block is open, and none is given by graph=")
+        return cls._open[-1]
+
+    def __enter__(self) -> Graph:
+        Graph._open.append(self)
+        return self
+
+    def __exit__(self, kind: Optional[Type[BaseException]], error: Optional[BaseException], trace: Optional[TracebackType]) -> None:
+        Graph._open.remove(self)
+        if error is None:
+            self.check()
+
+    def group(self, name: str) -> Group:
+        """Puts `name.` before the ids of the tasks in a `with` block."""
+        return Group(self, name)
+
+    # ---- what is added
+
+    def _add_task(self, task: Task) -> None:
+        path = f"tasks[{len(self.tasks)}]"
+        if len(self.tasks) == MOST_TASKS:
+            raise GraphError("limit passed: tasks", 5)
+        self._check_task(task, path)
+        self.tasks[task.id] = task
+        upstreams, task.upstream = task.upstream, {}
+        for upstream in upstreams:
+            self._add_edge(upstream, task)
+
+    def _check_task(self, task: Task, path: str) -> None:
+        if not _is_id(task.id):
+            raise GraphError(f"bad name: {path}.id", 3)
+        if task.id in self.tasks:
+            raise GraphError(f"duplicate task: {task.id}", 4)
+        _check_command(task, path)
+        for key, value in task.keys.items():
+            if value is not None and key in BOUNDS:
+                _check_number(key, value, f"{path}.{key}")
+        for key in ("rule", "pool"):
+            _text("" if task.keys[key] is None else task.keys[key], f"{path}.{key}")
+        if not isinstance(task.keys["depends_on_past"], (bool, type(None))):
+            raise GraphError(f"shape: {path}.depends_on_past", 2)
+        if task.keys["weight_rule"] not in (None, *WEIGHT_RULES):
+            raise GraphError(f"shape: {path}.weight_rule", 2)
+        slots = {DEFAULT_POOL: DEFAULT_SLOTS, **(self.pools or {})}
+        pool = DEFAULT_POOL if task.keys["pool"] is None else task.keys["pool"]
+        if pool not in slots:
+            raise GraphError(f"unknown pool: {task.id}", 8)
+        if (task.keys["pool_slots"] or 1) > slots[pool]:
+            raise GraphError(f"slots beyond pool: {task.id}", 9)
+        if task.keys["rule"] not in (None, *RULES):
+            raise GraphError(f"bad rule: {task.id}", 10)
+        if task.expand is not None and task.keys["rule"] in EARLY_RULES:
+            raise GraphError(f"expand rule: {task.id}", 16)
+        if task.expand is not None and task.kind == "branch":
+            raise GraphError(f"branch misuse: {task.id}", 17)
+
+    def _add_edge(self, upstream: Union[Task, str], task: Task) -> None:
+        if isinstance(upstream, Task) and upstream.graph is not self:
+            raise GraphError(f"{upstream.id} and {task.id} are of two graphs")
+        upstream_id = upstream if isinstance(upstream, str) else upstream.id
+        if upstream_id in task.upstream:
+            return
+        if self._edges == MOST_EDGES:
+            raise GraphError(f"limit passed: tasks[{list(self.tasks).index(task.id)}].upstream", 5)
+        task.upstream[upstream_id] = None
+        self._below.setdefault(upstream_id, []).append(task.id)
+        self._edges += 1
+        if self._leads(task.id, upstream_id):
+            raise GraphError(f"cycle: {' '.join(self._cycle())}", 7)
+
+    # ---- paths
+
+    def _leads(self, start: str, end: str) -> bool:
+        """Whether a path leads from a task to another, or they are one."""
+        met = {start}
+        pending = [start]
+        while pending:
+            task_id = pending.pop()
+            if task_id == end:
+                return True
+            for below in self._below.get(task_id, ()):
+                if below not in met:
+                    met.add(below)
+                    pending.append(below)
+        return False
+
+    def _cycle(self) -> List[str]:
+        """The shortest cycle through the earliest task that lies on one, and of several the first by the order of the tasks."""
+        places = {task_id: place for place, task_id in enumerate(self.tasks)}
+        for task_id in self.tasks:
+            paths = [[task_id]]
+            met = {task_id}
+            for path in paths:
+                below = sorted(self._below.get(path[-1], ()), key=places.__getitem__)
+                if task_id in below:
+                    return path
+                paths += [[*path, each] for each in below if each not in met]
+                met.update(below)
+        return []
+
+    def _settled_ancestors(self) -> Dict[str, Set[str]]:
+        """Of each task those that are sure to have settled when it is decided."""
+        settled: Dict[str, Set[str]] = {}
+        pending = list(self.tasks)
+        while pending:
+            task = self.tasks[pending[-1]]
+            open_ones = [upstream for upstream in task.upstream if upstream in self.tasks and upstream not in settled]
+            if task.id in settled or not open_ones:
+                pending.pop()
+                waits = task.keys["rule"] not in EARLY_RULES
+                settled[task.id] = {each for up in task.upstream for each in {up, *settled.get(up, ())}} if waits else set()
+            else:
+                pending += open_ones
+        return settled
+
+    # ---- the whole
+
+    def check(self) -> None:
+        """Raises the fault by which `backfill check` would refuse the graph, if it would."""
+        if len(self.to_json().encode()) > MOST_BYTES:
+            raise GraphError("limit passed: bytes", 5)
+        for task in self.tasks.values():
+            if not self.tasks.keys() >= set(task.upstream):
+                raise _fault_of("unknown upstream", task, 6)
+        settled = self._settled_ancestors()
+        for task in self.tasks.values():
+            if not _pulls_of(task) <= settled[task.id]:
+                raise _fault_of("pull not settled", task, 14)
+        for task in self.tasks.values():
+            if task.expand is not None and task.expand not in task.upstream:
+                raise _fault_of("expand source", task, 15)
+
+    def to_dict(self) -> Dict[str, Any]:
+        """The graph as it stands in a graph file."""
+        keys: Dict[str, Any] = {
+            **{"dag_id": self.dag_id, "schedule": self.schedule, "zone": self.zone, "max_active_runs": self.max_active_runs},
+            **{"pools": self.pools, "tasks": [task.to_dict() for task in self.tasks.values()]},
+        }
+        return {key: value for key, value in keys.items() if value is not None}
+
+    def to_json(self, indent: Optional[int] = None) -> str:
+        """The text of the graph file: compact, or indented."""
+        return json.dumps(self.to_dict(), ensure_ascii=False, indent=indent, separators=None if indent else (",", ":"))
+
+
+def _fault_of(words: str, task: Task, number: int) -> GraphError:
+    """A fault that takes the whole graph to see, with the line of its task."""
+    return GraphError(f"{words}: {task.id}", number, task.line)
+
+
+def _pulls_of(task: Task) -> Set[str]:
+    return {str(word.value) for word in task.command if isinstance(word, Word) and word.key == "pull"}
+
+
+def _check_command(task: Task, path: str) -> None:
+    for word in task.command:
+        if isinstance(word, Word) and word.key == "item":
+            if task.expand is None:
+                raise GraphError(f"shape: {path}.command", 2)
+            if word.source is not None and word.source.id != task.expand:
+                raise GraphError(f"an item of {word.source.id} in a task that is expanded over {task.expand}")
+        if not isinstance(word, (str, Word)):
+            raise GraphError(f"shape: {path}.command", 2)
+        text = word if isinstance(word, str) else word.value
+        if isinstance(text, str) and len(text.encode()) > LONGEST_TEXT:
+            raise GraphError(f"limit passed: {path}.command", 5)
+    if len(task.command) > MOST_WORDS or len(_pulls_of(task)) > MOST_PULLS:
+        raise GraphError(f"limit passed: {path}.command", 5)
+
+
+# ---- from a graph file to Python
+
+
+def _names_of(ids: Sequence[str]) -> Dict[str, str]:
+    """A variable for each task."""
+    taken = {"graph", "context", "item", "pull", "Graph", "Task", "Branch", *keyword.kwlist}
+    names: Dict[str, str] = {}
+    for task_id in ids:
+        base = re.sub("[^A-Za-z0-9_]", "_", task_id)
+        base = f"_{base}" if base[0].isdigit() else base
+        name, number = base, 2
+        while name in taken:
+            name, number = f"{base}_{number}", number + 1
+        taken.add(name)
+        names[task_id] = name
+    return names
+
+
+def _word_text(word: Any, names: Mapping[str, str], made: Set[str]) -> str:
+    if isinstance(word, str):
+        return repr(word)
+    [(key, value)] = word.items()
+    if key == "context":
+        return f"context.{value}"
+    return "item" if key == "item" else f"pull({names[value] if value in made else repr(value)})"
+
+
+def python_of(file: Mapping[str, Any]) -> Iterator[str]:
+    """The lines of a program that makes the graph of a file."""
+    yield "from backfill_graph import Branch, Graph, Task, context, item, pull"
+    yield ""
+    keys = "".join(f", {key}={file[key]!r}" for key in ("schedule", "zone", "max_active_runs", "pools") if key in file)
+    yield f"with Graph({file['dag_id']!r}{keys}) as graph:"
+    names = _names_of([task["id"] for task in file["tasks"]])
+    made: Set[str] = set()
+    later: List[str] = []
+    for task in file["tasks"]:
+        words = ", ".join(_word_text(word, names, made) for word in task.get("command", ()))
+        kind = "Branch" if task.get("kind") == "branch" else "Task"
+        texts = [repr(task["id"]), *([f"[{words}]"] if words else [])]
+        if "expand" in task:
+            texts.append(f"expand={names[task['expand']] if task['expand'] in made else repr(task['expand'])}")
+        texts += [f"{key}={task[key]!r}" for key in ("rule", *DEFAULT_KEYS[1:]) if key in task]
+        yield f"    {names[task['id']]} = {kind}({', '.join(texts)})"
+        made.add(task["id"])
+        later += [f"    {names[upstream]} >> {names[task['id']]}" for upstream in dict.fromkeys(task.get("upstream", ()))]
+    yield from later or ([] if file["tasks"] else ["    pass"])
+    yield "print(graph.to_json())"
+
+
+def main(graph_file: TextIO) -> None:
+    for line in python_of(json.load(graph_file)):
+        print(line)
+
+
+if __name__ == "__main__":
+    main(sys.stdin)

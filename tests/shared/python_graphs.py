@@ -1,0 +1,223 @@
+#!/usr/bin/env python3
+"""Tries python/backfill_graph.py over graph files: python_graphs.py PROGRAM FOLDER COUNT
+
+The examples, read and written again, are what they were; so are the graphs that go by chance, which faults.py makes, and of COUNT of these
+just those are refused in Python that `check` of the program refuses. The last line is how many were right, and how many not.
+"""
+import contextlib
+import io
+import json
+import pathlib
+import random
+import subprocess
+import sys
+
+ROOT = pathlib.Path(__file__).resolve().parents[2]
+sys.path[:0] = [str(ROOT / "tests/oracles"), str(ROOT / "python")]
+import backfill_graph  # noqa: E402
+import faults  # noqa: E402
+
+PROGRAM, FOLDER, COUNT = sys.argv[1], pathlib.Path(sys.argv[2]), int(sys.argv[3])
+rows = differing = 0
+
+
+def holds(name, right):
+    global rows, differing
+    rows += 1
+    if not right:
+        differing += 1
+        print(f"differs: {name}")
+
+
+def in_order(file):
+    """A graph file with its keys in the order of the format, each edge once, and without what a key says that isn't there."""
+
+    def task_of(task):
+        task = {key: task[key] for key in faults.TASK_KEYS if key in task}
+        task.update({"upstream": list(dict.fromkeys(task["upstream"]))} if "upstream" in task else {})
+        return {key: value for key, value in task.items() if value not in ([], "program")}
+
+    keys = {key: file[key] for key in faults.GRAPH_KEYS if key in file}
+    return {**keys, "tasks": [task_of(task) for task in file["tasks"]]}
+
+
+def compact(file):
+    return json.dumps(in_order(file), ensure_ascii=False, separators=(",", ":"))
+
+
+def printed_by(program):
+    printed = io.StringIO()
+    with contextlib.redirect_stdout(printed):
+        exec(program, {"__name__": "graph"})
+    return printed.getvalue()
+
+
+def comes_back(name, file):
+    program = "\n".join(backfill_graph.python_of(file))
+    holds(f"{name}, written in Python", printed_by(program) == compact(file) + "\n")
+
+
+def word_of(word):
+    """A word of a file in Python. One that is none is handed on as it is."""
+    if isinstance(word, dict) and len(word) == 1:
+        [(key, value)] = word.items()
+        if key == "context" and value in backfill_graph.CONTEXTS:
+            return getattr(backfill_graph.context, value)
+        if key == "pull" and isinstance(value, str):
+            return backfill_graph.pull(value)
+        if key == "item" and value is True:
+            return backfill_graph.item
+    return word
+
+
+def task_in_python(task):
+    keys = dict(task)
+    kind = keys.pop("kind", "program")
+    if kind not in ("program", "branch"):
+        raise TypeError(kind)
+    if isinstance(keys.get("command"), list):
+        keys["command"] = [word_of(word) for word in keys["command"]]
+    made = backfill_graph.Branch if kind == "branch" else backfill_graph.Task
+    made(keys.pop("id"), **keys)
+
+
+def error_of(file):
+    """The error by which Python refuses a graph: one of its own, or that no such call can be made. None where it refuses nothing."""
+    try:
+        keys = dict(file)
+        tasks = keys.pop("tasks")
+        if not isinstance(tasks, list):
+            raise TypeError(tasks)
+        with backfill_graph.Graph(keys.pop("dag_id"), **keys):
+            for task in tasks:
+                task_in_python(task)
+    except (TypeError, KeyError, ValueError) as error:
+        return error
+    return None
+
+
+def without_null(file):
+    """Takes out keys that have no value, which in Python is a key that isn't given."""
+    if not isinstance(file, dict) or not isinstance(file.get("tasks"), list):
+        return file
+    tasks = [{key: value for key, value in task.items() if value is not None} if isinstance(task, dict) else task for task in file["tasks"]]
+    return {key: value for key, value in {**file, "tasks": tasks}.items() if value is not None}
+
+
+def told_by_check(file):
+    """What the program tells of a graph that it refuses, or None."""
+    path = FOLDER / "graph.json"
+    path.write_text(json.dumps(file, ensure_ascii=False))
+    checked = subprocess.run([PROGRAM, "check", path], capture_output=True, check=False, text=True)
+    return checked.stderr.strip() if checked.returncode == 2 else None
+
+
+def by_chance(seed):
+    file = without_null(faults.planted(random.Random(seed)))
+    text = json.dumps(file)
+    if "@@" in text or isinstance(file, dict) and file.get("zone") == "file":
+        return
+    told, error = told_by_check(file), error_of(file)
+    holds(f"whether seed {seed} is refused", (told is None) == (error is None))
+    if told is None:
+        comes_back(f"seed {seed}", file)
+    elif isinstance(error, backfill_graph.GraphError) and told.split(" ")[1] == str(error.number):
+        # (of several faults Python tells the one that is written first, and of several cycles the one that is closed first)
+        several = error.number == 7 or len(faults.all_faults(text, None)) > 1
+        holds(f"the words of seed {seed}: {error}", several or told == f"refused {error.number} {error.words}")
+
+
+# ---- rows worked out by hand
+
+
+def makes(name, wanted, write):
+    """What is written in a block makes these tasks."""
+    with backfill_graph.Graph("d", schedule="@daily", defaults={"retries": 1}) as graph:
+        write(graph)
+    tasks = json.loads(graph.to_json())["tasks"]
+    holds(name, {task["id"]: (task.get("upstream", []), task["retries"]) for task in tasks} == wanted)
+
+
+def fails(name, words, number, write):
+    """What is written in a block is refused by these words."""
+    try:
+        with backfill_graph.Graph("d", schedule="@daily", pools={"p": 2}) as graph:
+            write(graph)
+    except backfill_graph.GraphError as error:
+        holds(f"{name}: {error}", (error.words, error.number) == (words, number))
+    else:
+        holds(f"{name}, which isn't refused", False)
+
+
+def fan(graph):
+    first = backfill_graph.Task("first")
+    middle = [backfill_graph.Task("left", retries=3), backfill_graph.Task("right")]
+    last = backfill_graph.Task("last")
+    first >> middle >> last
+
+
+def turned(graph):
+    first, left, right, last = map(backfill_graph.Task, ["first", "left", "right", "last"])
+    last << [left, right] << first
+    first >> last
+    first >> left
+
+
+def grouped(graph):
+    with graph.group("load"):
+        one = backfill_graph.Task("one")
+        with graph.group("deep"):
+            two = backfill_graph.Task("two")
+    one >> two >> backfill_graph.Task("three")
+
+
+def ring(graph):
+    tasks = [backfill_graph.Task(name) for name in "abc"]
+    tasks[1] >> tasks[2] >> tasks[0]
+    tasks[0] >> tasks[1]
+
+
+def pulls_early(graph):
+    early = backfill_graph.Task("early", rule="one_success")
+    late = backfill_graph.Task("late", ["echo", backfill_graph.pull("first")])
+    backfill_graph.Task("first") >> early >> late
+
+
+def takes_another_item(graph):
+    one, two = backfill_graph.Task("one"), backfill_graph.Task("two")
+    backfill_graph.Task("m", ["echo", two.item], expand=one, upstream=[one, two])
+
+
+def of_two_graphs(graph):
+    other = backfill_graph.Graph("e", schedule="@daily")
+    backfill_graph.Task("a", graph=other) >> backfill_graph.Task("b")
+
+
+task = backfill_graph.Task
+makes("tasks behind a list", {"first": ([], 1), "left": (["first"], 3), "right": (["first"], 1), "last": (["left", "right"], 1)}, fan)
+makes("tasks before a list", {"first": ([], 1), "left": (["first"], 1), "right": (["first"], 1), "last": (["left", "right", "first"], 1)}, turned)
+makes("groups", {"load.one": ([], 1), "load.deep.two": (["load.one"], 1), "three": (["load.deep.two"], 1)}, grouped)
+fails("a cycle", "cycle: a b c", 7, ring)
+fails("a loop", "cycle: a", 7, lambda graph: task("a") >> graph.tasks["a"])
+fails("a pull from what may not have settled", "pull not settled: late", 14, pulls_early)
+fails("a source that is no upstream", "expand source: b", 15, lambda graph: task("b", expand=task("a")))
+fails("a branch that is expanded", "branch misuse: b", 17, lambda graph: backfill_graph.Branch("b", expand=task("a")))
+fails("a pool that isn't there", "unknown pool: a", 8, lambda graph: task("a", pool="q"))
+fails("a command that is a text", "shape: tasks[0].command", 2, lambda graph: task("a", "echo 5"))
+fails("an item of another source", "an item of two in a task that is expanded over one", None, takes_another_item)
+fails("an edge between two graphs", "a and b are of two graphs", None, of_two_graphs)
+with contextlib.suppress(AttributeError):
+    backfill_graph.context.ds
+    holds("a context that isn't there", False)
+try:
+    task("a")
+    holds("a task of no graph", False)
+except backfill_graph.GraphError:
+    holds("a task of no graph", True)
+for path in sorted((ROOT / "examples").glob("*/*.json")):
+    file = json.loads(path.read_text())
+    if isinstance(file, dict) and "dag_id" in file:
+        comes_back(path.relative_to(ROOT), file)
+for seed in range(1, COUNT + 1):
+    by_chance(seed)
+print(rows - differing, differing)

@@ -1,0 +1,45 @@
+#!/usr/bin/env bash
+# Tries python/: backfill_graph.py writes the examples again as they are, refuses just what `check` refuses, passes `mypy --strict`, and
+# is installed without the network; what its own page and the README show of it is what it prints. Needs python3. The last line is the
+# sum, and the status is 1 where something differs.
+set -euo pipefail
+
+source "$(dirname "$(readlink -f "${BASH_SOURCE[0]}")")/../shared/count.sh"
+export PYTHONDONTWRITEBYTECODE=1 PYTHONPATH=$root/python
+
+[[ -n $(command -v python3) ]] || skips_rest 'all of it, since there is no python3'
+
+said=$(python3 "$root/tests/shared/python_graphs.py" "$program" "$work" 1000)
+grep '^differs: ' <<< "$said" || true
+read -r right wrong <<< "$(tail -n 1 <<< "$said")"
+rows=$((rows + right + wrong))
+differing=$((differing + wrong))
+
+# The program of the first lines of its page, which stands in the README too.
+sed -n '/^    from backfill_graph import/,/^    print/s/^ \{0,4\}//p' "$root/python/backfill_graph.py" > "$work/shops.py"
+is_same 'the program in the README' "$(< "$work/shops.py")" "$(sed -n '/^from backfill_graph import/,/^print/p' "$root/README.md")"
+python3 "$work/shops.py" > "$work/shops.json"
+is_same 'the graph of the README' 'ok 3 tasks, 2 edges' "$("$program" check "$work/shops.json")"
+python3 "$root/python/backfill_graph.py" < "$work/shops.json" > "$work/again.py"
+is_same 'the graph, written in Python again' "$(< "$work/shops.json")" "$(python3 "$work/again.py")"
+
+if [[ -n $(command -v mypy) ]]; then
+    (cd "$work" && holds 'its types' mypy --strict "$root/python/backfill_graph.py")
+else
+    skips 'its types, since there is no mypy'
+fi
+
+# (pip builds without the network where setuptools and wheel are there)
+installer=''
+for python in python3 /usr/bin/python3; do
+    ! "$python" -c 'import setuptools, wheel, pip' 2> "$work/said" || installer=$python
+done
+if [[ -n $installer ]]; then
+    cp -r "$root/python" "$work/python"
+    holds 'that it can be installed' "$installer" -m pip install --quiet --no-index --no-build-isolation --target "$work/installed" "$work/python"
+    holds 'what was installed' env PYTHONPATH="$work/installed" "$installer" -c 'import backfill_graph, sys; sys.exit("installed" not in backfill_graph.__file__)'
+else
+    skips 'that it can be installed, since there is no pip with setuptools and wheel'
+fi
+
+sum
