@@ -1,7 +1,7 @@
 #!/usr/bin/env bash
-# Tries python/: backfill_graph.py writes the examples again as they are, refuses just what `check` refuses, passes `mypy --strict`, and
-# is installed without the network; what its own page and the README show of it is what it prints. Needs python3. The last line is the
-# sum, and the status is 1 where something differs.
+# Tries python/: backfill_graph.py writes the examples again as they are, and refuses just what `check` refuses; backfill_report.py reads
+# reports as the oracles read them; both pass `mypy --strict`, and are installed without the network; what the README shows of them is what
+# they print. Needs python3. The last line is the sum, and the status is 1 where something differs.
 set -euo pipefail
 
 source "$(dirname "$(readlink -f "${BASH_SOURCE[0]}")")/../shared/count.sh"
@@ -9,11 +9,18 @@ export PYTHONDONTWRITEBYTECODE=1 PYTHONPATH=$root/python
 
 [[ -n $(command -v python3) ]] || skips_rest 'all of it, since there is no python3'
 
-said=$(python3 "$root/tests/shared/python_graphs.py" "$program" "$work" 1000)
-grep '^differs: ' <<< "$said" || true
-read -r right wrong <<< "$(tail -n 1 <<< "$said")"
-rows=$((rows + right + wrong))
-differing=$((differing + wrong))
+# Counts what a Python script has counted.
+counts() {
+    local said right wrong
+    said=$(python3 "$@")
+    grep '^differs: ' <<< "$said" || true
+    read -r right wrong <<< "$(tail -n 1 <<< "$said")"
+    rows=$((rows + right + wrong))
+    differing=$((differing + wrong))
+}
+
+counts "$root/tests/shared/python_graphs.py" "$program" "$work" 1000
+counts "$root/tests/shared/python_reports.py" "$work" 2500
 
 # The program of the first lines of its page, which stands in the README too.
 sed -n '/^    from backfill_graph import/,/^    print/s/^ \{0,4\}//p' "$root/python/backfill_graph.py" > "$work/shops.py"
@@ -24,9 +31,9 @@ python3 "$root/python/backfill_graph.py" < "$work/shops.json" > "$work/again.py"
 is_same 'the graph, written in Python again' "$(< "$work/shops.json")" "$(python3 "$work/again.py")"
 
 if [[ -n $(command -v mypy) ]]; then
-    (cd "$work" && holds 'its types' mypy --strict "$root/python/backfill_graph.py")
+    holds 'their types' env -C "$work" mypy --strict "$root/python/backfill_graph.py" "$root/python/backfill_report.py"
 else
-    skips 'its types, since there is no mypy'
+    skips 'their types, since there is no mypy'
 fi
 
 # (pip builds without the network where setuptools and wheel are there)
@@ -36,10 +43,11 @@ for python in python3 /usr/bin/python3; do
 done
 if [[ -n $installer ]]; then
     cp -r "$root/python" "$work/python"
-    holds 'that it can be installed' "$installer" -m pip install --quiet --no-index --no-build-isolation --target "$work/installed" "$work/python"
-    holds 'what was installed' env PYTHONPATH="$work/installed" "$installer" -c 'import backfill_graph, sys; sys.exit("installed" not in backfill_graph.__file__)'
+    holds 'that they can be installed' "$installer" -m pip install --quiet --no-index --no-build-isolation --target "$work/installed" "$work/python"
+    holds 'what was installed' env PYTHONPATH="$work/installed" "$installer" \
+        -c 'import backfill_graph, backfill_report, sys; sys.exit("installed" not in backfill_graph.__file__ + backfill_report.__file__)'
 else
-    skips 'that it can be installed, since there is no pip with setuptools and wheel'
+    skips 'that they can be installed, since there is no pip with setuptools and wheel'
 fi
 
 sum

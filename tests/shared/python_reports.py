@@ -1,0 +1,99 @@
+#!/usr/bin/env python3
+"""Tries python/backfill_report.py over reports: python_reports.py FOLDER COUNT
+
+What it reads of the examples and of COUNT reports that go by chance is what recursion.py reads, also behind a way through a database, and what
+is no report by its lines isn't read. The last line is how many were right, and how many not.
+"""
+import io
+import json
+import pathlib
+import sqlite3
+import sys
+
+ROOT = pathlib.Path(__file__).resolve().parents[2]
+sys.path[:0] = [str(ROOT / "tests/oracles"), str(ROOT / "python")]
+import backfill_report  # noqa: E402
+import recursion  # noqa: E402
+import reports  # noqa: E402
+
+FOLDER, COUNT = pathlib.Path(sys.argv[1]), int(sys.argv[2])
+rows = differing = 0
+
+
+def holds(name, right):
+    global rows, differing
+    rows += 1
+    if not right:
+        differing += 1
+        print(f"differs: {name}")
+
+
+def lines_of(text):
+    return io.StringIO(text, newline="\n")
+
+
+def wanted_rows(text):
+    """The rows of a report as recursion.py reads it, but for the states of its runs."""
+    _, runs = recursion.read_report(text)
+    states = [line.split(" ")[3] for line in text.split("\n") if line.startswith("@run ")]
+    for run, state in zip(runs, states):
+        for task, instances in run.instances.items():
+            for instance in instances:
+                items = [json.loads(line[6:]) for line in instance.given if line.startswith("@item ")]
+                pulls = [line.split(" ", 2)[1:] for line in instance.given if line.startswith("@pull ")]
+                yield (
+                    *(run.start, run.end, state, task, instance.index, instance.state, instance.tries, instance.value),
+                    *(items, {key: None if value == "-" else json.loads(value) for key, value in pulls}),
+                )
+
+
+def found_rows(text):
+    for row in backfill_report.read_report(lines_of(text)):
+        given = [row.item] if row.has_item else []
+        yield row.run, row.end, row.run_state, row.task, row.index, row.state, row.tries, row.value, given, row.pulls
+
+
+def stored_rows(text):
+    path = FOLDER / "report.db"
+    backfill_report.to_sqlite(backfill_report.read_report(lines_of(text)), str(path))
+    database = sqlite3.connect(path)
+    for *fields, value, item, pulls in database.execute("SELECT * FROM report ORDER BY rowid"):
+        read = [None if text is None else json.loads(text) for text in (value, pulls)]
+        yield *fields, read[0], [] if item is None else [json.loads(item)], read[1] or {}
+    database.close()
+
+
+def is_read(name, text):
+    wanted = list(wanted_rows(text))
+    holds(f"{name}, as it is read", list(found_rows(text)) == wanted)
+    holds(f"{name}, in a database", list(stored_rows(text)) == wanted)
+
+
+def fails(name, words, text):
+    try:
+        list(backfill_report.read_report(lines_of(text)))
+    except backfill_report.ReportError as error:
+        holds(f"{name}: {error}", str(error) == words)
+    else:
+        holds(f"{name}, which is read", False)
+
+
+RUN = "@run 2024-01-01T00:00:00Z 2024-01-02T00:00:00Z success\n"
+fails("no bytes", "truncated", "")
+fails("another head", "bad line: 1", "@backfill 3 d\n@end 0\n")
+fails("no end", "truncated", f"@backfill 2 d\n{RUN}")
+fails("an end that was cut", "truncated", "@backfill 2 d\n@end 0")
+fails("another number of runs", "bad line: 3", f"@backfill 2 d\n{RUN}@end 2\n")
+fails("a line behind the end", "bad line: 3", "@backfill 2 d\n@end 0\n\n")
+fails("an instance of no run", "bad line: 2", "@backfill 2 d\na -1 success 1 -\n@end 0\n")
+fails("an item of no instance", "bad line: 3", f"@backfill 2 d\n{RUN}@item 1\n@end 1\n")
+fails("a state that isn't there", "bad line: 3", f"@backfill 2 d\n{RUN}a -1 running 1 -\n@end 1\n")
+fails("a value that is no JSON", "bad line: 3", f"@backfill 2 d\n{RUN}a -1 success 1 x\n@end 1\n")
+for path in sorted((ROOT / "examples").glob("*/*")):
+    if path.is_file() and path.read_bytes().startswith(b"@backfill "):
+        is_read(path.relative_to(ROOT), path.read_text())
+for seed in range(1, COUNT + 1):
+    content = reports.report_by_chance(seed)
+    if reports.answer(content).startswith("42"):
+        is_read(f"seed {seed}", content.decode())
+print(rows - differing, differing)
