@@ -4,7 +4,8 @@ use Rattle.std.specs.List.{list_any, list_all, AllByRecursion}
 use Rattle.std.proofs.lemmas.Bool.{and_parts, and_from}
 use Rattle.bf_core.specs.Terms.{Dag, Task, task_of, Xval, Verdict, verdict, TaskValue, pull, items, is_branch}
 use Rattle.bf_core.specs.Deciding.{Seen, lets_decide, branch_is, ruling, counts_over, past_ruling, and_then_past, Decision, pull_seen, pulled, instances, mapped, after_verdict, gate, decision, branch_skips, is_blocked}
-use Rattle.bf_rule.proofs.Later.{IsLater, add-later, verdict-stable}
+use Rattle.bf_rule.specs.Verdicts.{IsLater}
+use Rattle.bf_rule.proofs.Later.{add-later, verdict-stable}
 
 -- the value stays once it is known
 abbrev pub StaysKnown : Option TaskValue → Option TaskValue → Type 0

@@ -17,7 +17,7 @@ use Rattle.bf_graph.specs.Reach.{IsPath, Reaches}
 use Rattle.bf_value.specs.Distinct.{AreDistinct}
 use Rattle.bf_graph.specs.Shape.{Shape}
 use Rattle.bf_graph.proofs.PathLemmas.{task_within}
-use Rattle.bf_rule.specs.Branches.{name_in, names_in, id_of, is_direct_downstream, is_named, followed_to, followed, followed_by_name}
+use Rattle.bf_rule.specs.Branches.{name_in, names_in, id_of, is_direct_downstream, is_named, followed_to, followed, followed_by_name, IsNamedOrReached}
 
 -- ---- booleans
 
@@ -75,7 +75,7 @@ path-bounded ups r a (suc m) t (u, up, p) = omega (arith, path-bounded ups r a m
 
 module _ (shape : Shape) (branch : ℕ) (value : Option Xval) where
   abbrev IsLed : ℕ → Type 0
-  IsLed t = (n : ℕ) × (is_named shape branch value n ≡ true) × Leads shape n t
+  IsLed t = IsNamedOrReached shape branch value t
 
   to-led : (depth t : ℕ) → followed_to shape branch value depth t ≡ true → IsLed t
   to-led zero t e = (t, e, inl refl)

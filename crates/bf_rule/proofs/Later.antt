@@ -1,18 +1,11 @@
 -- A verdict that was taken is not revised by what finishes later.
-use Rattle.std.proofs.Common.{◌≡◌, ◌≢◌, ℕ, suc, zero, ◌+◌, ◌≤◌, ◌==◌, nat_lt, Bool, true, false, ◌||◌, refl, sym, ap, ◌∙◌, arith}
+use Rattle.std.proofs.Common.{◌≡◌, ◌≢◌, ℕ, suc, zero, ◌+◌, ◌==◌, nat_lt, Bool, true, false, ◌||◌, refl, sym, ap, ◌∙◌, arith}
 use Rattle.std.proofs.lemmas.Bool.Decides.{nat_tests}
 use Rattle.bf_rule.specs.declared.rule.Rule.{Rule}
 use Rattle.bf_rule.specs.declared.rule.Rule.TheVariants.{OneSuccess as One_success, OneFailed as One_failed, OneDone as One_done, Always}
 use Rattle.bf_rule.specs.declared.rule.Counts.{Counts}
 use Rattle.bf_rule.specs.declared.rule.Verdict.TheVariants.{Wait, Run}
-use Rattle.bf_rule.specs.Verdicts.{verdict_of, fires, finished, add}
-
--- the second counts came later: more has finished, and nothing changed if all had
-pub record IsLater (c d : Counts) : Type 0 where
-  pub success : c.success ≤ d.success
-  pub failed : c.failed ≤ d.failed
-  pub upstream_failed : c.upstream_failed ≤ d.upstream_failed
-  pub done : c.unfinished ≡ 0 → c ≡ d
+use Rattle.bf_rule.specs.Verdicts.{verdict_of, fires, finished, add, IsLater}
 
 pub fires-later : (rule : Rule) (c d : Counts) → IsLater c d → fires rule c ≡ true → fires rule d ≡ true
 fires-later One_success c d later e = grind (arith, nat_tests, later.success)

@@ -1,5 +1,5 @@
 -- Branches: which direct downstreams a branch's value follows.
-use Rattle.std.specs.Prelude.{ℕ, zero, suc, ◌==◌, ◌&&◌, ◌||◌, Bool, true, false, List, [], ◌∷◌, length, Option, None, Some, position, slice_index_or}
+use Rattle.std.specs.Prelude.{◌≡◌, ◌⊎◌, ℕ, zero, suc, ◌==◌, ◌&&◌, ◌||◌, Bool, true, false, List, [], ◌∷◌, length, Option, None, Some, position, slice_index_or}
 use Rattle.std.specs.List.{list_any, list_all, filter_map}
 use Rattle.std.specs.Str.{bytes_eq}
 use Rattle.bf_value.specs.declared.xval.Xval.{Xval}
@@ -7,6 +7,7 @@ use Rattle.bf_value.specs.declared.xval.Xval.TheVariants.{Text, List as ListOf}
 use Rattle.bf_value.specs.Views.{xvals_of}
 use Rattle.bf_graph.specs.Shape.{Shape}
 use Rattle.bf_graph.specs.Edges.{upstreams_of}
+use Rattle.bf_graph.specs.Reach.{Reaches}
 
 abbrev pub name_in : Xval → Option (List ℕ)
 name_in (Text name) = Some name
@@ -37,6 +38,11 @@ followed_to shape branch value (suc depth) task =
 -- a direct downstream of a branch is followed: it is named, or is a descendant of one that is
 unfoldable pub followed : Shape → ℕ → Option Xval → ℕ → Bool
 followed shape branch value task = followed_to shape branch value (length shape.ids) task
+
+-- the value names the task, or one that reaches it
+abbrev pub IsNamedOrReached : Shape → ℕ → Option Xval → ℕ → Type 0
+IsNamedOrReached shape branch value task =
+    (named : ℕ) × (is_named shape branch value named ≡ true) × ((named ≡ task) ⊎ Reaches shape.upstreams named task)
 
 -- the same of a branch that names one task or nothing
 abbrev pub followed_by_name : Shape → ℕ → ℕ → Option (List ℕ) → Bool

@@ -1,5 +1,5 @@
 -- Trigger rules: what the upstreams of a task, so far as they are known, say of it.
-use Rattle.std.specs.Prelude.{ℕ, ◌+◌, ◌==◌, nat_lt, Bool, true, false, ◌||◌, if◌then◌else◌}
+use Rattle.std.specs.Prelude.{◌≡◌, ℕ, ◌+◌, ◌≤◌, ◌==◌, nat_lt, Bool, true, false, ◌||◌, if◌then◌else◌}
 use Rattle.bf_rule.specs.declared.rule.Rule.{Rule}
 use Rattle.bf_rule.specs.declared.rule.Rule.TheVariants.{AllSuccess, AllFailed, AllSkipped, AllDone, OneSuccess, OneFailed, OneDone, NoneFailed, NoneFailedMinOneSuccess, NoneSkipped, Always}
 use Rattle.bf_rule.specs.declared.rule.Counts.{Counts}
@@ -71,3 +71,12 @@ verdict_of rule counts =
     else (if nat_lt 0 counts.unfinished then Wait
     else (if nat_lt 0 counts.blocked then Blocked
     else table rule counts))
+
+-- ---- what finishes later
+
+-- the same instances counted later: no fewer are success, failed or upstream_failed, and all is the same where none was unfinished
+pub record IsLater (earlier later : Counts) : Type 0 where
+  pub success : earlier.success ≤ later.success
+  pub failed : earlier.failed ≤ later.failed
+  pub upstream_failed : earlier.upstream_failed ≤ later.upstream_failed
+  pub done : earlier.unfinished ≡ 0 → earlier ≡ later
