@@ -65,11 +65,11 @@ module _ (ups : List (List ℕ)) where
   path_rank r zero a t p = omega arith
   path_rank r (suc n) a t (u, up, p) = let below = path_rank r n a u p in omega (arith, below, r.rises t u up)
 
-  reach_test : Ranking ups → (a t : ℕ) → Reaches ups a t → does_reach ups a t ≡ true
+  pub reach_test : Ranking ups → (a t : ℕ) → Reaches ups a t → does_reach ups a t ≡ true
   unfolding does_reach
   reach_test r a t (n, p) = leads_from_path (length ups) n a t (omega (arith, path_rank r (suc n) a t p, r.bounded t)) p
 
-  reach_path : (a t : ℕ) → does_reach ups a t ≡ true → Reaches ups a t
+  pub reach_path : (a t : ℕ) → does_reach ups a t ≡ true → Reaches ups a t
   unfolding does_reach
   reach_path a t e = path_from_leads (length ups) a t e
 

@@ -2,8 +2,10 @@
 //! and "Priority Weights").
 #![tactic(auto)]
 
+mod laws;
 mod pools;
 mod weights;
 
+pub use laws::reaches_where_a_path_leads;
 pub use pools::{NoRoom, Pools};
 pub use weights::total_weight;
