@@ -1,4 +1,4 @@
-use Rattle.bf_core.proofs.Steps.{legal-keeps, start-keeps}
+use Rattle.bf_core.proofs.LegalLists.{legal-keeps, start-keeps}
 use Rattle.bf_core.proofs.Shape.{legal-shapes, start-shapes}
 use Rattle.bf_core.proofs.Outcomes.{ended-is}
 use Rattle.bf_core.proofs.laws.ended_lists_are_outcomes.Goals as goal

@@ -1,4 +1,4 @@
-use Rattle.bf_core.proofs.Steps.{legal-agrees}
+use Rattle.bf_core.proofs.LegalLists.{legal-agrees}
 use Rattle.bf_core.proofs.laws.legal_lists_agree.Goals as goal
 
 pub returns : goal.returns
