@@ -1,8 +1,10 @@
 //! What holds of every backfill, whatever the order of its events. These functions do nothing: their contracts are
 //! the laws, over the definitions alone.
-ghost use Rattle.std.specs.Prelude.{◌≡◌, ◌<◌, ℕ, List};
+ghost use Rattle.std.specs.Prelude.{◌≡◌, ◌<◌, ℕ, List, Option};
 ghost use Rattle.std.specs.FinMap as map;
-ghost use Rattle.bf_core.specs.Terms.{Dag, Limits, Entry, Event, name_cmp, IsSound, AreAlike};
+ghost use Rattle.bf_core.specs.Terms.{Dag, Limits, Entry, Event, Ledger, TaskValue, name_cmp, IsSound, AreAlike};
+ghost use Rattle.bf_core.specs.Deciding.{Seen, decision};
+ghost use Rattle.bf_core.specs.Recursion.{decided, out, value_of, SolvesRecursion};
 ghost use Rattle.bf_core.specs.Events.{WithinPools, IsLegal, replay, start, entry_in, HasEnded};
 ghost use Rattle.bf_core.specs.Agreement.{Holds, Agrees, IsOutcome};
 
@@ -34,4 +36,27 @@ pub fn alike_ledgers_end_alike()
 pub fn legal_lists_keep_pools()
     ensures { (dag : Dag) (limits : Limits) (runs : ℕ) (events : List Event) → IsLegal dag limits (start dag runs) events →
         WithinPools limits (replay dag (start dag runs) events) }
+{}
+
+/// The value of a task in a run is that of what is decided of it there, over the values of the tasks that it looks at. The
+/// recursion counts down how far it still looks up in the graph; by this equation the count never runs out.
+pub fn the_recursion_unfolds()
+    ensures { (dag : Dag) → IsSound dag → (ledger : Ledger) (run task : ℕ) →
+        out dag ledger run task ≡ value_of dag ledger run task (decided dag ledger run task) }
+{}
+
+/// What is decided of a task in the first run is the same whatever is taken for its value in the run before, which there
+/// is not.
+pub fn the_first_run_has_no_past()
+    ensures { (dag : Dag) (seen : ℕ → Seen) (past other : Option TaskValue) (task : ℕ) →
+        decision dag 0 seen past task ≡ decision dag 0 seen other task }
+{}
+
+/// The recursion's values solve its equation, and no others do.
+pub fn the_recursion_has_one_solution()
+    ensures solves { (dag : Dag) → IsSound dag → (ledger : Ledger) →
+        SolvesRecursion dag ledger (out dag ledger) }
+    ensures alone { (dag : Dag) → IsSound dag → (ledger : Ledger) (value : ℕ → ℕ → TaskValue) →
+        SolvesRecursion dag ledger value →
+        (run task : ℕ) → value run task ≡ out dag ledger run task }
 {}
