@@ -1,8 +1,8 @@
 #!/usr/bin/env bash
-# Runs the program with programs that behave badly, with too few descriptors, with output that can't be written, and with
-# signals, and compares its exit status and all that it prints with what stands here, which was worked out by hand from
-# docs/SPECIFICATION.md and docs/FORMATS.md. At the end nothing that was started is left. The last line is the sum, and the status
-# is 1 where a row differs.
+# Runs the program with programs that behave badly, with too few descriptors, with reports that don't end or come slowly, with
+# output that can't be written, and with signals, and compares its exit status and all that it prints with what stands here, which
+# was worked out by hand from docs/SPECIFICATION.md and docs/FORMATS.md. At the end nothing that was started is left. The last line
+# is the sum, and the status is 1 where a row differs.
 set -euo pipefail
 
 source "$(dirname "$(readlink -f "${BASH_SOURCE[0]}")")/../shared/compare.sh"
@@ -200,8 +200,46 @@ for workers in 1 8; do
     is_same 'by four descriptors' "1 $(one_day failed <<< 'a -1 failed 1 -')" "$status $(cat "$work/out" "$work/err")"
 done
 
+# A report whose first line never ends, and one of a single line of 200 MB: each is refused at the byte too many of that line, by
+# 64 MB of address space in all.
+
+truncate -s 200000000 "$work/one_line"
+for report in /dev/zero "$work/one_line"; do
+    status=0
+    (
+        ulimit -v 65536
+        exec timeout 60 "$program" clear "$graph" "$report" "${day[@]}" --task a --run 2024-01-01
+    ) > "$work/out" 2> "$work/err" || status=$?
+    is_same "a line that is too long, of $report" '2 refused 31 line too long: 1' "$status $(cat "$work/out" "$work/err")"
+done
+
+# A report that comes through a pipe in pieces is the same report.
+
+tasks '{"id":"a"},{"id":"b"}'
+echo '[{"task":"a","out":"9"},{"task":"b","out":"9"}]' > "$table"
+one_day success <<< $'a -1 success 1 7\nb -1 success 1 8' > "$work/report"
+mkfifo "$work/pieces"
+while IFS= read -r line; do
+    printf %s "${line:0:5}"
+    sleep 0.1
+    printf '%s\n' "${line:5}"
+    sleep 0.1
+done < "$work/report" > "$work/pieces" &
+answers 0 clear "$graph" "$work/pieces" "${day[@]}" --task a --run 2024-01-01 --table "$table" \
+    < <(one_day success <<< $'a -1 success 1 9\nb -1 success 1 8')
+wait
+# The pipe's end isn't waited for, where the first line is none.
+{
+    echo '@backfill 3 d'
+    while [[ -e $work/pieces && ! -e $work/refused ]]; do sleep 0.1; done
+} > "$work/pieces" &
+tells 2 'refused 30 bad line: 1' clear "$graph" "$work/pieces" "${day[@]}" --task a --run 2024-01-01
+touch "$work/refused"
+wait
+
 # Standard output that can't be written, in each command.
 
+tasks '{"id":"a","command":["true"]}'
 echo '[]' > "$table"
 one_day success <<< 'a -1 success 1 -' > "$work/report"
 # Runs the program with this standard output, which is closed or that of a full device.

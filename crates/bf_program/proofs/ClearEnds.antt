@@ -1,18 +1,15 @@
 -- What the command `clear` comes to, by what was read of its files.
-use Rattle.std.proofs.Common.{◌≡◌, ℕ, ℤ, Bool, List, Option, Some, option_map, string_bytes, refl, sym, ◌∙◌, subst, inl, inr, arith}
+use Rattle.std.proofs.Common.{◌≡◌, ℕ, ℤ, Bool, List, Option, Some, option_map, string_bytes, refl, sym, ◌∙◌, subst, inl, inr}
 use Rattle.bf_plan.specs.declared.plan.Dag.{Dag}
 use Rattle.bf_interval.specs.declared.interval.Interval.{Interval}
-use Rattle.bf_device.specs.Device.{HasHalted}
 use Rattle.bf_table.specs.declared.table.TableEntry.{TableEntry}
 use Rattle.bf_table.specs.Tables.{table_of}
 use Rattle.bf_report.specs.declared.report.Report.{Report as Reported}
-use Rattle.bf_report_reader.specs.declared.fault.ReportFault.{ReportFault}
 use Rattle.bf_report_reader.specs.declared.fault.ReportFault.TheVariants as report
-use Rattle.bf_report_reader.specs.Faults.{Tells}
 use Rattle.bf_dependents.specs.declared.seeds.Seed.{Seed}
 use Rattle.bf_command_line.specs.declared.forms.ClearAsked.{ClearAsked}
 use Rattle.bf_command_line.specs.declared.forms.GraphAsked.{GraphAsked}
-use Rattle.bf_command_fault.specs.Refusal.{Leaves, of_report}
+use Rattle.bf_command_fault.specs.Refusal.{Leaves}
 use Rattle.bf_command_fault.specs.Status.{of_runs}
 use Rattle.bf_command_fault.specs.declared.fault.CommandFault.{CommandFault}
 use Rattle.bf_command_fault.specs.declared.fault.CommandFault.TheVariants.{Read, Check, Table, Range, Report, Clear, OutOfMemory, CannotRead, CannotWrite, Stopped}
@@ -21,17 +18,10 @@ use Rattle.bf_commands.specs.Cleared.{IsFaultAgain, IsFaultBefore, IsPrepared, I
 use Rattle.bf_commands.specs.OverTable.{is_alone}
 use Rattle.bf_commands.specs.Programs.{Hearing, Losing, launched, launched_lost}
 use Rattle.bf_commands.proofs.Faults.{unwritten_leaves}
-use Rattle.bf_program.specs.Commands.{AreReadable, Files, IsClearAnswer, IsClearFault, IsHeld, IsHeldIfNamed, IsNoLonger, IsReadable, IsUntold, MeansRange, MeansSeed, OfFilesAndNamedTable, clear_paths, table_named}
+use Rattle.bf_program.specs.Commands.{AreReadable, Files, IsClearAnswer, IsClearFault, IsHeld, IsHeldIfNamed, IsReadable, IsUntold, MeansRange, MeansSeed, OfFilesAndNamedTable, clear_paths, table_named}
 use Rattle.bf_program.specs.Files.{AreAlike, IsFaultAfterFile, IsOfBytes, IsPreparingFault, IsReadingFault, IsReportAfterFile, IsReportFault}
 use Rattle.bf_program.proofs.Alike.{fault_in, graph_of, listing_of}
 use Rattle.bf_program.proofs.Exits.{reading_cases}
-
--- why a report isn't read, of bytes in memory, which no device keeps back
-pub read_fault : (path : List ℕ) (file : Option (Option (List ℕ))) → IsReadable file → (fault : ReportFault) → (fault ≡ report.Io → HasHalted 0 0 0 0)
-    → ((held : List ℕ) → IsHeld file held → IsNoLonger held → Tells held fault) → IsReportFault path file (of_report fault)
-read_fault path file readable report.OutOfMemory halted tells = tt
-read_fault path file readable report.Io halted tells = elim (halted refl) [ inl failed ↦ omega (arith, failed) | inr interrupted ↦ omega (arith, interrupted) ]
-read_fault path file readable fault halted tells = (readable, tells)
 
 -- nothing went out then
 pub report_leaves : (Halted : Type 0) (IsDue : List ℕ → Type 0) (before : Option (List ℕ)) (path : List ℕ) (file : Option (Option (List ℕ))) (fault : CommandFault) → IsReportFault path file fault → Leaves Halted IsDue before before fault
@@ -105,20 +95,20 @@ module _ (may_lose : Losing) (files : Files) (asked : ClearAsked) (range : Momen
     clear_report : (fault : CommandFault) → IsReportFault (string_bytes asked.report) (files (string_bytes asked.report)) fault → IsClearFault may_lose files asked fault
     clear_report (Report report.Io) is = absurd is
     clear_report (Report fault) is =
-        (range, means, seed, means_seed, (readable, is.0, λ graph held other are holds reported told short. (ready graph held other are holds, is.1 reported told short)))
+        (range, means, seed, means_seed, (readable, is.0, λ graph held other are holds reported told. (ready graph held other are holds, is.1 reported told)))
     clear_report OutOfMemory is = (range, means, seed, means_seed, tt)
     clear_report (CannotRead path) is =
         (range, means, seed, means_seed, inr (readable, is.0, subst (λ (p : List ℕ). IsUntold (files p)) (sym is.0) is.1, ready))
     clear_report fault is = absurd is
 
-    module _ (report_readable : IsReadable (files (string_bytes asked.report))) (was : Reported) (says : (held : List ℕ) → IsHeld (files (string_bytes asked.report)) held → IsNoLonger held → IsReadAs held was) where
+    module _ (report_readable : IsReadable (files (string_bytes asked.report))) (was : Reported) (says : (held : List ℕ) → IsHeld (files (string_bytes asked.report)) held → IsReadAs held was) where
       clear_again : (fault : CommandFault) → IsFaultAgain (is_alone asked.workers asked.progress) (launched_lost asked.launcher may_lose) answers dag found was seed fault → IsClearFault may_lose files asked fault
       clear_again (Clear fault) is =
-          (range, means, seed, means_seed, (readable, report_readable, λ graph held other are holds reported told short. (record { ready = ready graph held other are holds; was = was; report_says = says reported told short; fault_is = is })))
+          (range, means, seed, means_seed, (readable, report_readable, λ graph held other are holds reported told. (record { ready = ready graph held other are holds; was = was; report_says = says reported told; fault_is = is })))
       clear_again OutOfMemory is = (range, means, seed, means_seed, tt)
       clear_again (CannotWrite n) is = (range, means, seed, means_seed, (readable, report_readable))
       clear_again (Stopped stop) is =
-          (range, means, seed, means_seed, (readable, report_readable, λ graph held other are holds reported told short. (record { ready = ready graph held other are holds; was = was; report_says = says reported told short; kept = is.0; kept_is = is.1; stops = is.2 })))
+          (range, means, seed, means_seed, (readable, report_readable, λ graph held other are holds reported told. (record { ready = ready graph held other are holds; was = was; report_says = says reported told; kept = is.0; kept_is = is.1; stops = is.2 })))
       clear_again fault is = absurd is
 
       clear_answer : (may_hear : Hearing) (text : List ℕ) (success : Bool) → IsReportAfter (launched asked.launcher may_hear) answers dag found was seed text success → IsClearAnswer may_hear files asked text (of_runs success)
@@ -131,7 +121,7 @@ module _ (may_lose : Losing) (files : Files) (asked : ClearAsked) (range : Momen
         status_is = refl;
         readable = readable;
         report_readable = report_readable;
-        text_is = λ graph held other are holds reported told short. (let p = prepared_held graph held other are holds in record {
+        text_is = λ graph held other are holds reported told. (let p = prepared_held graph held other are holds in record {
           draft = p.draft;
           answers = answers;
           found = found;
@@ -139,7 +129,7 @@ module _ (may_lose : Losing) (files : Files) (asked : ClearAsked) (range : Momen
           graph_is = p.graph_is;
           table_says = p.table_says;
           listing = p.listing;
-          report_says = says reported told short;
+          report_says = says reported told;
           reported = subst (λ (d : Dag). IsReportAfter (launched asked.launcher may_hear) answers d found was seed text success) p.dag_is is;
         });
       }
@@ -148,9 +138,9 @@ module _ (may_lose : Losing) (files : Files) (asked : ClearAsked) (range : Momen
     module _ (file : Option (Option (List ℕ))) (stays : file ≡ files (string_bytes asked.report)) where
       pub clear_going_on : (fault : CommandFault) → IsFaultAfterFile (is_alone asked.workers asked.progress) (launched_lost asked.launcher may_lose) answers dag found (string_bytes asked.report) file seed fault → IsClearFault may_lose files asked fault
       clear_going_on fault (inl report) = clear_report fault (subst (λ (f : Option (Option (List ℕ))). IsReportFault (string_bytes asked.report) f fault) stays report)
-      clear_going_on fault (inr (was, is, again)) = clear_again (subst IsReadable stays is.readable) was (λ held told short. is.says held (stays ∙ told) short) fault again
+      clear_going_on fault (inr (was, is, again)) = clear_again (subst IsReadable stays is.readable) was (λ held told. is.says held (stays ∙ told)) fault again
 
       pub clear_gone_on : (may_hear : Hearing) (text : List ℕ) (success : Bool) → IsReportAfterFile (launched asked.launcher may_hear) answers dag found file seed text success
           → IsClearAnswer may_hear files asked text (of_runs success)
       clear_gone_on may_hear text success is =
-          clear_answer (subst IsReadable stays is.read.readable) is.was (λ held told short. is.read.says held (stays ∙ told) short) may_hear text success is.reported
+          clear_answer (subst IsReadable stays is.read.readable) is.was (λ held told. is.read.says held (stays ∙ told)) may_hear text success is.reported

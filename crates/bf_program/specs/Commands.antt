@@ -184,10 +184,6 @@ pub record IsRunAnswer (may_hear : Hearing) (files : Files) (asked : RunAsked) (
   pub readable : AreReadable files (graph_paths asked.graph)
   pub text_is : OfFiles files asked.graph (λ graph zone. IsRunReport (launched asked.launcher may_hear) graph zone range.from.nanosecond range.to.nanosecond text succeeded)
 
--- a file of which a vector can hold all bytes
-abbrev pub IsNoLonger : List ℕ → Type 0
-IsNoLonger bytes = length bytes ≤ 9_223_372_036_854_775_806
-
 -- the path of the table, where one is named
 abbrev pub table_named : ClearAsked → Option (List ℕ)
 table_named asked = option_map string_bytes asked.table
@@ -195,7 +191,7 @@ table_named asked = option_map string_bytes asked.table
 -- so it is with whatever the graph file, the zone file, the table where one is named, and the report are told to hold
 abbrev pub OfClearFiles : Files → ClearAsked → (List ℕ → Option (List ℕ) → Option (List ℕ) → List ℕ → Type 0) → Type 0
 OfClearFiles files asked P = OfFilesAndNamedTable files asked.graph (table_named asked) (λ graph zone table.
-    (report : List ℕ) → IsHeld (files (string_bytes asked.report)) report → IsNoLonger report → P graph zone table report)
+    (report : List ℕ) → IsHeld (files (string_bytes asked.report)) report → P graph zone table report)
 
 -- the report of the backfill that goes on from a report where the seed is cleared, and whether each run of it is a success
 pub record IsClearAnswer (may_hear : Hearing) (files : Files) (asked : ClearAsked) (text : List ℕ) (status : Status) : Type 0 where

@@ -18,7 +18,9 @@ use Rattle.bf_command_fault.specs.declared.fault.CommandFault.TheVariants.{OutOf
 use Rattle.bf_commands.specs.declared.range.MomentRange.{MomentRange}
 use Rattle.bf_commands.specs.Cleared.{IsFaultAgain, IsFaultBefore, IsReadAs, IsReportAfter}
 use Rattle.bf_commands.specs.Programs.{Hearing, Losing}
-use Rattle.bf_program.specs.Commands.{AreReadable, Files, IsFirstUntold, IsHeld, IsNoLonger, IsReadable, IsUntold, OfFilesAndNamedTable, clear_paths}
+use Rattle.bf_program.specs.declared.source.SourceFault.{SourceFault}
+use Rattle.bf_program.specs.declared.source.SourceFault.TheVariants as source
+use Rattle.bf_program.specs.Commands.{AreReadable, Files, IsFirstUntold, IsHeld, IsReadable, IsUntold, OfFilesAndNamedTable, clear_paths}
 
 -- the bytes of a file, where one was read
 abbrev pub bytes_of : Option (Vec ℕ Global) → Option (List ℕ)
@@ -33,6 +35,11 @@ pub record MeanAlike (one other : Option (List ℕ)) : Type 0 where
 pub record AreAlike (graph other : List ℕ) (zone other_zone : Option (List ℕ)) : Type 0 where
   pub says : graph_in graph ≡ graph_in other
   pub means : MeanAlike zone other_zone
+
+-- why there is no answer where a path's file isn't there
+abbrev pub of_source : List ℕ → SourceFault → CommandFault
+of_source path source.CannotRead = CannotRead path
+of_source path source.OutOfMemory = OutOfMemory
 
 -- the first file of these that can't be read, or memory is wanting
 abbrev pub IsReadingFault : Files → List (List ℕ) → CommandFault → Type 0
@@ -58,14 +65,14 @@ IsPreparingFault files asked path range fault =
 abbrev pub IsReportFault : List ℕ → Option (Option (List ℕ)) → CommandFault → Type 0
 IsReportFault path file (CannotRead p) = (p ≡ path) × IsUntold file
 IsReportFault path file (BadReport ReportFault.Io) = ⊥
-IsReportFault path file (BadReport fault) = IsReadable file × ((held : List ℕ) → IsHeld file held → IsNoLonger held → Tells held fault)
+IsReportFault path file (BadReport fault) = IsReadable file × ((held : List ℕ) → IsHeld file held → Tells held fault)
 IsReportFault path file OutOfMemory = Unit {0}
 IsReportFault path file _ = ⊥
 
--- this report is read of the file, if a vector can hold all its bytes
+-- this report is read of the file
 pub record IsReadOf (file : Option (Option (List ℕ))) (report : Report) : Type 0 where
   pub readable : IsReadable file
-  pub says : (held : List ℕ) → IsHeld file held → IsNoLonger held → IsReadAs held report
+  pub says : (held : List ℕ) → IsHeld file held → IsReadAs held report
 
 -- the report of the backfill that goes on from that of a file, and whether each run of it is a success
 pub record IsReportAfterFile (may_hear : Hearing) (answers : Option (List TableEntry)) (dag : Dag) (found : List Interval) (file : Option (Option (List ℕ))) (seed : Seed) (text : List ℕ) (success : Bool) : Type 0 where

@@ -5,6 +5,17 @@ use Rattle.std.specs.Str.{bytes_eq}
 use Rattle.bf_program.specs.declared.source.SourceFault.{SourceFault}
 use Rattle.bf_program.specs.declared.source.SourceFault.TheVariants.{OutOfMemory}
 
+-- a device that has all these bytes before it, of a file that holds them, and a fault for one that can't be read
+abbrev pub Opens : {D : Type 0} → (D → Option (List ℕ)) → Option (List ℕ) → Result D SourceFault → Type 0
+Opens left (Some held) (Ok device) = left device ≡ Some held
+Opens left (Some held) (Err fault) = fault ≡ OutOfMemory
+Opens left None (Ok device) = ⊥
+Opens left None (Err fault) = ⊤
+
+-- no such device is ever interrupted, and none ever fails
+abbrev pub NeverHalts : {D : Type 0} → (D → ℕ) → (D → ℕ) → Type 0
+NeverHalts {D} interruptions failures = (device : D) → (interruptions device ≡ 0) × (failures device ≡ 0)
+
 -- the first bytes of a file that holds these, and a fault for one that can't be read
 abbrev pub GivesFirst : ℕ → Option (List ℕ) → Result (Vec ℕ Global) SourceFault → Type 0
 GivesFirst count (Some held) (Ok bytes) = bytes.items ≡ take count held

@@ -3,27 +3,34 @@ ghost use Rattle.std.specs.Prelude.{◌≡◌, ◌<◌, ◌^◌, ◌⊎◌, ℕ,
 ghost use Rattle.bf_read.specs.Reading.{graph_in};
 ghost use Rattle.bf_table.specs.Tables.{table_of};
 ghost use Rattle.bf_commands.specs.Cleared.{IsReadAs};
-ghost use Rattle.bf_program.specs.Commands.{AreReadable, IsHeld, IsNoLonger, IsNoMoment, IsReadable, IsHeldIfNamed, Means, MeansRange, OfFiles, OfFilesAndTable, graph_paths, named_paths, table_paths};
-ghost use Rattle.bf_program.specs.Files.{AreAlike, IsReadingFault, IsReportFault, MeanAlike, bytes_of};
+ghost use Rattle.bf_program.specs.Commands.{AreReadable, IsHeld, IsNoMoment, IsReadable, IsHeldIfNamed, Means, MeansRange, OfFiles, OfFilesAndTable, graph_paths, named_paths, table_paths};
+ghost use Rattle.bf_program.specs.Files.{AreAlike, IsReadingFault, IsReportFault, MeanAlike, bytes_of, of_source};
 ghost use Rattle.bf_program.specs.Source.{IsWholeUpTo};
 
+use crate::prefix::first_bytes;
 use crate::source::{Source, SourceFault};
 use bf_command_fault::CommandFault;
 use bf_command_line::{GraphAsked, RangeAsked};
 use bf_commands::MomentRange;
-use bf_device::Bytes;
 use bf_moment::moment_in;
 use bf_read::MOST_BYTES;
 use bf_report::Report;
-use bf_report_reader::read_report;
+use bf_report_reader::{ReportFault, read_report};
 use bf_table::LONGEST_TABLE;
 use bf_value::Text;
 use bf_zone::MOST_FILE_BYTES;
 use jiff::Timestamp;
 use std::alloc::Global;
 
-/// No vector holds two bytes more than this.
-const LONGEST_REPORT: usize = 9_223_372_036_854_775_806;
+/// Why there is no answer where a path's file isn't there.
+fn fault_at(path: String, fault: SourceFault) -> CommandFault
+    ensures { result ≡ of_source (string_bytes path) fault }
+{
+    match fault {
+        SourceFault::CannotRead => CommandFault::CannotRead(Text::new(path)),
+        SourceFault::OutOfMemory => CommandFault::OutOfMemory,
+    }
+}
 
 /// The bytes of a file. Of one with more than `longest` so many and more are read that its reader sees it.
 fn file_bytes<S: Source>(
@@ -39,10 +46,9 @@ fn file_bytes<S: Source>(
     ensures fault { IfErr result (IsReadingFault (S.file files.old) (string_bytes path ∷ [])) }
     ensures stays { (p : List ℕ) → S.file files.new p ≡ S.file files.old p }
 {
-    match files.first_bytes(alloc, path.as_str(), longest + 1) {
+    match first_bytes(alloc, path.as_str(), longest + 1, files) {
         Ok(bytes) => Ok(bytes),
-        Err(SourceFault::CannotRead) => Err(CommandFault::CannotRead(Text::new(path))),
-        Err(SourceFault::OutOfMemory) => Err(CommandFault::OutOfMemory),
+        Err(fault) => Err(fault_at(path, fault)),
     }
 }
 
@@ -115,20 +121,26 @@ pub(crate) fn named_table_bytes<S: Source>(
     }
 }
 
-/// The report that a file holds, which is read whole first.
+/// The report that a file holds. It is looked at as it is read, and read no further than its first fault.
 pub(crate) fn report_in<S: Source>(
     alloc: Global,
     path: String,
     files: &mut S,
 ) -> Result<Report, CommandFault>
-    ensures says { IfOk result (λ report. (held : List ℕ) → IsHeld (S.file files.old (string_bytes path)) held → IsNoLonger held
+    ensures says { IfOk result (λ report. (held : List ℕ) → IsHeld (S.file files.old (string_bytes path)) held
         → IsReadAs held report) }
     ensures readable { OnOk result (IsReadable (S.file files.old (string_bytes path))) }
     ensures fault { IfErr result (IsReportFault (string_bytes path) (S.file files.old (string_bytes path))) }
 {
-    let bytes = file_bytes(alloc, path, LONGEST_REPORT, files)?;
-    let report = read_report(alloc, &mut Bytes::new(bytes))?;
-    Ok(report)
+    let mut device = match files.open(path.as_str()) {
+        Ok(device) => device,
+        Err(fault) => return Err(fault_at(path, fault)),
+    };
+    match read_report(alloc, &mut device) {
+        Ok(report) => Ok(report),
+        Err(ReportFault::Io) => Err(CommandFault::CannotRead(Text::new(path))),
+        Err(fault) => Err(CommandFault::from(fault)),
+    }
 }
 
 /// The bytes of a graph file, and those of a zone file where one was named.

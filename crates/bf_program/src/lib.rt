@@ -7,6 +7,7 @@ mod disk;
 mod dry;
 mod input;
 mod list;
+mod prefix;
 mod program;
 mod run;
 mod single;

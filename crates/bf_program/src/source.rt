@@ -1,8 +1,9 @@
 //! Where files are read from.
-ghost use Rattle.std.specs.Prelude.{◌≡◌, ℕ, ◌≤◌, List, Option, IfOk, IfSome, vec_len};
-ghost use Rattle.bf_program.specs.Source.{GivesFirst};
+ghost use Rattle.std.specs.Prelude.{◌≡◌, ℕ, List, Option, IfSome};
+ghost use Rattle.bf_program.specs.Source.{NeverHalts, Opens};
 
-use std::alloc::{AllocError, Global};
+use bf_device::Read;
+use std::alloc::AllocError;
 
 /// Why a file's bytes aren't there.
 #[derive(Clone, Copy, Debug, PartialEq, Eq)]
@@ -24,17 +25,17 @@ impl From<AllocError> for SourceFault {
 
 /// What files are read from.
 pub trait Source {
+    /// What a file that was opened is read by.
+    type Device: Read + Drop;
+
     /// What a path's file holds, where the source tells it: its bytes, or `None` where it can't be read.
     ghost file: { Self → List ℕ → Option (Option (List ℕ)) };
 
-    /// The first `count` bytes of a path's file, or all of them where it has fewer.
-    fn first_bytes(
-        &mut self,
-        alloc: Global,
-        path: &str,
-        count: usize,
-    ) -> Result<Vec<u8>, SourceFault>
-        ensures bound { IfOk result (λ bytes. vec_len bytes ≤ count) }
-        ensures first { IfSome (file self.old path.now) (λ held. GivesFirst count held result) }
+    /// Opens a path's file. Its device has all bytes of the file before it, and where the source tells them it never halts.
+    fn open(&mut self, path: &str) -> Result<Self::Device, SourceFault>
+        ensures opens { IfSome (file self.old path.now) (λ held.
+            Opens Self.Device.left held result) }
+        ensures steady { IfSome (file self.old path.now) (λ _.
+            NeverHalts Self.Device.interruptions Self.Device.failures) }
         ensures stays { (p : List ℕ) → file self.new p ≡ file self.old p };
 }

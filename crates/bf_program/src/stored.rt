@@ -5,6 +5,7 @@ ghost use Rattle.bf_program.specs.Source.{file_in};
 ghost use Rattle.bf_program.specs.Stored.{seen};
 
 use crate::source::{Source, SourceFault};
+use bf_device::Bytes;
 use bf_value::OutOfMemory;
 use std::alloc::Global;
 use std::marker::Model;
@@ -63,19 +64,15 @@ impl Source for StoredFiles {
     ghost use Rattle.std.specs.Prelude.{Some};
     ghost use Rattle.bf_program.specs.Source.{file_in};
 
+    type Device = Bytes;
+
     ghost file = { λ s path. Some (file_in s path) };
 
-    fn first_bytes(
-        &mut self,
-        alloc: Global,
-        path: &str,
-        count: usize,
-    ) -> Result<Vec<u8>, SourceFault> {
+    fn open(&mut self, path: &str) -> Result<Bytes, SourceFault> {
         let Some(bytes) = found_in(&self.files, path) else {
             return Err(SourceFault::CannotRead);
         };
-        let count = count.min(bytes.len());
-        Ok(bytes[..count].to_vec(alloc)?)
+        Ok(Bytes::new(bytes.to_vec(self.alloc)?))
     }
 }
 

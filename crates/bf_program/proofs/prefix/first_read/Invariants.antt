@@ -1,7 +1,7 @@
 use Rattle.std.proofs.Common.{◌≤◌, vec_len, ◌+◌, ◌-◌}
 use Rattle.std.specs.Io.KnownBytes.{Consumes}
 use Rattle.bf_device.specs.Device.{WentOn}
-use Rattle.bf_program.proofs.disk.first_read.Given as goal
+use Rattle.bf_program.proofs.prefix.first_read.Given as goal
 
 -- the bytes so far were taken off what the device had, and no read failed
 abbrev pub invariant-loop-chunk : goal.invariant-loop-chunk
