@@ -1,0 +1,14 @@
+mod Going
+mod Cutting
+mod Finding
+mod Telling
+mod Reading
+mod Optionals
+mod Starting
+mod Lasting
+mod Passing
+mod Heading
+mod Wholes
+mod Naming
+mod Crashes
+mod Leaving

@@ -1,0 +1,7 @@
+use Rattle.std.proofs.Common.{◌≡◌, ◌∙◌, ap, sym, None, option_copied}
+use Rattle.bf_plan.specs.declared.plan.Task.{Task}
+use Rattle.bf_journal.proofs.Reading.{no_task_there}
+use Rattle.bf_journal.proofs.retrying.retries_of.Goals as goal
+
+pub returns-in-None : goal.returns-in-None
+returns-in-None c = sym (ap (λ (t : Task). t.retries) (no_task_there c.args.dag.now c.args.task (sym c.get.ensures ∙ ap option_copied c.in-None.is)))

@@ -1,0 +1,42 @@
+-- The head of a journal.
+use Rattle.std.specs.Prelude.{ℕ, pos, List, [], ◌∷◌, ◌++◌, map, codes}
+use Rattle.bf_value.specs.declared.xval.Xval.{Xval}
+use Rattle.bf_value.specs.declared.xval.Xval.TheVariants.{Int, Text}
+use Rattle.bf_value.specs.Views.{list_of}
+use Rattle.bf_value.specs.Json.{text_of}
+use Rattle.bf_plan.specs.declared.plan.Dag.{Dag}
+use Rattle.bf_plan.specs.declared.plan.Task.{Task}
+use Rattle.bf_plan.specs.Plans.{task_of}
+use Rattle.bf_interval.specs.declared.interval.Interval.{Interval}
+use Rattle.bf_moment.specs.Moment.{moment_text}
+use Rattle.bf_moment.specs.declared.moment.Moment.{Moment}
+
+abbrev pub id_value : Dag → ℕ → Xval
+id_value dag task = Text (task_of dag task).id
+
+-- a task, and the tasks that it pulls from
+abbrev pub task_value : Dag → Task → Xval
+task_value dag task = list_of (Text task.id ∷ map (id_value dag) task.pulls)
+
+-- where a data interval starts and ends
+abbrev pub interval_value : Interval → Xval
+interval_value interval =
+    list_of (Text (moment_text interval.start.nanosecond) ∷ Text (moment_text interval.end.nanosecond) ∷ [])
+
+-- a task, and the start of the run in which it is cleared
+abbrev pub seed_value : List ℕ × Moment → Xval
+seed_value seed = list_of (Text seed.0 ∷ Text (moment_text seed.1.at.nanosecond) ∷ [])
+
+-- what is cleared, where something is
+abbrev pub seed_fields : List (List ℕ × Moment) → List Xval
+seed_fields [] = []
+seed_fields (seed ∷ seeds) = list_of (map seed_value (seed ∷ seeds)) ∷ []
+
+-- the words, the version, the dag id, the tasks, the runs, and what is cleared
+abbrev pub head_value : Dag → List Interval → List (List ℕ × Moment) → Xval
+head_value dag intervals seeds =
+    list_of ((Text (codes "backfill journal") ∷ Int (pos 1) ∷ Text dag.id ∷ list_of (map (task_value dag) dag.tasks)
+    ∷ list_of (map interval_value intervals) ∷ []) ++ seed_fields seeds)
+
+unfoldable pub head_text : Dag → List Interval → List (List ℕ × Moment) → List ℕ
+head_text dag intervals seeds = text_of (head_value dag intervals seeds) ++ 10 ∷ []

@@ -1,0 +1,43 @@
+//! Devices whose bytes outlast a power cut.
+ghost use Rattle.std.specs.Prelude.{◌≡◌};
+
+use bf_device::{Halt, MOST_INTERRUPTIONS, Memory, Output, Write};
+use std::fs::OpenFile;
+use std::io;
+
+/// A device that can see to it that what was written outlasts a power cut.
+pub trait Durable: Write {
+    /// Returns once all that was written before outlasts a power cut.
+    fn sync(&mut self) -> Result<(), Halt>
+        ensures { Self.written self.new ≡ Self.written self.old };
+}
+
+impl<F: io::Write + OpenFile + Drop> Durable for Output<F> {
+    fn sync(&mut self) -> Result<(), Halt> {
+        match self.inner.sync_data() {
+            Ok(()) => Ok(()),
+            Err(error) => Err(Halt::of(&error)),
+        }
+    }
+}
+
+/// For tests: what stands in memory outlasts nothing.
+impl Durable for Memory {
+    fn sync(&mut self) -> Result<(), Halt> {
+        Ok(())
+    }
+}
+
+/// Syncs, and says whether it was done. It gives up where that fails, and at the 1,001st interruption.
+pub(crate) fn is_synced<D: Durable>(device: &mut D) -> bool
+    ensures { D.written device.new ≡ D.written device.old }
+{
+    for _ in 0..=MOST_INTERRUPTIONS {
+        match device.sync() {
+            Ok(()) => return true,
+            Err(Halt::Again) => {}
+            Err(Halt::Failed) => return false,
+        }
+    }
+    false
+}

@@ -1,0 +1,74 @@
+//! Why a journal was not read.
+ghost use Rattle.std.specs.Prelude.{◌≡◌};
+ghost use Rattle.bf_journal.specs.declared.fault.JournalFault.TheVariants.{OutOfMemory as NoMemory};
+
+use bf_value::OutOfMemory;
+use std::alloc::{AllocError, AllocFailed};
+use std::error::Error;
+use std::fmt;
+
+/// Why nothing is kept of a journal. Lines are counted from 1, which is the head.
+#[derive(Clone, Copy, Debug, PartialEq, Eq)]
+pub enum JournalFault {
+    /// The line is whole, and tells of no try of this plan and its runs.
+    BadRecord(u64),
+    /// It is of another backfill: neither begins with its head nor is the beginning of it.
+    Mismatch,
+    OutOfMemory,
+}
+
+impl JournalFault {
+    ghost use Rattle.bf_journal.specs.Found.{fault_number};
+
+    /// The number of the refusal, which want of memory doesn't have.
+    pub fn number(self) -> Option<u32>
+        ensures { result ≡ fault_number self }
+    {
+        match self {
+            JournalFault::BadRecord(_) => Some(33),
+            JournalFault::Mismatch => Some(43),
+            JournalFault::OutOfMemory => None,
+        }
+    }
+}
+
+impl fmt::Display for JournalFault {
+    ghost use Rattle.std.specs.Prelude.{Some};
+    ghost use Rattle.bf_journal.specs.Found.{fault_text};
+
+    ghost output = { λ fault. Some (fault_text fault) };
+
+    fn fmt<W: fmt::Write>(&self, f: &mut fmt::Formatter<W>) -> fmt::Result {
+        match self {
+            JournalFault::BadRecord(number) => write!(f, "bad record: {number}"),
+            JournalFault::Mismatch => write!(f, "journal mismatch"),
+            JournalFault::OutOfMemory => write!(f, "out of memory"),
+        }
+    }
+}
+
+impl Error for JournalFault {}
+
+impl From<OutOfMemory> for JournalFault {
+    ghost from_gives = { λ _ e. e ≡ NoMemory };
+
+    fn from(_e: OutOfMemory) -> JournalFault {
+        JournalFault::OutOfMemory
+    }
+}
+
+impl From<AllocError> for JournalFault {
+    ghost from_gives = { λ _ e. e ≡ NoMemory };
+
+    fn from(_e: AllocError) -> JournalFault {
+        JournalFault::OutOfMemory
+    }
+}
+
+impl<T: Drop> From<AllocFailed<T>> for JournalFault {
+    ghost from_gives = { λ _ e. e ≡ NoMemory };
+
+    fn from(_e: AllocFailed<T>) -> JournalFault {
+        JournalFault::OutOfMemory
+    }
+}

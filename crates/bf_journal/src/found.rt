@@ -1,0 +1,75 @@
+//! What is found of a journal.
+ghost use Rattle.std.specs.Prelude.{◌≡◌, ◌≢◌, ◌<◌, ◌≤◌, ◌+◌, ◌++◌, ℕ, List, length, IfOk, IfErr, MatchOption};
+ghost use Rattle.std.specs.FinMap as map;
+ghost use Rattle.bf_kept.specs.Kept.{AreFit};
+ghost use Rattle.bf_journal.specs.Found.{IsCutHead, IsFault, IsGoneOnWith};
+
+use crate::fault::JournalFault;
+use crate::last::last_of;
+use crate::told::{Told, told_in};
+use bf_interval::Runs;
+use bf_plan::Plan;
+use bf_try::Ledger;
+use std::alloc::Global;
+
+/// The tries that are kept of a journal, how many bytes at its front are whole lines, and how many stand behind them: of a line
+/// that was cut short.
+#[derive(Drop)]
+pub struct Found {
+    pub tries: Ledger,
+    pub whole: usize,
+    pub torn: usize,
+}
+
+/// What stands behind a front, where the bytes begin with it.
+fn behind<'b>(bytes: &'b [u8], front: &[u8]) -> Option<&'b [u8]>
+    ensures { MatchOption result ((rest : List ℕ) → bytes.entry.now ≢ front.now ++ rest)
+        (λ rest. bytes.entry.now ≡ front.now ++ rest.now) }
+{
+    bytes.strip_prefix(front)
+}
+
+/// What is found where the bytes don't begin with the head: nothing is kept of a head that was cut short.
+#[tactic(auto, using(crate::proofs::Heading::begins))]
+fn found_in_head(alloc: Global, head: &[u8], bytes: &[u8]) -> Result<Found, JournalFault>
+    ensures ok { IfOk result (λ f. IsCutHead head.now bytes.now f.whole (map.get f.tries)) }
+    ensures torn { IfOk result (λ f. f.torn ≡ length bytes.now) }
+    ensures err { IfErr result (λ fault. (fault ≡ JournalFault.Mismatch)
+        × ((rest : List ℕ) → head.now ≢ bytes.now ++ rest)) }
+{
+    match behind(head, bytes) {
+        Some(_rest) => Ok(Found {
+            tries: Ledger::new(alloc),
+            whole: 0,
+            torn: bytes.len(),
+        }),
+        None => Err(JournalFault::Mismatch),
+    }
+}
+
+/// What is found in the bytes of a journal that begins with this head, which is that of the plan and its runs: of each name the
+/// last try whose outcome fits the plan. A journal that is no more than the beginning of its head is to be begun anew: there no
+/// byte is whole.
+pub fn read_journal(
+    alloc: Global,
+    plan: &Plan,
+    runs: &Runs,
+    head: &[u8],
+    bytes: &[u8],
+) -> Result<Found, JournalFault>
+    ensures begun { IfOk result (λ f. f.whole < length head.now
+        → IsCutHead head.now bytes.now f.whole (map.get f.tries)) }
+    ensures whole { IfOk result (λ f. length head.now ≤ f.whole
+        → IsGoneOnWith plan.now.dag runs.now head.now bytes.now f.whole (map.get f.tries)) }
+    ensures torn { IfOk result (λ f. f.whole + f.torn ≡ length bytes.now) }
+    ensures fit { IfOk result (λ f. AreFit plan.now.dag (map.get f.tries)) }
+    ensures refused { IfErr result (IsFault plan.now.dag runs.now head.now bytes.now) }
+{
+    let Some(records) = behind(bytes, head) else {
+        return found_in_head(alloc, head, bytes);
+    };
+    let Told { tries, torn } = told_in(alloc, plan, runs, records)?;
+    let tries = last_of(alloc, plan, tries)?;
+    let whole = bytes.len() - torn;
+    Ok(Found { tries, whole, torn })
+}

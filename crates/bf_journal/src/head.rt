@@ -1,0 +1,129 @@
+//! The head of a journal.
+ghost use Rattle.std.specs.Prelude.{◌≡◌, IfOk, map, string_bytes};
+ghost use Rattle.bf_value.specs.Views.{list_of};
+ghost use Rattle.bf_interval.specs.Intervals.{IsShownInterval};
+ghost use Rattle.bf_plan.specs.Plans.{task_of};
+ghost use Rattle.bf_journal.specs.Heads.{head_text, head_value, id_value, interval_value, seed_value, task_value};
+
+use crate::value::{moment_value, text_value};
+use bf_interval::{Interval, Runs};
+use bf_moment::Moment;
+use bf_plan::{Dag, Plan, Task};
+use bf_value::{OutOfMemory, Text, Values, Xval, text_of};
+use std::alloc::Global;
+
+/// The words that a journal begins with.
+const WORDS: &str = "backfill journal";
+
+/// The version of the form of journals.
+const VERSION: i64 = 1;
+
+/// The id of a task, which is empty where there is no such task.
+#[tactic(auto, unfolding(bf_plan::specs::Plans::task_of))]
+fn id_of(dag: &Dag, task: u32) -> &str
+    ensures { result.now ≡ (task_of dag.now task).id }
+{
+    match dag.tasks.get(task as usize) {
+        Some(task) => task.id.as_str(),
+        None => "",
+    }
+}
+
+/// A task, and the tasks that it pulls from.
+fn task_words(alloc: Global, dag: &Dag, task: &Task) -> Result<Xval, OutOfMemory>
+    ensures { IfOk result (λ v. v ≡ task_value dag.now task.now) }
+{
+    let mut ids = Vec::new(alloc);
+    ids.push(text_value(alloc, task.id.as_str())?)?;
+    for pull in task.pulls.as_slice() {
+        ids.push(text_value(alloc, id_of(dag, *pull))?)?;
+    }
+    Ok(Xval::List(Values::new(ids)))
+}
+
+fn all_task_words(alloc: Global, dag: &Dag) -> Result<Xval, OutOfMemory>
+    ensures { IfOk result (λ v. v ≡ list_of (map (task_value dag.now) dag.now.tasks)) }
+{
+    let mut tasks = Vec::new(alloc);
+    for task in dag.tasks.as_slice() {
+        tasks.push(task_words(alloc, dag, task)?)?;
+    }
+    Ok(Xval::List(Values::new(tasks)))
+}
+
+/// Where a data interval starts and ends.
+fn interval_words(alloc: Global, interval: &Interval) -> Result<Xval, OutOfMemory>
+    requires { IsShownInterval interval.now }
+    ensures { IfOk result (λ v. v ≡ interval_value interval.now) }
+{
+    let start = moment_value(alloc, interval.start)?;
+    let end = moment_value(alloc, interval.end)?;
+    Ok(Xval::List(Values::new(vec![in alloc; start, end]?)))
+}
+
+fn all_interval_words(alloc: Global, runs: &Runs) -> Result<Xval, OutOfMemory>
+    ensures { IfOk result (λ v. v ≡ list_of (map interval_value runs.now)) }
+{
+    let mut intervals = Vec::new(alloc);
+    for interval in runs.intervals() {
+        intervals.push(interval_words(alloc, interval)?)?;
+    }
+    Ok(Xval::List(Values::new(intervals)))
+}
+
+/// A task, and the start of the run in which it is cleared.
+fn seed_words(alloc: Global, seed: &(Text, Moment)) -> Result<Xval, OutOfMemory>
+    ensures { IfOk result (λ v. v ≡ seed_value seed.now) }
+{
+    let task = text_value(alloc, seed.0.as_str())?;
+    let run = Xval::Text(Text::new(seed.1.to_string(alloc)?));
+    Ok(Xval::List(Values::new(vec![in alloc; task, run]?)))
+}
+
+fn all_seed_words(alloc: Global, seeds: &[(Text, Moment)]) -> Result<Xval, OutOfMemory>
+    ensures { IfOk result (λ v. v ≡ list_of (map seed_value seeds.now)) }
+{
+    let mut words = Vec::new(alloc);
+    for seed in seeds {
+        words.push(seed_words(alloc, seed)?)?;
+    }
+    Ok(Xval::List(Values::new(words)))
+}
+
+/// The head as one value.
+fn value_of(
+    alloc: Global,
+    dag: &Dag,
+    runs: &Runs,
+    seeds: &[(Text, Moment)],
+) -> Result<Xval, OutOfMemory>
+    ensures { IfOk result (λ v. v ≡ head_value dag.now runs.now seeds.now) }
+{
+    let words = text_value(alloc, WORDS)?;
+    let id = text_value(alloc, dag.id.as_str())?;
+    let tasks = all_task_words(alloc, dag)?;
+    let intervals = all_interval_words(alloc, runs)?;
+    let mut fields = vec![in alloc; words, Xval::Int(VERSION), id, tasks, intervals]?;
+    if !seeds.is_empty() {
+        fields.push(all_seed_words(alloc, seeds)?)?;
+    }
+    Ok(Xval::List(Values::new(fields)))
+}
+
+/// The line that a journal of this backfill begins with. It is never parsed: a journal is of another backfill where it
+/// doesn't begin with this. `seeds` is what is cleared: each task by its id, with the start of the run; a backfill that
+/// clears nothing has none.
+#[tactic(auto, unfolding(crate::specs::Heads::head_text))]
+pub fn head_of(
+    alloc: Global,
+    plan: &Plan,
+    runs: &Runs,
+    seeds: &[(Text, Moment)],
+) -> Result<String, OutOfMemory>
+    ensures { IfOk result (λ head. string_bytes head ≡ head_text plan.now.dag runs.now seeds.now) }
+{
+    let value = value_of(alloc, plan.dag(), runs, seeds)?;
+    let mut head = text_of(alloc, &value)?;
+    head.push_str("\n")?;
+    Ok(head)
+}

@@ -1,0 +1,58 @@
+//! What is kept of tries of which some have one name: the last.
+ghost use Rattle.std.specs.Prelude.{◌≡◌, ◌<◌, length, IfOk, OnOk};
+ghost use Rattle.std.specs.Option.{option_or};
+ghost use Rattle.std.specs.FinMap as map;
+ghost use Rattle.bf_value.specs.declared.name.JobName.{JobName as JobNameTerm};
+ghost use Rattle.bf_journal.specs.Found.{AreOfTasks, entry_for, entry_named, last_for};
+
+use bf_plan::Plan;
+use bf_try::{Entry, Ledger, NoteFault, fits};
+use bf_value::{JobName, OutOfMemory};
+use std::alloc::Global;
+
+/// Notes a try, unless one of its name is noted.
+#[tactic(auto, using(crate::proofs::Lasting::noted, crate::proofs::Lasting::not_noted))]
+fn note(ledger: &mut Ledger, name: JobName, entry: Entry) -> Result<(), OutOfMemory>
+    ensures { OnOk result ((n : JobNameTerm) →
+        map.get ledger.new n ≡ option_or (map.get ledger.old n) (entry_named (name, entry) n)) }
+{
+    match ledger.note(name, entry) {
+        Ok(()) => Ok(()),
+        Err((_, NoteFault::AlreadyRecorded)) => Ok(()),
+        Err((_, NoteFault::OutOfMemory)) => Err(OutOfMemory),
+    }
+}
+
+/// Notes a try that stands before those that were noted, if it fits.
+fn note_before(
+    ledger: &mut Ledger,
+    plan: &Plan,
+    name: JobName,
+    entry: Entry,
+) -> Result<(), OutOfMemory>
+    requires { name.task < length plan.now.dag.tasks }
+    ensures { OnOk result ((n : JobNameTerm) →
+        map.get ledger.new n ≡ option_or (map.get ledger.old n) (entry_for plan.now.dag (name, entry) n)) }
+{
+    if !fits(plan, name.task, &entry.outcome) {
+        return Ok(());
+    }
+    note(ledger, name, entry)
+}
+
+/// Of each name the last of these tries that fits the plan.
+pub(crate) fn last_of(
+    alloc: Global,
+    plan: &Plan,
+    mut tries: Vec<(JobName, Entry)>,
+) -> Result<Ledger, OutOfMemory>
+    requires { AreOfTasks plan.now.dag tries.items }
+    ensures { IfOk result (λ ledger. (n : JobNameTerm) →
+        map.get ledger n ≡ last_for plan.now.dag tries.items n) }
+{
+    let mut ledger = Ledger::new(alloc);
+    while let Some((name, entry)) = tries.pop() {
+        note_before(&mut ledger, plan, name, entry)?;
+    }
+    Ok(ledger)
+}

@@ -1,0 +1,23 @@
+//! Lines of a text that may be cut short anywhere.
+ghost use Rattle.std.specs.Prelude.{◌≡◌, ◌++◌, ◌∷◌, [], IfSome, IfNone, position, ◌==◌};
+ghost use Rattle.bf_journal.specs.Lines.{IsInLine, whole_lines};
+
+/// Where the first line feed stands.
+fn line_feed_in(bytes: &[u8]) -> Option<usize>
+    ensures { result ≡ position (λ b. b == 10) bytes.now }
+{
+    bytes.iter().position(|byte| *byte == b'\n')
+}
+
+/// The first whole line, and what stands behind its line feed.
+#[tactic(auto, using(crate::proofs::Finding::first_found, crate::proofs::Finding::none_found))]
+pub(crate) fn first_line(bytes: &[u8]) -> Option<(&[u8], &[u8])>
+    ensures some { IfSome result (λ p. (bytes.now ≡ p.0.now ++ 10 ∷ p.1.now) × IsInLine p.0.now
+        × (whole_lines bytes.now ≡ p.0.now ∷ whole_lines p.1.now)) }
+    ensures none { IfNone result (IsInLine bytes.now × (whole_lines bytes.now ≡ [])) }
+{
+    match line_feed_in(bytes) {
+        Some(at) => Some((&bytes[..at], &bytes[at + 1..])),
+        None => None,
+    }
+}

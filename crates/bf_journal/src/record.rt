@@ -1,0 +1,165 @@
+//! Tries as records.
+ghost use Rattle.std.specs.Prelude.{◌≡◌, ◌<◌, ◌≤◌, length, IfOk, IfSome, IfNone, map, option_copied, string_bytes};
+ghost use Rattle.bf_value.specs.Plain.{plain_depth};
+ghost use Rattle.bf_value.specs.Views.{plain_of};
+ghost use Rattle.bf_interval.specs.Intervals.{IsShownInterval};
+ghost use Rattle.bf_journal.specs.Records.{exit_code, HasNoRecord, IsLineOf, IsRecord, optional as optional_value, outcome_word, record_of as record_in, stamp_value};
+
+use crate::run::run_of;
+use crate::times::Times;
+use crate::value::{moment_value, text_value};
+use bf_interval::{Interval, Runs};
+use bf_plan::Plan;
+use bf_try::{Done, Exit};
+use bf_value::{OutOfMemory, Values, Xval, text_of};
+use bf_xcom::Outcome;
+use std::alloc::Global;
+
+/// How deep the lists of a record may nest: as deep as JSON is read.
+pub(crate) const DEEPEST_RECORD: usize = 127;
+
+/// A list of the value, or of none.
+fn optional(alloc: Global, value: Option<&Xval>) -> Result<Xval, OutOfMemory>
+    ensures { IfOk result (λ v. v ≡ optional_value (option_copied value.entry)) }
+{
+    let mut items = Vec::new(alloc);
+    match value {
+        Some(value) => {
+            items.push(value.copy(alloc)?)?;
+            Ok(Xval::List(Values::new(items)))
+        }
+        None => Ok(Xval::List(Values::new(items))),
+    }
+}
+
+fn all_optional(alloc: Global, values: &[Option<Xval>]) -> Result<Vec<Xval>, OutOfMemory>
+    ensures { IfOk result (λ all. all.items ≡ map optional_value values.now) }
+{
+    let mut all = Vec::with_capacity(alloc, values.len())?;
+    for value in values {
+        all.push(optional(alloc, value.as_ref())?)?;
+    }
+    Ok(all)
+}
+
+/// How a try ended.
+fn word_of(outcome: &Outcome) -> &'static str
+    ensures { result.now ≡ outcome_word outcome.now }
+{
+    match outcome {
+        Outcome::Success(_) => "success",
+        Outcome::Failed => "failed",
+        Outcome::Skipped => "skipped",
+    }
+}
+
+/// The status that a shell shows of what ended so: 128 for a signal, whose number an `Exit` doesn't have, and -1 where nothing
+/// was started.
+fn code_of(exit: Exit) -> i64
+    ensures { result ≡ exit_code exit }
+{
+    match exit {
+        Exit::Code(code) => i64::from(code),
+        Exit::Signal => 128,
+        Exit::NotStarted => -1,
+    }
+}
+
+/// When a try started, when it ended, and by which code.
+fn stamp_of(alloc: Global, times: Times, exit: Exit) -> Result<Xval, OutOfMemory>
+    ensures { IfOk result (λ v. v ≡ stamp_value times exit) }
+{
+    let start = Xval::Int(times.start);
+    let end = Xval::Int(times.end);
+    let code = Xval::Int(code_of(exit));
+    let numbers = vec![in alloc; start, end, code]?;
+    Ok(Xval::List(Values::new(numbers)))
+}
+
+/// The record of an answered try that ended so, in a run of this data interval.
+fn value_of(
+    alloc: Global,
+    plan: &Plan,
+    run: &Interval,
+    done: &Done,
+    outcome: &Outcome,
+    times: Times,
+) -> Result<Xval, OutOfMemory>
+    requires task { done.now.name.task < length plan.now.dag.tasks }
+    requires shown { IsShownInterval run.now }
+    ensures { IfOk result (λ v. v ≡ record_in plan.now.dag run.now done.now outcome.now times) }
+{
+    let name = done.name();
+    let given = done.given();
+    let run = moment_value(alloc, run.start)?;
+    let task = text_value(alloc, plan.dag().task(name.task).id.as_str())?;
+    let index = Xval::Int(i64::from(name.index));
+    let attempt = Xval::Int(i64::from(name.attempt));
+    let word = text_value(alloc, word_of(outcome))?;
+    let pushed = optional(alloc, outcome.pushed())?;
+    let item = optional(alloc, given.item.as_ref())?;
+    let pulled = Xval::List(Values::new(all_optional(alloc, given.pulled.as_slice())?));
+    let stamp = stamp_of(alloc, times, done.raw().exit)?;
+    let fields = vec![in alloc;
+        run, task, index, attempt, word, pushed, item, pulled, stamp,
+    ]?;
+    Ok(Xval::List(Values::new(fields)))
+}
+
+/// A value as a line; none, where its lists nest too deep to be read back.
+fn line_of(alloc: Global, value: &Xval) -> Result<Option<String>, OutOfMemory>
+    ensures some { IfOk result (λ o. IfSome o (λ line. IsLineOf value.now (string_bytes line))) }
+    ensures none { IfOk result (λ o. IfNone o (¬ (plain_depth (plain_of value.now) ≤ 127))) }
+{
+    value.known();
+    if !value.is_nested_within(DEEPEST_RECORD) {
+        return Ok(None);
+    }
+    let mut line = text_of(alloc, value)?;
+    line.push_str("\n")?;
+    Ok(Some(line))
+}
+
+/// The line of the record of an answered try that ended so, in a run of this data interval.
+fn line_in(
+    alloc: Global,
+    plan: &Plan,
+    run: &Interval,
+    done: &Done,
+    outcome: &Outcome,
+    times: Times,
+) -> Result<Option<String>, OutOfMemory>
+    requires task { done.now.name.task < length plan.now.dag.tasks }
+    requires shown { IsShownInterval run.now }
+    ensures some { IfOk result (λ o. IfSome o (λ line.
+        IsLineOf (record_in plan.now.dag run.now done.now outcome.now times) (string_bytes line))) }
+    ensures none { IfOk result (λ o. IfNone o
+        (¬ (plain_depth (plain_of (record_in plan.now.dag run.now done.now outcome.now times)) ≤ 127))) }
+{
+    let value = value_of(alloc, plan, run, done, outcome, times)?;
+    line_of(alloc, &value)
+}
+
+/// The line of the record of an answered try that ended so. None, where there is no such task or run, and where lists nest
+/// too deep for it to be read back: no value that a program pushes does.
+pub fn record_of(
+    alloc: Global,
+    plan: &Plan,
+    runs: &Runs,
+    done: &Done,
+    outcome: &Outcome,
+    times: Times,
+) -> Result<Option<String>, OutOfMemory>
+    ensures some { IfOk result (λ o. IfSome o (λ line.
+        IsRecord plan.now.dag runs.now done.now outcome.now times (string_bytes line))) }
+    ensures none { IfOk result (λ o. IfNone o (HasNoRecord plan.now.dag runs.now done.now outcome.now times)) }
+{
+    let name = done.name();
+    if name.task as usize >= plan.dag().tasks.len() {
+        return Ok(None);
+    }
+    match run_of(runs, name.run) {
+        Some(run) => line_in(alloc, plan, run, done, outcome, times),
+        None => Ok(None),
+    }
+}

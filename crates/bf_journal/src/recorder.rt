@@ -1,0 +1,148 @@
+//! What writes records behind each other.
+ghost use Rattle.std.specs.Prelude.{◌≡◌, ◌+◌, ◌-◌, ◌^◌, min, true, false};
+ghost use Rattle.bf_device.specs.Device.{sent};
+ghost use Rattle.bf_journal.specs.Recording.{GoesOut, IsWritten, is_write_failed, stop_of};
+
+use crate::durable::{Durable, is_synced};
+use crate::journaled::Journaled;
+use crate::stop::Stop;
+use bf_device::send;
+use std::marker::{Model, PhantomData};
+use std::time::Duration;
+
+/// The least time between two syncs, in seconds.
+const PAUSE: u64 = 1;
+
+/// Writes records behind each other, and syncs at most once a second. Where a write fails nothing more is written, since a
+/// record that was cut short would run into the next. Contracts see what was written and why no further try is begun.
+#[derive(Drop)]
+pub struct Recorder<K: Journaled, D: Durable + Drop> {
+    device: D,
+    write_failed: bool,
+    memory_failed: bool,
+    failed_tries: u32,
+    most_failed: Option<u32>,
+    /// When the device was synced last, or taken over, by the monotonic clock.
+    synced: Duration,
+    of: PhantomData<K>,
+}
+
+impl<K: Journaled, D: Durable + Drop> Model for Recorder<K, D> {
+    ghost use Rattle.bf_journal.specs.Recording.{IsWritten, Recorded};
+
+    ghost Value = { Recorded };
+
+    ghost view = { λ r. record {
+      written = D.written r.device;
+      write_failed = r.write_failed;
+      memory_failed = r.memory_failed;
+      failed_tries = r.failed_tries;
+      most_failed = r.most_failed;
+    } };
+
+    ghost invariant = { λ r. IsWritten K.may_record K.base (D.written r.device) r.write_failed };
+}
+
+/// Writes a line, and syncs where that is due. Says whether both were done.
+fn is_recorded<D: Durable>(device: &mut D, line: &[u8], due: bool) -> bool
+    ensures { GoesOut line.now (D.written device.old) (D.written device.new) result }
+{
+    match send(device, line) {
+        Ok(()) if due => is_synced(device),
+        Ok(()) => true,
+        Err(_) => false,
+    }
+}
+
+impl<K: Journaled, D: Durable + Drop> Recorder<K, D> {
+    /// A recorder that goes on behind what the device was given. Behind so many failed tries no further one is to begin.
+    /// `now` is the present moment of the monotonic clock, here and below.
+    #[tactic(auto, using(crate::proofs::Going::begins))]
+    pub fn new(device: D, most_failed: Option<u32>, now: Duration) -> Recorder<K, D>
+        requires { K.base ≡ D.written device }
+        ensures { result ≡ record {
+          written = D.written device;
+          write_failed = false;
+          memory_failed = false;
+          failed_tries = 0;
+          most_failed = most_failed;
+        } }
+    {
+        Recorder {
+            device,
+            write_failed: false,
+            memory_failed: false,
+            failed_tries: 0,
+            most_failed,
+            synced: now,
+            of: PhantomData,
+        }
+    }
+
+    /// Writes a record, unless a write has failed before.
+    #[tactic(auto, using(crate::proofs::Going::goes_on))]
+    pub fn record(&mut self, line: &[u8], now: Duration)
+        requires { K.may_record line.now }
+        ensures behind_failure { self.old.write_failed ≡ true → self.new ≡ self.old }
+        ensures ok { self.new.write_failed ≡ false → self.new.written ≡ sent self.old.written line.now }
+        ensures failed_tries { self.new.failed_tries ≡ self.old.failed_tries }
+    {
+        if self.write_failed {
+            return;
+        }
+        let due = now.saturating_sub(self.synced).as_secs() >= PAUSE;
+        self.synced = if due { now } else { self.synced };
+        self.write_failed = !is_recorded(&mut self.device, line, due);
+    }
+
+    /// Notes that memory was wanting for a record.
+    pub fn lose(&mut self)
+        ensures { self.new ≡ record self.old { memory_failed = true } }
+    {
+        self.memory_failed = true;
+    }
+
+    /// Counts a try that has failed.
+    pub fn count_failed(&mut self)
+        ensures { self.new ≡ record self.old { failed_tries = min (self.old.failed_tries + 1) (2 ^ 32 - 1) } }
+    {
+        self.failed_tries = self.failed_tries.saturating_add(1);
+    }
+
+    /// Why no further try is begun, if none is.
+    pub fn stop(&self) -> Option<Stop>
+        ensures { result ≡ stop_of self.now }
+    {
+        if self.write_failed {
+            return Some(Stop::WriteFailed);
+        }
+        if self.memory_failed {
+            return Some(Stop::OutOfMemory);
+        }
+        match self.most_failed {
+            Some(most) if most <= self.failed_tries => Some(Stop::EnoughFailed),
+            _ => None,
+        }
+    }
+
+    /// Syncs, and gives the device back, with why no further try was begun.
+    #[tactic(auto, using(crate::proofs::Going::given_up))]
+    pub fn end(mut self) -> (D, Option<Stop>)
+        ensures { IsWritten K.may_record K.base (D.written result.0) (is_write_failed result.1) }
+    {
+        if !self.write_failed {
+            self.write_failed = !is_synced(&mut self.device);
+        }
+        let stop = self.stop();
+        let Recorder {
+            device,
+            write_failed: _,
+            memory_failed: _,
+            failed_tries: _,
+            most_failed: _,
+            synced: _,
+            of: _,
+        } = self;
+        (device, stop)
+    }
+}

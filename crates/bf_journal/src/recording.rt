@@ -1,0 +1,166 @@
+//! A runner that records.
+ghost use Rattle.std.specs.Prelude.{◌≡◌, ◌<◌, length, IfOk, IfSome, string_bytes};
+ghost use Rattle.bf_try.specs.Grades.{grade_of};
+ghost use Rattle.bf_journal.specs.Recording.{IsWritten, MayRecord, is_write_failed};
+
+use crate::durable::Durable;
+use crate::journaled::Journaled;
+use crate::record::record_of;
+use crate::recorder::Recorder;
+use crate::stop::Stop;
+use crate::times::{Times, milliseconds};
+use bf_interval::Runs;
+use bf_plan::Plan;
+use bf_try::{Done, Outcome, RunnerFault, TaskRunner, Ticket, grade};
+use bf_value::OutOfMemory;
+use std::alloc::Global;
+use std::marker::Model;
+use std::sync::{Mutex, Wait};
+use std::time::{Clock, Duration};
+
+/// Hands each try on to a runner, and records how it ended. Every further try is given up, and not handed on, where a record
+/// can't be written, where memory is wanting for one, and where enough tries have failed; those that run are recorded.
+#[derive(Drop)]
+pub struct Recording<'a, K: Journaled, RT, R: TaskRunner, D: Durable + Drop> {
+    rt: &'a RT,
+    alloc: Global,
+    plan: &'a Plan,
+    runs: &'a Runs,
+    runner: &'a R,
+    recorder: Mutex<Recorder<K, D>>,
+}
+
+impl<'a, K: Journaled, RT, R: TaskRunner, D: Durable + Drop> Model for Recording<'a, K, RT, R, D> {
+    ghost use Rattle.std.specs.Coded.{codes};
+    ghost use Rattle.bf_plan.specs.contracts.plan.Dag as d;
+    ghost use Rattle.bf_interval.specs.contracts.interval.Interval as i;
+    ghost use Rattle.bf_journal.specs.Recording.{MayRecord, RecordingOf};
+
+    ghost Value = { RecordingOf R };
+
+    ghost coded = { Prim.hlevel (codes, d.the_row.coded, i.the_row.coded) };
+
+    ghost view = { λ s. record { runner = s.runner.now; dag = s.plan.now.dag; intervals = s.runs.now } };
+
+    ghost invariant = { λ s. MayRecord K.may_record (R.may_answer s.runner.now) s.plan.now.dag s.runs.now };
+}
+
+/// How a try ended, and its line.
+#[derive(Drop)]
+struct Recordable {
+    has_failed: bool,
+    line: Option<String>,
+}
+
+impl<'a, K: Journaled, RT: Wait + Clock, R: TaskRunner, D: Durable + Drop> Recording<
+    'a,
+    K,
+    RT,
+    R,
+    D,
+> {
+    /// A runner round a runner, for the runs of a plan.
+    pub fn new(
+        rt: &'a RT,
+        alloc: Global,
+        plan: &'a Plan,
+        runs: &'a Runs,
+        runner: &'a R,
+        recorder: Recorder<K, D>,
+    ) -> Self
+        requires { MayRecord K.may_record (R.may_answer runner.now) plan.now.dag runs.now }
+        ensures { result ≡ record { runner = runner.entry.now; dag = plan.entry.now.dag; intervals = runs.entry.now } }
+    {
+        Recording {
+            rt,
+            alloc,
+            plan,
+            runs,
+            runner,
+            recorder: Mutex::new(recorder),
+        }
+    }
+
+    /// The present moment of the monotonic clock.
+    fn now(&self) -> Duration {
+        self.rt.monotonic().unwrap_or(Duration::ZERO)
+    }
+
+    /// What is to be recorded of a try.
+    fn recordable(&self, done: &Done, times: Times) -> Result<Recordable, OutOfMemory>
+        requires may { R.may_answer self.now.runner done.now.name done.now.given done.now.raw }
+        requires task { done.now.name.task < length self.now.dag.tasks }
+        ensures { IfOk result (λ r. IfSome r.line (λ line. K.may_record (string_bytes line))) }
+    {
+        let outcome = grade(self.alloc, self.plan, done.name().task, done.raw())?;
+        let line = record_of(self.alloc, self.plan, self.runs, done, &outcome, times)?;
+        let has_failed = matches!(&outcome, Outcome::Failed);
+        Ok(Recordable { has_failed, line })
+    }
+
+    /// Records a try. One of a task that isn't there has no record.
+    fn record(&self, done: &Done, times: Times) -> Result<(), OutOfMemory>
+        requires { R.may_answer self.now.runner done.now.name done.now.given done.now.raw }
+    {
+        if done.name().task as usize >= self.plan.dag().tasks.len() {
+            return Ok(());
+        }
+        let recordable = self.recordable(done, times)?;
+        let now = self.now();
+        let mut recorder = self.recorder.lock(self.rt);
+        if let Some(line) = &recordable.line {
+            recorder.record(line.as_bytes(), now);
+        }
+        if recordable.has_failed {
+            recorder.count_failed();
+        }
+        Ok(())
+    }
+
+    /// Notes that memory was wanting for a record.
+    fn lose(&self) {
+        let mut recorder = self.recorder.lock(self.rt);
+        recorder.lose();
+    }
+
+    /// Why no further try is begun, if none is.
+    pub fn stop(&self) -> Option<Stop> {
+        let recorder = self.recorder.lock(self.rt);
+        recorder.stop()
+    }
+
+    /// Syncs, and gives the device back, with why no further try was begun.
+    pub fn end(self) -> (D, Option<Stop>)
+        ensures { IsWritten K.may_record K.base (D.written result.0) (is_write_failed result.1) }
+    {
+        let Recording {
+            rt: _,
+            alloc: _,
+            plan: _,
+            runs: _,
+            runner: _,
+            recorder,
+        } = self;
+        recorder.into_inner().end()
+    }
+}
+
+impl<'a, K: Journaled, RT: Wait + Clock, R: TaskRunner, D: Durable + Drop> TaskRunner
+    for Recording<'a, K, RT, R, D> {
+    ghost may_answer = { λ s n g raw. R.may_answer s.runner n g raw };
+
+    ghost may_give_up = { λ s n g. Unit {0} };
+
+    fn run(&self, ticket: Ticket) -> Result<Done, (Ticket, RunnerFault)> {
+        if self.stop().is_some() {
+            return Err((ticket, RunnerFault::GaveUp));
+        }
+        let start = milliseconds(self.rt);
+        let done = self.runner.run(ticket)?;
+        let end = milliseconds(self.rt);
+        if self.record(&done, Times { start, end }).is_err() {
+            self.lose();
+        }
+        Ok(done)
+    }
+}

@@ -1,0 +1,84 @@
+//! Failed tries that are made again.
+ghost use Rattle.std.specs.Prelude.{◌≡◌, ℕ, option_copied};
+ghost use Rattle.std.specs.FinMap as map;
+ghost use Rattle.bf_plan.specs.Plans.{task_of};
+ghost use Rattle.bf_journal.specs.Retrying.{has_failed, has_passed, some_passed, with_attempt};
+
+use bf_kept::KeptTries;
+use bf_plan::{Dag, Plan};
+use bf_try::{Entry, Ledger, Outcome, Raw};
+use bf_value::{JobName, OutOfMemory};
+use bf_xcom::Given;
+use std::alloc::Global;
+
+/// The tries of a ledger but for the failed ones of instances that neither succeeded nor were skipped: those are made again (as
+/// by GNU parallel's `--resume-failed`).
+#[derive(Clone, Copy, Drop)]
+pub struct WithoutFailed<'a> {
+    pub plan: &'a Plan,
+    pub tries: &'a Ledger,
+}
+
+fn has_failed_in(entry: Option<&Entry>) -> bool
+    ensures { result ≡ has_failed (option_copied entry.entry) }
+{
+    match entry {
+        Some(entry) => matches!(&entry.outcome, Outcome::Failed),
+        None => false,
+    }
+}
+
+fn has_passed_in(entry: Option<&Entry>) -> bool
+    ensures { result ≡ has_passed (option_copied entry.entry) }
+{
+    match entry {
+        Some(entry) => !matches!(&entry.outcome, Outcome::Failed),
+        None => false,
+    }
+}
+
+/// How often a failed try of a task is made again.
+#[tactic(auto, unfolding(bf_plan::specs::Plans::task_of))]
+fn retries_of(dag: &Dag, task: u32) -> u32
+    ensures { result ≡ (task_of dag.now task).retries }
+{
+    match dag.tasks.get(task as usize) {
+        Some(task) => task.retries,
+        None => 0,
+    }
+}
+
+/// Whether a try of the same instance, of the number, is there and succeeded or was skipped.
+fn passed_at(tries: &Ledger, name: JobName, attempt: u32) -> bool
+    ensures { result ≡ has_passed (map.get tries.now (with_attempt name attempt)) }
+{
+    has_passed_in(tries.get(JobName { attempt, ..name }))
+}
+
+/// Whether a try of the instance succeeded or was skipped.
+fn some_passed_in(plan: &Plan, tries: &Ledger, name: JobName) -> bool
+    ensures { result ≡ some_passed plan.now.dag (map.get tries.now) name }
+{
+    let last = retries_of(plan.dag(), name.task) + 1;
+    (1..last + 1).any(|attempt| passed_at(tries, name, attempt))
+}
+
+impl KeptTries for WithoutFailed<'_> {
+    ghost use Rattle.std.specs.FinMap as map;
+    ghost use Rattle.bf_journal.specs.Retrying.{without_failed};
+
+    ghost kept = { λ s. without_failed s.plan.now.dag (map.get s.tries.now) };
+
+    #[tactic(auto, unfolding(crate::specs::Retrying::without_failed))]
+    fn answer(
+        &self,
+        alloc: Global,
+        name: JobName,
+        given: &Given,
+    ) -> Result<Option<Raw>, OutOfMemory> {
+        if has_failed_in(self.tries.get(name)) && !some_passed_in(self.plan, self.tries, name) {
+            return Ok(None);
+        }
+        self.tries.answer(alloc, name, given)
+    }
+}

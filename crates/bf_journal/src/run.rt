@@ -1,0 +1,55 @@
+//! Runs, found by the text of their start.
+ghost use Rattle.std.specs.Prelude.{◌≡◌, ◌↔◌, IsTrue, IfSome, option_copied, slice_get};
+ghost use Rattle.bf_interval.specs.Intervals.{IsShownInterval};
+ghost use Rattle.bf_journal.specs.Tells.{IsFound, StartsAt, StartsOn};
+
+use bf_interval::{Interval, Runs};
+use bf_moment::{moment_bytes, moment_in};
+use jiff::Timestamp;
+
+/// The data interval of the run of a number, where there is one.
+pub(crate) fn run_of(runs: &Runs, run: u32) -> Option<&Interval>
+    ensures run { option_copied result ≡ slice_get runs.now run }
+    ensures shown { IfSome (option_copied result) IsShownInterval }
+{
+    runs.intervals().get(run as usize)
+}
+
+/// Whether there is such a run, and the text is that of its start.
+fn starts_at(run: Option<&Interval>, text: &str) -> bool
+    requires { IfSome (option_copied run) IsShownInterval }
+    ensures { IsTrue result ↔ StartsAt (option_copied run.entry) text.now }
+{
+    match run {
+        Some(run) => moment_bytes(run.start).as_slice() == text.as_bytes(),
+        None => false,
+    }
+}
+
+/// The number of the run that starts at a moment.
+fn run_at(runs: &Runs, moment: Timestamp) -> Option<u32>
+    ensures { IsFound (λ k. StartsOn (slice_get runs.now k) moment.nanosecond) result }
+{
+    let key = moment.as_nanosecond();
+    match runs
+        .intervals()
+        .binary_search_by_key(&key, |run| run.start.as_nanosecond())
+    {
+        Ok(at) => Some(at as u32),
+        Err(_) => None,
+    }
+}
+
+/// The number of the run whose start has this text.
+pub(crate) fn run_in(runs: &Runs, text: &str) -> Option<u32>
+    ensures { IsFound (λ k. StartsAt (slice_get runs.now k) text.now) result }
+{
+    let _intervals = runs.intervals();
+    let moment = moment_in(text)?;
+    let run = run_at(runs, moment)?;
+    if starts_at(run_of(runs, run), text) {
+        Some(run)
+    } else {
+        None
+    }
+}

@@ -1,0 +1,17 @@
+//! When tries start and end.
+use std::time::Clock;
+
+/// When a try started and when it ended, in milliseconds since 1970 by the machine's clock. No outcome rests on it.
+#[derive(Clone, Copy, Debug, PartialEq, Eq)]
+pub struct Times {
+    pub start: i64,
+    pub end: i64,
+}
+
+/// The milliseconds since 1970, or 0 where the clock can't be read.
+pub(crate) fn milliseconds<C: Clock>(clock: &C) -> i64 {
+    match clock.since_1970() {
+        Ok(passed) => i64::try_from(passed.as_millis()).unwrap_or(i64::MAX),
+        Err(_) => 0,
+    }
+}

@@ -1,0 +1,44 @@
+//! The tries that the lines of a journal tell.
+ghost use Rattle.std.specs.Prelude.{◌≡◌, IfOk, IfErr};
+ghost use Rattle.bf_journal.specs.Found.{AreRead, IsFaultBehind};
+
+use crate::fault::JournalFault;
+use crate::lines::first_line;
+use crate::tried::tried_in;
+use bf_interval::Runs;
+use bf_plan::Plan;
+use bf_try::Entry;
+use bf_value::JobName;
+use std::alloc::Global;
+
+/// The tries that whole lines tell, in order, and how many bytes stand behind the last line feed.
+#[derive(Drop)]
+pub(crate) struct Told {
+    pub tries: Vec<(JobName, Entry)>,
+    pub torn: usize,
+}
+
+/// The tries that the lines behind a head tell, or the number of the first line that tells of none. What stands behind the last
+/// line feed is no line.
+#[tactic(auto, using(crate::proofs::Passing::nothing_read, crate::proofs::Passing::more_read, crate::proofs::Passing::all_read))]
+pub(crate) fn told_in(
+    alloc: Global,
+    plan: &Plan,
+    runs: &Runs,
+    bytes: &[u8],
+) -> Result<Told, JournalFault>
+    ensures ok { IfOk result (λ told. AreRead plan.now.dag runs.now bytes.now told.tries.items told.torn) }
+    ensures err { IfErr result (IsFaultBehind plan.now.dag runs.now bytes.now) }
+{
+    let mut tries = Vec::new(alloc);
+    let mut rest = bytes;
+    while let Some((line, more)) = first_line(rest) {
+        match tried_in(alloc, plan, runs, line)? {
+            Some(tried) => tries.push(tried)?,
+            None => return Err(JournalFault::BadRecord(tries.len() as u64 + 2)),
+        }
+        rest = more;
+    }
+    let torn = rest.len();
+    Ok(Told { tries, torn })
+}

@@ -1,0 +1,116 @@
+//! Tries, read from the lines of a journal.
+ghost use Rattle.std.specs.Prelude.{IfOk};
+ghost use Rattle.bf_value.specs.Views.{list_of};
+ghost use Rattle.bf_journal.specs.Tells.{IsFound, Tells, TellsEntry, TellsLine, TellsName, TellsOutcome, TellsText};
+
+use crate::field::{attempt_in, index_in, int_at, optional_at, optionals_at, outcome_in, text_at};
+use crate::record::DEEPEST_RECORD;
+use crate::run::run_in;
+use bf_interval::Runs;
+use bf_plan::Plan;
+use bf_try::Entry;
+use bf_value::{JobName, OutOfMemory, Sequence, Xval, read_text};
+use bf_xcom::{Given, Outcome};
+use std::alloc::Global;
+
+/// How many members a record has. What stands in the last is passed over.
+const MEMBERS: usize = 9;
+
+/// The name of a try, in the first fields of its record.
+fn name_in(plan: &Plan, runs: &Runs, fields: &[Xval]) -> Option<JobName>
+    ensures { IsFound (TellsName plan.now.dag runs.now fields.now) result }
+{
+    let run = run_in(runs, text_at(fields, 0)?)?;
+    let task = plan.graph().number_of(text_at(fields, 1)?)?;
+    let index = index_in(int_at(fields, 2)?)?;
+    let attempt = attempt_in(int_at(fields, 3)?)?;
+    Some(JobName {
+        run,
+        task,
+        index,
+        attempt,
+    })
+}
+
+/// How a try ended, in the next fields.
+fn outcome_of(alloc: Global, fields: &[Xval]) -> Result<Option<Outcome>, OutOfMemory>
+    ensures { IfOk result (IsFound (TellsOutcome fields.now)) }
+{
+    let Some(word) = text_at(fields, 4) else {
+        return Ok(None);
+    };
+    match optional_at(alloc, fields, 5)? {
+        Some(pushed) => Ok(outcome_in(word, pushed)),
+        None => Ok(None),
+    }
+}
+
+/// How a try ended and what it was given, in these and the next fields.
+fn entry_in(alloc: Global, fields: &[Xval]) -> Result<Option<Entry>, OutOfMemory>
+    ensures { IfOk result (IsFound (TellsEntry fields.now)) }
+{
+    let Some(outcome) = outcome_of(alloc, fields)? else {
+        return Ok(None);
+    };
+    let Some(item) = optional_at(alloc, fields, 6)? else {
+        return Ok(None);
+    };
+    let Some(pulled) = optionals_at(alloc, fields, 7)? else {
+        return Ok(None);
+    };
+    let pulled = Sequence::from_vec(pulled);
+    let given = Given { item, pulled };
+    Ok(Some(Entry { given, outcome }))
+}
+
+/// The try of which these are the fields of the record.
+fn tried_of(
+    alloc: Global,
+    plan: &Plan,
+    runs: &Runs,
+    fields: &[Xval],
+) -> Result<Option<(JobName, Entry)>, OutOfMemory>
+    ensures { IfOk result (IsFound (λ t. Tells plan.now.dag runs.now (list_of fields.now) t.0 t.1)) }
+{
+    let _dag = plan.dag();
+    if fields.len() != MEMBERS {
+        return Ok(None);
+    }
+    let Some(name) = name_in(plan, runs, fields) else {
+        return Ok(None);
+    };
+    match entry_in(alloc, fields)? {
+        Some(entry) => Ok(Some((name, entry))),
+        None => Ok(None),
+    }
+}
+
+/// The try that a text tells of.
+fn tried_in_text(
+    alloc: Global,
+    plan: &Plan,
+    runs: &Runs,
+    text: &str,
+) -> Result<Option<(JobName, Entry)>, OutOfMemory>
+    ensures { IfOk result (IsFound (λ t. TellsText plan.now.dag runs.now text.now t.0 t.1)) }
+{
+    match read_text(alloc, text, DEEPEST_RECORD)? {
+        Some(Xval::List(fields)) => tried_of(alloc, plan, runs, fields.as_slice()),
+        _ => Ok(None),
+    }
+}
+
+/// The try that a line tells of.
+pub(crate) fn tried_in(
+    alloc: Global,
+    plan: &Plan,
+    runs: &Runs,
+    line: &[u8],
+) -> Result<Option<(JobName, Entry)>, OutOfMemory>
+    ensures { IfOk result (IsFound (λ t. TellsLine plan.now.dag runs.now line.now t.0 t.1)) }
+{
+    match std::str::from_utf8(line) {
+        Ok(text) => tried_in_text(alloc, plan, runs, text),
+        Err(_) => Ok(None),
+    }
+}
