@@ -1,7 +1,7 @@
 -- What is found of a text of lines that is cut short.
-use Rattle.std.proofs.Common.{◌≡◌, ◌≤◌, ◌<◌, ◌+◌, ◌-◌, ◌==◌, ◌||◌, ℕ, zero, suc, List, [], ◌∷◌, ◌++◌, Bool, true, false, length, take, drop, nat_lt, true≢false, refl, sym, ap, ◌∙◌, subst, append_assoc, append-nil, inl, inr, arith}
+use Rattle.std.proofs.Common.{◌≡◌, ◌≤◌, ◌<◌, ◌+◌, ◌-◌, ◌==◌, ◌||◌, ℕ, zero, suc, List, [], ◌∷◌, ◌++◌, Bool, true, false, length, take, nat_lt, true≢false, refl, sym, ap, ◌∙◌, subst, append_assoc, append-nil, inl, inr, arith}
 use Rattle.std.specs.Prelude.{All}
-use Rattle.std.specs.List.{flat_map, list_any}
+use Rattle.std.specs.List.{list_any}
 use Rattle.std.proofs.lemmas.Bool.{cases_Bool, eqb-true}
 use Rattle.std.proofs.lemmas.Bool.Decides.{nat_tests}
 use Rattle.std.proofs.lemmas.List.{take_at, take-append-le, length-append}
@@ -28,7 +28,7 @@ pub takes_none : (piece text : List ℕ) → IsInLine text → lines_after piece
 takes_none piece [] e = refl
 takes_none piece (x ∷ xs) e = let (other, more) = first_parts x xs e in rw other (takes_none (piece ++ x ∷ []) xs more)
 
-pub in_line_cut : (n : ℕ) (text : List ℕ) → IsInLine text → IsInLine (take n text)
+in_line_cut : (n : ℕ) (text : List ℕ) → IsInLine text → IsInLine (take n text)
 in_line_cut zero text e = refl
 in_line_cut (suc n) [] e = refl
 in_line_cut (suc n) (x ∷ xs) e = let (other, more) = first_parts x xs e in rw other (in_line_cut n xs more)
@@ -79,7 +79,7 @@ cut (line ∷ lines) all n = elim (cases_Bool (nat_lt (length line) n)) [
 -- ---- whole lines at the front
 
 -- what stands behind the whole lines
-pub behind_lines : (piece bytes : List ℕ) → (rest : List ℕ) × (piece ++ bytes ≡ text_of_lines (lines_after piece bytes) ++ rest)
+behind_lines : (piece bytes : List ℕ) → (rest : List ℕ) × (piece ++ bytes ≡ text_of_lines (lines_after piece bytes) ++ rest)
 behind_lines piece [] = (piece, append-nil piece)
 behind_lines piece (b ∷ bs) = elim (cases_Bool (b == 10)) as (λ _. (rest : List ℕ) × (piece ++ b ∷ bs ≡ text_of_lines (lines_after piece (b ∷ bs)) ++ rest)) [
   | inl feed ↦ rw feed (

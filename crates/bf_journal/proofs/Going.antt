@@ -1,15 +1,12 @@
 -- A recorder that goes on.
-use Rattle.std.proofs.Common.{◌≡◌, ◌≤◌, ◌+◌, if◌then◌else◌, ℕ, List, [], ◌∷◌, ◌++◌, Bool, true, false, not, length, take, drop, Option, Some, None, refl, sym, ap, ◌∙◌, append_assoc, append-nil, arith}
-use Rattle.std.specs.Prelude.{All}
+use Rattle.std.proofs.Common.{◌≡◌, ◌+◌, ℕ, List, [], ◌∷◌, ◌++◌, Bool, true, false, not, length, take, drop, Option, Some, None, refl, sym, ap, ◌∙◌, append_assoc, append-nil, arith}
 use Rattle.std.proofs.lemmas.List.{take_all, take_at, drop_at, length-append}
 use Rattle.std.proofs.lemmas.List.Elements.{All-nil, All-push}
 use Rattle.std.proofs.Math.Seq.{take-add}
 use Rattle.bf_device.specs.Device.{sent}
-use Rattle.bf_journal.specs.declared.stop.Stop.{Stop}
-use Rattle.bf_journal.specs.declared.stop.Stop.TheVariants.{WriteFailed, OutOfMemory, EnoughFailed}
-use Rattle.bf_journal.specs.Recording.{GoesOut, IsWritten, Recorded, is_enough, is_write_failed, stop_of, text_of_all}
+use Rattle.bf_journal.specs.Recording.{GoesOut, IsWritten, text_of_all}
 
-pub all_more : (texts : List (List ℕ)) (text : List ℕ) → text_of_all (texts ++ text ∷ []) ≡ text_of_all texts ++ text
+all_more : (texts : List (List ℕ)) (text : List ℕ) → text_of_all (texts ++ text ∷ []) ≡ text_of_all texts ++ text
 all_more [] text = append-nil text
 all_more (t ∷ ts) text = ap (λ l. t ++ l) (all_more ts text) ∙ sym (append_assoc t (text_of_all ts) text)
 
@@ -71,17 +68,3 @@ goes_on may base old new line whole is allowed out =
 pub went_out : (line : List ℕ) (old new : Option (List ℕ)) (whole : Bool) → new ≡ sent old line → GoesOut line old new whole
 went_out line old new whole out =
     record { count = length line; few = omega arith; out = out ∙ ap (sent old) (sym (take_all (length line) line (omega arith))); all = λ _. refl }
-
-pub all_out : (line : List ℕ) (old new : Option (List ℕ)) → GoesOut line old new true → new ≡ sent old line
-all_out line old new out =
-    out.out ∙ ap (sent old) (take_all out.count line (let all : out.count ≡ length line = out.all refl in omega (arith, all)))
-
--- a recorder whose write has failed tells so
-pub stopped : (r : Recorded) → is_write_failed (stop_of r) ≡ r.write_failed
-stopped r = by r.write_failed r.memory_failed (is_enough r.most_failed r.failed_tries)
-  where
-    by : (w m e : Bool) → is_write_failed (if w then Some WriteFailed else (if m then Some OutOfMemory else (if e then Some EnoughFailed else None))) ≡ w
-    by true m e = refl
-    by false true e = refl
-    by false false true = refl
-    by false false false = refl

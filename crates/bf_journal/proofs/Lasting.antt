@@ -43,10 +43,6 @@ not_noted ledger name entry some n = go (eq_by_cmp name_cmp n name) refl
     go true same = sym (or_some (map.get ledger n) (Some entry) (subst IsSome (ap (map.get ledger) (sym (same_name n name same))) some))
     go false other = sym (or_none (map.get ledger n))
 
--- nor is one that doesn't fit
-pub unfit : (ledger : map.FinMap name_cmp Entry) (n : JobName) → map.get ledger n ≡ option_or (map.get ledger n) None
-unfit ledger n = sym (or_none (map.get ledger n))
-
 -- ---- one try after another, the last first
 
 last_more : (dag : Dag) (tries : List (JobName × Entry)) (try : JobName × Entry) (n : JobName) → last_for dag (tries ++ try ∷ []) n ≡ option_or (entry_for dag try n) (last_for dag tries n)
@@ -67,9 +63,6 @@ one_noted dag all tries rest try old new left is noted n =
     ap (λ o. option_or o (last_for dag rest n)) (noted n) ∙ or_same (old n) (entry_for dag try n) (last_for dag rest n)
     ∙ ap (option_or (old n)) (sym (last_more dag rest try n) ∙ ap (λ l. last_for dag l n) (sym is)) ∙ left n
 
-pub all_noted : (dag : Dag) (all tries : List (JobName × Entry)) (look : JobName → Option Entry) → IsLeft dag all tries look → tries ≡ [] → (n : JobName) → look n ≡ last_for dag all n
-all_noted dag all tries look left none n = sym (or_none (look n)) ∙ ap (λ l. option_or (look n) (last_for dag l n)) (sym none) ∙ left n
-
 -- ---- tasks that are there
 
 pub tasks_of_rest : (dag : Dag) (tries rest : List (JobName × Entry)) (try : JobName × Entry) → tries ≡ rest ++ try ∷ [] → AreOfTasks dag tries → (try.0.task < length dag.tasks) × AreOfTasks dag rest
@@ -89,7 +82,7 @@ fit_one dag try n e is = go (fits dag try.0.task try.1.outcome) (eq_by_cmp name_
     go true false fit other is = absurd (cc)
     go false b unfit same is = absurd (cc)
 
-pub last_fits : (dag : Dag) (tries : List (JobName × Entry)) (n : JobName) (e : Entry) → last_for dag tries n ≡ Some e → fits dag n.task e.outcome ≡ true
+last_fits : (dag : Dag) (tries : List (JobName × Entry)) (n : JobName) (e : Entry) → last_for dag tries n ≡ Some e → fits dag n.task e.outcome ≡ true
 last_fits dag [] n e is = absurd (cc)
 last_fits dag (try ∷ tries) n e is = go (last_for dag tries n) refl (λ before. last_fits dag tries n e before) is
   where

@@ -1,6 +1,5 @@
 -- Lines that are read one after another.
-use Rattle.std.proofs.Common.{◌≡◌, ◌≤◌, ◌<◌, ◌+◌, ◌∙◌, ℕ, List, [], ◌∷◌, ◌++◌, Option, Some, None, length, map, refl, subst, sym, ap, append_assoc, append-nil, arith}
-use Rattle.std.specs.List.{flat_map}
+use Rattle.std.proofs.Common.{◌≡◌, ◌+◌, ◌∙◌, ℕ, List, [], ◌∷◌, ◌++◌, Option, Some, None, length, map, refl, subst, sym, ap, append_assoc, append-nil, arith}
 use Rattle.std.proofs.lemmas.List.{length-append, length-map, map-append}
 use Rattle.bf_value.specs.declared.name.JobName.{JobName}
 use Rattle.bf_value.specs.declared.xval.Xval.{Xval}
@@ -9,7 +8,7 @@ use Rattle.bf_plan.specs.declared.plan.Dag.{Dag}
 use Rattle.bf_interval.specs.declared.interval.Interval.{Interval}
 use Rattle.bf_try.specs.declared.ledger.Entry.{Entry}
 use Rattle.bf_journal.specs.Lines.{text_of_lines, whole_lines}
-use Rattle.bf_journal.specs.Tells.{Tells, TellAll, TellsLine, TellsNone, records_in}
+use Rattle.bf_journal.specs.Tells.{Tells, TellAll, TellsLine, TellsNone}
 use Rattle.bf_journal.specs.Found.{AreOfTasks, AreRead, HasRead, IsFirstBad}
 
 -- ---- tries that values tell
@@ -45,11 +44,6 @@ lines_more : (lines : List (List ℕ)) (line : List ℕ) → text_of_lines (line
 lines_more [] line = append-nil (line ++ 10 ∷ [])
 lines_more (l ∷ ls) line = ap (λ t. (l ++ 10 ∷ []) ++ t) (lines_more ls line) ∙ sym (append_assoc (l ++ 10 ∷ []) (text_of_lines ls) (line ++ 10 ∷ []))
 
--- no fewer bytes than lines
-few_lines : (lines : List (List ℕ)) → length lines ≤ length (text_of_lines lines)
-few_lines [] = omega arith
-few_lines (l ∷ ls) = let rest = few_lines ls in omega (arith, rest, length-append (l ++ 10 ∷ []) (text_of_lines ls), length-append l (10 ∷ []))
-
 -- ---- reading on
 
 -- nothing is read
@@ -71,12 +65,6 @@ more_read dag intervals bytes rest line more tries n e has is next one =
       text = omega (arith, has.text, long, front, length-append line (10 ∷ []));
       told = subst (λ l. TellAll dag intervals l (tries ++ (n, e) ∷ [])) (sym values) (tell_more dag intervals (map (value_of_text 127) has.front) tries one.1.value n e has.told one.1.tells);
     }
-
--- so many tries as lines, and no more than bytes
-pub few_read : (dag : Dag) (intervals : List Interval) (bytes rest : List ℕ) (tries : List (JobName × Entry)) → HasRead dag intervals bytes rest tries → length tries + length rest ≤ length bytes
-few_read dag intervals bytes rest tries has =
-    let many = as_many dag intervals (map (value_of_text 127) has.front) tries has.told in
-    omega (arith, many, length-map has.front (value_of_text 127), few_lines has.front, has.text)
 
 -- all is read
 pub all_read : (dag : Dag) (intervals : List Interval) (bytes rest : List ℕ) (tries : List (JobName × Entry)) → HasRead dag intervals bytes rest tries → whole_lines rest ≡ [] → AreRead dag intervals bytes tries (length rest)

@@ -1,5 +1,5 @@
 -- The run that starts at the moment of a text.
-use Rattle.std.proofs.Common.{◌≡◌, ◌<◌, ◌≤◌, ◌+◌, ◌*◌, ◌%◌, ℕ, zero, suc, ℤ, pos, ◌<ℤ◌, nat_lt, false, List, [], ◌∷◌, length, get_or, slice_get, Option, Some, None, Ok, Err, Ordering, Less, Equal, Greater, refl, sym, ap, ◌∙◌, subst, inl, inr, arith}
+use Rattle.std.proofs.Common.{◌≡◌, ◌<◌, ◌+◌, ◌*◌, ◌%◌, ℕ, zero, suc, ℤ, pos, ◌<ℤ◌, nat_lt, false, List, [], ◌∷◌, length, get_or, slice_get, Option, Some, None, Ok, Err, Ordering, Less, Equal, Greater, refl, sym, ap, ◌∙◌, subst, inl, inr, arith}
 use Rattle.std.specs.List.Sorted.{IsBinarySearchResult, IsNonDecreasingBy, IsSortedBy}
 use Rattle.std.specs.Ordering.{int_cmp, is_lt, ordering_index}
 use Rattle.std.specs.Cmp.{int_cmp_total}

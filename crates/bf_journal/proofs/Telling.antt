@@ -1,5 +1,5 @@
 -- A record tells of one try alone.
-use Rattle.std.proofs.Common.{◌≡◌, ◌<◌, ℕ, ℤ, pos, unsigned_abs, length, subst, arith, List, [], ◌∷◌, Option, Some, None, map, get_or, refl, sym, ap, ◌∙◌}
+use Rattle.std.proofs.Common.{◌≡◌, ℕ, ℤ, pos, unsigned_abs, arith, List, [], ◌∷◌, Option, Some, None, map, get_or, refl, sym, ap, ◌∙◌}
 use Rattle.bf_value.specs.declared.xval.Xval.{Xval}
 use Rattle.bf_value.specs.declared.xval.Xval.TheVariants.{Flag, Int, Text, List as ListOf, Nil}
 use Rattle.bf_value.specs.Plain.{Plains, none, more}
@@ -10,7 +10,6 @@ use Rattle.bf_xcom.specs.declared.values.Given.{Given}
 use Rattle.bf_xcom.specs.declared.values.Outcome.{Outcome}
 use Rattle.bf_xcom.specs.declared.values.Outcome.TheVariants.{Success, Failed, Skipped}
 use Rattle.bf_xcom.specs.Pulls.{pushed_by}
-use Rattle.std.specs.Prelude.{slice_get}
 use Rattle.bf_plan.specs.declared.plan.Dag.{Dag}
 use Rattle.bf_plan.specs.Plans.{task_of}
 use Rattle.bf_interval.specs.declared.interval.Interval.{Interval}
@@ -82,10 +81,10 @@ module _ (run run2 task task2 : List ℕ) (n n2 : JobName) (given given2 : Given
   pub tasks : task ≡ task2
   tasks = ap (λ v. text_in (place 1 v)) same
 
-  pub indexes : n.index ≡ n2.index
+  indexes : n.index ≡ n2.index
   indexes = ap (λ v. int_in (place 2 v)) same
 
-  pub attempts : n.attempt ≡ n2.attempt
+  attempts : n.attempt ≡ n2.attempt
   attempts = ap (λ v. unsigned_abs (int_in (place 3 v))) same
 
   pub words : outcome_word outcome ≡ outcome_word outcome2

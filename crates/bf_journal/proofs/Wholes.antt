@@ -1,5 +1,5 @@
 -- What is read of a journal that was cut short.
-use Rattle.std.proofs.Common.{◌≡◌, ◌≤◌, ◌<◌, ℕ, zero, suc, List, [], ◌∷◌, ◌++◌, length, take, map, Option, Some, refl, sym, ap, ◌∙◌, subst, arith}
+use Rattle.std.proofs.Common.{◌≡◌, ◌≤◌, ◌<◌, ℕ, zero, suc, List, [], ◌∷◌, length, take, map, Some, refl, ap, ◌∙◌, subst, arith}
 use Rattle.std.specs.Prelude.{All}
 use Rattle.std.proofs.lemmas.List.{length-map}
 use Rattle.std.proofs.lemmas.List.Elements.{All-head, All-tail, All-nil, All-cons}
@@ -9,8 +9,7 @@ use Rattle.bf_value.proofs.LackLemmas.{text_lacks}
 use Rattle.bf_value.proofs.TextLemmas.{value_of_text-text_of}
 use Rattle.bf_journal.specs.Lines.{IsInLine, IsCutOf, text_of_lines, whole_lines}
 use Rattle.bf_journal.specs.Records.{IsTellable}
-use Rattle.bf_journal.specs.Tells.{records_in}
-use Rattle.bf_journal.specs.Cuts.{ReadsWholeOnes, text_of_records}
+use Rattle.bf_journal.specs.Cuts.{ReadsWholeOnes}
 use Rattle.bf_journal.proofs.Cutting.{cut}
 
 pub all_in_line : (records : List Xval) → All IsInLine (map text_of records)

@@ -28,8 +28,3 @@ some_passed dag kept n =
 -- all but the failed tries of instances that neither succeeded nor were skipped
 unfoldable pub without_failed : Dag → Look → Look
 without_failed dag kept n = if has_failed (kept n) && not (some_passed dag kept n) then None else kept n
-
--- what contracts see of what is kept so
-pub record Retried : Type 0 where
-  pub dag : Dag
-  pub tries : Look

@@ -1,9 +1,9 @@
 -- What the lines of a journal tell.
-use Rattle.std.specs.Prelude.{◌≡◌, ◌<◌, ℕ, ℤ, pos, IsUtf8, List, [], ◌∷◌, ◌++◌, length, map, position, Option, Some, None, slice_get}
+use Rattle.std.specs.Prelude.{◌≡◌, ◌<◌, ℕ, ℤ, pos, IsUtf8, List, [], ◌∷◌, length, map, position, Option, Some, None, slice_get}
 use Rattle.std.specs.Str.{bytes_eq}
 use Rattle.bf_value.specs.declared.name.JobName.{JobName}
 use Rattle.bf_value.specs.declared.xval.Xval.{Xval}
-use Rattle.bf_value.specs.declared.xval.Xval.TheVariants.{Int, Text, List as ListOf}
+use Rattle.bf_value.specs.declared.xval.Xval.TheVariants.{Int, Text}
 use Rattle.bf_value.specs.Json.{value_of_text}
 use Rattle.bf_value.specs.Views.{list_of}
 use Rattle.bf_plan.specs.declared.plan.Dag.{Dag}

@@ -3,7 +3,7 @@ ghost use Rattle.std.specs.Prelude.{◌≡◌, IfOk, map, string_bytes};
 ghost use Rattle.bf_value.specs.Views.{list_of};
 ghost use Rattle.bf_interval.specs.Intervals.{IsShownInterval};
 ghost use Rattle.bf_plan.specs.Plans.{task_of};
-ghost use Rattle.bf_journal.specs.Heads.{head_text, head_value, id_value, interval_value, seed_value, task_value};
+ghost use Rattle.bf_journal.specs.Heads.{head_text, head_value, interval_value, seed_value, task_value};
 
 use crate::value::{moment_value, text_value};
 use bf_interval::{Interval, Runs};

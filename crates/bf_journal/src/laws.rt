@@ -8,6 +8,7 @@ ghost use Rattle.bf_interval.specs.declared.interval.Interval.{Interval as Inter
 ghost use Rattle.bf_interval.specs.Runs.{AreOfRuns};
 ghost use Rattle.bf_try.specs.declared.ledger.Entry.{Entry as EntryTerm};
 ghost use Rattle.bf_try.specs.Tries.{Look};
+ghost use Rattle.bf_kept.specs.Kept.{AreFit};
 ghost use Rattle.bf_journal.specs.Lines.{text_of_lines, whole_lines};
 ghost use Rattle.bf_journal.specs.Records.{IsTellable};
 ghost use Rattle.bf_journal.specs.Tells.{TellAll};
@@ -55,8 +56,9 @@ pub fn journals_are_cut_and_gone_on_with<R: TaskRunner>(runner: &R)
         → IsCutJournal (R.may_answer runner.now) dag intervals written }
 {}
 
-/// What is kept without failed tries is a part of what was kept.
+/// What is kept without failed tries is a part of what was kept, so it fits where that did.
 pub fn what_is_left_is_kept()
-    ensures { (dag : DagTerm) (kept : Look) (n : JobNameTerm) (e : EntryTerm)
+    ensures part { (dag : DagTerm) (kept : Look) (n : JobNameTerm) (e : EntryTerm)
         → without_failed dag kept n ≡ Some e → kept n ≡ Some e }
+    ensures fit { (dag : DagTerm) (kept : Look) → AreFit dag kept → AreFit dag (without_failed dag kept) }
 {}

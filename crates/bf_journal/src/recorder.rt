@@ -80,12 +80,14 @@ impl<K: Journaled, D: Durable + Drop> Recorder<K, D> {
     }
 
     /// Writes a record, unless a write has failed before.
-    #[tactic(auto, using(crate::proofs::Going::goes_on))]
     pub fn record(&mut self, line: &[u8], now: Duration)
         requires { K.may_record line.now }
         ensures behind_failure { self.old.write_failed ≡ true → self.new ≡ self.old }
         ensures ok { self.new.write_failed ≡ false → self.new.written ≡ sent self.old.written line.now }
-        ensures failed_tries { self.new.failed_tries ≡ self.old.failed_tries }
+        ensures same { self.new ≡ record self.old {
+          written = self.new.written;
+          write_failed = self.new.write_failed;
+        } }
     {
         if self.write_failed {
             return;

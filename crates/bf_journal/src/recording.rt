@@ -1,6 +1,5 @@
 //! A runner that records.
 ghost use Rattle.std.specs.Prelude.{◌≡◌, ◌<◌, length, IfOk, IfSome, string_bytes};
-ghost use Rattle.bf_try.specs.Grades.{grade_of};
 ghost use Rattle.bf_journal.specs.Recording.{IsWritten, MayRecord, is_write_failed};
 
 use crate::durable::Durable;

@@ -1,5 +1,5 @@
 //! Failed tries that are made again.
-ghost use Rattle.std.specs.Prelude.{◌≡◌, ℕ, option_copied};
+ghost use Rattle.std.specs.Prelude.{◌≡◌, option_copied};
 ghost use Rattle.std.specs.FinMap as map;
 ghost use Rattle.bf_plan.specs.Plans.{task_of};
 ghost use Rattle.bf_journal.specs.Retrying.{has_failed, has_passed, some_passed, with_attempt};

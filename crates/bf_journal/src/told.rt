@@ -1,5 +1,5 @@
 //! The tries that the lines of a journal tell.
-ghost use Rattle.std.specs.Prelude.{◌≡◌, IfOk, IfErr};
+ghost use Rattle.std.specs.Prelude.{IfOk, IfErr};
 ghost use Rattle.bf_journal.specs.Found.{AreRead, IsFaultBehind};
 
 use crate::fault::JournalFault;

@@ -1,7 +1,5 @@
-use Rattle.std.proofs.Common.{◌≡◌, ◌∙◌, ap, sym, None, option_copied}
-use Rattle.std.specs.Prelude.{slice_get}
+use Rattle.std.proofs.Common.{◌∙◌, ap, sym, option_copied}
 use Rattle.bf_plan.specs.declared.plan.Task.{Task}
-use Rattle.bf_plan.specs.Plans.{no_task, task_of}
 use Rattle.bf_journal.proofs.Reading.{no_task_there}
 use Rattle.bf_journal.proofs.head.id_of.Goals as goal
 

@@ -1,5 +1,5 @@
-use Rattle.std.proofs.Common.{◌≡◌, ◌∙◌, ◌<◌, length, ap, sym, subst, Some, None, option_copied, rules, arith}
-use Rattle.std.specs.Prelude.{slice_get, string_bytes, Option, String, IfSome}
+use Rattle.std.proofs.Common.{◌≡◌, ◌∙◌, ◌<◌, length, ap, sym, subst, Some, None, option_copied, rules}
+use Rattle.std.specs.Prelude.{slice_get, string_bytes, String, IfSome}
 use Rattle.std.specs.declared.alloc.Global.{Global}
 use Rattle.std.proofs.lemmas.Result.{IfOk-weaker}
 use Rattle.bf_value.specs.declared.name.JobName.{JobName}

@@ -1,4 +1,4 @@
-use Rattle.std.proofs.Common.{◌≡◌, ◌∙◌, ap, sym, None, option_copied}
+use Rattle.std.proofs.Common.{◌∙◌, ap, sym, option_copied}
 use Rattle.bf_plan.specs.declared.plan.Task.{Task}
 use Rattle.bf_journal.proofs.Reading.{no_task_there}
 use Rattle.bf_journal.proofs.retrying.retries_of.Goals as goal

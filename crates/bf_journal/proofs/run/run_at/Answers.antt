@@ -1,4 +1,4 @@
-use Rattle.std.proofs.Common.{◌≡◌, ◌∙◌, ℤ, subst, sym, to_z, of_z, rules}
+use Rattle.std.proofs.Common.{◌≡◌, ◌∙◌, subst, sym, to_z, of_z, rules}
 use Rattle.std.specs.Prelude.{slice_get}
 use Rattle.std.specs.Int.{w128}
 use Rattle.std.proofs.lemmas.Int.{to_z-of_z}

@@ -1,6 +1,6 @@
 use Rattle.std.proofs.Common.{◌≡◌, subst, sym, true}
 use Rattle.bf_journal.specs.Tells.{StartsAt}
-use Rattle.bf_journal.proofs.Starting.{none_at, other_text}
+use Rattle.bf_journal.proofs.Starting.{none_at, none_spelled, other_text}
 use Rattle.bf_journal.proofs.run.run_in.Goals as goal
 
 pub returns-in_err-run : goal.returns-in_err-run
@@ -15,3 +15,7 @@ pub returns-else-starts_at : goal.returns-else-starts_at
 returns-else-starts_at c =
     other_text c.args.runs.now c.intervals-intervals.ensures.of_runs c.args.text.now c.in_ok-moment.moment.nanosecond c.in_ok-moment.ensures.found c.in_ok-run.run' c.in_ok-run.ensures
     (λ starts. let yes : c.starts_at.result ≡ true = c.starts_at.ensures.1 (subst (λ o. StartsAt o c.args.text.now) (sym c.run_of.ensures.run) starts) in absurd (cc (yes, c.if-starts_at.false)))
+
+pub returns-in_err-moment : goal.returns-in_err-moment
+returns-in_err-moment c =
+    rw c.from_residual.ensures (none_spelled c.args.runs.now c.intervals-intervals.ensures.of_runs c.args.text.now c.in_err-moment.ensures.none)
