@@ -19,15 +19,15 @@ use Rattle.bf_try.specs.declared.answers.Raw.{Raw}
 use Rattle.bf_try.specs.declared.ledger.Entry.{Entry}
 use Rattle.bf_try.specs.Grades.{fits, grade_of}
 use Rattle.bf_try.proofs.Maps.{same_name}
-use Rattle.bf_journal.specs.Lines.{IsCutOf, text_of_lines, whole_lines}
+use Rattle.bf_journal.specs.Lines.{text_of_lines, whole_lines}
 use Rattle.bf_journal.specs.Records.{IsTellable, record_of, stamp_value}
 use Rattle.bf_journal.specs.Recording.{IsRecordBy, IsWritten, text_of_all}
 use Rattle.bf_journal.specs.Tells.{Tells, TellAll, records_in}
 use Rattle.bf_journal.specs.Found.{entry_for, last_for}
-use Rattle.bf_journal.specs.Cuts.{AreAllTold, AreTold, IsCutJournal, IsGradedRecord, IsGradedTry, KeepsGraded, text_of_records}
+use Rattle.bf_journal.specs.Cuts.{AreAllTold, IsCutJournal, IsGradedRecord, IsGradedTry, KeepsGraded, text_of_records}
 use Rattle.bf_journal.proofs.Going.{take_past}
-use Rattle.bf_journal.proofs.Cutting.{cut, front_lines}
-use Rattle.bf_journal.proofs.Telling.{one_entry, one_name}
+use Rattle.bf_journal.proofs.Cutting.{IsCutOf, cut, front_lines}
+use Rattle.bf_journal.proofs.Telling.{AreTold, one_entry, one_name}
 use Rattle.bf_journal.proofs.Wholes.{all_in_line, take_map, whole_ones}
 
 module _ (may_answer : JobName → Given → Raw → Type 0) (dag : Dag) (intervals : List Interval) where

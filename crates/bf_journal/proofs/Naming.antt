@@ -13,7 +13,7 @@ use Rattle.bf_interval.specs.declared.interval.Interval.{Interval}
 use Rattle.bf_interval.specs.Runs.{AreOfRuns}
 use Rattle.bf_moment.specs.Moment.{moment_text}
 use Rattle.bf_moment.proofs.OneText.{one_text}
-use Rattle.bf_journal.specs.Cuts.{AreTold}
+use Rattle.bf_journal.proofs.Telling.{AreTold}
 use Rattle.bf_journal.proofs.Starting.{of_run, shown_run, start_of, whole_run}
 
 -- the later of two tasks has another id

@@ -9,7 +9,7 @@ use Rattle.bf_interval.specs.declared.interval.Interval.{Interval}
 use Rattle.bf_try.specs.declared.ledger.Entry.{Entry}
 use Rattle.bf_journal.specs.Lines.{text_of_lines, whole_lines}
 use Rattle.bf_journal.specs.Tells.{Tells, TellAll, TellsLine, TellsNone}
-use Rattle.bf_journal.specs.Found.{AreOfTasks, AreRead, HasRead, IsFirstBad}
+use Rattle.bf_journal.specs.Found.{AreOfTasks, AreRead, IsFirstBad}
 
 -- ---- tries that values tell
 
@@ -46,9 +46,16 @@ lines_more (l ∷ ls) line = ap (λ t. (l ++ 10 ∷ []) ++ t) (lines_more ls lin
 
 -- ---- reading on
 
+-- of these bytes the lines before the rest are read, and tell these tries
+pub record HasRead (dag : Dag) (intervals : List Interval) (bytes rest : List ℕ) (tries : List (JobName × Entry)) : Type 0 where
+  pub front : List (List ℕ)
+  pub are : whole_lines bytes ≡ front ++ whole_lines rest
+  pub counted : length bytes ≡ length (text_of_lines front) + length rest
+  pub told : TellAll dag intervals (map (value_of_text 127) front) tries
+
 -- nothing is read
 pub nothing_read : (dag : Dag) (intervals : List Interval) (bytes : List ℕ) → HasRead dag intervals bytes bytes []
-nothing_read dag intervals bytes = record { front = []; are = refl; text = omega arith; told = tt }
+nothing_read dag intervals bytes = record { front = []; are = refl; counted = omega arith; told = tt }
 
 -- one more line is read
 pub more_read : (dag : Dag) (intervals : List Interval) (bytes rest line more : List ℕ) (tries : List (JobName × Entry)) (n : JobName) (e : Entry) → HasRead dag intervals bytes rest tries → rest ≡ line ++ 10 ∷ more → whole_lines rest ≡ line ∷ whole_lines more
@@ -62,7 +69,7 @@ more_read dag intervals bytes rest line more tries n e has is next one =
     record {
       front = has.front ++ line ∷ [];
       are = has.are ∙ ap (λ l. has.front ++ l) next ∙ sym (append_assoc has.front (line ∷ []) (whole_lines more));
-      text = omega (arith, has.text, long, front, length-append line (10 ∷ []));
+      counted = omega (arith, has.counted, long, front, length-append line (10 ∷ []));
       told = subst (λ l. TellAll dag intervals l (tries ++ (n, e) ∷ [])) (sym values) (tell_more dag intervals (map (value_of_text 127) has.front) tries one.1.value n e has.told one.1.tells);
     }
 
@@ -72,7 +79,7 @@ all_read dag intervals bytes rest tries has none =
     let lines : whole_lines bytes ≡ has.front = has.are ∙ ap (λ l. has.front ++ l) none ∙ append-nil has.front in
     record {
       told = subst (λ l. TellAll dag intervals (map (value_of_text 127) l) tries) (sym lines) has.told;
-      rest = subst (λ l. length bytes ≡ length (text_of_lines l) + length rest) (sym lines) has.text;
+      rest = subst (λ l. length bytes ≡ length (text_of_lines l) + length rest) (sym lines) has.counted;
     }
 
 -- a line tells of no try

@@ -1,5 +1,6 @@
 -- A record tells of one try alone.
-use Rattle.std.proofs.Common.{◌≡◌, ℕ, ℤ, pos, unsigned_abs, arith, List, [], ◌∷◌, Option, Some, None, map, get_or, refl, sym, ap, ◌∙◌}
+use Rattle.std.proofs.Common.{◌≡◌, ◌<◌, length, ℕ, ℤ, pos, unsigned_abs, arith, List, [], ◌∷◌, Option, Some, None, map, get_or, refl, sym, ap, ◌∙◌}
+use Rattle.std.specs.Prelude.{slice_get}
 use Rattle.bf_value.specs.declared.xval.Xval.{Xval}
 use Rattle.bf_value.specs.declared.xval.Xval.TheVariants.{Flag, Int, Text, List as ListOf, Nil}
 use Rattle.bf_value.specs.Plain.{Plains, none, more}
@@ -17,7 +18,6 @@ use Rattle.bf_moment.specs.Moment.{moment_text}
 use Rattle.bf_try.specs.declared.ledger.Entry.{Entry}
 use Rattle.bf_journal.specs.Records.{optional, outcome_word, record_value}
 use Rattle.bf_journal.specs.Tells.{Tells, TellAll}
-use Rattle.bf_journal.specs.Cuts.{AreTold}
 
 -- ---- what records are made by, back
 
@@ -111,6 +111,12 @@ same_outcome Failed Skipped word push = absurd (omega (arith, ap (λ l. get_or l
 same_outcome Skipped (Success w) word push = absurd (omega (arith, ap (λ l. get_or l 1 0) word))
 same_outcome Skipped Failed word push = absurd (omega (arith, ap (λ l. get_or l 0 0) word))
 same_outcome Skipped Skipped word push = refl
+
+-- no two tasks have one id, and no two runs start at one moment
+pub record AreTold (dag : Dag) (intervals : List Interval) : Type 0 where
+  pub ids : (a b : ℕ) → a < length dag.tasks → b < length dag.tasks → (task_of dag a).id ≡ (task_of dag b).id → a ≡ b
+  pub starts : (a b : ℕ) (x y : Interval) → slice_get intervals a ≡ Some x → slice_get intervals b ≡ Some y
+      → moment_text x.start.nanosecond ≡ moment_text y.start.nanosecond → a ≡ b
 
 -- a value is the record of one try alone
 pub one_name : (dag : Dag) (intervals : List Interval) (value : Xval) (n n2 : JobName) (e e2 : Entry) → AreTold dag intervals → Tells dag intervals value n e → Tells dag intervals value n2 e2 → n ≡ n2

@@ -7,10 +7,10 @@ use Rattle.bf_value.specs.declared.xval.Xval.{Xval}
 use Rattle.bf_value.specs.Json.{text_of, value_of_text}
 use Rattle.bf_value.proofs.LackLemmas.{text_lacks}
 use Rattle.bf_value.proofs.TextLemmas.{value_of_text-text_of}
-use Rattle.bf_journal.specs.Lines.{IsInLine, IsCutOf, text_of_lines, whole_lines}
+use Rattle.bf_journal.specs.Lines.{IsInLine, text_of_lines, whole_lines}
 use Rattle.bf_journal.specs.Records.{IsTellable}
 use Rattle.bf_journal.specs.Cuts.{ReadsWholeOnes}
-use Rattle.bf_journal.proofs.Cutting.{cut}
+use Rattle.bf_journal.proofs.Cutting.{IsCutOf, cut}
 
 pub all_in_line : (records : List Xval) → All IsInLine (map text_of records)
 all_in_line [] = All-nil IsInLine

@@ -1,12 +1,10 @@
 -- Journals that were written by backfills, cut short, and gone on with.
-use Rattle.std.specs.Prelude.{◌≡◌, ℕ, suc, ◌≤◌, ◌<◌, List, length, take, map, All, Some, slice_get}
+use Rattle.std.specs.Prelude.{◌≡◌, ℕ, suc, ◌≤◌, ◌<◌, List, length, take, map, All, Some}
 use Rattle.bf_value.specs.declared.name.JobName.{JobName}
 use Rattle.bf_value.specs.declared.xval.Xval.{Xval}
 use Rattle.bf_value.specs.Json.{text_of}
 use Rattle.bf_plan.specs.declared.plan.Dag.{Dag}
-use Rattle.bf_plan.specs.Plans.{task_of}
 use Rattle.bf_interval.specs.declared.interval.Interval.{Interval}
-use Rattle.bf_moment.specs.Moment.{moment_text}
 use Rattle.bf_xcom.specs.declared.values.Given.{Given}
 use Rattle.bf_try.specs.declared.answers.Raw.{Raw}
 use Rattle.bf_try.specs.declared.ledger.Entry.{Entry}
@@ -27,12 +25,6 @@ pub record ReadsWholeOnes (records : List Xval) (n : ℕ) : Type 0 where
   pub read : records_in (take n (text_of_records records)) ≡ map Some (take count records)
   pub each : length (text_of_records (take count records)) ≤ n
   pub none_more : count < length records → n < length (text_of_records (take (suc count) records))
-
--- no two tasks have one id, and no two runs start at one moment
-pub record AreTold (dag : Dag) (intervals : List Interval) : Type 0 where
-  pub ids : (a b : ℕ) → a < length dag.tasks → b < length dag.tasks → (task_of dag a).id ≡ (task_of dag b).id → a ≡ b
-  pub starts : (a b : ℕ) (x y : Interval) → slice_get intervals a ≡ Some x → slice_get intervals b ≡ Some y
-      → moment_text x.start.nanosecond ≡ moment_text y.start.nanosecond → a ≡ b
 
 -- the outcome of the try is the grade of an answer that may be given to it
 abbrev pub IsGradedTry : (JobName → Given → Raw → Type 0) → Dag → JobName × Entry → Type 0

@@ -37,13 +37,6 @@ AreOfTasks dag (try ∷ tries) = (try.0.task < length dag.tasks) × AreOfTasks d
 
 -- ---- what is read
 
--- of these bytes the lines before the rest are read, and tell these tries
-pub record HasRead (dag : Dag) (intervals : List Interval) (bytes rest : List ℕ) (tries : List (JobName × Entry)) : Type 0 where
-  pub front : List (List ℕ)
-  pub are : whole_lines bytes ≡ front ++ whole_lines rest
-  pub text : length bytes ≡ length (text_of_lines front) + length rest
-  pub told : TellAll dag intervals (map (value_of_text 127) front) tries
-
 -- the whole lines tell these tries, and so many bytes stand behind them
 pub record AreRead (dag : Dag) (intervals : List Interval) (bytes : List ℕ) (tries : List (JobName × Entry)) (torn : ℕ) : Type 0 where
   pub told : TellAll dag intervals (records_in bytes) tries

@@ -1,5 +1,5 @@
 -- Lines, of which each counts once its line feed is there.
-use Rattle.std.specs.Prelude.{◌≡◌, ℕ, suc, ◌≤◌, ◌<◌, ◌==◌, false, List, [], ◌∷◌, ◌++◌, length, take, if◌then◌else◌}
+use Rattle.std.specs.Prelude.{◌≡◌, ℕ, ◌==◌, false, List, [], ◌∷◌, ◌++◌, if◌then◌else◌}
 use Rattle.std.specs.List.{flat_map, list_any}
 
 -- text within one line
@@ -18,11 +18,3 @@ lines_after piece (byte ∷ bytes) =
 
 abbrev pub whole_lines : List ℕ → List (List ℕ)
 whole_lines bytes = lines_after [] bytes
-
--- of the first n bytes of a text of lines, these are the lines that stand there whole: each of them does, and the next doesn't
-pub record IsCutOf (lines : List (List ℕ)) (n : ℕ) (found : List (List ℕ)) : Type 0 where
-  pub count : ℕ
-  pub few : count ≤ length lines
-  pub are : found ≡ take count lines
-  pub each : length (text_of_lines (take count lines)) ≤ n
-  pub none_more : count < length lines → n < length (text_of_lines (take (suc count) lines))

@@ -51,13 +51,13 @@ struct Recordable {
     line: Option<String>,
 }
 
-impl<'a, K: Journaled, RT: Wait + Clock, R: TaskRunner, D: Durable + Drop> Recording<
-    'a,
-    K,
-    RT,
-    R,
-    D,
-> {
+impl<'a, K, RT, R, D> Recording<'a, K, RT, R, D>
+where
+    K: Journaled,
+    RT: Wait + Clock,
+    R: TaskRunner,
+    D: Durable + Drop,
+{
     /// A runner round a runner, for the runs of a plan.
     pub fn new(
         rt: &'a RT,
@@ -144,8 +144,13 @@ impl<'a, K: Journaled, RT: Wait + Clock, R: TaskRunner, D: Durable + Drop> Recor
     }
 }
 
-impl<'a, K: Journaled, RT: Wait + Clock, R: TaskRunner, D: Durable + Drop> TaskRunner
-    for Recording<'a, K, RT, R, D> {
+impl<'a, K, RT, R, D> TaskRunner for Recording<'a, K, RT, R, D>
+where
+    K: Journaled,
+    RT: Wait + Clock,
+    R: TaskRunner,
+    D: Durable + Drop,
+{
     ghost may_answer = { λ s n g raw. R.may_answer s.runner n g raw };
 
     ghost may_give_up = { λ s n g. Unit {0} };

@@ -2,8 +2,8 @@ use Rattle.std.proofs.Common.{◌≡◌, ◌+◌, length, subst, sym, Option, ar
 use Rattle.bf_value.specs.declared.name.JobName.{JobName}
 use Rattle.bf_try.specs.declared.ledger.Entry.{Entry}
 use Rattle.bf_journal.specs.Tells.{IsFound, TellsLine, TellsNone}
-use Rattle.bf_journal.specs.Found.{HasRead, IsFirstBad}
-use Rattle.bf_journal.proofs.Passing.{bad_read, more_read}
+use Rattle.bf_journal.specs.Found.{IsFirstBad}
+use Rattle.bf_journal.proofs.Passing.{HasRead, bad_read, more_read}
 use Rattle.bf_journal.proofs.told.told_in.Goals as goal
 
 pub loop-line-preserved : goal.loop-line-preserved

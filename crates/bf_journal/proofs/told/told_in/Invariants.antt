@@ -1,5 +1,5 @@
 use Rattle.std.proofs.Common.{length}
-use Rattle.bf_journal.specs.Found.{HasRead}
+use Rattle.bf_journal.proofs.Passing.{HasRead}
 use Rattle.bf_journal.proofs.told.told_in.Given as goal
 
 abbrev pub invariant-loop-line : goal.invariant-loop-line
