@@ -5,7 +5,7 @@ use bf_device::{Halt, MOST_INTERRUPTIONS, Memory, Output, Write};
 use std::fs::OpenFile;
 use std::io;
 
-/// A device that can see to it that what was written outlasts a power cut.
+/// A device that can see to it that what was written outlasts a power cut. Contracts claim nothing of that.
 pub trait Durable: Write {
     /// Returns once all that was written before outlasts a power cut.
     fn sync(&mut self) -> Result<(), Halt>

@@ -141,7 +141,7 @@ fn line_in(
 }
 
 /// The line of the record of an answered try that ended so. None, where there is no such task or run, and where lists nest
-/// too deep for it to be read back: no value that a program pushes does.
+/// too deep to be read back, which those that programs push never do.
 pub fn record_of(
     alloc: Global,
     plan: &Plan,

@@ -130,7 +130,8 @@ impl<K: Journaled, D: Durable + Drop> Recorder<K, D> {
     /// Syncs, and gives the device back, with why no further try was begun.
     #[tactic(auto, using(crate::proofs::Going::given_up))]
     pub fn end(mut self) -> (D, Option<Stop>)
-        ensures { IsWritten K.may_record K.base (D.written result.0) (is_write_failed result.1) }
+        ensures written { IsWritten K.may_record K.base (D.written result.0) (is_write_failed result.1) }
+        ensures stop { is_write_failed result.1 ≡ false → result.1 ≡ stop_of self }
     {
         if !self.write_failed {
             self.write_failed = !is_synced(&mut self.device);
