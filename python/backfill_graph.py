@@ -98,8 +98,9 @@ item = Word("item", True, "item")
 
 def pull(task: Union[Task, str]) -> Word:
     """The value that a task has pushed: of an expanded task the list of its values."""
-    task_id = task if isinstance(task, str) else task.id
-    return Word("pull", task_id, f"pull({task_id!r})")
+    if isinstance(task, str):
+        return Word("pull", task, f"pull({task!r})")
+    return Word("pull", task.id, f"pull({task.id!r})", task)
 
 
 # ---- schedules
@@ -221,14 +222,18 @@ def _text(value: object, path: str) -> str:
     return value
 
 
+def _length(text: str) -> int:
+    """How many bytes a text has. Half of a pair of surrogates is no text."""
+    try:
+        return len(text.encode())
+    except UnicodeEncodeError as error:
+        raise GraphError("not json", 1) from error
+
+
 def _list(values: Sequence[Any], path: str) -> Sequence[Any]:
     if not isinstance(values, (list, tuple)):
         raise GraphError(f"shape: {path}", 2)
     return values
-
-
-def _id_of(task: Union[Task, str], path: str) -> str:
-    return task.id if isinstance(task, Task) else _text(task, path)
 
 
 Tasks = Union["Task", Sequence["Task"]]
@@ -277,8 +282,8 @@ class Task:
         self.id = self.graph.prefix + _text(task_id, f"{path}.id")
         self.command = list(_list(command, f"{path}.command"))
         # (a dict for its order, and to find an id at once)
-        self.upstream = {_id_of(each, f"{path}.upstream"): None for each in _list(upstream, f"{path}.upstream")}
-        self.expand = None if expand is None else _id_of(expand, f"{path}.expand")
+        self.upstream = {self.graph.id_of(each, f"{path}.upstream"): None for each in _list(upstream, f"{path}.upstream")}
+        self.expand = None if expand is None else self.graph.id_of(expand, f"{path}.expand")
         given: Dict[str, Any] = {
             **{"rule": rule, "depends_on_past": depends_on_past, "retries": retries, "retry_delay": retry_delay, "pool": pool},
             **{"pool_slots": pool_slots, "priority_weight": priority_weight, "weight_rule": weight_rule},
@@ -429,6 +434,14 @@ class Graph:
 
     # ---- what is added
 
+    def id_of(self, task: Union[Task, str], path: str) -> str:
+        """The id of a task of this graph, which may be given by it."""
+        if not isinstance(task, Task):
+            return _text(task, path)
+        if task.graph is not self:
+            raise GraphError(f"{task.id} is of another graph")
+        return task.id
+
     def _add_task(self, task: Task) -> None:
         path = f"tasks[{len(self.tasks)}]"
         if len(self.tasks) == MOST_TASKS:
@@ -436,8 +449,19 @@ class Graph:
         self._check_task(task, path)
         self.tasks[task.id] = task
         upstreams, task.upstream = task.upstream, {}
-        for upstream in upstreams:
-            self._add_edge(upstream, task)
+        try:
+            for upstream in upstreams:
+                self._add_edge(upstream, task)
+        except GraphError:
+            self._remove(task)
+            raise
+
+    def _remove(self, task: Task) -> None:
+        """Takes away a task, behind which none stands yet, whose edges are refused."""
+        del self.tasks[task.id]
+        for upstream in task.upstream:
+            self._below[upstream].remove(task.id)
+        self._edges -= len(task.upstream)
 
     def _check_task(self, task: Task, path: str) -> None:
         if not _is_id(task.id):
@@ -468,18 +492,20 @@ class Graph:
             raise GraphError(f"branch misuse: {task.id}", 17)
 
     def _add_edge(self, upstream: Union[Task, str], task: Task) -> None:
-        if isinstance(upstream, Task) and upstream.graph is not self:
-            raise GraphError(f"{upstream.id} and {task.id} are of two graphs")
-        upstream_id = upstream if isinstance(upstream, str) else upstream.id
+        path = f"tasks[{list(self.tasks).index(task.id)}].upstream" if self._edges == MOST_EDGES else ""
+        upstream_id = self.id_of(upstream, path)
         if upstream_id in task.upstream:
             return
         if self._edges == MOST_EDGES:
-            raise GraphError(f"limit passed: tasks[{list(self.tasks).index(task.id)}].upstream", 5)
-        task.upstream[upstream_id] = None
+            raise GraphError(f"limit passed: {path}", 5)
+        closes = self._leads(task.id, upstream_id)
         self._below.setdefault(upstream_id, []).append(task.id)
+        if closes:
+            cycle = self._cycle()
+            self._below[upstream_id].remove(task.id)
+            raise GraphError(f"cycle: {' '.join(cycle)}", 7)
+        task.upstream[upstream_id] = None
         self._edges += 1
-        if self._leads(task.id, upstream_id):
-            raise GraphError(f"cycle: {' '.join(self._cycle())}", 7)
 
     # ---- paths
 
@@ -529,8 +555,8 @@ class Graph:
     # ---- the whole
 
     def check(self) -> None:
-        """Raises the fault by which `backfill check` would refuse the graph, if it would."""
-        if len(self.to_json().encode()) > MOST_BYTES:
+        """Raises a fault that takes the whole graph to see, where `backfill check` would refuse it for one."""
+        if _length(self.to_json()) > MOST_BYTES:
             raise GraphError("limit passed: bytes", 5)
         for task in self.tasks.values():
             if not self.tasks.keys() >= set(task.upstream):
@@ -567,6 +593,8 @@ def _pulls_of(task: Task) -> Set[str]:
 
 def _check_command(task: Task, path: str) -> None:
     for word in task.command:
+        if isinstance(word, Word) and word.source is not None:
+            task.graph.id_of(word.source, path)
         if isinstance(word, Word) and word.key == "item":
             if task.expand is None:
                 raise GraphError(f"shape: {path}.command", 2)
@@ -575,7 +603,7 @@ def _check_command(task: Task, path: str) -> None:
         if not isinstance(word, (str, Word)):
             raise GraphError(f"shape: {path}.command", 2)
         text = word if isinstance(word, str) else word.value
-        if isinstance(text, str) and len(text.encode()) > LONGEST_TEXT:
+        if isinstance(text, str) and _length(text) > LONGEST_TEXT:
             raise GraphError(f"limit passed: {path}.command", 5)
     if len(task.command) > MOST_WORDS or len(_pulls_of(task)) > MOST_PULLS:
         raise GraphError(f"limit passed: {path}.command", 5)
@@ -586,7 +614,7 @@ def _check_command(task: Task, path: str) -> None:
 
 def _names_of(ids: Sequence[str]) -> Dict[str, str]:
     """A variable for each task."""
-    taken = {"graph", "context", "item", "pull", "Graph", "Task", "Branch", *keyword.kwlist}
+    taken = {"print", "graph", "context", "item", "pull", "Graph", "Task", "Branch", *keyword.kwlist}
     names: Dict[str, str] = {}
     for task_id in ids:
         base = re.sub("[^A-Za-z0-9_]", "_", task_id)
@@ -623,7 +651,7 @@ def python_of(file: Mapping[str, Any]) -> Iterator[str]:
         texts = [repr(task["id"]), *([f"[{words}]"] if words else [])]
         if "expand" in task:
             texts.append(f"expand={names[task['expand']] if task['expand'] in made else repr(task['expand'])}")
-        texts += [f"{key}={task[key]!r}" for key in ("rule", *DEFAULT_KEYS[1:]) if key in task]
+        texts += [f"{key}={task[key]!r}" for key in DEFAULT_KEYS if key in task]
         yield f"    {names[task['id']]} = {kind}({', '.join(texts)})"
         made.add(task["id"])
         later += [f"    {names[upstream]} >> {names[task['id']]}" for upstream in dict.fromkeys(task.get("upstream", ()))]

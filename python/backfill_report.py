@@ -13,6 +13,7 @@ rows as JSON, one a line, and `--sqlite report.db` puts them into the table `rep
 from __future__ import annotations
 
 import argparse
+import contextlib
 import dataclasses
 import json
 import sqlite3
@@ -25,7 +26,7 @@ STATES = ("success", "failed", "skipped", "upstream_failed", "no_status")
 
 
 class ReportError(ValueError):
-    """A text that is no report. The words are those of `backfill clear`."""
+    """A text that is no report, as far as is looked at here: `backfill clear` looks at more."""
 
 
 @dataclasses.dataclass
@@ -132,15 +133,15 @@ def to_sqlite(rows: Iterable[Row], path: str) -> None:
         texts = [json.dumps(given[key], ensure_ascii=False) if key in given else None for key in ("value", "item", "pulls")]
         return [row.run, row.end, row.run_state, row.task, row.index, row.state, row.tries, *texts]
 
-    database = sqlite3.connect(path)
-    with database:
+    # (one transaction, so that what is no report leaves the table as it was)
+    with contextlib.closing(sqlite3.connect(path)) as database, database:
+        database.execute("BEGIN")
         database.execute("DROP TABLE IF EXISTS report")
         database.execute(
             'CREATE TABLE report (run TEXT, "end" TEXT, run_state TEXT, task TEXT, "index" INTEGER, state TEXT, tries INTEGER,'
             " value TEXT, item TEXT, pulls TEXT)"
         )
         database.executemany("INSERT INTO report VALUES (?, ?, ?, ?, ?, ?, ?, ?, ?, ?)", map(columns, rows))
-    database.close()
 
 
 def main(words: List[str]) -> int:
@@ -155,7 +156,7 @@ def main(words: List[str]) -> int:
             else:
                 for row in read_report(report):
                     print(json.dumps(row.to_dict(), ensure_ascii=False, separators=(",", ":")))
-        except ReportError as error:
+        except (ReportError, UnicodeDecodeError) as error:
             print(f"refused: {error}", file=sys.stderr)
             return 2
     return 0

@@ -193,6 +193,21 @@ def of_two_graphs(graph):
     backfill_graph.Task("a", graph=other) >> backfill_graph.Task("b")
 
 
+def pulls_from_another(graph):
+    other = backfill_graph.Graph("e", schedule="@daily")
+    backfill_graph.Task("b", ["echo", backfill_graph.pull(backfill_graph.Task("a", graph=other))])
+
+
+def goes_on(graph):
+    first, second = backfill_graph.Task("a"), backfill_graph.Task("b")
+    first >> second
+    for refused in (lambda: second >> first, lambda: backfill_graph.Task("c", upstream=["b", "c"])):
+        with contextlib.suppress(backfill_graph.GraphError):
+            refused()
+            holds("a cycle that is refused", False)
+    second >> backfill_graph.Task("c")
+
+
 task = backfill_graph.Task
 makes("tasks behind a list", {"first": ([], 1), "left": (["first"], 3), "right": (["first"], 1), "last": (["left", "right"], 1)}, fan)
 makes("tasks before a list", {"first": ([], 1), "left": (["first"], 1), "right": (["first"], 1), "last": (["left", "right", "first"], 1)}, turned)
@@ -205,7 +220,9 @@ fails("a branch that is expanded", "branch misuse: b", 17, lambda graph: backfil
 fails("a pool that isn't there", "unknown pool: a", 8, lambda graph: task("a", pool="q"))
 fails("a command that is a text", "shape: tasks[0].command", 2, lambda graph: task("a", "echo 5"))
 fails("an item of another source", "an item of two in a task that is expanded over one", None, takes_another_item)
-fails("an edge between two graphs", "a and b are of two graphs", None, of_two_graphs)
+fails("an edge between two graphs", "a is of another graph", None, of_two_graphs)
+fails("a pull from another graph", "a is of another graph", None, pulls_from_another)
+makes("a cycle that is refused, and what goes on", {"a": ([], 1), "b": (["a"], 1), "c": (["b"], 1)}, goes_on)
 with contextlib.suppress(AttributeError):
     backfill_graph.context.ds
     holds("a context that isn't there", False)

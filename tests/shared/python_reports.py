@@ -4,6 +4,7 @@
 What it reads of the examples and of COUNT reports that go by chance is what recursion.py reads, also behind a way through a database, and what
 is no report by its lines isn't read. The last line is how many were right, and how many not.
 """
+import contextlib
 import io
 import json
 import pathlib
@@ -89,6 +90,11 @@ fails("an instance of no run", "bad line: 2", "@backfill 2 d\na -1 success 1 -\n
 fails("an item of no instance", "bad line: 3", f"@backfill 2 d\n{RUN}@item 1\n@end 1\n")
 fails("a state that isn't there", "bad line: 3", f"@backfill 2 d\n{RUN}a -1 running 1 -\n@end 1\n")
 fails("a value that is no JSON", "bad line: 3", f"@backfill 2 d\n{RUN}a -1 success 1 x\n@end 1\n")
+with contextlib.suppress(backfill_report.ReportError):
+    backfill_report.to_sqlite(backfill_report.read_report(lines_of(f"@backfill 2 d\n{RUN}a -1 success 1 7\n@end 1\n")), str(FOLDER / "kept.db"))
+    backfill_report.to_sqlite(backfill_report.read_report(lines_of("@backfill 2 d\n")), str(FOLDER / "kept.db"))
+kept = sqlite3.connect(FOLDER / "kept.db").execute("SELECT task, value FROM report").fetchall()
+holds("a database behind what is no report", kept == [("a", "7")])
 for path in sorted((ROOT / "examples").glob("*/*")):
     if path.is_file() and path.read_bytes().startswith(b"@backfill "):
         is_read(path.relative_to(ROOT), path.read_text())

@@ -22,6 +22,8 @@ counts() {
 counts "$root/tests/shared/python_graphs.py" "$program" "$work" 1000
 counts "$root/tests/shared/python_reports.py" "$work" 2500
 
+is_same 'the version' "$(< "$root/VERSION")" "$(sed -n 's/^version = "\(.*\)"$/\1/p' "$root/python/pyproject.toml")"
+
 # The program of the first lines of its page, which stands in the README too.
 sed -n '/^    from backfill_graph import/,/^    print/s/^ \{0,4\}//p' "$root/python/backfill_graph.py" > "$work/shops.py"
 is_same 'the program in the README' "$(< "$work/shops.py")" "$(sed -n '/^from backfill_graph import/,/^print/p' "$root/README.md")"
