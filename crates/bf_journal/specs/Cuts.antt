@@ -8,7 +8,7 @@ use Rattle.bf_interval.specs.declared.interval.Interval.{Interval}
 use Rattle.bf_xcom.specs.declared.values.Given.{Given}
 use Rattle.bf_try.specs.declared.answers.Raw.{Raw}
 use Rattle.bf_try.specs.declared.ledger.Entry.{Entry}
-use Rattle.bf_try.specs.Grades.{grade_of}
+use Rattle.bf_kept.specs.Kept.{HasGrade}
 use Rattle.bf_journal.specs.Lines.{text_of_lines}
 use Rattle.bf_journal.specs.Records.{IsTellable}
 use Rattle.bf_journal.specs.Tells.{records_in, Tells, TellAll}
@@ -28,7 +28,7 @@ pub record ReadsWholeOnes (records : List Xval) (n : ℕ) : Type 0 where
 
 -- the outcome of the try is the grade of an answer that may be given to it
 abbrev pub IsGradedTry : (JobName → Given → Raw → Type 0) → Dag → JobName × Entry → Type 0
-IsGradedTry may_answer dag try = (raw : Raw) × may_answer try.0 try.1.given raw × (try.1.outcome ≡ grade_of dag try.0.task raw)
+IsGradedTry may_answer dag try = HasGrade may_answer dag try.0 try.1
 
 -- the value is the record of such a try
 pub record IsGradedRecord (may_answer : JobName → Given → Raw → Type 0) (dag : Dag) (intervals : List Interval) (value : Xval) : Type 0 where
