@@ -11,7 +11,7 @@ use Rattle.bf_core.specs.declared.event.Event.{Event}
 use Rattle.bf_core.specs.Clocks.{last_moment}
 use Rattle.bf_core.specs.Cores.{Backfill, moved}
 use Rattle.bf_core.specs.Running.{running_now}
-use Rattle.bf_ready.specs.Choices.{IsStep}
+use Rattle.bf_sched.specs.Choices.{IsStep}
 use Rattle.bf_sched.specs.Scheduling.{HasBegun, HasStepped, HasTicked, MayFinish, MustWait, Schedule, WaitsUntil, end_of, moved_on}
 use Rattle.bf_lane.specs.declared.messages.Answer.TheVariants.{Done}
 use Rattle.bf_lane.specs.Open.{IsIdleAt, Scheduled, awaits}

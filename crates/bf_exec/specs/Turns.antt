@@ -7,7 +7,7 @@ use Rattle.bf_core.specs.Terms.{JobName}
 use Rattle.bf_core.specs.Clocks.{last_moment}
 use Rattle.bf_core.specs.Cores.{Backfill}
 use Rattle.bf_core.specs.Events.{HasEnded}
-use Rattle.bf_ready.specs.Choices.{IsFirstMoment}
+use Rattle.bf_sched.specs.Choices.{IsFirstMoment}
 use Rattle.bf_sched.specs.Scheduling.{HasBegun, HasFinished, HasStepped, HasTicked, MayFinish, MustWait, Schedule, WaitsUntil}
 use Rattle.bf_lane.specs.declared.messages.Answer.{Answer}
 use Rattle.bf_lane.specs.declared.messages.Answer.TheVariants.{Done, Gave}

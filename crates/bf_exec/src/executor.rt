@@ -1,6 +1,6 @@
 //! The turns of the scheduling thread, over the lanes of the workers.
 ghost use Rattle.std.specs.Prelude.{◌≡◌, ◌⊎◌, length, IfOk, IfErr, IfSome, IfNone, OnOk, OnErr};
-ghost use Rattle.bf_ready.specs.Choices.{IsNextMoment};
+ghost use Rattle.bf_sched.specs.Choices.{IsNextMoment};
 ghost use Rattle.bf_lane.specs.Closing.{ClosesAll};
 ghost use Rattle.bf_lane.specs.Lanes.{IsAllowedBy};
 ghost use Rattle.bf_lane.specs.Rounds.{IsGathered};

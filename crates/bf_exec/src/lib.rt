@@ -10,11 +10,13 @@
 mod executor;
 mod halt;
 mod order;
+mod resuming;
 mod running;
 mod starting;
 mod watch;
 
 pub use executor::Executor;
 pub use halt::Halt;
+pub use resuming::resume;
 pub use running::run_backfill;
 pub use watch::{Observer, Silent, Watch};

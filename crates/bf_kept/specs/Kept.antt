@@ -43,7 +43,10 @@ MayGiveUpAnew kept may_give_up n given = IsNew kept n given × may_give_up n giv
 abbrev pub AreFit : Dag → Look → Type 0
 AreFit dag kept = (n : JobName) (e : Entry) → kept n ≡ Some e → fits dag n.task e.outcome ≡ true
 
+-- the try has the grade of an answer that may be given to it
+abbrev pub HasGrade : (JobName → Given → Raw → Type 0) → Dag → JobName → Entry → Type 0
+HasGrade may_answer dag n e = (raw : Raw) × may_answer n e.given raw × (e.outcome ≡ grade_of dag n.task raw)
+
 -- each try that isn't kept has the grade of an answer that the runner may give
 abbrev pub AreGradedAnew : Look → (JobName → Given → Raw → Type 0) → Dag → Look → Type 0
-AreGradedAnew kept may_answer dag ledger =
-    (n : JobName) (e : Entry) → ledger n ≡ Some e → IsNew kept n e.given → (raw : Raw) × may_answer n e.given raw × (e.outcome ≡ grade_of dag n.task raw)
+AreGradedAnew kept may_answer dag ledger = (n : JobName) (e : Entry) → ledger n ≡ Some e → IsNew kept n e.given → HasGrade may_answer dag n e

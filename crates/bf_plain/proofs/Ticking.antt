@@ -6,7 +6,7 @@ use Rattle.bf_core.specs.declared.event.Event.{Event}
 use Rattle.bf_core.specs.Endings.{Ending, ending_of}
 use Rattle.bf_core.specs.Clocks.{IsMove}
 use Rattle.bf_core.specs.Cores.{Backfill, IsReplay, moved, opening}
-use Rattle.bf_ready.specs.Choices.{IsFirstMoment, IsStep}
+use Rattle.bf_sched.specs.Choices.{IsFirstMoment, IsStep}
 use Rattle.bf_sched.specs.Scheduling.{HasBegun, HasFinished, HasStepped, HasTicked, Schedule, WaitsUntil, end_of, moved_on}
 use Rattle.bf_plain.specs.Ticks.{HasTickedSo, TicksSo, TicksToFirstMoments, led_to}
 

@@ -12,7 +12,7 @@ use Rattle.bf_core.specs.Events.{IsPresent, cell_at, given_in, place_in}
 use Rattle.bf_core.specs.Running.{running_now}
 use Rattle.bf_core.proofs.Begun.{begun-given, running-at}
 use Rattle.bf_core.proofs.Kept.{replay-in-time}
-use Rattle.bf_ready.specs.Choices.{IsFirstMoment}
+use Rattle.bf_sched.specs.Choices.{IsFirstMoment}
 use Rattle.bf_sched.specs.Driving.{IsUnderWay}
 use Rattle.bf_sched.specs.Scheduling.{HasBegun, HasFinished, HasStepped, HasTicked, MayFinish, Schedule, WaitsUntil}
 use Rattle.bf_sched.proofs.Keeping.{begin-running, end-running, step-running, tick-running}

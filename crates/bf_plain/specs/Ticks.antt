@@ -5,7 +5,7 @@ use Rattle.bf_core.specs.declared.event.Event.{Event}
 use Rattle.bf_core.specs.Clocks.{clock_of, start_clock}
 use Rattle.bf_core.specs.Cores.{Backfill}
 use Rattle.bf_core.specs.Events.{replay, start}
-use Rattle.bf_ready.specs.Choices.{IsFirstMoment}
+use Rattle.bf_sched.specs.Choices.{IsFirstMoment}
 use Rattle.bf_sched.specs.Scheduling.{Schedule}
 
 -- the backfill that these events lead to

@@ -2,5 +2,7 @@
 #![tactic(auto)]
 
 mod driving;
+mod resuming;
 
 pub use driving::one_by_one;
+pub use resuming::resume_one_by_one;

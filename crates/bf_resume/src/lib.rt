@@ -1,6 +1,5 @@
-//! Backfills that go on from tries that are kept of one before.
+//! Backfills that go on from tries that are kept of one before: by workers, and one try after the other in the thread that asks.
 #![tactic(auto)]
 
-mod resuming;
-
-pub use resuming::{resume, resume_one_by_one};
+pub use bf_exec::resume;
+pub use bf_plain::resume_one_by_one;

@@ -13,7 +13,7 @@ use Rattle.bf_core.specs.Running.{running_now}
 use Rattle.bf_core.proofs.Driven.{EndsGraded, driven-moved, driven-opening, over}
 use Rattle.bf_core.proofs.RunningTries.{start-idle}
 use Rattle.bf_core.proofs.WorkerLemmas.{IsFree}
-use Rattle.bf_ready.specs.Choices.{IsStep}
+use Rattle.bf_sched.specs.Choices.{IsStep}
 use Rattle.bf_sched.specs.Scheduling.{HasBegun, HasFinished, HasStepped, HasTicked, Schedule, end_of, moved_on}
 use Rattle.bf_sched.specs.Driving.{StaysDriven}
 

@@ -9,7 +9,7 @@ use Rattle.bf_core.specs.Cores.{Backfill, GoesOn, IsReplay, MayCome, moved}
 use Rattle.bf_core.specs.Running.{running_now}
 use Rattle.bf_core.proofs.Kept.{replay-shaped}
 use Rattle.bf_core.proofs.RunningTries.{running-after, more_running, fewer_running, ends-run}
-use Rattle.bf_ready.specs.Choices.{IsStep, IsFirstStep, IsNextMoment, NoStep, NoTry}
+use Rattle.bf_sched.specs.Choices.{IsStep, IsFirstStep, IsNextMoment, NoStep, NoTry}
 use Rattle.bf_sched.specs.Scheduling.{HasComeTo, IsScheduler}
 
 -- how many tries run after an event

@@ -10,7 +10,7 @@ use Rattle.bf_core.specs.Clocks.{IsMove}
 use Rattle.bf_core.specs.Events.{HasEnded, IsPresent, cell_at, given_in, place_in}
 use Rattle.bf_core.specs.Cores.{Backfill, IsRefusal, MayCome, moved}
 use Rattle.bf_core.specs.Running.{running_now}
-use Rattle.bf_ready.specs.Choices.{IsFirstMoment, IsFirstStep, IsFirstTry, NoStep, NoTry}
+use Rattle.bf_sched.specs.Choices.{IsFirstMoment, IsFirstStep, IsFirstTry, NoStep, NoTry}
 use Rattle.bf_sched.specs.declared.next.Next.{Next}
 
 -- a backfill, and how many workers there are

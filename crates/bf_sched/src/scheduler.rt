@@ -6,12 +6,12 @@ ghost use Rattle.bf_core.specs.Cores.{IsRefusal, IsReplay, MayCome, moved};
 ghost use Rattle.bf_core.specs.Endings.{ending_of};
 ghost use Rattle.bf_core.specs.Running.{running_now};
 ghost use Rattle.bf_core.specs.declared.event.Event.{Event as EventTerm};
-ghost use Rattle.bf_ready.specs.Choices.{IsNextMoment};
+ghost use Rattle.bf_sched.specs.Choices.{IsNextMoment};
 ghost use Rattle.bf_sched.specs.Scheduling.{HasComeTo, HasFinished, HasTicked, IsNext, IsRefused, IsSameGiven, IsTicketOf, MayFinish, moved_on};
 
 use crate::next::Next;
+use crate::ready::Ready;
 use bf_core::{Core, Ended, Event, Illegal};
-use bf_ready::Ready;
 use bf_try::{Done, Outcome, Ticket, grade};
 use bf_value::{JobName, OutOfMemory};
 use bf_workers::Workers;

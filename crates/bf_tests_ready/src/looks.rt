@@ -1,7 +1,7 @@
 //! What is kept beside what a look finds.
 use bf_core::Event;
-use bf_ready::Ready;
 use bf_rescan::{next_moment, next_step, next_try};
+use bf_sched::Ready;
 use bf_value::OutOfMemory;
 use bf_waiting::weights;
 use std::alloc::Global;

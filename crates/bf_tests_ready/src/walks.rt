@@ -4,7 +4,7 @@ use crate::graphs::{TASKS, graph_of};
 use crate::looks::compare;
 use bf_core::{Core, Event};
 use bf_plan::Plan;
-use bf_ready::Ready;
+use bf_sched::Ready;
 use bf_tests_graphs::{daily_runs, plan_of};
 use bf_try::Outcome;
 use bf_value::{JobName, OutOfMemory, Text, Values, Xval};

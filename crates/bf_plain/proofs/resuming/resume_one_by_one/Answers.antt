@@ -1,7 +1,7 @@
 use Rattle.std.proofs.lemmas.Result.{IfOk-weaker}
 use Rattle.bf_core.specs.Events.{entry_in}
-use Rattle.bf_resume.proofs.Resumed.{kept_alike, graded_anew, graded_all}
-use Rattle.bf_resume.proofs.resuming.resume_one_by_one.Goals as goal
+use Rattle.bf_kept.proofs.Resumed.{kept_alike, graded_anew, graded_all}
+use Rattle.bf_plain.proofs.resuming.resume_one_by_one.Goals as goal
 
 pub returns-clause-again : goal.returns-clause-again
 returns-clause-again g c =

@@ -4,7 +4,7 @@ ghost use Rattle.bf_core.specs.Events.{HasEnded};
 ghost use Rattle.bf_core.specs.Cores.{Backfill, HasCome, IsRefusal, IsReplay, MayCome, moved};
 ghost use Rattle.bf_core.specs.Endings.{ending_of};
 ghost use Rattle.bf_core.specs.declared.event.Event.{Event as EventTerm};
-ghost use Rattle.bf_ready.specs.Choices.{IsNextMoment, IsNextStep, IsNextTry};
+ghost use Rattle.bf_sched.specs.Choices.{IsNextMoment, IsNextStep, IsNextTry};
 
 use bf_core::{Core, Ended, Event, Illegal};
 use bf_due::Due;

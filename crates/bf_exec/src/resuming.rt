@@ -1,18 +1,18 @@
-//! A backfill that goes on from kept tries.
+//! A backfill by workers that goes on from kept tries.
 ghost use Rattle.std.specs.Prelude.{IfOk, IfErr, length};
 ghost use Rattle.bf_kept.specs.Kept.{AreFit, AreGradedAnew, MayGiveUpAnew};
-ghost use Rattle.bf_core.specs.Answered.{AreGraded, MayFault};
+ghost use Rattle.bf_core.specs.Answered.{AreGraded};
 ghost use Rattle.bf_core.specs.Endings.{IsEndOf, KeepsWorkers};
 ghost use Rattle.bf_core.specs.Events.{entry_in};
 ghost use Rattle.bf_core.specs.Terms.{AreAlike};
 ghost use Rattle.bf_exec.specs.Faults.{MayFail};
 
+use crate::running::run_backfill;
+use crate::watch::{Observer, Watch};
 use bf_core::{BackfillFault, Ended};
-use bf_exec::{Observer, Watch, run_backfill};
 use bf_interval::Runs;
 use bf_kept::{Keeping, KeptTries};
 use bf_lane::Clock;
-use bf_plain::one_by_one;
 use bf_plan::Plan;
 use bf_try::TaskRunner;
 use bf_workers::Workers;
@@ -58,30 +58,4 @@ pub fn resume<
         (MayGiveUpAnew (K.kept keeping.now.kept.now) (R.may_give_up keeping.now.runner.now))) }
 {
     run_backfill(rt, alloc, plan, runs, workers, keeping, watch)
-}
-
-/// The same, one try after the other in this thread, as in `one_by_one`.
-pub fn resume_one_by_one<'p, K: KeptTries, R: TaskRunner>(
-    alloc: Global,
-    plan: &'p Plan,
-    runs: &Runs,
-    keeping: &Keeping<'_, K, R>,
-) -> Result<Ended<'p>, BackfillFault>
-    requires { AreFit plan.now.dag (K.kept keeping.now.kept.now) }
-    ensures of { IfOk result (IsEndOf plan.entry.now.dag plan.entry.now.limits (length runs.now)) }
-    ensures again { IfOk result (λ ended.
-        AreAlike (K.kept keeping.now.kept.now) (entry_in ended.state.ledger)) }
-    ensures anew { IfOk result (λ ended.
-        AreGradedAnew (K.kept keeping.now.kept.now) (R.may_answer keeping.now.runner.now)
-        plan.entry.now.dag (entry_in ended.state.ledger)) }
-    ensures all { AreGraded (R.may_answer keeping.now.runner.now)
-        plan.entry.now.dag (K.kept keeping.now.kept.now)
-        → IfOk result (λ ended. AreGraded (R.may_answer keeping.now.runner.now)
-        plan.entry.now.dag (entry_in ended.state.ledger)) }
-    ensures workers { IfOk result (λ ended.
-        KeepsWorkers plan.entry.now.dag (length runs.now) 1 ended.journal) }
-    ensures err { IfErr result (MayFault
-        (MayGiveUpAnew (K.kept keeping.now.kept.now) (R.may_give_up keeping.now.runner.now))) }
-{
-    one_by_one(alloc, plan, runs, keeping)
 }
