@@ -16,17 +16,9 @@ ROOT = pathlib.Path(__file__).resolve().parents[2]
 sys.path[:0] = [str(ROOT / "tests/oracles"), str(ROOT / "python")]
 import backfill_graph  # noqa: E402
 import faults  # noqa: E402
+from rows import holds, tell  # noqa: E402
 
 PROGRAM, FOLDER, COUNT = sys.argv[1], pathlib.Path(sys.argv[2]), int(sys.argv[3])
-rows = differing = 0
-
-
-def holds(name, right):
-    global rows, differing
-    rows += 1
-    if not right:
-        differing += 1
-        print(f"differs: {name}")
 
 
 def in_order(file):
@@ -237,4 +229,4 @@ for path in sorted((ROOT / "examples").glob("*/*.json")):
         comes_back(path.relative_to(ROOT), file)
 for seed in range(1, COUNT + 1):
     by_chance(seed)
-print(rows - differing, differing)
+tell()

@@ -16,17 +16,9 @@ sys.path[:0] = [str(ROOT / "tests/oracles"), str(ROOT / "python")]
 import backfill_report  # noqa: E402
 import recursion  # noqa: E402
 import reports  # noqa: E402
+from rows import holds, tell  # noqa: E402
 
 FOLDER, COUNT = pathlib.Path(sys.argv[1]), int(sys.argv[2])
-rows = differing = 0
-
-
-def holds(name, right):
-    global rows, differing
-    rows += 1
-    if not right:
-        differing += 1
-        print(f"differs: {name}")
 
 
 def lines_of(text):
@@ -102,4 +94,4 @@ for seed in range(1, COUNT + 1):
     content = reports.report_by_chance(seed)
     if reports.answer(content).startswith("42"):
         is_read(f"seed {seed}", content.decode())
-print(rows - differing, differing)
+tell()
