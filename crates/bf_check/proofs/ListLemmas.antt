@@ -28,6 +28,26 @@ each_so_far P xs i x within is before here k y h there = elim (cases_lt k i) [
       subst (λ (n : ℕ). P n y) same (subst (P i) one here)
 ]
 
+pushed_at : {Y : Type 0} (ys : List Y) (y : Y) (s : ℕ) (b : Y) → slice_get (ys ++ y ∷ []) s ≡ Some b → (slice_get ys s ≡ Some b) ⊎ ((s ≡ length ys) × (y ≡ b))
+pushed_at [] y zero b e = inr (refl, cc)
+pushed_at [] y (suc s) b e = absurd (cc)
+pushed_at (z ∷ ys) y zero b e = inl e
+pushed_at (z ∷ ys) y (suc s) b e = elim (pushed_at ys y s b e) [
+  | inl before ↦ inl before
+  | inr here ↦ inr (ap suc here.0, here.1)
+]
+
+-- what holds of each two that stand at one place, and of two more
+pub each_pushed : {X Y : Type 0} (P : ℕ → X → Y → Type 0) (xs : List X) (ys : List Y) (t : ℕ) (x : X) (y : Y) → length ys ≡ t → slice_get xs t ≡ Some x → ((s : ℕ) (a : X) (b : Y) → slice_get xs s ≡ Some a → slice_get ys s ≡ Some b → P s a b) → P t x y
+    → (s : ℕ) (a : X) (b : Y) → slice_get xs s ≡ Some a → slice_get (ys ++ y ∷ []) s ≡ Some b → P s a b
+each_pushed {X} {Y} P xs ys t x y long at before here s a b there found = elim (pushed_at ys y s b found) [
+  | inl earlier ↦ before s a b there earlier
+  | inr last ↦
+      let place : t ≡ s = sym (last.0 ∙ long) in
+      let one : x ≡ a = (let both = sym at ∙ ap (slice_get xs) place ∙ there in cc) in
+      subst (λ (p : ℕ × X × Y). P p.0 p.1 p.2) (λ i. (place i, one i, last.1 i)) here
+]
+
 -- what stands at a place
 pub item_at : {X : Type 0} (xs : List X) (k : ℕ) → k < length xs → (x : X) × (slice_get xs k ≡ Some x)
 item_at [] k h = absurd (omega (arith, h))

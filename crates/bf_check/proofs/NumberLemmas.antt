@@ -1,7 +1,7 @@
 -- Ids, and the numbers of the tasks that have them.
-use Rattle.std.proofs.Common.{◌≡◌, ℕ, zero, suc, ◌<◌, ◌||◌, List, [], ◌∷◌, length, map, filter, get_or, Contains, subst, Bool, true, false, true≢false, not, cond, Option, Some, None, is_none, is_some, option_map, unwrap_or, refl, sym, ap, ◌∙◌, arith}
+use Rattle.std.proofs.Common.{◌≡◌, ℕ, zero, suc, ◌<◌, ◌+◌, ◌||◌, List, [], ◌∷◌, ◌++◌, length, map, take, filter, get_or, Contains, subst, Bool, true, false, true≢false, not, cond, Option, Some, None, is_none, is_some, option_map, unwrap_or, refl, sym, ap, ◌∙◌, arith}
 use Rattle.std.proofs.lemmas.List.{get_or-map}
-use Rattle.std.proofs.lemmas.List.Folds.{list_any_at, list_any_none}
+use Rattle.std.proofs.lemmas.List.Folds.{list_any_at, list_any_more, list_any_none}
 use Rattle.std.proofs.lemmas.List.Quantifiers.{position-Some}
 use Rattle.std.specs.Cmp.Lexicographic.{bytes_decides}
 use Rattle.std.specs.List.{cons_option, filter_map, list_any, position, slice_index_or}
@@ -12,7 +12,7 @@ use Rattle.bf_read.specs.Drafts.{distinct, pulled_by, pulled_in}
 use Rattle.bf_check.specs.Checking.{number_of, number_or_0}
 use Rattle.bf_check.specs.Looks.{numbers_in, source_found}
 use Rattle.bf_check.specs.Refusals.{is_no_upstream}
-use Rattle.bf_check.proofs.ListLemmas.{none_passing}
+use Rattle.bf_check.proofs.ListLemmas.{map_more, none_passing}
 
 -- ---- lists that are mapped
 
@@ -62,6 +62,17 @@ module _ (ids : List (List ℕ)) where
       go : (found : Option ℕ) → number_of ids id ≡ found → (is_none found || list_any is_unknown names) ≡ true → (list_any is_unknown names ≡ true → (other : List ℕ) × Contains names other × (number_of ids other ≡ None)) → (other : List ℕ) × Contains (id ∷ names) other × (number_of ids other ≡ None)
       go None f e later = (id, (0, omega arith, refl), f)
       go (Some n) f e later = (let rest = later e in (rest.0, (suc rest.1.0, omega (arith, rest.1.1), rest.1.2), rest.2))
+
+  -- the numbers that are found as far as i, and one more
+  pub one_known : (names : List (List ℕ)) (numbers : List ℕ) (i n : ℕ) (d : List ℕ) → i < length names → numbers_in ids (take i names) ≡ Some numbers → number_of ids (get_or names i d) ≡ Some n → numbers_in ids (take (i + 1) names) ≡ Some (numbers ++ n ∷ [])
+  one_known names numbers i n d within so_far is =
+      let known = all_known (take i names) numbers so_far in
+      let none : list_any is_unknown (take (i + 1) names) ≡ false = list_any_more is_unknown names i d within ∙ ap (λ b. b || is_unknown (get_or names i d)) known.0 ∙ ap is_none is in
+      let more : numbers ++ n ∷ [] ≡ map (number_or_0 ids) (take (i + 1) names) = map_more (number_or_0 ids) names i d numbers n within known.1 (sym (ap (λ found. unwrap_or found 0) is)) in
+      ap (λ b. cond b None (Some (map (number_or_0 ids) (take (i + 1) names)))) none ∙ ap Some (sym more)
+
+  pub one_missing : (names : List (List ℕ)) (i : ℕ) (d : List ℕ) → i < length names → number_of ids (get_or names i d) ≡ None → numbers_in ids names ≡ None
+  one_missing names i d within is = ap (λ b. cond b None (Some (map (number_or_0 ids) names))) (list_any_at is_unknown names i d within (ap is_none is))
 
   -- the numbers that are found are below how many tasks there are
   pub numbers_within : (names : List (List ℕ)) (numbers : List ℕ) → numbers_in ids names ≡ Some numbers → (u : ℕ) → Contains numbers u → u < length ids

@@ -1,5 +1,5 @@
 -- What is found as a draft is looked through: for private clauses alone.
-use Rattle.std.specs.Prelude.{◌≡◌, ℕ, ◌<◌, List, [], if◌then◌else◌, map, slice_get, Contains, Option, Some, None, option_map, is_none}
+use Rattle.std.specs.Prelude.{◌≡◌, ℕ, ◌<◌, List, [], if◌then◌else◌, map, length, slice_get, Contains, Option, Some, None, option_map, is_none}
 use Rattle.std.specs.List.{list_any, slice_index_or}
 use Rattle.bf_graph.specs.Shape.{Shape}
 use Rattle.bf_read.specs.declared.draft.Draft.{Draft}
@@ -85,6 +85,12 @@ pub record AreFound (tasks : List TaskDraft) (graph : Shape) (rules : List Rule)
   pub rules_are : rules ≡ map rule_of tasks
   pub pulls_are : pulls ≡ map (pulls_in (ids_of tasks)) tasks
   pub sources_are : sources ≡ map (source_in (ids_of tasks)) tasks
+
+-- the task of a number is one of those of which something was found
+pub record HasLinks (graph : Shape) (rules : List Rule) (sources : List (Option ℕ)) (task : ℕ) : Type 0 where
+  pub edged : task < length graph.upstreams
+  pub ruled : task < length rules
+  pub sourced : task < length sources
 
 -- ---- what is settled when a task is decided
 

@@ -1,10 +1,10 @@
 //! Drafts, checked as plans.
-ghost use Rattle.std.specs.Prelude.{◌≡◌, option_map, IfOk, IfErr, OnOk};
+ghost use Rattle.std.specs.Prelude.{◌≡◌, map, option_map, IfOk, IfErr, OnOk};
 ghost use Rattle.bf_graph.specs.Ranks.{Ranking};
-ghost use Rattle.bf_check.specs.Checking.{dag_of, limits_of as limits_in, shape_in};
+ghost use Rattle.bf_check.specs.Checking.{dag_of, limits_of as limits_in, rule_of, shape_in};
 ghost use Rattle.bf_check.specs.Looks.{AllMayPull, AreFound};
-ghost use Rattle.bf_check.specs.Refusals.{HasNoFault, IsAccepted, IsFaultOf};
-ghost use Rattle.bf_check.specs.Schedules.{Fires, IsZoneFor};
+ghost use Rattle.bf_check.specs.Refusals.{HasNoFault, HasNoneBelow, IsAccepted, IsFaultOf};
+ghost use Rattle.bf_check.specs.Schedules.{Fires, IsScheduled, IsZoneFor};
 
 use crate::edges::numbered;
 use crate::fault::CheckFault;
@@ -21,77 +21,166 @@ use bf_value::{OutOfMemory, Sequence};
 use bf_zone::Zone;
 use std::alloc::Global;
 
+/// What is found of each task.
+#[derive(Drop)]
+struct Found {
+    rules: Vec<Rule>,
+    pulls: Vec<Pulls>,
+    sources: Vec<Option<u32>>,
+}
+
+/// What is looked at behind the graph and the limits.
+#[derive(Drop)]
+struct Rest {
+    schedule: CronSpec,
+    zone: Zone,
+    found: Found,
+}
+
 /// What a draft is found to have beside what it says of its tasks.
 #[derive(Drop)]
 struct Parts {
     graph: Graph,
     limits: Limits,
-    rules: Vec<Rule>,
-    schedule: CronSpec,
-    zone: Zone,
-    pulls: Vec<Pulls>,
-    sources: Vec<Option<u32>>,
+    rest: Rest,
 }
 
+// A look that refuses drops all that is held. So each of these holds little of it.
 impl Looks<'_> {
+    /// The looks 8 and 9: the limits.
+    fn limits(&self, alloc: Global) -> Result<Limits, CheckFault>
+        requires { HasNoneBelow self.now.draft.now 8 }
+        ensures limits { IfOk result (λ limits. limits ≡ limits_in self.now.draft.now) }
+        ensures ok { OnOk result (HasNoneBelow self.now.draft.now 10) }
+        ensures err { IfErr result (IsFaultOf self.now.draft.now (option_map (λ s. s.now) self.now.zone_file)) }
+    {
+        let demands = self.demands(alloc)?;
+        Ok(limits_of(alloc, self.draft, demands)?)
+    }
+
+    /// The looks 14 to 17: what is found of each task.
+    fn found(&self, alloc: Global, graph: &Graph, rules: Vec<Rule>) -> Result<Found, CheckFault>
+        requires graph { graph.now ≡ shape_in self.now.draft.now.tasks }
+        requires rules { rules.items ≡ map rule_of self.now.draft.now.tasks }
+        requires below { HasNoneBelow self.now.draft.now 14 }
+        requires scheduled { IsScheduled self.now.draft.now (option_map (λ s. s.now) self.now.zone_file) }
+        ensures found { IfOk result (λ found.
+            AreFound self.now.draft.now.tasks graph.now found.rules.items found.pulls.items found.sources.items) }
+        ensures settled { OnOk result (AllMayPull self.now.draft.now) }
+        ensures ok { OnOk result (HasNoFault self.now.draft.now) }
+        ensures err { IfErr result (IsFaultOf self.now.draft.now (option_map (λ s. s.now) self.now.zone_file)) }
+    {
+        let pulls = self.pulls(alloc, graph, rules.as_slice())?;
+        let sources = self.sources(alloc, graph, rules.as_slice())?;
+        Ok(Found {
+            rules,
+            pulls,
+            sources,
+        })
+    }
+
+    /// The looks 10 to 17.
+    fn rest(&self, alloc: Global, graph: &Graph) -> Result<Rest, CheckFault>
+        requires graph { graph.now ≡ shape_in self.now.draft.now.tasks }
+        requires below { HasNoneBelow self.now.draft.now 10 }
+        ensures found { IfOk result (λ rest.
+            AreFound self.now.draft.now.tasks graph.now rest.found.rules.items rest.found.pulls.items rest.found.sources.items) }
+        ensures schedule { IfOk result (λ rest. Fires self.now.draft.now.schedule rest.schedule) }
+        ensures zone { IfOk result (λ rest. IsZoneFor self.now.draft.now.zone (option_map (λ s. s.now) self.now.zone_file) rest.zone) }
+        ensures settled { OnOk result (AllMayPull self.now.draft.now) }
+        ensures ok { OnOk result (HasNoFault self.now.draft.now) }
+        ensures err { IfErr result (IsFaultOf self.now.draft.now (option_map (λ s. s.now) self.now.zone_file)) }
+    {
+        let rules = self.rules(alloc)?;
+        let (schedule, zone) = self.schedule_in_zone(alloc)?;
+        let found = self.found(alloc, graph, rules)?;
+        Ok(Rest {
+            schedule,
+            zone,
+            found,
+        })
+    }
+
     /// All looks in the order of their numbers.
     fn parts(&self, alloc: Global) -> Result<Parts, CheckFault>
         ensures found { IfOk result (λ parts.
-            AreFound self.now.draft.now.tasks parts.graph parts.rules.items parts.pulls.items parts.sources.items) }
+            AreFound self.now.draft.now.tasks parts.graph parts.rest.found.rules.items parts.rest.found.pulls.items parts.rest.found.sources.items) }
         ensures limits { IfOk result (λ parts. parts.limits ≡ limits_in self.now.draft.now) }
-        ensures schedule { IfOk result (λ parts. Fires self.now.draft.now.schedule parts.schedule) }
-        ensures zone { IfOk result (λ parts. IsZoneFor self.now.draft.now.zone (option_map (λ s. s.now) self.now.zone_file) parts.zone) }
+        ensures schedule { IfOk result (λ parts. Fires self.now.draft.now.schedule parts.rest.schedule) }
+        ensures zone { IfOk result (λ parts. IsZoneFor self.now.draft.now.zone (option_map (λ s. s.now) self.now.zone_file) parts.rest.zone) }
         ensures ranking { OnOk result (Ranking (shape_in self.now.draft.now.tasks).upstreams) }
         ensures ok { OnOk result (HasNoFault self.now.draft.now) }
         ensures settled { OnOk result (AllMayPull self.now.draft.now) }
         ensures err { IfErr result (IsFaultOf self.now.draft.now (option_map (λ s. s.now) self.now.zone_file)) }
     {
         let graph = self.graph(alloc)?;
-        let demands = self.demands(alloc)?;
-        let rules = self.rules(alloc)?;
-        let (schedule, zone) = self.schedule_in_zone(alloc)?;
-        let pulls = self.pulls(alloc, &graph, rules.as_slice())?;
-        let sources = self.sources(alloc, &graph, rules.as_slice())?;
-        let limits = limits_of(alloc, self.draft, demands)?;
+        let limits = self.limits(alloc)?;
+        let rest = self.rest(alloc, &graph)?;
         Ok(Parts {
             graph,
             limits,
-            rules,
-            schedule,
-            zone,
-            pulls,
-            sources,
+            rest,
         })
     }
 }
 
+/// The tasks of a draft, of what was found of each.
+fn dag_found(alloc: Global, draft: Draft, graph: &Graph, found: Found) -> Result<Dag, OutOfMemory>
+    requires { AreFound draft.tasks graph.now found.rules.items found.pulls.items found.sources.items }
+    ensures { IfOk result (λ dag. dag ≡ dag_of draft) }
+{
+    let pulls = found.pulls;
+    let tasks = tasks_of(
+        alloc,
+        draft.tasks,
+        graph,
+        found.rules.as_slice(),
+        pulls,
+        found.sources.as_slice(),
+    )?;
+    Ok(Dag {
+        id: draft.dag_id,
+        tasks: Sequence::from_vec(tasks),
+    })
+}
+
 /// The plan of a draft that was looked through, and the zone of its schedule.
 fn planned(alloc: Global, draft: Draft, parts: Parts) -> Result<(Plan, Zone), OutOfMemory>
-    requires found { AreFound draft.tasks parts.graph parts.rules.items parts.pulls.items parts.sources.items }
+    requires found { AreFound draft.tasks parts.graph parts.rest.found.rules.items parts.rest.found.pulls.items parts.rest.found.sources.items }
     requires limits { parts.limits ≡ limits_in draft }
     requires ranking { Ranking (shape_in draft.tasks).upstreams }
     requires ok { HasNoFault draft }
     requires settled { AllMayPull draft }
     ensures dag { IfOk result (λ both. both.0.dag ≡ dag_of draft) }
     ensures limits { IfOk result (λ both. both.0.limits ≡ limits_in draft) }
-    ensures schedule { IfOk result (λ both. both.0.schedule ≡ parts.schedule) }
-    ensures zone { IfOk result (λ both. both.1 ≡ parts.zone) }
+    ensures schedule { IfOk result (λ both. both.0.schedule ≡ parts.rest.schedule) }
+    ensures zone { IfOk result (λ both. both.1 ≡ parts.rest.zone) }
 {
-    let pulls = parts.pulls;
-    let tasks = tasks_of(
-        alloc,
-        draft.tasks,
-        &parts.graph,
-        parts.rules.as_slice(),
-        pulls,
-        parts.sources.as_slice(),
-    )?;
-    let dag = Dag {
-        id: draft.dag_id,
-        tasks: Sequence::from_vec(tasks),
+    let rest = parts.rest;
+    let dag = dag_found(alloc, draft, &parts.graph, rest.found)?;
+    let plan = Plan::new(dag, parts.limits, rest.schedule, parts.graph);
+    Ok((plan, rest.zone))
+}
+
+/// What a draft is found to have, by its bytes for the zone `file`.
+fn parts_of(alloc: Global, draft: &Draft, zone_file: Option<&[u8]>) -> Result<Parts, CheckFault>
+    ensures found { IfOk result (λ parts.
+        AreFound draft.now.tasks parts.graph parts.rest.found.rules.items parts.rest.found.pulls.items parts.rest.found.sources.items) }
+    ensures limits { IfOk result (λ parts. parts.limits ≡ limits_in draft.now) }
+    ensures schedule { IfOk result (λ parts. Fires draft.now.schedule parts.rest.schedule) }
+    ensures zone { IfOk result (λ parts. IsZoneFor draft.now.zone (option_map (λ s. s.now) zone_file.entry) parts.rest.zone) }
+    ensures ranking { OnOk result (Ranking (shape_in draft.now.tasks).upstreams) }
+    ensures ok { OnOk result (HasNoFault draft.now) }
+    ensures settled { OnOk result (AllMayPull draft.now) }
+    ensures err { IfErr result (IsFaultOf draft.now (option_map (λ s. s.now) zone_file.entry)) }
+{
+    let ids = numbered(alloc, draft)?;
+    let looks = Looks {
+        ids: &ids,
+        draft,
+        zone_file,
     };
-    let plan = Plan::new(dag, parts.limits, parts.schedule, parts.graph);
-    Ok((plan, parts.zone))
+    looks.parts(alloc)
 }
 
 /// The plan of a draft and the zone of its schedule, or of its faults the one of the least number; of the tasks that have it
@@ -108,12 +197,6 @@ pub fn check(
     ensures accepted { OnOk result (IsAccepted draft (option_map (λ s. s.now) zone_file.entry)) }
     ensures fault { IfErr result (IsFaultOf draft (option_map (λ s. s.now) zone_file.entry)) }
 {
-    let ids = numbered(alloc, &draft)?;
-    let looks = Looks {
-        ids: &ids,
-        draft: &draft,
-        zone_file,
-    };
-    let parts = looks.parts(alloc)?;
+    let parts = parts_of(alloc, &draft, zone_file)?;
     Ok(planned(alloc, draft, parts)?)
 }

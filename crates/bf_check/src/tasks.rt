@@ -1,10 +1,12 @@
 //! The tasks of a plan.
-ghost use Rattle.std.specs.Prelude.{◌≡◌, ◌≤◌, ℕ, List, length, map, All, Contains, position, Some, IfOk};
+ghost use Rattle.std.specs.Prelude.{◌≡◌, ◌≤◌, ℕ, List, length, map, slice_index_or, All, Contains, position, None, Some, IfOk};
 ghost use Rattle.std.specs.Str.{bytes_eq};
+ghost use Rattle.bf_graph.specs.Edges.{upstreams_of};
+ghost use Rattle.bf_rule.specs.declared.rule.Rule.{Rule as RuleTerm};
 ghost use Rattle.bf_read.specs.Limits.{most_pulls, most_tasks};
 ghost use Rattle.bf_read.specs.Drafts.{IsTask, pulled_by, pulled_in};
 ghost use Rattle.bf_check.specs.Checking.{ids_of, task_in, word_in};
-ghost use Rattle.bf_check.specs.Looks.{links_in, AreFound};
+ghost use Rattle.bf_check.specs.Looks.{links_in, AreFound, HasLinks};
 
 use crate::edges::place_of;
 use crate::pulls::Pulls;
@@ -83,6 +85,32 @@ fn task_of(alloc: Global, draft: TaskDraft, links: Links) -> Result<Task, OutOfM
     })
 }
 
+/// The links of the task of a number, which pulls from these.
+fn links_of(
+    alloc: Global,
+    graph: &Graph,
+    rules: &[Rule],
+    sources: &[Option<u32>],
+    task: u32,
+    pulls: Pulls,
+) -> Result<Links, OutOfMemory>
+    requires { HasLinks graph.now rules.now sources.now task }
+    ensures { IfOk result (λ links. links ≡ record {
+      upstreams = upstreams_of graph.now.upstreams task;
+      rule = slice_index_or rules.now task RuleTerm.AllSuccess;
+      pulls = pulls;
+      source = slice_index_or sources.now task None;
+    }) }
+{
+    let upstreams = graph.upstreams(task).to_vec(alloc)?;
+    Ok(Links {
+        upstreams: Sequence::from_vec(upstreams),
+        rule: rules[task as usize],
+        pulls,
+        source: sources[task as usize],
+    })
+}
+
 /// The tasks of a plan, of what was found of each.
 pub(crate) fn tasks_of(
     alloc: Global,
@@ -100,13 +128,7 @@ pub(crate) fn tasks_of(
     let mut tasks = Vec::new(alloc);
     for (draft, pulls) in drafts.into_vec().into_iter().zip(pulls) {
         let t = tasks.len();
-        let upstreams = graph.upstreams(t as u32).to_vec(alloc)?;
-        let links = Links {
-            upstreams: Sequence::from_vec(upstreams),
-            rule: rules[t],
-            pulls,
-            source: sources[t],
-        };
+        let links = links_of(alloc, graph, rules, sources, t as u32, pulls)?;
         tasks.push(task_of(alloc, draft, links)?)?;
     }
     Ok(tasks)

@@ -1,4 +1,4 @@
-use Rattle.std.proofs.Common.{sym, ◌∙◌, subst}
+use Rattle.std.proofs.Common.{sym, subst}
 use Rattle.bf_graph.specs.Shape.{Shape}
 use Rattle.bf_plan.specs.declared.plan.Dag.{Dag}
 use Rattle.bf_plan.specs.declared.plan.Limits.{Limits}
@@ -13,6 +13,6 @@ new-plan-requires c =
     let parts = c.args.parts in
     let are = c.requires in
     let checked = is_checked draft are.ok are.settled are.ranking in
-    subst (λ (d : Dag). IsChecked d parts.limits parts.graph) (λ i. record { id = draft.dag_id; tasks = (sym (c.from_vec.ensures ∙ c.in_ok-tasks.ensures)) i })
+    subst (λ (d : Dag). IsChecked d parts.limits parts.graph) (sym c.in_ok-dag.ensures)
     (subst (λ (l : Limits). IsChecked (dag_of draft) l parts.graph) (sym are.limits)
     (subst (λ (g : Shape). IsChecked (dag_of draft) (limits_of draft) g) (sym are.found.graph_is) checked))

@@ -1,5 +1,5 @@
-use Rattle.std.proofs.Common.{List, get_or, ap, ◌∙◌}
-use Rattle.std.proofs.lemmas.Option.{get_or_from_slice_get}
+use Rattle.std.proofs.Common.{List, get_or, length, ap, ◌∙◌, arith}
+use Rattle.std.proofs.lemmas.Option.{get_or_from_slice_get, slice_get_within}
 use Rattle.bf_read.specs.declared.draft.TaskDraft.{TaskDraft}
 use Rattle.bf_check.specs.Looks.{IsFirstAt}
 use Rattle.bf_check.proofs.looks.Looks.refuse_at.Goals as goal
@@ -19,3 +19,10 @@ returns-in_ok-id-in-Some-clause-err c =
       c.requires.below,
       c.requires.scheduled,
     )
+
+pub bounds-as_slice-place : goal.bounds-as_slice-place
+bounds-as_slice-place c =
+    let draft = c.args.self.now.draft.now in
+    let first : IsFirstAt draft c.args.fault c.in-Some.place = rw c.in-Some.is at c.requires.first in
+    let within = slice_get_within draft.tasks c.in-Some.place first.task first.there in
+    omega (arith, within, ap length c.as_slice.ensures)
