@@ -354,13 +354,13 @@ fn read_all<R: Read>(
     alloc: Global,
     lines: &mut Lines,
     device: &mut R,
-) -> Result<Beginning, ReportFault>
+) -> Result<Report, ReportFault>
     requires nothing { held_bytes lines.old.held ≡ [] }
     requires first { lines.old.number ≡ 0 }
     requires tallied { lines.old.held.interruptions ≡ 0 }
-    ensures ok { IfOk result (λ beginning.
-        IfSome (R.left device.old) (λ bytes. bytes ≡ report_text (so_far beginning))) }
-    ensures rules { IfOk result (λ beginning. IsShownReport (so_far beginning)) }
+    ensures ok { IfOk result (λ report.
+        IfSome (R.left device.old) (λ bytes. bytes ≡ report_text report)) }
+    ensures rules { IfOk result IsShownReport }
     ensures err { IfErr result (λ fault. IfSome (R.left device.old) (λ bytes. Tells bytes fault)) }
     ensures io { IfErr result (λ fault. fault ≡ ReportFault.Io → HasHalted
         (R.failures device.old) (R.failures device.new)
@@ -370,7 +370,7 @@ fn read_all<R: Read>(
 {
     let mut beginning = read_head(alloc, lines, device)?;
     read_rest(alloc, lines, device, &mut beginning)?;
-    Ok(beginning)
+    Ok(beginning.into_report(alloc)?)
 }
 
 /// Reads a report of either version from a device, up to its last byte. After a fault what was read is lost.
@@ -388,6 +388,5 @@ pub fn read_report<R: Read>(alloc: Global, device: &mut R) -> Result<Report, Rep
         (R.interruptions device.old) (R.interruptions device.new)) }
 {
     let mut lines = Lines::new(alloc)?;
-    let beginning = read_all(alloc, &mut lines, device)?;
-    Ok(beginning.into_report(alloc)?)
+    read_all(alloc, &mut lines, device)
 }

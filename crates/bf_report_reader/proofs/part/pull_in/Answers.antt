@@ -1,7 +1,10 @@
-use Rattle.std.proofs.Common.{Some, true≢false, ap, sym, subst, ◌∙◌}
+use Rattle.std.proofs.Common.{◌++◌, ◌∷◌, ℕ, List, Some, true≢false, ap, sym, subst, ◌∙◌}
 use Rattle.std.specs.Str.{IsUtf8}
 use Rattle.bf_plan.specs.Ids.{is_id}
 use Rattle.bf_plan.proofs.ListLemmas.{some_same}
+use Rattle.bf_report.specs.Report.{pulled_word}
+use Rattle.bf_report_reader.specs.Parts.{IsToldPulled}
+use Rattle.bf_report_reader.specs.Reads.{Spells}
 use Rattle.bf_report_reader.proofs.Words.{id_utf8}
 use Rattle.bf_report_reader.proofs.Spelled.{pull_fields}
 use Rattle.bf_report_reader.proofs.part.pull_in.Goals as goal
@@ -27,3 +30,11 @@ pub returns-in-None-clause-every : goal.returns-in-None-clause-every
 returns-in-None-clause-every c = λ p says.
     let (task, value) = pull_fields p c.args.text.now c.in-Some.id.now c.in-Some.value.now c.in-Some.ensures.word c.in-Some.ensures.some says in
     let none = sym c.in-None.is ∙ c.in_ok-value.ensures.every p.value (says.0.1, value) in absurd (cc none)
+
+pub returns-in_ok-copied-in-Some-2-clause-some : goal.returns-in_ok-copied-in-Some-2-clause-some
+returns-in_ok-copied-in-Some-2-clause-some c =
+    let told : Spells IsToldPulled pulled_word c.in-Some.value.now c.in-Some-2.value = rw c.in-Some-2.is at c.in_ok-value.ensures.some in
+    let task = c.in_ok-copied-in-Some-2.ensures ∙ c.in-Ok.ensures.cases.0 in (
+      (ap is_id c.in_ok-copied-in-Some-2.ensures ∙ sym c.is_id.ensures ∙ c.if-not-is_id.false, told.0),
+      c.in-Some.ensures.some ∙ ap (λ (id : List ℕ). id ++ 32 ∷ c.in-Some.value.now) (sym task) ∙ ap (λ (word : List ℕ). c.in_ok-copied-in-Some-2.field-0 ++ 32 ∷ word) told.1,
+    )

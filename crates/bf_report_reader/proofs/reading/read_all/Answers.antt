@@ -22,7 +22,7 @@ returns-in_err-read_rest-clause-io g c =
 pub returns-clause-ok : goal.returns-clause-ok
 returns-clause-ok g c =
     let all = reads_twice (g.R.Read.left c.args.device.now) _ _ [] (opening_text (so_far c.in_ok-beginning.beginning)) (report_text (so_far c.read_rest.new.beginning)) c.in_ok-beginning.ensures.ok c.in_ok-read_rest.ensures.ok in
-    ends_there (g.R.Read.left c.args.device.now) _ (report_text (so_far c.read_rest.new.beginning)) all c.in_ok-read_rest.ensures.end
+    rw c.in_ok-into_report.ensures (ends_there (g.R.Read.left c.args.device.now) _ (report_text (so_far c.read_rest.new.beginning)) all c.in_ok-read_rest.ensures.end)
 
 pub returns-clause-went_on : goal.returns-clause-went_on
 returns-clause-went_on g c =

@@ -1,4 +1,4 @@
-use Rattle.std.proofs.Common.{arith, inr}
+use Rattle.std.proofs.Common.{arith, inr, rules}
 use Rattle.bf_report_reader.proofs.HeldFacts.{keeps_consumes}
 use Rattle.bf_report_reader.proofs.held.Held.fill.Goals as goal
 
@@ -16,3 +16,13 @@ loop-count-preserved g c =
       keeps_consumes _ _ _ c.loop-count.invariant.1 c.in-Err-Again.ensures.bytes,
       λ base failed t. let before = c.loop-count.invariant.2 base failed t in (omega (arith, before.0, again), omega (arith, before.1, failed_not)),
     )
+
+pub returns-in-Ok-clause-more : goal.returns-in-Ok-clause-more
+returns-in-Ok-clause-more g c = (λ _. omega (arith, c.in-Ok.count-test.1), λ _. search rules)
+
+pub returns-in-Ok-clause-tallied : goal.returns-in-Ok-clause-tallied
+returns-in-Ok-clause-tallied g c = λ base failed t.
+    let before = c.loop-count.invariant.2 base failed t in
+    let interruptions = c.in-Ok.ensures.interruptions in
+    let failures = c.in-Ok.ensures.failures in
+    (omega (arith, before.0, interruptions), omega (arith, before.1, failures))
