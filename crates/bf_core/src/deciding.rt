@@ -16,7 +16,7 @@ use bf_xcom::Given;
 use std::alloc::Global;
 
 /// What is decided of a task in a run.
-#[derive(Debug, Drop)]
+#[derive(Drop)]
 pub enum Decision {
     /// Too little is known of the tasks that it looks at.
     Wait,

@@ -13,7 +13,9 @@ use crate::places::{next_try, place_of};
 use crate::trying::{Change, is_retried};
 use bf_plan::Demand;
 use bf_try::{Entry, Outcome, fits};
-use bf_value::JobName;
+use bf_value::{JobName, OutOfMemory};
+use bf_xcom::Given;
+use std::alloc::Global;
 
 /// What is at hand when a try ends.
 struct Ending {
@@ -23,6 +25,18 @@ struct Ending {
     retries: u32,
     place: usize,
     retry: Retry,
+}
+
+/// The entry of a try that was given this and ends so, and the outcome that its instance keeps.
+fn noted(alloc: Global, given: &Given, outcome: &Outcome) -> Result<(Entry, Outcome), OutOfMemory>
+    ensures entry { IfOk result (λ both. both.0 ≡ record { given = given.now; outcome = outcome.now }) }
+    ensures kept { IfOk result (λ both. both.1 ≡ outcome.now) }
+{
+    let entry = Entry {
+        given: given.copy(alloc)?,
+        outcome: outcome.copy(alloc)?,
+    };
+    Ok((entry, outcome.copy(alloc)?))
 }
 
 impl<'a> Core<'a> {
@@ -35,12 +49,10 @@ impl<'a> Core<'a> {
         if !fits(self.plan, name.task, outcome) {
             return Err(Illegal::NotEnabled);
         }
+        let (entry, kept) = noted(self.alloc, &instance.given, outcome)?;
         Ok(Ending {
-            entry: Entry {
-                given: instance.given.copy(self.alloc)?,
-                outcome: outcome.copy(self.alloc)?,
-            },
-            kept: outcome.copy(self.alloc)?,
+            entry,
+            kept,
             demand: self.plan.demand(name.task),
             retries: self.plan.dag().task(name.task).retries,
             place: place_of(self.plan.dag(), name) as usize,

@@ -103,6 +103,15 @@ fn unmapped(alloc: Global, pulled: Vec<Option<Xval>>) -> Result<Decision, OutOfM
     Ok(Decision::Instances(Sequence::from_vec(givens)))
 }
 
+/// What the instance of an item is given: the item, and what all are given alike.
+fn given_with(alloc: Global, item: Xval, alike: &Given) -> Result<Given, OutOfMemory>
+    ensures { IfOk result (λ given. given ≡ record { item = Some item; pulled = alike.now.pulled }) }
+{
+    let mut given = alike.copy(alloc)?;
+    given.item = Some(item);
+    Ok(given)
+}
+
 /// An instance for each item, which is given the item and what was pulled.
 fn givens_of(
     alloc: Global,
@@ -117,9 +126,7 @@ fn givens_of(
     };
     let mut givens = Vec::with_capacity(alloc, items.len())?;
     for item in items.into_vec() {
-        let mut given = alike.copy(alloc)?;
-        given.item = Some(item);
-        givens.push(given)?;
+        givens.push(given_with(alloc, item, &alike)?)?;
     }
     Ok(Sequence::from_vec(givens))
 }

@@ -7,7 +7,7 @@ use crate::state::{Cell, Instance, Phase, State};
 use bf_try::Outcome;
 
 /// What becomes of the present try of an instance.
-#[derive(Debug, Drop)]
+#[derive(Drop)]
 pub(crate) enum Change {
     Begin,
     /// It ends so, where its task has that many retries. One that failed and may be made again waits for its next try.
