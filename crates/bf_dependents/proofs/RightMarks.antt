@@ -1,12 +1,12 @@
 -- Marks of what follows from the seeds.
-use Rattle.std.proofs.Common.{◌≡◌, ◌⊎◌, ◌↔◌, ◌&&◌, ◌==◌, inl, inr, ℕ, zero, suc, ◌<◌, ◌≤◌, ◌+◌, List, [], ◌∷◌, ◌++◌, length, Contains, Bool, true, false, Some, slice_get, slice_index_or, slice_set, refl, sym, ap, ◌∙◌, subst, arith}
+use Rattle.std.proofs.Common.{◌≡◌, ◌⊎◌, ◌↔◌, ◌&&◌, ◌||◌, ◌==◌, if◌then◌else◌, nat_lt, true≢false, inl, inr, ℕ, zero, suc, ◌<◌, ◌≤◌, ◌+◌, List, [], ◌∷◌, ◌++◌, length, take, Contains, Bool, true, false, Some, slice_get, slice_index_or, slice_set, refl, sym, ap, ◌∙◌, subst, arith}
 use Rattle.std.specs.List.{list_any}
 use Rattle.std.proofs.Math.ListN.{get_or-append}
 use Rattle.std.proofs.Math.Nat.{eq-or-lt_of_le}
 use Rattle.std.proofs.Math.Seq.{get_or-append_seam}
-use Rattle.std.proofs.lemmas.Bool.{and_parts, and_from, or_cases, or_left, or_right}
+use Rattle.std.proofs.lemmas.Bool.{and_parts, and_from, cases_eq, lt-ltb, ltb-true, or_cases, or_left, or_right}
 use Rattle.std.proofs.lemmas.List.{length-append, get_or-set_same, get_or-set_other, length-set, length-map}
-use Rattle.std.proofs.lemmas.List.Folds.{list_any_at}
+use Rattle.std.proofs.lemmas.List.Folds.{list_any_at, list_any_more}
 use Rattle.std.proofs.lemmas.Map.Views.{Contains-from_any}
 use Rattle.std.proofs.lemmas.Option.{slice_get-get_or, slice_get_within}
 use Rattle.bf_graph.specs.Order.{IsByRank, StandBehind}
@@ -18,7 +18,7 @@ use Rattle.bf_plan.specs.Sound.{IsOneOf}
 use Rattle.bf_plan.proofs.PlanLemmas.{is_upstream}
 use Rattle.bf_dependents.specs.declared.place.Place.{Place}
 use Rattle.bf_dependents.specs.Dependents.{IsDependent, AreMarks, AreDependents}
-use Rattle.bf_dependents.specs.Marks.{is_place, follows, marks_before, AreMarksFor, ArePast, AreSeeded, IsSeedRow, WasDependent}
+use Rattle.bf_dependents.specs.Marks.{is_place, with_mark, follows, marks_before, AreMarksFor, ArePast, AreSeeded, IsSeedRow, WasDependent}
 
 -- so far the marks are right of the tasks before place i of the order
 pub record AreMarksTo (dag : Dag) (seeds : List Place) (k : ℕ) (order : List ℕ) (i : ℕ) (marks : List Bool) : Type 0 where
@@ -46,6 +46,91 @@ place-itself p = and_from (p.run == p.run) (p.task == p.task) (grind arith) (gri
 
 seed-found : (seeds : List Place) (p : Place) → Contains seeds p → list_any (is_place p) seeds ≡ true
 seed-found seeds p c = list_any_at (is_place p) seeds c.0 p c.1 (ap (is_place p) c.2 ∙ place-itself p)
+
+-- ---- one seed more
+
+abbrev at : ℕ → ℕ → Place
+at k t = record { run = k; task = t }
+
+module _ (seeds : List Place) (i runs tasks : ℕ) (rows : List (List Bool)) (p : Place) (l : i < length seeds) (here : p ≡ slice_index_or seeds i p) (are : AreSeeded (take i seeds) runs tasks rows) where
+  one-more : (k t : ℕ) → list_any (is_place (at k t)) (take (i + 1) seeds) ≡ (list_any (is_place (at k t)) (take i seeds) || is_place (at k t) p)
+  one-more k t = list_any_more (is_place (at k t)) seeds i p l ∙ ap (λ q. list_any (is_place (at k t)) (take i seeds) || is_place (at k t) q) (sym here)
+
+  -- where the seed is another, the answer stays
+  other : (k t : ℕ) (mark : Bool) → mark ≡ list_any (is_place (at k t)) (take i seeds) → is_place (at k t) p ≡ false → mark ≡ list_any (is_place (at k t)) (take (i + 1) seeds)
+  other k t mark e f = e ∙ stays (list_any (is_place (at k t)) (take i seeds)) ∙ ap (λ b. list_any (is_place (at k t)) (take i seeds) || b) (sym f) ∙ sym (one-more k t)
+    where
+      stays : (b : Bool) → b ≡ (b || false)
+      stays true = refl
+      stays false = refl
+
+  apart : (k t : ℕ) → (k ≡ p.run → t ≡ p.task → ⊥) → is_place (at k t) p ≡ false
+  apart k t differs = go (is_place (at k t) p) refl
+    where
+      go : (b : Bool) → is_place (at k t) p ≡ b → b ≡ false
+      go true e = let same : at k t ≡ p = place-same (at k t) p e in absurd (differs (ap (λ (q : Place). q.run) same) (ap (λ (q : Place). q.task) same))
+      go false e = refl
+
+  found : (k t : ℕ) → k ≡ p.run → t ≡ p.task → list_any (is_place (at k t)) (take (i + 1) seeds) ≡ true
+  found k t e f = one-more k t ∙ or_right (list_any (is_place (at k t)) (take i seeds)) (is_place (at k t) p) (ap (is_place (at k t)) (λ j. record { run = sym e j; task = sym f j }) ∙ place-itself (at k t))
+
+  abbrev is_there : Bool
+  is_there = nat_lt p.run (length rows) && nat_lt p.task (length (row_at rows p.run))
+
+  unmarked-still : is_there ≡ false → AreSeeded (take (i + 1) seeds) runs tasks rows
+  unmarked-still e = record {
+    len = are.len;
+    each = are.each;
+    right = λ k h t low. other k t _ (are.right k h t low) (apart k t (λ r s.
+        let wide = are.each k h in
+        let inside : p.run < length rows = omega (arith, h, are.len, r) in
+        let row : p.task < length (row_at rows p.run) = rw (← r) (omega (arith, low, wide, s)) in
+        true≢false (sym (and_from (nat_lt p.run (length rows)) (nat_lt p.task (length (row_at rows p.run))) (lt-ltb p.run (length rows) inside) (lt-ltb p.task (length (row_at rows p.run)) row)) ∙ e)));
+  }
+
+  marked-more : is_there ≡ true → AreSeeded (take (i + 1) seeds) runs tasks (slice_set rows p.run (slice_set (row_at rows p.run) p.task true))
+  marked-more e = record {
+    len = length-set rows p.run row ∙ are.len;
+    each = λ k h. go-each k h (same-or-other k);
+    right = λ k h t low. go-right k h t low (same-or-other k);
+  }
+    where
+      row : List Bool
+      row = slice_set (row_at rows p.run) p.task true
+
+      both : (nat_lt p.run (length rows) ≡ true) × (nat_lt p.task (length (row_at rows p.run)) ≡ true)
+      both = and_parts (nat_lt p.run (length rows)) (nat_lt p.task (length (row_at rows p.run))) e
+
+      inside : p.run < length rows
+      inside = ltb-true p.run (length rows) both.0
+
+      same-or-other : (k : ℕ) → (k ≡ p.run) ⊎ (k ≡ p.run → ⊥)
+      same-or-other k = cases_eq k p.run
+
+      kept : (k : ℕ) → (k ≡ p.run → ⊥) → row_at (slice_set rows p.run row) k ≡ row_at rows k
+      kept k differs = get_or-set_other rows p.run k row [] differs
+
+      now : row_at (slice_set rows p.run row) p.run ≡ row
+      now = get_or-set_same rows p.run row [] inside
+
+      go-each : (k : ℕ) → k < runs → (k ≡ p.run) ⊎ (k ≡ p.run → ⊥) → length (row_at (slice_set rows p.run row) k) ≡ tasks
+      go-each k h (inl r) = ap (λ n. length (row_at (slice_set rows p.run row) n)) r ∙ ap length now ∙ length-set (row_at rows p.run) p.task true ∙ are.each p.run (rw (← r) h)
+      go-each k h (inr differs) = ap length (kept k differs) ∙ are.each k h
+
+      go-right : (k : ℕ) → k < runs → (t : ℕ) → t < tasks → (k ≡ p.run) ⊎ (k ≡ p.run → ⊥) → is_marked (row_at (slice_set rows p.run row) k) t ≡ list_any (is_place (at k t)) (take (i + 1) seeds)
+      go-right k h t low (inr differs) = other k t _ (ap (λ r. is_marked r t) (kept k differs) ∙ are.right k h t low) (apart k t (λ r s. differs r))
+      go-right k h t low (inl r) = ap (λ n. is_marked (row_at (slice_set rows p.run row) n) t) r ∙ ap (λ m. is_marked m t) now ∙ in_row (cases_eq t p.task)
+        where
+          in_row : (t ≡ p.task) ⊎ (t ≡ p.task → ⊥) → is_marked row t ≡ list_any (is_place (at k t)) (take (i + 1) seeds)
+          in_row (inl s) = ap (is_marked row) s ∙ get_or-set_same (row_at rows p.run) p.task true false (ltb-true p.task (length (row_at rows p.run)) both.1) ∙ sym (found k t r s)
+          in_row (inr differs) = other k t _ (get_or-set_other (row_at rows p.run) p.task t true false differs ∙ ap (λ n. is_marked (row_at rows n) t) (sym r) ∙ are.right k h t low) (apart k t (λ r s. differs s))
+
+  pub seeded-more : AreSeeded (take (i + 1) seeds) runs tasks (with_mark rows p)
+  seeded-more = go is_there refl
+    where
+      go : (b : Bool) → is_there ≡ b → AreSeeded (take (i + 1) seeds) runs tasks (if b then slice_set rows p.run (slice_set (row_at rows p.run) p.task true) else rows)
+      go true e = marked-more e
+      go false e = unmarked-still e
 
 one-marked : (marks : List Bool) (us : List ℕ) → list_any (is_marked marks) us ≡ true → (u : ℕ) × IsOneOf us u × (is_marked marks u ≡ true)
 one-marked marks [] e = cc
