@@ -10,6 +10,7 @@ use Rattle.bf_rule.specs.declared.rule.Rule.{Rule}
 use Rattle.bf_rule.specs.Verdicts.{is_waiting}
 use Rattle.bf_check.specs.declared.fault.TaskFault.{TaskFault}
 use Rattle.bf_plan.specs.declared.plan.Demand.{Demand}
+use Rattle.bf_check.specs.declared.checking.Found.{Found}
 use Rattle.bf_check.specs.declared.pools.TaskPool.{TaskPool}
 use Rattle.bf_check.specs.declared.pulls.Pulls.{Pulls}
 use Rattle.bf_check.specs.declared.tasks.Links.{Links}
@@ -85,6 +86,10 @@ pub record AreFound (tasks : List TaskDraft) (graph : Shape) (rules : List Rule)
   pub rules_are : rules ≡ map rule_of tasks
   pub pulls_are : pulls ≡ map (pulls_in (ids_of tasks)) tasks
   pub sources_are : sources ≡ map (source_in (ids_of tasks)) tasks
+
+-- the same, as it is held
+abbrev pub AreFoundIn : List TaskDraft → Shape → Found → Type 0
+AreFoundIn tasks graph found = AreFound tasks graph found.rules.items found.pulls.items found.sources.items
 
 -- the task of a number is one of those of which something was found
 pub record HasLinks (graph : Shape) (rules : List Rule) (sources : List (Option ℕ)) (task : ℕ) : Type 0 where

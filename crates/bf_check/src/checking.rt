@@ -2,7 +2,7 @@
 ghost use Rattle.std.specs.Prelude.{◌≡◌, map, option_map, IfOk, IfErr, OnOk};
 ghost use Rattle.bf_graph.specs.Ranks.{Ranking};
 ghost use Rattle.bf_check.specs.Checking.{dag_of, limits_of as limits_in, rule_of, shape_in};
-ghost use Rattle.bf_check.specs.Looks.{AllMayPull, AreFound};
+ghost use Rattle.bf_check.specs.Looks.{AllMayPull, AreFoundIn};
 ghost use Rattle.bf_check.specs.Refusals.{HasNoFault, HasNoneBelow, IsAccepted, IsFaultOf};
 ghost use Rattle.bf_check.specs.Schedules.{Fires, IsScheduled, IsZoneFor};
 
@@ -64,8 +64,7 @@ impl Looks<'_> {
         requires rules { rules.items ≡ map rule_of self.now.draft.now.tasks }
         requires below { HasNoneBelow self.now.draft.now 14 }
         requires scheduled { IsScheduled self.now.draft.now (option_map (λ s. s.now) self.now.zone_file) }
-        ensures found { IfOk result (λ found.
-            AreFound self.now.draft.now.tasks graph.now found.rules.items found.pulls.items found.sources.items) }
+        ensures found { IfOk result (AreFoundIn self.now.draft.now.tasks graph.now) }
         ensures settled { OnOk result (AllMayPull self.now.draft.now) }
         ensures ok { OnOk result (HasNoFault self.now.draft.now) }
         ensures err { IfErr result (IsFaultOf self.now.draft.now (option_map (λ s. s.now) self.now.zone_file)) }
@@ -83,8 +82,7 @@ impl Looks<'_> {
     fn rest(&self, alloc: Global, graph: &Graph) -> Result<Rest, CheckFault>
         requires graph { graph.now ≡ shape_in self.now.draft.now.tasks }
         requires below { HasNoneBelow self.now.draft.now 10 }
-        ensures found { IfOk result (λ rest.
-            AreFound self.now.draft.now.tasks graph.now rest.found.rules.items rest.found.pulls.items rest.found.sources.items) }
+        ensures found { IfOk result (λ rest. AreFoundIn self.now.draft.now.tasks graph.now rest.found) }
         ensures schedule { IfOk result (λ rest. Fires self.now.draft.now.schedule rest.schedule) }
         ensures zone { IfOk result (λ rest. IsZoneFor self.now.draft.now.zone (option_map (λ s. s.now) self.now.zone_file) rest.zone) }
         ensures settled { OnOk result (AllMayPull self.now.draft.now) }
@@ -103,8 +101,7 @@ impl Looks<'_> {
 
     /// All looks in the order of their numbers.
     fn parts(&self, alloc: Global) -> Result<Parts, CheckFault>
-        ensures found { IfOk result (λ parts.
-            AreFound self.now.draft.now.tasks parts.graph parts.rest.found.rules.items parts.rest.found.pulls.items parts.rest.found.sources.items) }
+        ensures found { IfOk result (λ parts. AreFoundIn self.now.draft.now.tasks parts.graph parts.rest.found) }
         ensures limits { IfOk result (λ parts. parts.limits ≡ limits_in self.now.draft.now) }
         ensures schedule { IfOk result (λ parts. Fires self.now.draft.now.schedule parts.rest.schedule) }
         ensures zone { IfOk result (λ parts. IsZoneFor self.now.draft.now.zone (option_map (λ s. s.now) self.now.zone_file) parts.rest.zone) }
@@ -126,7 +123,7 @@ impl Looks<'_> {
 
 /// The tasks of a draft, of what was found of each.
 fn dag_found(alloc: Global, draft: Draft, graph: &Graph, found: Found) -> Result<Dag, OutOfMemory>
-    requires { AreFound draft.tasks graph.now found.rules.items found.pulls.items found.sources.items }
+    requires { AreFoundIn draft.tasks graph.now found }
     ensures { IfOk result (λ dag. dag ≡ dag_of draft) }
 {
     let pulls = found.pulls;
@@ -146,7 +143,7 @@ fn dag_found(alloc: Global, draft: Draft, graph: &Graph, found: Found) -> Result
 
 /// The plan of a draft that was looked through, and the zone of its schedule.
 fn planned(alloc: Global, draft: Draft, parts: Parts) -> Result<(Plan, Zone), OutOfMemory>
-    requires found { AreFound draft.tasks parts.graph parts.rest.found.rules.items parts.rest.found.pulls.items parts.rest.found.sources.items }
+    requires found { AreFoundIn draft.tasks parts.graph parts.rest.found }
     requires limits { parts.limits ≡ limits_in draft }
     requires ranking { Ranking (shape_in draft.tasks).upstreams }
     requires ok { HasNoFault draft }
@@ -164,8 +161,7 @@ fn planned(alloc: Global, draft: Draft, parts: Parts) -> Result<(Plan, Zone), Ou
 
 /// What a draft is found to have, by its bytes for the zone `file`.
 fn parts_of(alloc: Global, draft: &Draft, zone_file: Option<&[u8]>) -> Result<Parts, CheckFault>
-    ensures found { IfOk result (λ parts.
-        AreFound draft.now.tasks parts.graph parts.rest.found.rules.items parts.rest.found.pulls.items parts.rest.found.sources.items) }
+    ensures found { IfOk result (λ parts. AreFoundIn draft.now.tasks parts.graph parts.rest.found) }
     ensures limits { IfOk result (λ parts. parts.limits ≡ limits_in draft.now) }
     ensures schedule { IfOk result (λ parts. Fires draft.now.schedule parts.rest.schedule) }
     ensures zone { IfOk result (λ parts. IsZoneFor draft.now.zone (option_map (λ s. s.now) zone_file.entry) parts.rest.zone) }
