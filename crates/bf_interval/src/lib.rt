@@ -6,8 +6,9 @@
 //! which daylight saving time begins and ends. A data interval is a fire with the next one, and a range has
 //! those that start in it.
 //!
-//! `intervals` lists them, and `Runs` are the listed intervals of a backfill. It looks only at the minutes from two days before the range up to the first fire
+//! `intervals` lists them. It looks only at the minutes from two days before the range up to the first fire
 //! after it, and at those that can give a fire before that one: no clock is as far as two days from UTC.
+//! `Runs` are the intervals of a backfill: those of a range, or the one of a moment.
 #![tactic(auto)]
 
 mod fault;

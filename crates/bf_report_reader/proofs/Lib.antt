@@ -18,4 +18,5 @@ pub mod Chains
 pub mod Paths
 pub mod Reports
 pub mod Given
+pub mod EndedFacts
 pub mod Written
