@@ -81,6 +81,7 @@ Options:
       --to <T>            The last moment at which an interval may start, in UTC, as 2024-01-31 or 2024-01-31T06:00:00Z
       --workers <N>       How many tries may run at once, 1 to 64; 1 where this isn't given
       --progress          Tells on standard error how far the runs are, at most once a second
+      --out <PATH>        Writes the report to this file, whole or not at all, in place of standard output
       --launcher <PATH>   Hands the words of each task's command to this program; without it the first word is the program
   -h, --help              Print help
 
@@ -106,6 +107,7 @@ Options:
       --to <T>            The last moment at which an interval may start, in UTC, as 2024-01-31 or 2024-01-31T06:00:00Z
       --workers <N>       How many tries may run at once, 1 to 64; 1 where this isn't given
       --progress          Tells on standard error how far the runs are, at most once a second
+      --out <PATH>        Writes the report to this file, whole or not at all, in place of standard output
       --launcher <PATH>   Hands the words of each task's command to this program; without it the first word is the program
   -h, --help              Print help
 
@@ -153,6 +155,7 @@ Arguments:
 Options:
       --zone-file <PATH>  The zone file that the graph's zone `file` means, as of the tz database
       --at <T>            The run's moment in UTC, as 2024-01-31 or 2024-01-31T06:00:00Z
+      --out <PATH>        Writes the report to this file, whole or not at all, in place of standard output
   -h, --help              Print help
 
 Example:

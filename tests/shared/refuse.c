@@ -1,17 +1,22 @@
 /* Preloaded to a program: refuses one of its calls to the system, and counts how many there were. REFUSED_PROGRAM is the name of the
-   program, REFUSED_CALL the kind of call (memory, open, read, write, clock), REFUSED_NUMBER which of these is refused, from 1 on, or 0 for
-   none, and CALL_COUNT the file that gets the count. */
+   program, REFUSED_CALL the kind of call (memory, open, read, write, clock, look, mode, sync, rename, remove), REFUSED_NUMBER which of these
+   is refused, from 1 on, or 0 for none, and CALL_COUNT the file that gets the count. Where KILLED is `before` or `after`, the call isn't
+   refused: the program is killed before it, or behind it, but never behind a call for memory, a read or a look at the clock. */
 #define _GNU_SOURCE
 #include <dlfcn.h>
 #include <errno.h>
+#include <signal.h>
 #include <stdarg.h>
 #include <stdio.h>
 #include <stdlib.h>
 #include <string.h>
+#include <sys/stat.h>
 #include <sys/types.h>
 #include <time.h>
+#include <unistd.h>
 
 static long made;
+static __thread int is_last;
 
 /* Whether this is the program itself, and none that it has started. */
 static int is_program(void) {
@@ -38,11 +43,18 @@ void _exit(int status) {
 
 __attribute__((destructor)) static void at_return(void) { tell(); }
 
-/* Whether this call is the one to be refused. */
+/* Whether this call is the one to be refused. Behind the last call that is made, `ended` is called. */
 static int is_refused(const char *call) {
     const char *which = getenv("REFUSED_CALL");
     const char *number = getenv("REFUSED_NUMBER");
-    return which && number && is_program() && strcmp(which, call) == 0 && __atomic_add_fetch(&made, 1, __ATOMIC_SEQ_CST) == atol(number);
+    const char *killed = getenv("KILLED");
+    is_last = which && number && is_program() && strcmp(which, call) == 0 && __atomic_add_fetch(&made, 1, __ATOMIC_SEQ_CST) == atol(number);
+    if (is_last && killed && strcmp(killed, "before") == 0) kill(getpid(), SIGKILL);
+    return is_last && !killed;
+}
+
+static void ended(void) {
+    if (is_last) kill(getpid(), SIGKILL);
 }
 
 void *malloc(size_t size) {
@@ -67,7 +79,9 @@ int open(const char *path, int flags, ...) {
     va_end(rest);
     if (!real) real = dlsym(RTLD_NEXT, "open");
     if (is_refused("open")) { errno = EACCES; return -1; }
-    return real(path, flags, mode);
+    int file = real(path, flags, mode);
+    ended();
+    return file;
 }
 
 ssize_t read(int file, void *to, size_t size) {
@@ -81,7 +95,54 @@ ssize_t write(int file, const void *from, size_t size) {
     static ssize_t (*real)(int, const void *, size_t);
     if (!real) real = dlsym(RTLD_NEXT, "write");
     if (is_refused("write")) { errno = EIO; return -1; }
-    return real(file, from, size);
+    ssize_t written = real(file, from, size);
+    ended();
+    return written;
+}
+
+int fsync(int file) {
+    static int (*real)(int);
+    if (!real) real = dlsym(RTLD_NEXT, "fsync");
+    if (is_refused("sync")) { errno = EIO; return -1; }
+    int status = real(file);
+    ended();
+    return status;
+}
+
+int fchmod(int file, mode_t mode) {
+    static int (*real)(int, mode_t);
+    if (!real) real = dlsym(RTLD_NEXT, "fchmod");
+    if (is_refused("mode")) { errno = EPERM; return -1; }
+    int status = real(file, mode);
+    ended();
+    return status;
+}
+
+int rename(const char *from, const char *to) {
+    static int (*real)(const char *, const char *);
+    if (!real) real = dlsym(RTLD_NEXT, "rename");
+    if (is_refused("rename")) { errno = EACCES; return -1; }
+    int status = real(from, to);
+    ended();
+    return status;
+}
+
+int unlink(const char *path) {
+    static int (*real)(const char *);
+    if (!real) real = dlsym(RTLD_NEXT, "unlink");
+    if (is_refused("remove")) { errno = EACCES; return -1; }
+    int status = real(path);
+    ended();
+    return status;
+}
+
+int statx(int folder, const char *path, int flags, unsigned mask, struct statx *to) {
+    static int (*real)(int, const char *, int, unsigned, struct statx *);
+    if (!real) real = dlsym(RTLD_NEXT, "statx");
+    if (is_refused("look")) { errno = EACCES; return -1; }
+    int status = real(folder, path, flags, mask, to);
+    ended();
+    return status;
 }
 
 int clock_gettime(clockid_t clock, struct timespec *to) {

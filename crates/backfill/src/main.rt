@@ -18,9 +18,18 @@ fn main(rt: HostRuntime) -> ExitCode {
         Err(error) => return ExitCode::from(unread(&rt, &error).code()),
     };
     let mut files = Disk::new(&rt);
+    let mut folder = Disk::new(&rt);
     let mut out = Output::new(rt.stdout());
     let mut err = Output::new(rt.stderr());
-    let status = answer(&rt, rt.alloc(), &words, &mut files, &mut out, &mut err);
+    let status = answer(
+        &rt,
+        rt.alloc(),
+        &words,
+        &mut files,
+        &mut folder,
+        &mut out,
+        &mut err,
+    );
     ExitCode::from(status)
 }
 

@@ -24,7 +24,7 @@ use Rattle.bf_device.specs.declared.sending.Cause.TheVariants as cause
 use Rattle.bf_device.specs.declared.sending.WriteFault.{WriteFault}
 use Rattle.bf_device.specs.Device.{sent}
 use Rattle.bf_command_fault.specs.declared.fault.CommandFault.{CommandFault}
-use Rattle.bf_command_fault.specs.declared.fault.CommandFault.TheVariants.{Read, Check, Table, Range, Report, Clear, BadMoment, OutOfMemory, CannotRead, CannotWrite, Stopped}
+use Rattle.bf_command_fault.specs.declared.fault.CommandFault.TheVariants.{Read, Check, Table, Range, Report, Clear, BadMoment, OutOfMemory, CannotRead, CannotWriteFile, CannotWrite, Stopped}
 use Rattle.bf_command_fault.specs.declared.stop.StopFault.{StopFault}
 use Rattle.bf_command_fault.specs.declared.status.Status.{Status}
 
@@ -42,6 +42,7 @@ number_of BadMoment = Some 28
 number_of OutOfMemory = None
 number_of (CannotRead path) = None
 number_of (CannotWrite sent) = None
+number_of (CannotWriteFile path) = None
 number_of (Stopped fault) = None
 
 -- why a backfill stopped
@@ -60,6 +61,7 @@ words_of BadMoment = codes "bad moment"
 words_of OutOfMemory = codes "out of memory"
 words_of (CannotRead path) = codes "cannot read " ++ path
 words_of (CannotWrite sent) = codes "cannot write"
+words_of (CannotWriteFile path) = codes "cannot write " ++ path
 words_of (Stopped fault) = stop_words fault
 
 -- the line of a refusal, with its number, or of a fault

@@ -38,6 +38,8 @@ pub enum CommandFault {
     CannotRead(Text),
     /// How many bytes of the text went out before the device failed.
     CannotWrite(u64),
+    /// A path, as it stood on the line, whose file can't be replaced.
+    CannotWriteFile(Text),
     /// The backfill stopped before its end.
     Stopped(StopFault),
 }
@@ -58,6 +60,7 @@ impl CommandFault {
             CommandFault::OutOfMemory
             | CommandFault::CannotRead(_)
             | CommandFault::CannotWrite(_)
+            | CommandFault::CannotWriteFile(_)
             | CommandFault::Stopped(_) => None,
         }
     }
@@ -102,6 +105,7 @@ impl fmt::Display for CommandFault {
             CommandFault::OutOfMemory => write!(f, "out of memory"),
             CommandFault::CannotRead(path) => write!(f, "cannot read {path}"),
             CommandFault::CannotWrite(_) => write!(f, "cannot write"),
+            CommandFault::CannotWriteFile(path) => write!(f, "cannot write {path}"),
             CommandFault::Stopped(fault) => write!(f, "{fault}"),
         }
     }

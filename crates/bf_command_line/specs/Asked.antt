@@ -5,6 +5,7 @@ use Rattle.std.specs.Str.Parse.{ParsesUnsigned}
 use Rattle.clap.specs.Words.{Row, Text, first_of}
 use Rattle.bf_command_line.specs.declared.forms.Asked.{Asked}
 use Rattle.bf_command_line.specs.declared.forms.Asked.TheVariants.{Check, Clear, Completions, Dry, List as Intervals, Run, Schema, Single}
+use Rattle.bf_command_line.specs.declared.forms.CommandLine.{CommandLine}
 use Rattle.bf_command_line.specs.declared.forms.Format.{Format}
 use Rattle.bf_command_line.specs.declared.forms.Format.TheVariants as format
 use Rattle.bf_command_line.specs.declared.forms.GraphAsked.{GraphAsked}
@@ -103,3 +104,13 @@ IsAskedBy (Some (name, rows)) (Clear c) = (name ≡ codes "clear")
     × IsLauncherBy rows c.launcher
 IsAskedBy (Some (name, rows)) (Schema format) = (name ≡ codes "schema") × IsFormatBy rows format
 IsAskedBy (Some (name, rows)) (Completions shell) = (name ≡ codes "completions") × IsShellBy rows shell
+
+-- the path of the file that a report goes to
+abbrev pub IsOutBy : Option (Text × List Row) → Option (String Global) → Type 0
+IsOutBy None out = ⊥
+IsOutBy (Some (name, rows)) out = first_of (codes "out") rows ≡ option_map string_bytes out
+
+-- what the whole line asks for
+pub record IsLineBy (matched : Option (Text × List Row)) (line : CommandLine) : Type 0 where
+  pub asks : IsAskedBy matched line.command
+  pub out_is : IsOutBy matched line.out

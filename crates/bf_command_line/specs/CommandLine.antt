@@ -65,6 +65,10 @@ workers_rule = record (option_rule (codes "workers") (codes "workers")) { parser
 abbrev pub progress_rule : Rule
 progress_rule = record (new_rule (codes "progress")) { long = Some (codes "progress"); action = Some SetTrue }
 
+-- `--out PATH`
+abbrev pub out_rule : Rule
+out_rule = option_rule (codes "out") (codes "out")
+
 -- `--launcher PATH`
 abbrev pub launcher_rule : Rule
 launcher_rule = option_rule (codes "launcher") (codes "launcher")
@@ -81,9 +85,9 @@ shell_rule = positional_rule (codes "shell")
 abbrev pub over_graph_app : Text → App
 over_graph_app name = with_rule (with_rule (new_app name) graph_rule) zone_file_rule
 
--- a command with `--from T --to T [--workers N] [--progress]` behind its other arguments
+-- a command with `--from T --to T [--workers N] [--progress] [--out PATH]` behind its other arguments
 abbrev pub ranged_app : App → App
-ranged_app app = with_rule (with_rule (with_rule (with_rule app from_rule) to_rule) workers_rule) progress_rule
+ranged_app app = with_rule (with_rule (with_rule (with_rule (with_rule app from_rule) to_rule) workers_rule) progress_rule) out_rule
 
 -- `check GRAPH [--zone-file PATH]`
 abbrev pub check_app : App
@@ -93,15 +97,15 @@ check_app = over_graph_app (codes "check")
 abbrev pub list_app : App
 list_app = with_rule (with_rule (over_graph_app (codes "list")) from_rule) to_rule
 
--- `single GRAPH TABLE --at T [--zone-file PATH]`
+-- `single GRAPH TABLE --at T [--out PATH] [--zone-file PATH]`
 abbrev pub single_app : App
-single_app = with_rule (with_rule (over_graph_app (codes "single")) table_rule) at_rule
+single_app = with_rule (with_rule (with_rule (over_graph_app (codes "single")) table_rule) at_rule) out_rule
 
--- `dry GRAPH TABLE --from T --to T [--workers N] [--progress] [--zone-file PATH]`
+-- `dry GRAPH TABLE --from T --to T [--workers N] [--progress] [--out PATH] [--zone-file PATH]`
 abbrev pub dry_app : App
 dry_app = ranged_app (with_rule (over_graph_app (codes "dry")) table_rule)
 
--- `run GRAPH --from T --to T [--workers N] [--progress] [--launcher PATH] [--zone-file PATH]`
+-- `run GRAPH --from T --to T [--workers N] [--progress] [--out PATH] [--launcher PATH] [--zone-file PATH]`
 abbrev pub run_app : App
 run_app = with_rule (ranged_app (over_graph_app (codes "run"))) launcher_rule
 
@@ -109,7 +113,7 @@ run_app = with_rule (ranged_app (over_graph_app (codes "run"))) launcher_rule
 abbrev pub clearing_app : App
 clearing_app = with_rule (with_rule (with_rule (with_rule (over_graph_app (codes "clear")) report_rule) task_rule) run_rule) optional_table_rule
 
--- `clear GRAPH REPORT --from T --to T --task ID --run T [--table PATH] [--workers N] [--progress] [--launcher PATH] [--zone-file PATH]`
+-- `clear GRAPH REPORT --from T --to T --task ID --run T [--table PATH] [--workers N] [--progress] [--out PATH] [--launcher PATH] [--zone-file PATH]`
 abbrev pub clear_app : App
 clear_app = with_rule (ranged_app clearing_app) launcher_rule
 

@@ -1,7 +1,7 @@
 //! The command line as `clap` reads it.
 ghost use Rattle.std.specs.Prelude.{◌≡◌, IfOk};
 ghost use Rattle.clap.specs.Words.{App, app_of, kind_of, rule_of};
-ghost use Rattle.bf_command_line.specs.CommandLine.{answered_app, backfill_app, bare_app, check_app, clear_app, completions_app, dry_app, list_app, ranged_app, run_app, schema_app, single_app, from_rule, graph_rule, launcher_rule, option_rule, over_graph_app, positional_rule, progress_rule, required_option_rule, table_rule, to_rule, workers_rule, zone_file_rule};
+ghost use Rattle.bf_command_line.specs.CommandLine.{answered_app, backfill_app, bare_app, check_app, clear_app, completions_app, dry_app, list_app, ranged_app, run_app, schema_app, single_app, from_rule, graph_rule, launcher_rule, option_rule, out_rule, over_graph_app, positional_rule, progress_rule, required_option_rule, table_rule, to_rule, workers_rule, zone_file_rule};
 ghost use Rattle.bf_command_line.specs.Drafts.{IsDraftOf};
 
 use crate::draft::Draft;
@@ -146,6 +146,18 @@ fn progress<'a>(alloc: Global) -> Arg<'a>
         .action(ArgAction::SetTrue)
 }
 
+fn out<'a>(alloc: Global) -> Arg<'a>
+    ensures { rule_of result ≡ out_rule }
+{
+    option(
+        alloc,
+        "out",
+        "out",
+        "PATH",
+        "Writes the report to this file, whole or not at all, in place of standard output",
+    )
+}
+
 fn launcher<'a>(alloc: Global) -> Arg<'a>
     ensures { rule_of result ≡ launcher_rule }
 {
@@ -176,6 +188,7 @@ fn ranged<'a>(alloc: Global, command: Draft<'a>) -> Draft<'a>
         .arg(to(alloc))
         .arg(workers(alloc))
         .arg(progress(alloc))
+        .arg(out(alloc))
 }
 
 fn check<'a>(alloc: Global) -> Draft<'a>
@@ -218,6 +231,7 @@ fn single<'a>(alloc: Global) -> Draft<'a>
         "T",
         "The run's moment in UTC, as 2024-01-31 or 2024-01-31T06:00:00Z",
     ))
+    .arg(out(alloc))
 }
 
 fn dry<'a>(alloc: Global) -> Draft<'a>

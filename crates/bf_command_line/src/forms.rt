@@ -106,3 +106,11 @@ pub enum Asked {
     /// `completions SHELL`: what a shell completes.
     Completions(Shell),
 }
+
+/// What a whole line asks for: `COMMAND [--out PATH]`, of which the commands that write reports have the option. Where a file is
+/// named, the report goes there and not to standard output.
+#[derive(Drop)]
+pub struct CommandLine {
+    pub command: Asked,
+    pub out: Option<String>,
+}

@@ -7,7 +7,7 @@ mod forms;
 mod reading;
 
 pub use forms::{
-    Asked, ClearAsked, DryAsked, Format, GraphAsked, ListAsked, RangeAsked, RunAsked, SeedAsked,
-    Shell, SingleAsked,
+    Asked, ClearAsked, CommandLine, DryAsked, Format, GraphAsked, ListAsked, RangeAsked, RunAsked,
+    SeedAsked, Shell, SingleAsked,
 };
 pub use reading::asked;

@@ -3,12 +3,12 @@ ghost use Rattle.std.specs.Prelude.{◌≡◌, IfOk, map, option_map, string_byt
 ghost use Rattle.clap.specs.Words.{fault_of, FailsBy, subcommand_of, first_of, found_of, rows_of, subcommand_rows_of};
 ghost use Rattle.bf_command_line.specs.CommandLine.{backfill_app};
 ghost use Rattle.bf_command_line.specs.Wrongs.{format_words, found_wrongs, shell_words, value_wrongs, wrongs_of};
-ghost use Rattle.bf_command_line.specs.Asked.{IsAskedBy, IsFormatBy, IsGraphBy, IsProgressBy, IsRangeBy, IsSeedBy, IsShellBy, IsWorkersBy};
+ghost use Rattle.bf_command_line.specs.Asked.{IsAskedBy, IsFormatBy, IsGraphBy, IsLineBy, IsProgressBy, IsRangeBy, IsSeedBy, IsShellBy, IsWorkersBy};
 
 use crate::command::{backfill, no_format, no_shell};
 use crate::forms::{
-    Asked, ClearAsked, DryAsked, Format, GraphAsked, ListAsked, RangeAsked, RunAsked, SeedAsked,
-    Shell, SingleAsked,
+    Asked, ClearAsked, CommandLine, DryAsked, Format, GraphAsked, ListAsked, RangeAsked, RunAsked,
+    SeedAsked, Shell, SingleAsked,
 };
 use bf_workers::Workers;
 use clap::{ArgMatches, Error};
@@ -18,12 +18,12 @@ use std::alloc::{AllocError, Global};
 ///
 /// # Errors
 /// `clap`'s, with its words on a wrong line and its help where that was asked for.
-pub fn asked(alloc: Global, words: &[String]) -> Result<Asked, Error>
-    ensures ok { IfOk result (IsAskedBy (subcommand_of backfill_app (map string_bytes words.now))) }
+pub fn asked(alloc: Global, words: &[String]) -> Result<CommandLine, Error>
+    ensures ok { IfOk result (IsLineBy (subcommand_of backfill_app (map string_bytes words.now))) }
     ensures err { FailsBy (wrongs_of (map string_bytes words.now)) result }
 {
     let matches = matches_of(alloc, words)?;
-    subcommand_asked(alloc, &matches)
+    line_asked(alloc, &matches)
 }
 
 fn matches_of<'a>(alloc: Global, words: &'a [String]) -> Result<ArgMatches<'a>, Error>
@@ -35,12 +35,16 @@ fn matches_of<'a>(alloc: Global, words: &'a [String]) -> Result<ArgMatches<'a>, 
 
 // `clap` has seen to it that a subcommand and what it requires are there. No contract hands this on
 // for a subcommand's own arguments, so that the arms without them answer as want of memory does.
-fn subcommand_asked(alloc: Global, matches: &ArgMatches<'_>) -> Result<Asked, Error>
-    ensures ok { IfOk result (IsAskedBy (subcommand_rows_of matches.now)) }
+fn line_asked(alloc: Global, matches: &ArgMatches<'_>) -> Result<CommandLine, Error>
+    ensures ok { IfOk result (IsLineBy (subcommand_rows_of matches.now)) }
     ensures err { FailsBy (found_wrongs (subcommand_rows_of matches.now)) result }
 {
     match matches.subcommand() {
-        Some((name, inner)) => named_asked(alloc, name, inner),
+        Some((name, inner)) => {
+            let command = named_asked(alloc, name, inner)?;
+            let out = optional(alloc, inner, "out")?;
+            Ok(CommandLine { command, out })
+        }
         None => Err(AllocError.into()),
     }
 }

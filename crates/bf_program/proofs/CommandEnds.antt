@@ -11,7 +11,7 @@ use Rattle.bf_device.specs.declared.sending.Cause.{Cause}
 use Rattle.bf_device.specs.declared.sending.Cause.TheVariants as cause
 use Rattle.bf_device.specs.declared.sending.WriteFault.{WriteFault}
 use Rattle.bf_command_fault.specs.declared.fault.CommandFault.{CommandFault}
-use Rattle.bf_command_fault.specs.declared.fault.CommandFault.TheVariants.{BadMoment, OutOfMemory, CannotRead, CannotWrite}
+use Rattle.bf_command_fault.specs.declared.fault.CommandFault.TheVariants.{BadMoment, OutOfMemory, CannotRead, CannotWriteFile, CannotWrite}
 use Rattle.bf_command_fault.specs.declared.status.Status.{Status}
 use Rattle.bf_command_fault.specs.Refusal.{of_cause, of_write}
 use Rattle.bf_command_fault.specs.Status.{of_runs}
@@ -62,6 +62,7 @@ module _ {files : Files} {asked : GraphAsked} {read : List ℕ} {zone : Option (
   check_files BadMoment is = absurd is
   check_files OutOfMemory is = tt
   check_files (CannotRead path) is = absurd is
+  check_files (CannotWriteFile path) is = absurd is
   check_files (CannotWrite n) is = absurd is
   check_files fault is = (bytes.readable, λ graph held are. fault_in read graph zone held (bytes.alike graph held are) fault is)
 
@@ -88,6 +89,7 @@ module _ {files : Files} (asked : ListAsked) (range : MomentRange) (means : Mean
   list_files BadMoment is = absurd is
   list_files OutOfMemory is = (range, means, tt)
   list_files (CannotRead path) is = absurd is
+  list_files (CannotWriteFile path) is = absurd is
   list_files fault is = (range, means, (bytes.readable, λ graph held are. list_fault read graph zone held (bytes.alike graph held are) range.from.nanosecond range.to.nanosecond fault is))
 
 -- ---- `single`
@@ -108,6 +110,7 @@ module _ {files : Files} (asked : SingleAsked) (at : Timestamp) (means : Means (
   single_files BadMoment is = absurd is
   single_files OutOfMemory is = (at, means, tt)
   single_files (CannotRead path) is = absurd is
+  single_files (CannotWriteFile path) is = absurd is
   single_files fault is = (at, means, (bytes.readable, λ graph other held are holds. (let same = bytes.alike graph other held are holds in single_fault read graph zone held same.0 table other same.1 at fault is)))
 
 -- ---- `dry`
@@ -128,6 +131,7 @@ module _ {files : Files} (asked : DryAsked) (range : MomentRange) (means : Means
   dry_files BadMoment is = absurd is
   dry_files OutOfMemory is = (range, means, tt)
   dry_files (CannotRead path) is = absurd is
+  dry_files (CannotWriteFile path) is = absurd is
   dry_files fault is = (range, means, (bytes.readable, λ graph other held are holds. (let same = bytes.alike graph other held are holds in dry_fault read graph zone held same.0 table other same.1 (is_alone asked.workers asked.progress) range.from.nanosecond range.to.nanosecond fault is)))
 
 -- ---- `run`
@@ -148,5 +152,6 @@ module _ {files : Files} (asked : RunAsked) (range : MomentRange) (means : Means
   run_files may_lose BadMoment is = absurd is
   run_files may_lose OutOfMemory is = (range, means, tt)
   run_files may_lose (CannotRead path) is = absurd is
+  run_files may_lose (CannotWriteFile path) is = absurd is
   run_files may_lose fault is =
       (range, means, (bytes.readable, λ graph held are. run_fault read graph zone held (bytes.alike graph held are) (launched_lost asked.launcher may_lose) range.from.nanosecond range.to.nanosecond fault is))

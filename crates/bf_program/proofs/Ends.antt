@@ -1,5 +1,5 @@
 -- How lines end.
-use Rattle.std.proofs.Common.{◌≡◌, ◌≢◌, ◌≤◌, ℕ, Bool, true, false, List, [], ◌∷◌, Option, None, Result, Ok, Err, IfOk, IfErr, IsErr, IsSome, OnErr, refl, sym, inl, inr, ap, ◌∙◌, subst, length, take, arith}
+use Rattle.std.proofs.Common.{◌≡◌, ◌≢◌, ◌≤◌, ℕ, Bool, true, false, List, [], ◌∷◌, Option, None, Some, Result, Ok, Err, IfOk, IfErr, IsErr, IsSome, OnErr, refl, sym, inl, inr, ap, ◌∙◌, subst, length, take, arith}
 use Rattle.std.proofs.lemmas.Result.{IfErr-weaker}
 use Rattle.clap.specs.Words.{HasKind, IsAmong, Kinds, Row, Text, kind_of}
 use Rattle.clap.specs.declared.error.Error.{Error}
@@ -7,7 +7,8 @@ use Rattle.clap.specs.declared.error.kind.ErrorKind.{ErrorKind}
 use Rattle.clap.specs.declared.error.kind.ErrorKind.TheVariants as kind
 use Rattle.bf_command_line.specs.declared.forms.Asked.{Asked}
 use Rattle.bf_command_line.specs.declared.forms.Asked.TheVariants as asked
-use Rattle.bf_command_line.specs.Asked.{IsAskedBy}
+use Rattle.bf_command_line.specs.Asked.{IsLineBy}
+use Rattle.bf_command_line.specs.declared.forms.CommandLine.{CommandLine}
 use Rattle.bf_device.specs.declared.sending.Cause.TheVariants as cause
 use Rattle.bf_device.specs.declared.sending.WriteFault.{WriteFault}
 use Rattle.bf_device.specs.Device.{sent}
@@ -19,7 +20,9 @@ use Rattle.bf_command_fault.specs.declared.status.Status.{Status}
 use Rattle.bf_command_fault.proofs.Leaving.{leaves_due, refusal_leaves, send_leaves}
 use Rattle.bf_commands.proofs.Faults.{write_wanting}
 use Rattle.bf_commands.specs.Programs.{Hearing, Losing}
-use Rattle.bf_program.specs.Commands.{Files, IsAnswer, IsDone, IsFault, MayBeFaulted, MayTell, Tells}
+use Rattle.bf_program.specs.Commands.{Files, HasGone, IsAnswer, IsDone, IsFault, IsFaultBy, LeavesBy, MayBeFaulted, MayTell, Outputs, Tells, out_of, outputs}
+use Rattle.bf_file.specs.declared.call.Placed.{Placed}
+use Rattle.bf_file.specs.Replacing.{HasReplaced}
 use Rattle.bf_program.specs.Shown.{EndsAs, IsUnshown, ShowsHelp, shown_as}
 
 -- ---- lines that `clap` answers
@@ -71,13 +74,22 @@ line_unshown Halted before after kinds e r has =
 among_none : (kinds : Kinds) (k : ErrorKind) → kinds ≡ [] → IsAmong k kinds → ⊥
 among_none kinds k none among = let is : IsAmong k [] = subst (λ (ks : Kinds). IsAmong k ks) none among in elim is [ ]
 
+-- what went out is as it was, where each part of it is
+both : (before after : Outputs) → after.written ≡ before.written → after.placed ≡ before.placed → after ≡ before
+both before after written placed = ap (λ w. outputs w after.placed) written ∙ ap (λ p. outputs before.written p) placed
+
 -- where `clap` finds nothing wrong, memory was wanting
-pub shown_may : (may_hear : Hearing) (may_lose : Losing) (files : Files) (matched : Option (Text × List Row)) (Halted : Type 0) (before after : Option (List ℕ)) (kinds : Kinds) (e : Error) (r : Result Status CommandFault) → HasKind kinds e → kinds ≡ []
-    → (kind_of e ≡ kind.OutOfMemory → IfErr r (λ f. f ≡ OutOfMemory)) → (kind_of e ≡ kind.OutOfMemory → after ≡ before) → IfErr r (MayBeFaulted may_hear may_lose files matched Halted before after)
-shown_may may_hear may_lose files matched Halted before after kinds e (Ok s) has none wanting kept = tt
-shown_may may_hear may_lose files matched Halted before after kinds e (Err f) (inl memory) none wanting kept =
-    subst (λ (x : CommandFault). MayBeFaulted may_hear may_lose files matched Halted before after x) (sym (wanting memory)) (kept memory)
-shown_may may_hear may_lose files matched Halted before after kinds e (Err f) (inr among) none wanting kept = absurd (among_none kinds (kind_of e) none among)
+pub shown_may : (may_hear : Hearing) (may_lose : Losing) (files : Files) (matched : Option (Text × List Row))
+    (Halted HasFailed : Type 0) (before after : Outputs) (kinds : Kinds) (e : Error) (r : Result Status CommandFault)
+    → HasKind kinds e → kinds ≡ [] → (kind_of e ≡ kind.OutOfMemory → IfErr r (λ f. f ≡ OutOfMemory))
+    → (kind_of e ≡ kind.OutOfMemory → after.written ≡ before.written) → after.placed ≡ before.placed
+    → IfErr r (MayBeFaulted may_hear may_lose files matched Halted HasFailed before after)
+shown_may may_hear may_lose files matched Halted HasFailed before after kinds e (Ok s) has none wanting kept same = tt
+shown_may may_hear may_lose files matched Halted HasFailed before after kinds e (Err f) (inl memory) none wanting kept same =
+    subst (λ (x : CommandFault). MayBeFaulted may_hear may_lose files matched Halted HasFailed before after x)
+    (sym (wanting memory)) (both before after (kept memory) same)
+shown_may may_hear may_lose files matched Halted HasFailed before after kinds e (Err f) (inr among) none wanting kept same =
+    absurd (among_none kinds (kind_of e) none among)
 
 -- ---- answers
 
@@ -93,42 +105,62 @@ answer_low may_hear files (asked.Schema format) text status is = rw is.0 (omega 
 answer_low may_hear files (asked.Completions shell) text status is = rw is.0 (omega arith)
 answer_low may_hear files a text status is = rw is.status_is (runs_low is.succeeded)
 
-pub done_low : (may_hear : Hearing) (files : Files) (matched : Option (Text × List Row)) (before after : Option (List ℕ)) (code : ℕ) → IsDone may_hear files matched before after code → code ≤ 1
-done_low may_hear files matched before after code is = rw is.code_is (answer_low may_hear files is.asked is.text is.status is.answer)
+pub done_low : (may_hear : Hearing) (files : Files) (matched : Option (Text × List Row)) (before after : Outputs) (code : ℕ) → IsDone may_hear files matched before after code → code ≤ 1
+done_low may_hear files matched before after code is = rw is.code_is (answer_low may_hear files is.line.command is.text is.status is.answer)
 
 -- and with nothing else
 low_other : (s t : Status) → code_of s ≤ 1 → 2 ≤ code_of t → s ≢ t
 low_other s t low high = λ same. (let is : code_of s ≡ code_of t = ap code_of same in omega arith)
 
 -- what a line comes to with which nothing is wrong
-abbrev pub LineEnds : {E : Type 0} → Hearing → Losing → Files → Option (Text × List Row) → Type 0 → Option (List ℕ) → Option (List ℕ) → Kinds → Option (List ℕ) → E → Result Status CommandFault → Type 0
-LineEnds may_hear may_lose files matched Halted before after kinds told err r = record {
+abbrev pub LineEnds : {E : Type 0} → Hearing → Losing → Files → Option (Text × List Row) → Type 0 → Type 0
+    → Outputs → Outputs → Kinds → Option (List ℕ) → E → Result Status CommandFault → Type 0
+LineEnds may_hear may_lose files matched Halted HasFailed before after kinds told err r = record {
   range : IfOk r (λ s. s ≢ Status.Fault);
   answered : IfOk r (λ s. s ≢ Status.Refused → told ≡ told);
-  wrong : IfOk r (λ s. s ≡ Status.Refused → after ≡ before);
-  refused : IfErr r (λ f. IsSome (number_of f) → after ≡ before);
+  wrong : IfOk r (λ s. s ≡ Status.Refused → after.written ≡ before.written);
+  refused : IfErr r (λ f. IsSome (number_of f) → after.written ≡ before.written);
   untouched : OnErr r (err ≡ err);
   line : kinds ≢ [] → IfOk r (λ s. EndsAs kinds (code_of s));
   fault : kinds ≢ [] → IfErr r (λ f. number_of f ≡ None);
-  unshown : kinds ≢ [] → IfErr r (IsUnshown (ShowsHelp kinds) Halted before after);
+  unshown : kinds ≢ [] → IfErr r (IsUnshown (ShowsHelp kinds) Halted before.written after.written);
   done : kinds ≡ [] → IfOk r (λ s. IsDone may_hear files matched before after (code_of s));
-  why : kinds ≡ [] → IfErr r (λ f. MayBeFaulted may_hear may_lose files matched Halted before after f);
+  kept : kinds ≢ [] → after.placed ≡ before.placed;
+  why : kinds ≡ [] → IfErr r (λ f. MayBeFaulted may_hear may_lose files matched Halted HasFailed before after f);
 }
 
 -- it comes to what the command comes to that it asks for
-module _ (may_hear : Hearing) (may_lose : Losing) (files : Files) (matched : Option (Text × List Row)) (Halted : Type 0) (before after : Option (List ℕ)) (a : Asked) where
+module _ (may_hear : Hearing) (may_lose : Losing) (files : Files) (matched : Option (Text × List Row))
+    (Halted HasFailed : Type 0) (before after : Outputs) (line : CommandLine) where
+  abbrev IsDue : List ℕ → Type 0
+  IsDue text = (status : Status) × IsAnswer may_hear files line.command text status
+
   abbrev IsLeft : CommandFault → Type 0
-  IsLeft fault = Leaves Halted (λ text. (status : Status) × IsAnswer may_hear files a text status) before after fault
+  IsLeft = LeavesBy (out_of line) Halted IsDue before after
 
-  may : IsAskedBy matched a → (fault : CommandFault) → IsFault may_lose files a fault → IsLeft fault → MayBeFaulted may_hear may_lose files matched Halted before after fault
-  may asks OutOfMemory is left = left
-  may asks fault is left = record { asked = a; asks = asks; is_fault = is; left = left }
+  abbrev Goes : Option (List ℕ) → Status → Type 0
+  Goes path s = (text : List ℕ) × IsAnswer may_hear files line.command text s × HasGone path text before after
 
-  pub line_ends : {E : Type 0} (kinds : Kinds) (told : Option (List ℕ)) (err : E) (x : Asked) → x ≡ a → IsAskedBy matched x → kinds ≡ [] → (r : Result Status CommandFault)
-      → IfOk r (λ s. Sends (λ text. IsAnswer may_hear files a text s) before after) → IfErr r (IsFault may_lose files a) → IfErr r IsLeft
-      → LineEnds may_hear may_lose files matched Halted before after kinds told err r
-  line_ends kinds told err x same asks none (Ok s) sends is left =
-      let low = answer_low may_hear files a sends.0 s sends.1 in
+  memory_leaves : (path : Option (List ℕ)) → LeavesBy path Halted IsDue before after OutOfMemory → after ≡ before
+  memory_leaves None left = both before after left.0 left.1
+  memory_leaves (Some path) left = left
+
+  refusal_left : (path : Option (List ℕ)) (fault : CommandFault) → LeavesBy path Halted IsDue before after fault → IsSome (number_of fault) → after.written ≡ before.written
+  refusal_left None fault left some = refusal_leaves Halted IsDue before.written after.written fault left.0 some
+  refusal_left (Some path) fault left some = ap (λ (o : Outputs). o.written) left
+
+  may : IsLineBy matched line → (fault : CommandFault)
+      → IsFaultBy (out_of line) HasFailed may_lose files line.command fault → IsLeft fault
+      → MayBeFaulted may_hear may_lose files matched Halted HasFailed before after fault
+  may asks OutOfMemory is left = memory_leaves (out_of line) left
+  may asks fault is left = record { line = line; asks = asks; is_fault = is; left = left }
+
+  own_line_ends : {E : Type 0} (kinds : Kinds) (told : Option (List ℕ)) (err : E) → IsLineBy matched line → kinds ≡ []
+      → (r : Result Status CommandFault) → IfOk r (Goes (out_of line))
+      → IfErr r (IsFaultBy (out_of line) HasFailed may_lose files line.command) → IfErr r IsLeft
+      → LineEnds may_hear may_lose files matched Halted HasFailed before after kinds told err r
+  own_line_ends kinds told err asks none (Ok s) sends is left =
+      let low = answer_low may_hear files line.command sends.0 s sends.1 in
       record {
         range = low_other s Status.Fault low (omega arith);
         answered = λ other. refl;
@@ -138,21 +170,56 @@ module _ (may_hear : Hearing) (may_lose : Losing) (files : Files) (matched : Opt
         line = λ some. absurd (some none);
         fault = λ some. tt;
         unshown = λ some. tt;
-        done = λ fine. record { asked = a; asks = subst (IsAskedBy matched) same asks; text = sends.0; status = s; answer = sends.1; written = sends.2; code_is = refl };
+        done = λ fine. record { line = line; asks = asks; text = sends.0; status = s; answer = sends.1; gone = sends.2; code_is = refl };
+        kept = λ some. absurd (some none);
         why = λ fine. tt;
       }
-  line_ends kinds told err x same asks none (Err f) sends is left = record {
+  own_line_ends kinds told err asks none (Err f) sends is left = record {
     range = tt;
     answered = tt;
     wrong = tt;
-    refused = refusal_leaves Halted (λ text. (status : Status) × IsAnswer may_hear files a text status) before after f left;
+    refused = refusal_left (out_of line) f left;
     untouched = refl;
     line = λ some. tt;
     fault = λ some. absurd (some none);
     unshown = λ some. absurd (some none);
     done = λ fine. tt;
-    why = λ fine. may (subst (IsAskedBy matched) same asks) f is left;
+    kept = λ some. absurd (some none);
+    why = λ fine. may asks f is left;
   }
+
+  -- where it is known whether a file is named
+  line_ends : {E : Type 0} (kinds : Kinds) (told : Option (List ℕ)) (err : E) → IsLineBy matched line → kinds ≡ []
+      → (path : Option (List ℕ)) → out_of line ≡ path → (r : Result Status CommandFault)
+      → IfOk r (Goes path) → IfErr r (IsFaultBy path HasFailed may_lose files line.command)
+      → IfErr r (LeavesBy path Halted IsDue before after)
+      → LineEnds may_hear may_lose files matched Halted HasFailed before after kinds told err r
+  line_ends kinds told err asks none path named r sends is left = own_line_ends kinds told err asks none r
+      (subst (λ (p : Option (List ℕ)). IfOk r (Goes p)) (sym named) sends)
+      (subst (λ (p : Option (List ℕ)). IfErr r (IsFaultBy p HasFailed may_lose files line.command)) (sym named) is)
+      (subst (λ (p : Option (List ℕ)). IfErr r (LeavesBy p Halted IsDue before after)) (sym named) left)
+
+  -- where none is, and the text goes to standard output
+  pub printed_ends : {E : Type 0} (kinds : Kinds) (told : Option (List ℕ)) (err : E) → IsLineBy matched line → kinds ≡ []
+      → out_of line ≡ None → after.placed ≡ before.placed → (r : Result Status CommandFault)
+      → IfOk r (λ s. Sends (λ text. IsAnswer may_hear files line.command text s) before.written after.written)
+      → IfErr r (IsFault may_lose files line.command) → IfErr r (Leaves Halted IsDue before.written after.written)
+      → LineEnds may_hear may_lose files matched Halted HasFailed before after kinds told err r
+  printed_ends kinds told err asks none named same (Ok s) sends is left =
+      line_ends kinds told err asks none None named (Ok s) (sends.0, sends.1, (sends.2, same)) tt tt
+  printed_ends kinds told err asks none named same (Err f) sends is left =
+      line_ends kinds told err asks none None named (Err f) tt is (left, same)
+
+  -- and where it goes to a file
+  pub filed_ends : {E : Type 0} (kinds : Kinds) (told : Option (List ℕ)) (err : E) → IsLineBy matched line → kinds ≡ []
+      → (path : List ℕ) → out_of line ≡ Some path → after.written ≡ before.written → (r : Result Status CommandFault)
+      → IfOk r (λ s. (text : List ℕ) × IsAnswer may_hear files line.command text s × HasReplaced before.placed after.placed path text)
+      → IfErr r (IsFaultBy (Some path) HasFailed may_lose files line.command) → OnErr r (after.placed ≡ before.placed)
+      → LineEnds may_hear may_lose files matched Halted HasFailed before after kinds told err r
+  filed_ends kinds told err asks none path named silent (Ok s) filed is same =
+      line_ends kinds told err asks none (Some path) named (Ok s) (filed.0, filed.1, (silent, filed.2)) tt tt
+  filed_ends kinds told err asks none path named silent (Err f) filed is same =
+      line_ends kinds told err asks none (Some path) named (Err f) tt is (both before after silent same)
 
 -- ---- what is told
 

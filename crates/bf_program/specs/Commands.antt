@@ -5,9 +5,12 @@ use Rattle.clap.specs.Words.{Kinds, Row, Text, subcommand_of}
 use Rattle.jiff.specs.declared.timestamp.Timestamp.{Timestamp}
 use Rattle.bf_moment.specs.Moment.{Spells, nearest}
 use Rattle.bf_device.specs.Device.{sent}
+use Rattle.bf_file.specs.declared.call.Placed.{Placed}
+use Rattle.bf_file.specs.Replacing.{HasReplaced}
 use Rattle.bf_command_line.specs.declared.forms.Asked.{Asked}
 use Rattle.bf_command_line.specs.declared.forms.Asked.TheVariants.{Check, Clear, Completions, Dry, List as Intervals, Run, Schema, Single}
 use Rattle.bf_command_line.specs.declared.forms.ClearAsked.{ClearAsked}
+use Rattle.bf_command_line.specs.declared.forms.CommandLine.{CommandLine}
 use Rattle.bf_command_line.specs.declared.forms.DryAsked.{DryAsked}
 use Rattle.bf_command_line.specs.declared.forms.GraphAsked.{GraphAsked}
 use Rattle.bf_command_line.specs.declared.forms.ListAsked.{ListAsked}
@@ -16,13 +19,13 @@ use Rattle.bf_command_line.specs.declared.forms.RunAsked.{RunAsked}
 use Rattle.bf_command_line.specs.declared.forms.SeedAsked.{SeedAsked}
 use Rattle.bf_command_line.specs.declared.forms.SingleAsked.{SingleAsked}
 use Rattle.bf_dependents.specs.declared.seeds.Seed.{Seed}
-use Rattle.bf_command_line.specs.Asked.{IsAskedBy}
+use Rattle.bf_command_line.specs.Asked.{IsLineBy}
 use Rattle.bf_command_line.specs.CommandLine.{backfill_app}
 use Rattle.bf_command_line.specs.Wrongs as line
 use Rattle.bf_report_reader.specs.Faults.{Tells as TellsFault}
 use Rattle.bf_report_reader.specs.declared.fault.ReportFault.{ReportFault}
 use Rattle.bf_command_fault.specs.declared.fault.CommandFault.{CommandFault}
-use Rattle.bf_command_fault.specs.declared.fault.CommandFault.TheVariants.{BadMoment, Clear as NotCleared, OutOfMemory, CannotRead, CannotWrite, Report as BadReport, Stopped}
+use Rattle.bf_command_fault.specs.declared.fault.CommandFault.TheVariants.{BadMoment, Clear as NotCleared, OutOfMemory, CannotRead, CannotWriteFile, CannotWrite, Report as BadReport, Stopped}
 use Rattle.bf_command_fault.specs.declared.status.Status.{Status}
 use Rattle.bf_command_fault.specs.Refusal.{Leaves, line_of, status_of}
 use Rattle.bf_command_fault.specs.Status.{code_of, of_runs}
@@ -217,14 +220,32 @@ IsAnswer may_hear files (Clear asked) text status = IsClearAnswer may_hear files
 IsAnswer may_hear files (Schema format) text status = IsPrinted (schema_text format) text status
 IsAnswer may_hear files (Completions shell) text status = IsPrinted (completions_text shell) text status
 
--- the subcommand that was found was answered so: its text is all that went out, behind what had gone out before, and that is the exit status
-pub record IsDone (may_hear : Hearing) (files : Files) (matched : Option (Text × List Row)) (before after : Option (List ℕ)) (code : ℕ) : Type 0 where
-  pub asked : Asked
-  pub asks : IsAskedBy matched asked
+-- what went out, and which files were replaced, where that is told
+pub record Outputs : Type 0 where
+  pub written : Option (List ℕ)
+  pub placed : Option (List Placed)
+
+abbrev pub outputs : Option (List ℕ) → Option (List Placed) → Outputs
+outputs written placed = record { written = written; placed = placed }
+
+-- the path that a report goes to, where one is named
+abbrev pub out_of : CommandLine → Option (List ℕ)
+out_of line = option_map string_bytes line.out
+
+-- this text is all that went out, behind what had gone out before; or where a path is named, nothing did, and the path's file was
+-- replaced by one of the text
+abbrev pub HasGone : Option (List ℕ) → List ℕ → Outputs → Outputs → Type 0
+HasGone None text before after = (after.written ≡ sent before.written text) × (after.placed ≡ before.placed)
+HasGone (Some path) text before after = (after.written ≡ before.written) × HasReplaced before.placed after.placed path text
+
+-- the line that was found was answered so, and that is the exit status
+pub record IsDone (may_hear : Hearing) (files : Files) (matched : Option (Text × List Row)) (before after : Outputs) (code : ℕ) : Type 0 where
+  pub line : CommandLine
+  pub asks : IsLineBy matched line
   pub text : List ℕ
   pub status : Status
-  pub answer : IsAnswer may_hear files asked text status
-  pub written : after ≡ sent before text
+  pub answer : IsAnswer may_hear files line.command text status
+  pub gone : HasGone (out_of line) text before after
   pub code_is : code ≡ code_of status
 
 -- ---- why there is no answer
@@ -234,6 +255,7 @@ abbrev pub IsFaultOfFiles : Files → List (List ℕ) → Type 0 → CommandFaul
 IsFaultOfFiles files paths Has (CannotRead path) = IsFirstUntold files paths path
 IsFaultOfFiles files paths Has OutOfMemory = Unit {0}
 IsFaultOfFiles files paths Has BadMoment = ⊥
+IsFaultOfFiles files paths Has (CannotWriteFile path) = ⊥
 IsFaultOfFiles files paths Has fault = AreReadable files paths × Has
 
 -- the first fault of the files and of the graph
@@ -286,6 +308,7 @@ IsFaultOfClear may_lose files asked range seed (NotCleared fault) = OfReadClearF
 IsFaultOfClear may_lose files asked range seed (Stopped stop) = OfReadClearFiles files asked (λ graph zone table report.
     StopsClearing (is_alone asked.workers asked.progress) (launched_lost asked.launcher may_lose) graph zone table report range.from.nanosecond range.to.nanosecond seed stop)
 IsFaultOfClear may_lose files asked range seed (CannotWrite n) = AreReadable files (clear_paths asked.graph (table_named asked)) × IsReadable (files (string_bytes asked.report))
+IsFaultOfClear may_lose files asked range seed (CannotWriteFile path) = ⊥
 IsFaultOfClear may_lose files asked range seed OutOfMemory = Unit {0}
 IsFaultOfClear may_lose files asked range seed fault = AreReadable files (clear_paths asked.graph (table_named asked))
     × OfFilesAndNamedTable files asked.graph (table_named asked) (λ graph zone table. IsFaultBefore graph zone table range.from.nanosecond range.to.nanosecond fault)
@@ -306,17 +329,35 @@ IsFault may_lose files (Clear asked) fault = IsClearFault may_lose files asked f
 IsFault may_lose files (Schema format) fault = IsDeviceFault fault
 IsFault may_lose files (Completions shell) fault = IsDeviceFault fault
 
--- the fault is one of the subcommand that was found, and this is what it leaves
-pub record IsFaulted (may_hear : Hearing) (may_lose : Losing) (files : Files) (matched : Option (Text × List Row)) (Halted : Type 0) (before after : Option (List ℕ)) (fault : CommandFault) : Type 0 where
-  pub asked : Asked
-  pub asks : IsAskedBy matched asked
-  pub is_fault : IsFault may_lose files asked fault
-  pub left : Leaves Halted (λ text. (status : Status) × IsAnswer may_hear files asked text status) before after fault
+-- so it is where a report goes to standard output; and where it goes to a file, its device isn't told of, but that the path's file
+-- can't be replaced, and then a call of the folder or of the new file has failed
+abbrev pub IsFaultBy : Option (List ℕ) → Type 0 → Losing → Files → Asked → CommandFault → Type 0
+IsFaultBy None HasFailed may_lose files asked fault = IsFault may_lose files asked fault
+IsFaultBy (Some path) HasFailed may_lose files asked (CannotWriteFile p) = (p ≡ path) × HasFailed
+IsFaultBy (Some path) HasFailed may_lose files asked (CannotWrite n) = ⊥
+IsFaultBy (Some path) HasFailed may_lose files asked OutOfMemory = Unit {0}
+IsFaultBy (Some path) HasFailed may_lose files asked fault = IsFault may_lose files asked fault
+
+-- what a fault leaves of the text that was due; of a file nothing, so that its path holds what it held
+abbrev pub LeavesBy : Option (List ℕ) → Type 0 → (List ℕ → Type 0) → Outputs → Outputs → CommandFault → Type 0
+LeavesBy None Halted IsDue before after fault = Leaves Halted IsDue before.written after.written fault × (after.placed ≡ before.placed)
+LeavesBy (Some path) Halted IsDue before after fault = after ≡ before
+
+-- the fault is one of the line that was found, and this is what it leaves
+pub record IsFaulted (may_hear : Hearing) (may_lose : Losing) (files : Files)
+    (matched : Option (Text × List Row)) (Halted HasFailed : Type 0) (before after : Outputs)
+    (fault : CommandFault) : Type 0 where
+  pub line : CommandLine
+  pub asks : IsLineBy matched line
+  pub is_fault : IsFaultBy (out_of line) HasFailed may_lose files line.command fault
+  pub left : LeavesBy (out_of line) Halted (λ text. (status : Status) × IsAnswer may_hear files line.command text status) before after fault
 
 -- so it is, or memory was wanting before anything was written
-abbrev pub MayBeFaulted : Hearing → Losing → Files → Option (Text × List Row) → Type 0 → Option (List ℕ) → Option (List ℕ) → CommandFault → Type 0
-MayBeFaulted may_hear may_lose files matched Halted before after OutOfMemory = after ≡ before
-MayBeFaulted may_hear may_lose files matched Halted before after fault = IsFaulted may_hear may_lose files matched Halted before after fault
+abbrev pub MayBeFaulted : Hearing → Losing → Files → Option (Text × List Row)
+    → Type 0 → Type 0 → Outputs → Outputs → CommandFault → Type 0
+MayBeFaulted may_hear may_lose files matched Halted HasFailed before after OutOfMemory = after ≡ before
+MayBeFaulted may_hear may_lose files matched Halted HasFailed before after fault =
+    IsFaulted may_hear may_lose files matched Halted HasFailed before after fault
 
 -- ---- what is told on standard error
 

@@ -4,3 +4,4 @@ pub mod Shown
 pub mod Texts
 pub mod Commands
 pub mod Files
+pub mod Filed

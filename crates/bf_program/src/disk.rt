@@ -1,5 +1,5 @@
 //! The system's files.
-ghost use Rattle.std.specs.Prelude.{◌≡◌, None};
+ghost use Rattle.std.specs.Prelude.{◌≡◌, None, false};
 
 use crate::source::{Source, SourceFault};
 use bf_device::Input;
@@ -8,16 +8,33 @@ use std::io;
 use std::io::ErrorKind;
 use std::rt::Files;
 
+/// A path as it was given, and the one whose file is replaced: of a link the one that it leads to.
+#[derive(Drop)]
+pub(crate) struct Target {
+    pub(crate) path: String,
+    pub(crate) file: String,
+}
+
 /// The files of the system, by their paths.
 #[derive(Drop)]
 pub struct Disk<'a, R> {
-    rt: &'a R,
+    pub(crate) rt: &'a R,
+    /// Where a file was to be replaced last.
+    pub(crate) target: Option<Target>,
+    /// Whether one could not be.
+    pub(crate) failed: bool,
 }
 
 impl<'a, R: Files> Disk<'a, R> {
     /// The files that a runtime reaches.
-    pub fn new(rt: &'a R) -> Self {
-        Disk { rt }
+    pub fn new(rt: &'a R) -> Self
+        ensures { result.failed ≡ false }
+    {
+        Disk {
+            rt,
+            target: None,
+            failed: false,
+        }
     }
 }
 

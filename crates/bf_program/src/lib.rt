@@ -5,8 +5,10 @@ mod check;
 mod clear;
 mod disk;
 mod dry;
+mod filed;
 mod input;
 mod list;
+mod new_file;
 mod prefix;
 mod program;
 mod run;
@@ -16,6 +18,7 @@ mod stored;
 mod texts;
 
 pub use disk::Disk;
+pub use new_file::NewFile;
 pub use program::answer;
 pub use source::{Source, SourceFault};
 pub use stored::StoredFiles;

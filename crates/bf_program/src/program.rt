@@ -1,25 +1,28 @@
 //! The whole program below `main`.
-ghost use Rattle.std.specs.Prelude.{◌≡◌, ◌≢◌, ◌≤◌, ◌⊎◌, [], None, IfOk, IfErr, IsErr, IsSome, OnErr};
+ghost use Rattle.std.specs.Prelude.{◌≡◌, ◌≢◌, ◌≤◌, ◌⊎◌, [], None, IfOk, IfErr, IsErr, IsSome, OnErr, true};
 ghost use Rattle.clap.specs.Words.{kind_of};
 ghost use Rattle.bf_device.specs.Device.{HasHalted};
-ghost use Rattle.bf_command_fault.specs.Refusal.{number_of};
+ghost use Rattle.bf_command_fault.specs.Refusal.{Leaves, Sends, number_of};
 ghost use Rattle.bf_command_fault.specs.Status.{code_of};
 ghost use Rattle.bf_command_fault.specs.declared.fault.CommandFault.{CommandFault as FaultTerm};
-ghost use Rattle.bf_program.specs.Commands.{IsDone, IsTold, MayBeFaulted, MayTell, Tells, found_in, wrongs_of};
+ghost use Rattle.bf_command_fault.specs.declared.status.Status.{Status as StatusTerm};
+ghost use Rattle.bf_program.specs.Commands.{IsAnswer, IsDone, IsFault, IsTold, MayBeFaulted, MayTell, Tells, found_in, outputs, wrongs_of};
 ghost use Rattle.bf_program.specs.Shown.{shown_as, EndsAs, IsUnshown, ShowsHelp};
 
 use crate::check::check_answered;
 use crate::clear::clear_answered;
 use crate::dry::dry_answered;
+use crate::filed::filed;
 use crate::list::list_answered;
 use crate::run::run_answered;
 use crate::single::single_answered;
 use crate::source::Source;
 use crate::texts::{completions_answered, schema_answered};
 use bf_command_fault::{CommandFault, Status};
-use bf_command_line::{Asked, asked};
+use bf_command_line::{Asked, CommandLine, asked};
 use bf_commands::Screen;
 use bf_device::{Write, send};
+use bf_file::Folder;
 use bf_process::Starter;
 use clap::Error;
 use clap::error::ErrorKind;
@@ -30,14 +33,16 @@ use std::time::Clock;
 
 /// Answers a command line, of which the first word is the program's own name. Files are read from `files`, the
 /// report, the size of a graph, the intervals, a schema, completions or help goes to `out`, and why there is none to
-/// `err`. Gives the exit status: 0 where every run is a success, a graph has no fault, the intervals were listed, or a
-/// text was asked for, 1 where some run failed, 2 where something was refused, and 3 at a fault.
+/// `err`. A report for which a file is named goes there instead, in `folder`. Gives the exit status: 0 where every run
+/// is a success, a graph has no fault, the intervals were listed, or a text was asked for, 1 where some run failed, 2
+/// where something was refused, and 3 at a fault.
 #[tactic(auto, using(crate::proofs::Ends::fault_ends))]
-pub fn answer<RT, S: Source, W: Write, E: Write>(
+pub fn answer<RT, S: Source, F: Folder, W: Write, E: Write>(
     rt: &RT,
     alloc: Global,
     words: &[String],
     files: &mut S,
+    folder: &mut F,
     out: &mut W,
     err: &mut E,
 ) -> u8
@@ -48,13 +53,18 @@ where
     ensures refused { result ≡ 2 → W.written out.new ≡ W.written out.old }
     ensures line { wrongs_of words.now ≢ [] → EndsAs (wrongs_of words.now) result }
     ensures done { wrongs_of words.now ≡ [] → result ≤ 1
-        → IsDone (RT.may_hear rt.now) (S.file files.old) (found_in words.now) (W.written out.old) (W.written out.new) result }
+        → IsDone (RT.may_hear rt.now) (S.file files.old) (found_in words.now)
+        (outputs (W.written out.old) (F.placed folder.old))
+        (outputs (W.written out.new) (F.placed folder.new)) result }
+    ensures kept { wrongs_of words.now ≢ [] → F.placed folder.new ≡ F.placed folder.old }
 
     // Of a line with which nothing is wrong: which fault came, and what is told of it.
     ensures why { wrongs_of words.now ≡ [] → 2 ≤ result → (fault : FaultTerm)
-        × MayBeFaulted (RT.may_hear rt.now) (RT.may_lose rt.now) (S.file files.old) (found_in words.now) (HasHalted (W.failures out.old) (W.failures out.new)
-        (W.interruptions out.old) (W.interruptions out.new))
-        (W.written out.old) (W.written out.new) fault
+        × MayBeFaulted (RT.may_hear rt.now) (RT.may_lose rt.now)
+        (S.file files.old) (found_in words.now) (HasHalted (W.failures out.old) (W.failures out.new)
+        (W.interruptions out.old) (W.interruptions out.new)) (F.failed folder.new ≡ true)
+        (outputs (W.written out.old) (F.placed folder.old))
+        (outputs (W.written out.new) (F.placed folder.new)) fault
         × MayTell (HasHalted (E.failures err.old) (E.failures err.new)
         (E.interruptions err.old) (E.interruptions err.new))
         (E.written err.old) (E.written err.new) fault result }
@@ -74,17 +84,18 @@ where
         (E.interruptions err.old) (E.interruptions err.new))
         (E.written err.old) (E.written err.new) fault 3 }
 {
-    match line_answered(rt, alloc, words, files, out, err) {
+    match line_answered(rt, alloc, words, files, folder, out, err) {
         Ok(status) => status.code(),
         Err(fault) => told(alloc, &fault, err).code(),
     }
 }
 
-fn line_answered<RT, S: Source, W: Write, E: Write>(
+fn line_answered<RT, S: Source, F: Folder, W: Write, E: Write>(
     rt: &RT,
     alloc: Global,
     words: &[String],
     files: &mut S,
+    folder: &mut F,
     out: &mut W,
     err: &mut E,
 ) -> Result<Status, CommandFault>
@@ -102,22 +113,53 @@ where
         (W.interruptions out.old) (W.interruptions out.new))
         (W.written out.old) (W.written out.new)) }
     ensures done { wrongs_of words.now ≡ [] → IfOk result (λ s.
-        IsDone (RT.may_hear rt.now) (S.file files.old) (found_in words.now) (W.written out.old) (W.written out.new) (code_of s)) }
-    ensures why { wrongs_of words.now ≡ [] → IfErr result (λ f. MayBeFaulted (RT.may_hear rt.now) (RT.may_lose rt.now) (S.file files.old) (found_in words.now)
+        IsDone (RT.may_hear rt.now) (S.file files.old) (found_in words.now)
+        (outputs (W.written out.old) (F.placed folder.old))
+        (outputs (W.written out.new) (F.placed folder.new)) (code_of s)) }
+    ensures kept { wrongs_of words.now ≢ [] → F.placed folder.new ≡ F.placed folder.old }
+    ensures why { wrongs_of words.now ≡ [] → IfErr result (λ f. MayBeFaulted
+        (RT.may_hear rt.now) (RT.may_lose rt.now) (S.file files.old) (found_in words.now)
         (HasHalted (W.failures out.old) (W.failures out.new)
-        (W.interruptions out.old) (W.interruptions out.new))
-        (W.written out.old) (W.written out.new) f) }
+        (W.interruptions out.old) (W.interruptions out.new)) (F.failed folder.new ≡ true)
+        (outputs (W.written out.old) (F.placed folder.old))
+        (outputs (W.written out.new) (F.placed folder.new)) f) }
 {
     match asked(alloc, words) {
-        Ok(Asked::Check(check)) => check_answered(alloc, check, files, out),
-        Ok(Asked::List(list)) => list_answered(alloc, list, files, out),
-        Ok(Asked::Single(single)) => single_answered(rt, alloc, single, files, out),
-        Ok(Asked::Dry(dry)) => dry_answered(rt, alloc, dry, files, out),
-        Ok(Asked::Run(ran)) => run_answered(rt, alloc, ran, files, out),
-        Ok(Asked::Clear(clear)) => clear_answered(rt, alloc, clear, files, out),
-        Ok(Asked::Schema(format)) => schema_answered(format, out),
-        Ok(Asked::Completions(shell)) => completions_answered(shell, out),
+        Ok(CommandLine { command, out: file }) => match file {
+            Some(path) => filed(rt, alloc, command, path, files, folder),
+            None => command_answered(rt, alloc, command, files, out),
+        },
         Err(error) => shown(alloc, &error, out, err),
+    }
+}
+
+/// Answers a command, whose text goes to `out`.
+pub(crate) fn command_answered<RT, S: Source, W: Write>(
+    rt: &RT,
+    alloc: Global,
+    command: Asked,
+    files: &mut S,
+    out: &mut W,
+) -> Result<Status, CommandFault>
+where
+    RT: Starter + Screen + Threads + Wait + Clock + Sync,
+    ensures answer { IfOk result (λ status. Sends (λ text. IsAnswer (RT.may_hear rt.now) (S.file files.old) command text status)
+        (W.written out.old) (W.written out.new)) }
+    ensures fault { IfErr result (IsFault (RT.may_lose rt.now) (S.file files.old) command) }
+    ensures left { IfErr result (Leaves (HasHalted (W.failures out.old) (W.failures out.new)
+        (W.interruptions out.old) (W.interruptions out.new))
+        (λ text. (status : StatusTerm) × IsAnswer (RT.may_hear rt.now) (S.file files.old) command text status)
+        (W.written out.old) (W.written out.new)) }
+{
+    match command {
+        Asked::Check(check) => check_answered(alloc, check, files, out),
+        Asked::List(list) => list_answered(alloc, list, files, out),
+        Asked::Single(single) => single_answered(rt, alloc, single, files, out),
+        Asked::Dry(dry) => dry_answered(rt, alloc, dry, files, out),
+        Asked::Run(ran) => run_answered(rt, alloc, ran, files, out),
+        Asked::Clear(clear) => clear_answered(rt, alloc, clear, files, out),
+        Asked::Schema(format) => schema_answered(format, out),
+        Asked::Completions(shell) => completions_answered(shell, out),
     }
 }
 

@@ -24,7 +24,7 @@ _backfill() {
     done
 
     case $before in
-        --zone-file | --table | --launcher)
+        --zone-file | --table | --out | --launcher)
             _backfill_files "$word"
             return
             ;;
@@ -36,10 +36,10 @@ _backfill() {
         help) words=$commands ;;
         check) options='--zone-file --help' ;;
         list) options='--zone-file --from --to --help' ;;
-        single) options='--zone-file --at --help' ;;
-        dry) options='--zone-file --from --to --workers --progress --help' ;;
-        run) options='--zone-file --from --to --workers --progress --launcher --help' ;;
-        clear) options='--zone-file --task --run --table --from --to --workers --progress --launcher --help' ;;
+        single) options='--zone-file --at --out --help' ;;
+        dry) options='--zone-file --from --to --workers --progress --out --help' ;;
+        run) options='--zone-file --from --to --workers --progress --out --launcher --help' ;;
+        clear) options='--zone-file --task --run --table --from --to --workers --progress --out --launcher --help' ;;
         schema) options='--help' words='graph table' ;;
         completions) options='--help' words='bash zsh fish' ;;
     esac
@@ -62,7 +62,7 @@ pub const ZSH: &str = r#"#compdef backfill
 _backfill() {
     local curcontext=$curcontext state line
     typeset -A opt_args
-    local -a commands help version zone_file at from to task run table workers progress launcher graph_file table_file report_file format shell
+    local -a commands help version zone_file at from to task run table workers progress out launcher graph_file table_file report_file format shell
 
     commands=(
         'check:Checks the graph, and tells how many tasks and edges it has'
@@ -87,6 +87,7 @@ _backfill() {
     table=('--table[The table that answers in place of programs]:table:_files')
     workers=('--workers[How many tries may run at once]:number from 1 to 64: ')
     progress=('--progress[Tells how far the runs are]')
+    out=('--out[The file that the report goes to]:report:_files')
     launcher=('--launcher[The program that the words of commands are handed to]:program:_files')
     graph_file=('1:graph:_files')
     table_file=('2:table:_files')
@@ -102,10 +103,10 @@ _backfill() {
                 help) _describe command commands ;;
                 check) _arguments $help $zone_file $graph_file ;;
                 list) _arguments $help $zone_file $from $to $graph_file ;;
-                single) _arguments $help $zone_file $at $graph_file $table_file ;;
-                dry) _arguments $help $zone_file $from $to $workers $progress $graph_file $table_file ;;
-                run) _arguments $help $zone_file $from $to $workers $progress $launcher $graph_file ;;
-                clear) _arguments $help $zone_file $task $run $table $from $to $workers $progress $launcher $graph_file $report_file ;;
+                single) _arguments $help $zone_file $at $out $graph_file $table_file ;;
+                dry) _arguments $help $zone_file $from $to $workers $progress $out $graph_file $table_file ;;
+                run) _arguments $help $zone_file $from $to $workers $progress $out $launcher $graph_file ;;
+                clear) _arguments $help $zone_file $task $run $table $from $to $workers $progress $out $launcher $graph_file $report_file ;;
                 schema) _arguments $help $format ;;
                 completions) _arguments $help $shell ;;
             esac
@@ -152,5 +153,6 @@ complete -c backfill -n '__fish_seen_subcommand_from list dry run clear' -l from
 complete -c backfill -n '__fish_seen_subcommand_from list dry run clear' -l to -x -d 'The last moment at which an interval may start'
 complete -c backfill -n '__fish_seen_subcommand_from dry run clear' -l workers -x -d 'How many tries may run at once, 1 to 64'
 complete -c backfill -n '__fish_seen_subcommand_from dry run clear' -l progress -d 'Tells how far the runs are'
+complete -c backfill -n '__fish_seen_subcommand_from single dry run clear' -l out -r -F -d 'The file that the report goes to'
 complete -c backfill -n '__fish_seen_subcommand_from run clear' -l launcher -r -F -d 'The program that the words of commands are handed to'
 "#;

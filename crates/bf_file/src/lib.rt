@@ -1,0 +1,21 @@
+//! Files that are replaced whole: at each moment a path holds what it held, or all that was written to take its place.
+//!
+//! What is to stand under a path is written to a new file beside it (`Replacement`), by a device over that (`Page`); it is synced, and
+//! only then takes the path's place, in one step. A `Folder` is where that is done. `StoredFolder` stands in memory and tells all.
+#![tactic(auto)]
+
+mod call;
+mod fault;
+mod folder;
+mod laws;
+mod page;
+mod replacement;
+mod stored;
+
+pub use call::{Call, Placed};
+pub use fault::ReplaceFault;
+pub use folder::Folder;
+pub use laws::{a_path_holds_the_old_or_the_new, a_replaced_path_holds_the_new};
+pub use page::{Page, give_up, replace};
+pub use replacement::Replacement;
+pub use stored::{StoredFolder, StoredNew};

@@ -1,0 +1,30 @@
+//! A new file that is to take another's place.
+ghost use Rattle.std.specs.Prelude.{◌≡◌, ◌≢◌, ◌≤◌, [], Bool, List, Option, IfOk, OnErr, OnOk, length, take};
+ghost use Rattle.bf_file.specs.declared.call.Call.{Call};
+ghost use Rattle.bf_file.specs.Failing.{failed_by};
+ghost use Rattle.bf_file.specs.Replacing.{made};
+
+use crate::fault::ReplaceFault;
+
+/// A new file that is to take another's place. Contracts see the calls that were made of it and went well, where it tells them, and
+/// whether one failed.
+pub trait Replacement {
+    ghost calls: { Self → Option (List Call) };
+
+    ghost failed: { Self → Bool };
+
+    /// Writes the first of the bytes, at least one where there is one, and says how many.
+    fn write(&mut self, bytes: &[u8]) -> Result<usize, ReplaceFault>
+        ensures bound { IfOk result (λ n. n ≤ length bytes.now) }
+        ensures some { IfOk result (λ n. bytes.now ≢ [] → n ≢ 0) }
+        ensures wrote { IfOk result (λ n.
+            calls self.new ≡ made (calls self.old) (Call.Wrote (take n bytes.now))) }
+        ensures same { OnErr result (calls self.new ≡ calls self.old) }
+        ensures failed { failed self.new ≡ failed_by (failed self.old) result };
+
+    /// Waits until the disk has all that was written.
+    fn sync(&mut self) -> Result<(), ReplaceFault>
+        ensures synced { OnOk result (calls self.new ≡ made (calls self.old) Call.Synced) }
+        ensures same { OnErr result (calls self.new ≡ calls self.old) }
+        ensures failed { failed self.new ≡ failed_by (failed self.old) result };
+}

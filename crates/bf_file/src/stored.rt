@@ -1,0 +1,136 @@
+//! Files in memory that are replaced.
+ghost use Rattle.std.specs.Prelude.{◌≡◌, ◌++◌, ◌∷◌, [], None, false, IfOk, OnErr, OnOk, Some, length};
+ghost use Rattle.bf_file.specs.Replacing.{placed_with};
+
+use crate::call::{Call, Placed};
+use crate::fault::ReplaceFault;
+use crate::folder::Folder;
+use crate::replacement::Replacement;
+use bf_value::{Sequence, Text};
+use std::alloc::Global;
+
+/// A new file in memory, which is the calls that were made of it.
+#[derive(Drop)]
+pub struct StoredNew {
+    alloc: Global,
+    calls: Sequence<Call>,
+    failed: bool,
+}
+
+/// A folder in memory, which tells all: that a folder can do so and keep the clauses of `Folder` is proved of it. A call that finds no
+/// memory has failed.
+#[derive(Drop)]
+pub struct StoredFolder {
+    pub placed: Sequence<Placed>,
+    pub begun: Option<Text>,
+    pub failed: bool,
+}
+
+impl StoredFolder {
+    /// A folder in which no file was replaced yet.
+    pub fn new(alloc: Global) -> StoredFolder
+        ensures { result ≡ record { placed = []; begun = None; failed = false } }
+    {
+        StoredFolder {
+            placed: Sequence::new(alloc),
+            begun: None,
+            failed: false,
+        }
+    }
+}
+
+/// One more call, behind the others.
+fn add(calls: &mut Sequence<Call>, call: Call) -> Result<(), ReplaceFault>
+    ensures ok { OnOk result (calls.new ≡ calls.old ++ call ∷ []) }
+    ensures err { OnErr result (calls.new ≡ calls.old) }
+{
+    match calls.push(call) {
+        Ok(()) => Ok(()),
+        Err(_) => Err(ReplaceFault::OutOfMemory),
+    }
+}
+
+fn add_write(alloc: Global, calls: &mut Sequence<Call>, bytes: &[u8]) -> Result<usize, ReplaceFault>
+    ensures count { IfOk result (λ n. n ≡ length bytes.now) }
+    ensures ok { OnOk result (calls.new ≡ calls.old ++ Call.Wrote bytes.now ∷ []) }
+    ensures err { OnErr result (calls.new ≡ calls.old) }
+{
+    let piece = Sequence::from_vec(bytes.to_vec(alloc)?);
+    add(calls, Call::Wrote(piece))?;
+    Ok(bytes.len())
+}
+
+/// Adds a path with the calls of its new file, and the rename behind them.
+fn add_placed(
+    placed: &mut Sequence<Placed>,
+    path: Text,
+    mut calls: Sequence<Call>,
+) -> Result<(), ReplaceFault>
+    ensures ok { OnOk result (Some placed.new
+        ≡ placed_with (Some placed.old) (Some path) (Some calls)) }
+    ensures err { OnErr result (placed.new ≡ placed.old) }
+{
+    add(&mut calls, Call::Renamed)?;
+    match placed.push(Placed { path, calls }) {
+        Ok(()) => Ok(()),
+        Err(_) => Err(ReplaceFault::OutOfMemory),
+    }
+}
+
+impl Replacement for StoredNew {
+    ghost use Rattle.std.specs.Prelude.{Some};
+
+    ghost calls = { λ n. Some n.calls };
+
+    ghost failed = { λ n. n.failed };
+
+    fn write(&mut self, bytes: &[u8]) -> Result<usize, ReplaceFault> {
+        let written = add_write(self.alloc, &mut self.calls, bytes);
+        self.failed = self.failed || written.is_err();
+        written
+    }
+
+    fn sync(&mut self) -> Result<(), ReplaceFault> {
+        let synced = add(&mut self.calls, Call::Synced);
+        self.failed = self.failed || synced.is_err();
+        synced
+    }
+}
+
+impl Folder for StoredFolder {
+    ghost use Rattle.std.specs.Prelude.{Some};
+
+    type New = StoredNew;
+
+    ghost placed = { λ f. Some f.placed };
+
+    ghost begun = { λ f. f.begun };
+
+    ghost failed = { λ f. f.failed };
+
+    fn begin(&mut self, alloc: Global, path: &str) -> Result<StoredNew, ReplaceFault> {
+        let Ok(path) = Text::copied(alloc, path) else {
+            self.failed = true;
+            return Err(ReplaceFault::OutOfMemory);
+        };
+        self.begun = Some(path);
+        Ok(StoredNew {
+            alloc,
+            calls: Sequence::new(alloc),
+            failed: false,
+        })
+    }
+
+    fn rename(&mut self, new: StoredNew) -> Result<(), ReplaceFault> {
+        let renamed = match self.begun.take() {
+            Some(path) => add_placed(&mut self.placed, path, new.calls),
+            None => Err(ReplaceFault::CannotReplace),
+        };
+        self.failed = self.failed || renamed.is_err();
+        renamed
+    }
+
+    fn discard(&mut self, new: StoredNew) {
+        self.failed = new.failed || self.failed;
+    }
+}

@@ -1,0 +1,74 @@
+//! Reports that go to files.
+ghost use Rattle.std.specs.Prelude.{◌≡◌, List, ℕ, IfErr, IfOk, OnErr, Some, string_bytes, true};
+ghost use Rattle.bf_file.specs.Replacing.{HasReplaced};
+ghost use Rattle.bf_program.specs.Commands.{IsAnswer, IsFaultBy};
+ghost use Rattle.bf_program.specs.Filed.{filed_fault, replacing_fault};
+
+use crate::program::command_answered;
+use crate::source::Source;
+use bf_command_fault::{CommandFault, Status};
+use bf_command_line::Asked;
+use bf_commands::Screen;
+use bf_file::{Folder, Page, ReplaceFault, give_up, replace};
+use bf_process::Starter;
+use bf_value::Text;
+use std::alloc::Global;
+use std::sync::Wait;
+use std::thread::Threads;
+use std::time::Clock;
+
+/// What is told where a path's file can't be replaced.
+fn unreplaced(fault: ReplaceFault, path: String) -> CommandFault
+    ensures { result ≡ replacing_fault (string_bytes path) fault }
+{
+    match fault {
+        ReplaceFault::CannotReplace => CommandFault::CannotWriteFile(Text::new(path)),
+        ReplaceFault::OutOfMemory => CommandFault::OutOfMemory,
+    }
+}
+
+/// What is told where a command's text goes to a file, and a write to that failed for this reason, if one did.
+fn told_of_file(fault: CommandFault, reason: ReplaceFault, path: String) -> CommandFault
+    ensures { result ≡ filed_fault (string_bytes path) reason fault }
+{
+    match fault {
+        CommandFault::CannotWrite(_) => unreplaced(reason, path),
+        fault => fault,
+    }
+}
+
+/// Answers a command, whose text takes the place of a path's file. That this can be is looked at first, before anything is read.
+#[tactic(auto, using(crate::proofs::FiledReports::filing))]
+pub(crate) fn filed<RT, S: Source, F: Folder>(
+    rt: &RT,
+    alloc: Global,
+    command: Asked,
+    path: String,
+    files: &mut S,
+    folder: &mut F,
+) -> Result<Status, CommandFault>
+where
+    RT: Starter + Screen + Threads + Wait + Clock + Sync,
+    ensures answer { IfOk result (λ status. (text : List ℕ)
+        × IsAnswer (RT.may_hear rt.now) (S.file files.old) command text status
+        × HasReplaced (F.placed folder.old) (F.placed folder.new) (string_bytes path) text) }
+    ensures fault { IfErr result (IsFaultBy (Some (string_bytes path)) (F.failed folder.new ≡ true)
+        (RT.may_lose rt.now) (S.file files.old) command) }
+    ensures same { OnErr result (F.placed folder.new ≡ F.placed folder.old) }
+{
+    let new = match folder.begin(alloc, path.as_str()) {
+        Ok(new) => new,
+        Err(fault) => return Err(unreplaced(fault, path)),
+    };
+    let mut page = Page::of(new);
+    match command_answered(rt, alloc, command, files, &mut page) {
+        Ok(status) => match replace(folder, page) {
+            Ok(()) => Ok(status),
+            Err(fault) => Err(unreplaced(fault, path)),
+        },
+        Err(fault) => {
+            let reason = give_up(folder, page);
+            Err(told_of_file(fault, reason, path))
+        }
+    }
+}
