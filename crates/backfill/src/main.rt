@@ -18,6 +18,7 @@ fn main(rt: HostRuntime) -> ExitCode {
         Err(error) => return ExitCode::from(unread(&rt, &error).code()),
     };
     let mut files = Disk::new(&rt);
+    let journals = Disk::new(&rt);
     let mut folder = Disk::new(&rt);
     let mut out = Output::new(rt.stdout());
     let mut err = Output::new(rt.stderr());
@@ -26,6 +27,7 @@ fn main(rt: HostRuntime) -> ExitCode {
         rt.alloc(),
         &words,
         &mut files,
+        &journals,
         &mut folder,
         &mut out,
         &mut err,

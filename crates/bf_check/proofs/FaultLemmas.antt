@@ -14,7 +14,8 @@ use Rattle.bf_check.specs.Checking.{shape_in}
 use Rattle.bf_check.specs.Looks.{IsPlaceOfFirst}
 use Rattle.bf_check.specs.Refusals.{number, Has, NoneHas, HasNoneBelow, HasNoFault}
 use Rattle.bf_plan.proofs.ListLemmas.{some_same}
-use Rattle.bf_check.proofs.ListLemmas.{item_at, none_passing, pair_at}
+use Rattle.bf_graph.proofs.Places.{none_passing}
+use Rattle.bf_check.proofs.ListLemmas.{item_at, pair_at}
 
 -- ---- numbers
 

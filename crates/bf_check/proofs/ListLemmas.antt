@@ -1,11 +1,11 @@
 -- Lists, looked at one after another.
-use Rattle.std.proofs.Common.{◌≡◌, ◌⊎◌, inl, inr, ℕ, zero, suc, ◌<◌, ◌+◌, List, [], ◌∷◌, ◌++◌, length, get_or, slice_get, map, take, drop, Contains, subst, Bool, true, false, cond, nat_lt, Option, Some, None, is_none, option_map, refl, sym, ap, ◌∙◌, arith, add-one}
-use Rattle.std.specs.List.{filter_map, join_with_byte, position, position_or_len, zip}
-use Rattle.std.proofs.lemmas.Bool.{cases_lt, lt-ltb, ltb-true, ltb-false, false_from_ne_true}
+use Rattle.std.proofs.Common.{◌≡◌, ◌⊎◌, inl, inr, ℕ, zero, suc, ◌<◌, ◌+◌, List, [], ◌∷◌, ◌++◌, length, get_or, slice_get, map, take, drop, Contains, subst, Bool, true, false, cond, Option, Some, None, is_none, option_map, refl, sym, ap, ◌∙◌, arith, add-one}
+use Rattle.std.specs.List.{filter_map, join_with_byte, position, zip}
+use Rattle.std.proofs.lemmas.Bool.{cases_lt}
 use Rattle.std.proofs.lemmas.List.{append_assoc, get_or_default, map_push}
-use Rattle.std.proofs.lemmas.List.Sums.{position_or_len_is, fails_before_first}
 use Rattle.std.proofs.lemmas.Option.{get_or_from_slice_get, slice_get_read, slice_get_within}
 use Rattle.std.proofs.Math.Seq.{take-suc}
+use Rattle.bf_graph.proofs.Places.{none_passing}
 
 pub map-then : {X Y Z : Type 0} (f : X → Y) (g : Y → Z) (xs : List X) → map g (map f xs) ≡ map (λ x. g (f x)) xs
 map-then f g [] = refl
@@ -79,30 +79,6 @@ pub next_contained : {X : Type 0} (before rest all more : List X) (x : X) → be
 next_contained before rest all more x left is =
     let there : slice_get all (length before) ≡ Some x = ap (λ xs. slice_get xs (length before)) (sym left ∙ ap (λ xs. before ++ xs) is) ∙ next_there before more x in
     (length before, slice_get_within all (length before) x there, get_or_from_slice_get all (length before) x x there)
-
--- ---- the first place that passes a test
-
-module _ {X : Type 0} (p : X → Bool) (xs : List X) (d : X) where
-  abbrev FailBelow : ℕ → Type 0
-  FailBelow i = (k : ℕ) → k < i → p (get_or xs k d) ≡ false
-
-  pub placed : (i : ℕ) → i < length xs → FailBelow i → p (get_or xs i d) ≡ true → position p xs ≡ Some i
-  placed i within before here =
-      let is : position_or_len p xs ≡ i = position_or_len_is p xs i d (omega (arith, within)) before (λ h. here) in
-      ap (λ n. cond (nat_lt n (length xs)) (Some n) None) is ∙ ap (λ b. cond b (Some i) None) (lt-ltb i (length xs) within)
-
-  pub missing : FailBelow (length xs) → position p xs ≡ None
-  missing none =
-      let is : position_or_len p xs ≡ length xs = position_or_len_is p xs (length xs) d (omega arith) none (λ h. absurd (omega (arith, h))) in
-      let low : nat_lt (length xs) (length xs) ≡ false = false_from_ne_true (nat_lt (length xs) (length xs)) (λ e. let bad = ltb-true (length xs) (length xs) e in omega (arith, bad)) in
-      ap (λ n. cond (nat_lt n (length xs)) (Some n) None) is ∙ ap (λ b. cond b (Some (length xs)) None) low
-
-  pub none_passing : position p xs ≡ None → FailBelow (length xs)
-  none_passing e k h = go (nat_lt (position_or_len p xs) (length xs)) refl e
-    where
-      go : (b : Bool) → nat_lt (position_or_len p xs) (length xs) ≡ b → cond b (Some (position_or_len p xs)) None ≡ None → p (get_or xs k d) ≡ false
-      go true f bad = absurd (cc)
-      go false f same = (let high = ltb-false (position_or_len p xs) (length xs) f in fails_before_first p xs k d (omega (arith, h, high)))
 
 -- ---- what was found of each
 

@@ -18,7 +18,7 @@ use Rattle.bf_check.specs.Checking.{default_pool, names_default, pool_number, po
 use Rattle.bf_check.specs.declared.pools.TaskPool.{TaskPool}
 use Rattle.bf_check.specs.Looks.{pool_named, with_size}
 use Rattle.bf_plan.proofs.ListLemmas.{some_same}
-use Rattle.bf_check.proofs.ListLemmas.{placed, missing, none_passing}
+use Rattle.bf_graph.proofs.Places.{placed, missing, none_passing}
 
 -- ---- pools that stand by name
 

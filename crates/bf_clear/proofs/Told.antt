@@ -12,7 +12,7 @@ use Rattle.bf_core.specs.Recursion.{out, decided, Asks}
 use Rattle.bf_core.specs.Events.{place_in}
 use Rattle.bf_core.specs.Agreement.{finished_from, final_cell, HoldsItsTries}
 use Rattle.bf_core.proofs.Attempts.{last_try-from, decide_lt}
-use Rattle.bf_core.proofs.Steps.{failed-is}
+use Rattle.bf_core.proofs.Decided.{failed-is}
 use Rattle.bf_report.specs.declared.report.Version.{Version}
 use Rattle.bf_report.specs.declared.report.InstanceReport.{InstanceReport}
 use Rattle.bf_report.specs.declared.report.Pull.{Pull}

@@ -16,6 +16,9 @@ use Rattle.bf_table.specs.Tables as answers
 use Rattle.bf_dependents.specs.declared.fault.ClearFault.{ClearFault}
 use Rattle.bf_dependents.specs.declared.fault.ClearFault.TheVariants as clear
 use Rattle.bf_dependents.specs.Faults as clearing
+use Rattle.bf_journal.specs.declared.fault.JournalFault.{JournalFault}
+use Rattle.bf_journal.specs.declared.fault.JournalFault.TheVariants as journal
+use Rattle.bf_journal.specs.Found as journaling
 use Rattle.bf_report_reader.specs.declared.fault.ReportFault.{ReportFault}
 use Rattle.bf_report_reader.specs.declared.fault.ReportFault.TheVariants as report
 use Rattle.bf_report_reader.specs.Refusals as reading
@@ -24,7 +27,7 @@ use Rattle.bf_device.specs.declared.sending.Cause.TheVariants as cause
 use Rattle.bf_device.specs.declared.sending.WriteFault.{WriteFault}
 use Rattle.bf_device.specs.Device.{sent}
 use Rattle.bf_command_fault.specs.declared.fault.CommandFault.{CommandFault}
-use Rattle.bf_command_fault.specs.declared.fault.CommandFault.TheVariants.{Read, Check, Table, Range, Report, Clear, BadMoment, OutOfMemory, CannotRead, CannotWriteFile, CannotWrite, Stopped}
+use Rattle.bf_command_fault.specs.declared.fault.CommandFault.TheVariants.{Read, Check, Table, Range, Report, Journal, Clear, JournalInUse, BadMoment, OutOfMemory, CannotRead, CannotWriteFile, CannotWrite, CannotLaunch, Stopped}
 use Rattle.bf_command_fault.specs.declared.stop.StopFault.{StopFault}
 use Rattle.bf_command_fault.specs.declared.status.Status.{Status}
 
@@ -37,18 +40,24 @@ number_of (Check fault) = graph.check_number fault
 number_of (Table fault) = answers.fault_number fault
 number_of (Range fault) = range.fault_number fault
 number_of (Report fault) = reading.fault_number fault
+number_of (Journal fault) = journaling.fault_number fault
 number_of (Clear fault) = clearing.fault_number fault
+number_of JournalInUse = Some 44
 number_of BadMoment = Some 28
 number_of OutOfMemory = None
 number_of (CannotRead path) = None
 number_of (CannotWrite sent) = None
 number_of (CannotWriteFile path) = None
+number_of (CannotLaunch path) = None
 number_of (Stopped fault) = None
 
 -- why a backfill stopped
 abbrev pub stop_words : StopFault → List ℕ
 stop_words StopFault.CannotStart = codes "cannot start workers"
 stop_words (StopFault.GaveUp task index attempt) = codes "runner gave up: " ++ (task ++ (codes " " ++ (signed_decimal index ++ (codes " " ++ decimal attempt))))
+stop_words (StopFault.CannotLog path) = codes "cannot write " ++ path
+stop_words StopFault.CannotRecord = codes "cannot write the journal"
+stop_words (StopFault.EnoughFailed most) = codes "stopped after " ++ (decimal most ++ codes " failed tries")
 
 abbrev pub words_of : CommandFault → List ℕ
 words_of (Read fault) = graph_file.fault_text fault
@@ -56,12 +65,15 @@ words_of (Check fault) = graph.fault_text fault
 words_of (Table fault) = answers.fault_text fault
 words_of (Range fault) = range.fault_text fault
 words_of (Report fault) = reading.fault_text fault
+words_of (Journal fault) = journaling.fault_text fault
 words_of (Clear fault) = clearing.fault_text fault
+words_of JournalInUse = codes "journal in use"
 words_of BadMoment = codes "bad moment"
 words_of OutOfMemory = codes "out of memory"
 words_of (CannotRead path) = codes "cannot read " ++ path
 words_of (CannotWrite sent) = codes "cannot write"
 words_of (CannotWriteFile path) = codes "cannot write " ++ path
+words_of (CannotLaunch path) = codes "cannot start " ++ path
 words_of (Stopped fault) = stop_words fault
 
 -- the line of a refusal, with its number, or of a fault
@@ -102,6 +114,10 @@ of_range fault = Range fault
 abbrev pub of_report : ReportFault → CommandFault
 of_report report.OutOfMemory = OutOfMemory
 of_report fault = Report fault
+
+abbrev pub of_journal : JournalFault → CommandFault
+of_journal journal.OutOfMemory = OutOfMemory
+of_journal fault = Journal fault
 
 abbrev pub of_clear : ClearFault → CommandFault
 of_clear clear.OutOfMemory = OutOfMemory

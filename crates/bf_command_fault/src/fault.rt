@@ -8,6 +8,7 @@ use bf_check::CheckFault;
 use bf_dependents::ClearFault;
 use bf_device::{Cause, WriteFault};
 use bf_interval::IntervalFault;
+use bf_journal::JournalFault;
 use bf_read::ReadFault;
 use bf_report_reader::ReportFault;
 use bf_table::TableFault;
@@ -29,8 +30,12 @@ pub enum CommandFault {
     Range(IntervalFault),
     /// The report to go on from is none.
     Report(ReportFault),
-    /// Nothing is cleared in it.
+    /// The journal to go on from is none of this backfill.
+    Journal(JournalFault),
+    /// Nothing is cleared in the report.
     Clear(ClearFault),
+    /// Another backfill has the journal open.
+    JournalInUse,
     /// A text that is no moment, or one of a date that doesn't exist.
     BadMoment,
     OutOfMemory,
@@ -40,6 +45,8 @@ pub enum CommandFault {
     CannotWrite(u64),
     /// A path, as it stood on the line, whose file can't be replaced.
     CannotWriteFile(Text),
+    /// A path, as it stood on the line, whose program can't be started.
+    CannotLaunch(Text),
     /// The backfill stopped before its end.
     Stopped(StopFault),
 }
@@ -55,12 +62,15 @@ impl CommandFault {
             CommandFault::Table(fault) => fault.number(),
             CommandFault::Range(fault) => fault.number(),
             CommandFault::Report(fault) => fault.number(),
+            CommandFault::Journal(fault) => fault.number(),
             CommandFault::Clear(fault) => fault.number(),
+            CommandFault::JournalInUse => Some(44),
             CommandFault::BadMoment => Some(28),
             CommandFault::OutOfMemory
             | CommandFault::CannotRead(_)
             | CommandFault::CannotWrite(_)
             | CommandFault::CannotWriteFile(_)
+            | CommandFault::CannotLaunch(_)
             | CommandFault::Stopped(_) => None,
         }
     }
@@ -100,12 +110,15 @@ impl fmt::Display for CommandFault {
             CommandFault::Table(fault) => write!(f, "{fault}"),
             CommandFault::Range(fault) => write!(f, "{fault}"),
             CommandFault::Report(fault) => write!(f, "{fault}"),
+            CommandFault::Journal(fault) => write!(f, "{fault}"),
             CommandFault::Clear(fault) => write!(f, "{fault}"),
+            CommandFault::JournalInUse => write!(f, "journal in use"),
             CommandFault::BadMoment => write!(f, "bad moment"),
             CommandFault::OutOfMemory => write!(f, "out of memory"),
             CommandFault::CannotRead(path) => write!(f, "cannot read {path}"),
             CommandFault::CannotWrite(_) => write!(f, "cannot write"),
             CommandFault::CannotWriteFile(path) => write!(f, "cannot write {path}"),
+            CommandFault::CannotLaunch(path) => write!(f, "cannot start {path}"),
             CommandFault::Stopped(fault) => write!(f, "{fault}"),
         }
     }
@@ -194,6 +207,19 @@ impl From<ReportFault> for CommandFault {
         match fault {
             ReportFault::OutOfMemory => CommandFault::OutOfMemory,
             fault => CommandFault::Report(fault),
+        }
+    }
+}
+
+impl From<JournalFault> for CommandFault {
+    ghost use Rattle.bf_command_fault.specs.Refusal.{of_journal};
+
+    ghost from_gives = { λ fault e. e ≡ of_journal fault };
+
+    fn from(fault: JournalFault) -> CommandFault {
+        match fault {
+            JournalFault::OutOfMemory => CommandFault::OutOfMemory,
+            fault => CommandFault::Journal(fault),
         }
     }
 }

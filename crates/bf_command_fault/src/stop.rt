@@ -16,6 +16,12 @@ pub enum StopFault {
         index: i32,
         attempt: u32,
     },
+    /// The path of a try's log, where one of its logs can't be made. Its program wasn't started.
+    CannotLog(Text),
+    /// A try can't be recorded: a write to the journal has failed, or a sync.
+    CannotRecord,
+    /// As many tries have failed as may.
+    EnoughFailed(u32),
 }
 
 impl fmt::Display for StopFault {
@@ -32,6 +38,9 @@ impl fmt::Display for StopFault {
                 index,
                 attempt,
             } => write!(f, "runner gave up: {task} {index} {attempt}"),
+            StopFault::CannotLog(path) => write!(f, "cannot write {path}"),
+            StopFault::CannotRecord => write!(f, "cannot write the journal"),
+            StopFault::EnoughFailed(most) => write!(f, "stopped after {most} failed tries"),
         }
     }
 }

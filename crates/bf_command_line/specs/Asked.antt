@@ -1,5 +1,5 @@
 -- What the matches of a command line ask for.
-use Rattle.std.specs.Prelude.{◌≡◌, ℕ, Bool, false, List, Option, None, Some, Ok, codes, bytes_eq, option_map, String, string_bytes}
+use Rattle.std.specs.Prelude.{◌≡◌, ◌&&◌, ℕ, Bool, false, not, List, Option, None, Some, Ok, codes, bytes_eq, option_map, String, string_bytes}
 use Rattle.std.specs.declared.alloc.Global.{Global}
 use Rattle.std.specs.Str.Parse.{ParsesUnsigned}
 use Rattle.clap.specs.Words.{Row, Text, first_of}
@@ -9,6 +9,7 @@ use Rattle.bf_command_line.specs.declared.forms.CommandLine.{CommandLine}
 use Rattle.bf_command_line.specs.declared.forms.Format.{Format}
 use Rattle.bf_command_line.specs.declared.forms.Format.TheVariants as format
 use Rattle.bf_command_line.specs.declared.forms.GraphAsked.{GraphAsked}
+use Rattle.bf_command_line.specs.declared.forms.JournalAsked.{JournalAsked}
 use Rattle.bf_command_line.specs.declared.forms.RangeAsked.{RangeAsked}
 use Rattle.bf_command_line.specs.declared.forms.SeedAsked.{SeedAsked}
 use Rattle.bf_command_line.specs.declared.forms.Shell.{Shell}
@@ -47,9 +48,34 @@ says_true (Some text) = bytes_eq text (codes "true")
 abbrev pub IsProgressBy : List Row → Bool → Type 0
 IsProgressBy rows told = told ≡ says_true (first_of (codes "progress") rows)
 
+-- so it is, where nothing is to be quiet
+abbrev pub IsProgressUnlessQuietBy : List Row → Bool → Type 0
+IsProgressUnlessQuietBy rows told = told ≡ (says_true (first_of (codes "progress") rows) && not (says_true (first_of (codes "quiet") rows)))
+
+-- whether nothing is told of progress and of tries that fail
+abbrev pub IsQuietBy : List Row → Bool → Type 0
+IsQuietBy rows quiet = quiet ≡ says_true (first_of (codes "quiet") rows)
+
 -- the path of the program that words are handed to
 abbrev pub IsLauncherBy : List Row → Option (String Global) → Type 0
 IsLauncherBy rows launcher = first_of (codes "launcher") rows ≡ option_map string_bytes launcher
+
+-- the path of the folder of logs
+abbrev pub IsLogsBy : List Row → Option (String Global) → Type 0
+IsLogsBy rows logs = first_of (codes "logs") rows ≡ option_map string_bytes logs
+
+-- the number that the text says in decimal digits, where there is a text
+abbrev pub IsNumberIfGiven : Option Text → Option ℕ → Type 0
+IsNumberIfGiven None n = n ≡ None
+IsNumberIfGiven (Some text) None = ⊥
+IsNumberIfGiven (Some text) (Some n) = ParsesUnsigned {E = Unit {0}} 32 10 text (Ok n)
+
+-- the journal, where one is named, and how it is used
+abbrev pub IsJournalBy : List Row → Option JournalAsked → Type 0
+IsJournalBy rows None = first_of (codes "journal") rows ≡ None
+IsJournalBy rows (Some j) = (first_of (codes "journal") rows ≡ Some (string_bytes j.path))
+    × IsNumberIfGiven (first_of (codes "stop_after") rows) j.stop_after
+    × (j.retry_failed ≡ says_true (first_of (codes "retry_failed") rows))
 
 -- the word of a format
 abbrev pub format_word : Format → Text
@@ -91,8 +117,11 @@ IsAskedBy (Some (name, rows)) (Run r) = (name ≡ codes "run")
     × IsGraphBy rows r.graph
     × IsRangeBy rows r.range
     × IsWorkersBy rows r.workers
-    × IsProgressBy rows r.progress
+    × IsProgressUnlessQuietBy rows r.progress
+    × IsQuietBy rows r.quiet
     × IsLauncherBy rows r.launcher
+    × IsLogsBy rows r.logs
+    × IsJournalBy rows r.journal
 IsAskedBy (Some (name, rows)) (Clear c) = (name ≡ codes "clear")
     × IsGraphBy rows c.graph
     × (first_of (codes "report") rows ≡ Some (string_bytes c.report))
@@ -100,8 +129,11 @@ IsAskedBy (Some (name, rows)) (Clear c) = (name ≡ codes "clear")
     × IsSeedBy rows c.seed
     × (first_of (codes "table") rows ≡ option_map string_bytes c.table)
     × IsWorkersBy rows c.workers
-    × IsProgressBy rows c.progress
+    × IsProgressUnlessQuietBy rows c.progress
+    × IsQuietBy rows c.quiet
     × IsLauncherBy rows c.launcher
+    × IsLogsBy rows c.logs
+    × IsJournalBy rows c.journal
 IsAskedBy (Some (name, rows)) (Schema format) = (name ≡ codes "schema") × IsFormatBy rows format
 IsAskedBy (Some (name, rows)) (Completions shell) = (name ≡ codes "completions") × IsShellBy rows shell
 

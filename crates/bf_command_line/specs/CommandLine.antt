@@ -73,6 +73,26 @@ out_rule = option_rule (codes "out") (codes "out")
 abbrev pub launcher_rule : Rule
 launcher_rule = option_rule (codes "launcher") (codes "launcher")
 
+-- `--logs FOLDER`
+abbrev pub logs_rule : Rule
+logs_rule = option_rule (codes "logs") (codes "logs")
+
+-- `--journal PATH`
+abbrev pub journal_rule : Rule
+journal_rule = option_rule (codes "journal") (codes "journal")
+
+-- `--stop-after N`, a number from 1 on
+abbrev pub stop_after_rule : Rule
+stop_after_rule = record (option_rule (codes "stop_after") (codes "stop-after")) { parser = Some (Signed (pos 1) (pos 4_294_967_295)) }
+
+-- `--retry-failed`, a flag
+abbrev pub retry_failed_rule : Rule
+retry_failed_rule = record (new_rule (codes "retry_failed")) { long = Some (codes "retry-failed"); action = Some SetTrue }
+
+-- `--quiet`, a flag
+abbrev pub quiet_rule : Rule
+quiet_rule = record (new_rule (codes "quiet")) { long = Some (codes "quiet"); action = Some SetTrue }
+
 -- `FORMAT`
 abbrev pub format_rule : Rule
 format_rule = positional_rule (codes "format")
@@ -88,6 +108,11 @@ over_graph_app name = with_rule (with_rule (new_app name) graph_rule) zone_file_
 -- a command with `--from T --to T [--workers N] [--progress] [--out PATH]` behind its other arguments
 abbrev pub ranged_app : App → App
 ranged_app app = with_rule (with_rule (with_rule (with_rule (with_rule app from_rule) to_rule) workers_rule) progress_rule) out_rule
+
+-- a command that starts programs, with `[--launcher PATH] [--logs FOLDER] [--journal PATH] [--stop-after N] [--retry-failed]
+-- [--quiet]` behind its other arguments
+abbrev pub programs_app : App → App
+programs_app app = with_rule (with_rule (with_rule (with_rule (with_rule (with_rule app launcher_rule) logs_rule) journal_rule) stop_after_rule) retry_failed_rule) quiet_rule
 
 -- `check GRAPH [--zone-file PATH]`
 abbrev pub check_app : App
@@ -105,17 +130,17 @@ single_app = with_rule (with_rule (with_rule (over_graph_app (codes "single")) t
 abbrev pub dry_app : App
 dry_app = ranged_app (with_rule (over_graph_app (codes "dry")) table_rule)
 
--- `run GRAPH --from T --to T [--workers N] [--progress] [--out PATH] [--launcher PATH] [--zone-file PATH]`
+-- `run GRAPH --from T --to T [--workers N] [--progress] [--out PATH] [--launcher PATH] [--logs FOLDER] [--journal PATH ..] [--quiet] [--zone-file PATH]`
 abbrev pub run_app : App
-run_app = with_rule (ranged_app (over_graph_app (codes "run"))) launcher_rule
+run_app = programs_app (ranged_app (over_graph_app (codes "run")))
 
 -- `clear GRAPH REPORT --task ID --run T [--table PATH] [--zone-file PATH]`, without its range
 abbrev pub clearing_app : App
 clearing_app = with_rule (with_rule (with_rule (with_rule (over_graph_app (codes "clear")) report_rule) task_rule) run_rule) optional_table_rule
 
--- `clear GRAPH REPORT --from T --to T --task ID --run T [--table PATH] [--workers N] [--progress] [--out PATH] [--launcher PATH] [--zone-file PATH]`
+-- `clear GRAPH REPORT --from T --to T --task ID --run T [--table PATH] [--workers N] [--progress] [--out PATH] [--launcher PATH] [--logs FOLDER] [--journal PATH ..] [--quiet] [--zone-file PATH]`
 abbrev pub clear_app : App
-clear_app = with_rule (ranged_app clearing_app) launcher_rule
+clear_app = programs_app (ranged_app clearing_app)
 
 -- `schema FORMAT`
 abbrev pub schema_app : App

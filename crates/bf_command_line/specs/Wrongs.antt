@@ -1,10 +1,10 @@
 -- What is wrong with the words of a command line.
-use Rattle.std.specs.Prelude.{List, [], ◌∷◌, Option, None, Some, codes, bytes_eq, if◌then◌else◌}
+use Rattle.std.specs.Prelude.{◌&&◌, ◌||◌, not, List, [], ◌∷◌, Option, None, Some, codes, bytes_eq, is_some, if◌then◌else◌}
 use Rattle.std.specs.List.{list_any}
 use Rattle.clap.specs.Kinds.{or_else}
 use Rattle.clap.specs.Words.{Kinds, Row, Text, fault_of, first_of, subcommand_of}
-use Rattle.clap.specs.declared.error.kind.ErrorKind.TheVariants.{InvalidValue}
-use Rattle.bf_command_line.specs.Asked.{format_word, shell_word}
+use Rattle.clap.specs.declared.error.kind.ErrorKind.TheVariants.{InvalidValue, MissingRequiredArgument}
+use Rattle.bf_command_line.specs.Asked.{format_word, says_true, shell_word}
 use Rattle.bf_command_line.specs.CommandLine.{backfill_app}
 use Rattle.bf_command_line.specs.declared.forms.Format.TheVariants.{Graph, Table}
 use Rattle.bf_command_line.specs.declared.forms.Shell.TheVariants.{Bash, Fish, Zsh}
@@ -20,11 +20,18 @@ abbrev pub value_wrongs : List Text → Option Text → Kinds
 value_wrongs words None = []
 value_wrongs words (Some value) = if list_any (bytes_eq value) words then [] else InvalidValue ∷ []
 
--- of the subcommand's arguments, those whose values `clap` doesn't look at
+-- `--stop-after` and `--retry-failed` stand beside a journal alone
+abbrev pub journal_wrongs : List Row → Kinds
+journal_wrongs rows =
+    if not (is_some (first_of (codes "journal") rows)) && (is_some (first_of (codes "stop_after") rows) || says_true (first_of (codes "retry_failed") rows))
+    then MissingRequiredArgument ∷ [] else []
+
+-- of the subcommand's arguments, those that `clap` doesn't look at
 abbrev pub found_wrongs : Option (Text × List Row) → Kinds
 found_wrongs None = []
 found_wrongs (Some (name, rows)) = if bytes_eq name (codes "schema") then value_wrongs format_words (first_of (codes "format") rows)
-    else (if bytes_eq name (codes "completions") then value_wrongs shell_words (first_of (codes "shell") rows) else [])
+    else (if bytes_eq name (codes "completions") then value_wrongs shell_words (first_of (codes "shell") rows)
+    else (if bytes_eq name (codes "run") || bytes_eq name (codes "clear") then journal_wrongs rows else []))
 
 -- what `clap` finds, and else a value that isn't possible
 abbrev pub wrongs_of : List Text → Kinds

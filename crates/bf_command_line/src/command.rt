@@ -1,13 +1,15 @@
 //! The command line as `clap` reads it.
 ghost use Rattle.std.specs.Prelude.{◌≡◌, IfOk};
-ghost use Rattle.clap.specs.Words.{App, app_of, kind_of, rule_of};
-ghost use Rattle.bf_command_line.specs.CommandLine.{answered_app, backfill_app, bare_app, check_app, clear_app, completions_app, dry_app, list_app, ranged_app, run_app, schema_app, single_app, from_rule, graph_rule, launcher_rule, option_rule, out_rule, over_graph_app, positional_rule, progress_rule, required_option_rule, table_rule, to_rule, workers_rule, zone_file_rule};
+ghost use Rattle.clap.specs.Words.{App, app_of};
+ghost use Rattle.bf_command_line.specs.CommandLine.{answered_app, backfill_app, bare_app, check_app, clear_app, completions_app, dry_app, list_app, ranged_app, run_app, schema_app, single_app, over_graph_app, programs_app};
 ghost use Rattle.bf_command_line.specs.Drafts.{IsDraftOf};
 
+use crate::argument::{
+    from, graph, journal, launcher, logs, option, out, positional, progress, quiet,
+    required_option, retry_failed, stop_after, table, to, workers, zone_file,
+};
 use crate::draft::Draft;
-use bf_workers::MOST_WORKERS;
-use clap::error::ErrorKind;
-use clap::{Arg, ArgAction, Command, Error, value_parser};
+use clap::Command;
 use std::alloc::{AllocError, Global};
 
 /// The number of the version, as in the file VERSION.
@@ -27,7 +29,8 @@ const DRY_EXAMPLE: &str = "Example:\n\
 
 const RUN_EXAMPLES: &str = "Examples:\n\
     \x20 backfill run --from 2024-01-01 --to 2024-01-07 --workers 2 examples/extract_transform_load/graph.json\n\
-    \x20 backfill run --from 2024-01-01 --to 2024-01-07 --launcher /usr/bin/env examples/extract_transform_load/graph.json";
+    \x20 backfill run --from 2024-01-01 --to 2024-01-07 --launcher /usr/bin/env examples/extract_transform_load/graph.json\n\
+    \x20 backfill run --from 2024-01-01 --to 2024-01-07 --journal journal examples/extract_transform_load/graph.json";
 
 const CLEAR_EXAMPLES: &str = "Examples, the first of which makes the report of the second:\n\
     \x20 backfill run --from 2024-01-01 --to 2024-01-07 examples/extract_transform_load/graph.json > report\n\
@@ -39,135 +42,17 @@ const SCHEMA_EXAMPLE: &str = "Example:\n\
 const COMPLETIONS_EXAMPLE: &str = "Example, of a file for bash to source:\n\
     \x20 backfill completions bash > backfill.bash";
 
-const NO_FORMAT: &str = "invalid value for '<FORMAT>'\n\
-    \x20 [possible values: graph, table]";
-
-const NO_SHELL: &str = "invalid value for '<SHELL>'\n\
-    \x20 [possible values: bash, zsh, fish]";
-
-/// An argument by its place, which has to be there.
-fn positional<'a>(alloc: Global, id: &'a str, value: &'a str, help: &'a str) -> Arg<'a>
-    ensures { rule_of result ≡ positional_rule id.entry.now }
+/// A command that starts programs, with these arguments before those of programs.
+fn with_programs<'a>(alloc: Global, command: Draft<'a>) -> Draft<'a>
+    ensures { (app : App) → IsDraftOf app command.entry → IsDraftOf (programs_app app) result }
 {
-    Arg::new(alloc, id)
-        .value_name(value)
-        .help(help)
-        .required(true)
-}
-
-/// An option with a value.
-fn option<'a>(alloc: Global, id: &'a str, long: &'a str, value: &'a str, help: &'a str) -> Arg<'a>
-    ensures { rule_of result ≡ option_rule id.entry.now long.entry.now }
-{
-    Arg::new(alloc, id).long(long).value_name(value).help(help)
-}
-
-/// An option with a value, which has to be there.
-fn required_option<'a>(alloc: Global, id: &'a str, value: &'a str, help: &'a str) -> Arg<'a>
-    ensures { rule_of result ≡ required_option_rule id.entry.now }
-{
-    Arg::new(alloc, id)
-        .long(id)
-        .value_name(value)
-        .help(help)
-        .required(true)
-}
-
-fn graph<'a>(alloc: Global) -> Arg<'a>
-    ensures { rule_of result ≡ graph_rule }
-{
-    positional(alloc, "graph", "GRAPH", "The task graph, a JSON file")
-}
-
-fn zone_file<'a>(alloc: Global) -> Arg<'a>
-    ensures { rule_of result ≡ zone_file_rule }
-{
-    option(
-        alloc,
-        "zone_file",
-        "zone-file",
-        "PATH",
-        "The zone file that the graph's zone `file` means, as of the tz database",
-    )
-}
-
-fn table<'a>(alloc: Global) -> Arg<'a>
-    ensures { rule_of result ≡ table_rule }
-{
-    positional(
-        alloc,
-        "table",
-        "TABLE",
-        "The answers of the tasks' tries, a JSON file",
-    )
-}
-
-fn from<'a>(alloc: Global) -> Arg<'a>
-    ensures { rule_of result ≡ from_rule }
-{
-    required_option(
-        alloc,
-        "from",
-        "T",
-        "The first moment at which an interval may start, in UTC, as 2024-01-31 or 2024-01-31T06:00:00Z",
-    )
-}
-
-fn to<'a>(alloc: Global) -> Arg<'a>
-    ensures { rule_of result ≡ to_rule }
-{
-    required_option(
-        alloc,
-        "to",
-        "T",
-        "The last moment at which an interval may start, in UTC, as 2024-01-31 or 2024-01-31T06:00:00Z",
-    )
-}
-
-fn workers<'a>(alloc: Global) -> Arg<'a>
-    ensures { rule_of result ≡ workers_rule }
-{
-    option(
-        alloc,
-        "workers",
-        "workers",
-        "N",
-        "How many tries may run at once, 1 to 64; 1 where this isn't given",
-    )
-    .value_parser(value_parser!(u32).range(1..=i64::from(MOST_WORKERS)))
-}
-
-fn progress<'a>(alloc: Global) -> Arg<'a>
-    ensures { rule_of result ≡ progress_rule }
-{
-    Arg::new(alloc, "progress")
-        .long("progress")
-        .help("Tells on standard error how far the runs are, at most once a second")
-        .action(ArgAction::SetTrue)
-}
-
-fn out<'a>(alloc: Global) -> Arg<'a>
-    ensures { rule_of result ≡ out_rule }
-{
-    option(
-        alloc,
-        "out",
-        "out",
-        "PATH",
-        "Writes the report to this file, whole or not at all, in place of standard output",
-    )
-}
-
-fn launcher<'a>(alloc: Global) -> Arg<'a>
-    ensures { rule_of result ≡ launcher_rule }
-{
-    option(
-        alloc,
-        "launcher",
-        "launcher",
-        "PATH",
-        "Hands the words of each task's command to this program; without it the first word is the program",
-    )
+    command
+        .arg(launcher(alloc))
+        .arg(logs(alloc))
+        .arg(journal(alloc))
+        .arg(stop_after(alloc))
+        .arg(retry_failed(alloc))
+        .arg(quiet(alloc))
 }
 
 /// A command over a graph.
@@ -246,7 +131,7 @@ fn dry<'a>(alloc: Global) -> Draft<'a>
     ranged(alloc, command.arg(table(alloc)))
 }
 
-fn run<'a>(alloc: Global) -> Draft<'a>
+pub(crate) fn run<'a>(alloc: Global) -> Draft<'a>
     ensures { IsDraftOf run_app result }
 {
     let command = over_graph(
@@ -255,10 +140,10 @@ fn run<'a>(alloc: Global) -> Draft<'a>
         "Runs the graph for each data interval that starts in a range, with the programs of its tasks",
         RUN_EXAMPLES,
     );
-    ranged(alloc, command).arg(launcher(alloc))
+    with_programs(alloc, ranged(alloc, command))
 }
 
-fn clear<'a>(alloc: Global) -> Draft<'a>
+pub(crate) fn clear<'a>(alloc: Global) -> Draft<'a>
     ensures { IsDraftOf clear_app result }
 {
     let command = over_graph(
@@ -287,10 +172,10 @@ fn clear<'a>(alloc: Global) -> Draft<'a>
         "PATH",
         "The answers of the tasks' tries, a JSON file, in place of their programs",
     ));
-    ranged(alloc, command).arg(launcher(alloc))
+    with_programs(alloc, ranged(alloc, command))
 }
 
-fn schema<'a>(alloc: Global) -> Draft<'a>
+pub(crate) fn schema<'a>(alloc: Global) -> Draft<'a>
     ensures { IsDraftOf schema_app result }
 {
     Draft::new(
@@ -307,7 +192,7 @@ fn schema<'a>(alloc: Global) -> Draft<'a>
     ))
 }
 
-fn completions<'a>(alloc: Global) -> Draft<'a>
+pub(crate) fn completions<'a>(alloc: Global) -> Draft<'a>
     ensures { IsDraftOf completions_app result }
 {
     Draft::new(
@@ -354,28 +239,4 @@ pub(crate) fn backfill<'a>(alloc: Global) -> Result<Command<'a>, AllocError>
         .subcommand(schema(alloc))
         .subcommand(completions(alloc))
         .command
-}
-
-/// What is said of a word that a command doesn't take.
-fn refusal(command: Draft<'_>, name: &str, text: &str) -> Result<Error, AllocError>
-    ensures { IfOk result (λ e. kind_of e ≡ ErrorKind.InvalidValue) }
-{
-    command
-        .command?
-        .bin_name(name)?
-        .error(ErrorKind::InvalidValue, text)
-}
-
-/// What is said of a word that is no format.
-pub(crate) fn no_format(alloc: Global) -> Result<Error, AllocError>
-    ensures { IfOk result (λ e. kind_of e ≡ ErrorKind.InvalidValue) }
-{
-    refusal(schema(alloc), "backfill schema", NO_FORMAT)
-}
-
-/// What is said of a word that is no shell.
-pub(crate) fn no_shell(alloc: Global) -> Result<Error, AllocError>
-    ensures { IfOk result (λ e. kind_of e ≡ ErrorKind.InvalidValue) }
-{
-    refusal(completions(alloc), "backfill completions", NO_SHELL)
 }

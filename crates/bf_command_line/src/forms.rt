@@ -42,15 +42,29 @@ pub struct DryAsked {
     pub progress: bool,
 }
 
-/// `run GRAPH --from T --to T [--workers N] [--progress] [--launcher PATH]`: a run for each data interval of a range, with
-/// the programs of its tasks. Where a launcher is named, the words of their commands are handed to it.
+/// `--journal PATH [--stop-after N] [--retry-failed]`: the file that tries are recorded in as they end, and gone on from; behind
+/// how many failed tries no further one begins; and whether failed tries that are recorded are made again.
+#[derive(Drop)]
+pub struct JournalAsked {
+    pub path: String,
+    pub stop_after: Option<u32>,
+    pub retry_failed: bool,
+}
+
+/// `run GRAPH --from T --to T [--workers N] [--progress] [--launcher PATH] [--logs FOLDER] [--journal PATH ..] [--quiet]`: a run for
+/// each data interval of a range, with the programs of its tasks. Where a launcher is named, the words of their commands are handed
+/// to it; where a folder of logs is, it keeps what they write and are given. Progress is told where that is asked for, and nothing
+/// is to be quiet.
 #[derive(Drop)]
 pub struct RunAsked {
     pub graph: GraphAsked,
     pub range: RangeAsked,
     pub workers: Workers,
     pub progress: bool,
+    pub quiet: bool,
     pub launcher: Option<String>,
+    pub logs: Option<String>,
+    pub journal: Option<JournalAsked>,
 }
 
 /// `--task ID --run T`: a task in the run of a logical date.
@@ -60,10 +74,10 @@ pub struct SeedAsked {
     pub run: String,
 }
 
-/// `clear GRAPH REPORT --from T --to T --task ID --run T [--table PATH] [--workers N] [--progress] [--launcher PATH]`: a
-/// backfill that goes on from its report, where a task in a run and all that follows from it is cleared. Tries are answered
-/// from a table where one is named, else by the programs of the tasks, whose words are handed to a launcher where one is
-/// named.
+/// `clear GRAPH REPORT --from T --to T --task ID --run T [--table PATH] [--workers N] [--progress] [--launcher PATH]
+/// [--logs FOLDER] [--journal PATH ..] [--quiet]`: a backfill that goes on from its report, where a task in a run and all that
+/// follows from it is cleared. Tries are answered from a table where one is named, else by the programs of the tasks, as `run`
+/// starts them.
 #[derive(Drop)]
 pub struct ClearAsked {
     pub graph: GraphAsked,
@@ -73,7 +87,10 @@ pub struct ClearAsked {
     pub table: Option<String>,
     pub workers: Workers,
     pub progress: bool,
+    pub quiet: bool,
     pub launcher: Option<String>,
+    pub logs: Option<String>,
+    pub journal: Option<JournalAsked>,
 }
 
 /// A format that a file of its own is written in, and that has a schema.

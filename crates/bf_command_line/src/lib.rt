@@ -1,13 +1,15 @@
 //! The command line: what it may say, as `clap` reads it, and what its words ask for.
 #![tactic(auto)]
 
+mod argument;
 mod command;
 mod draft;
 mod forms;
 mod reading;
+mod refusal;
 
 pub use forms::{
-    Asked, ClearAsked, CommandLine, DryAsked, Format, GraphAsked, ListAsked, RangeAsked, RunAsked,
-    SeedAsked, Shell, SingleAsked,
+    Asked, ClearAsked, CommandLine, DryAsked, Format, GraphAsked, JournalAsked, ListAsked,
+    RangeAsked, RunAsked, SeedAsked, Shell, SingleAsked,
 };
 pub use reading::asked;

@@ -2,14 +2,15 @@
 ghost use Rattle.std.specs.Prelude.{◌≡◌, IfOk, map, option_map, string_bytes, Some, codes};
 ghost use Rattle.clap.specs.Words.{fault_of, FailsBy, subcommand_of, first_of, found_of, rows_of, subcommand_rows_of};
 ghost use Rattle.bf_command_line.specs.CommandLine.{backfill_app};
-ghost use Rattle.bf_command_line.specs.Wrongs.{format_words, found_wrongs, shell_words, value_wrongs, wrongs_of};
-ghost use Rattle.bf_command_line.specs.Asked.{IsAskedBy, IsFormatBy, IsGraphBy, IsLineBy, IsProgressBy, IsRangeBy, IsSeedBy, IsShellBy, IsWorkersBy};
+ghost use Rattle.bf_command_line.specs.Wrongs.{format_words, found_wrongs, journal_wrongs, shell_words, value_wrongs, wrongs_of};
+ghost use Rattle.bf_command_line.specs.Asked.{IsAskedBy, IsFormatBy, IsGraphBy, IsJournalBy, IsLineBy, IsNumberIfGiven, IsRangeBy, IsSeedBy, IsShellBy, IsWorkersBy, says_true};
 
-use crate::command::{backfill, no_format, no_shell};
+use crate::command::backfill;
 use crate::forms::{
-    Asked, ClearAsked, CommandLine, DryAsked, Format, GraphAsked, ListAsked, RangeAsked, RunAsked,
-    SeedAsked, Shell, SingleAsked,
+    Asked, ClearAsked, CommandLine, DryAsked, Format, GraphAsked, JournalAsked, ListAsked,
+    RangeAsked, RunAsked, SeedAsked, Shell, SingleAsked,
 };
+use crate::refusal::{no_format, no_journal, no_shell};
 use bf_workers::Workers;
 use clap::{ArgMatches, Error};
 use std::alloc::{AllocError, Global};
@@ -57,11 +58,13 @@ fn named_asked(alloc: Global, name: &str, matches: &ArgMatches<'_>) -> Result<As
     match name {
         "schema" => Ok(Asked::Schema(format_asked(alloc, matches)?)),
         "completions" => Ok(Asked::Completions(shell_asked(alloc, matches)?)),
+        "run" => Ok(Asked::Run(programs_asked(alloc, name, matches)?)),
+        "clear" => clear_asked(alloc, name, matches),
         _ => Ok(over_graph_asked(alloc, name, matches)?),
     }
 }
 
-/// The same, of those over a graph.
+/// The same, of those over a graph that need start no program.
 fn over_graph_asked(
     alloc: Global,
     name: &str,
@@ -74,8 +77,6 @@ fn over_graph_asked(
         "list" => list_asked(alloc, matches),
         "single" => single_asked(alloc, matches),
         "dry" => dry_asked(alloc, matches),
-        "run" => run_asked(alloc, matches),
-        "clear" => clear_asked(alloc, matches),
         _ => Err(AllocError),
     }
 }
@@ -120,11 +121,12 @@ fn workers_asked(matches: &ArgMatches<'_>) -> Result<Workers, AllocError>
     }
 }
 
+/// Whether a flag was given.
 #[tactic(auto, using(crate::proofs::Rows::first_rows))]
-fn progress_asked(matches: &ArgMatches<'_>) -> bool
-    ensures { IsProgressBy (rows_of (found_of matches.now)) result }
+fn is_told(matches: &ArgMatches<'_>, id: &str) -> bool
+    ensures { result ≡ says_true (first_of id.now (rows_of (found_of matches.now))) }
 {
-    match matches.get_str("progress") {
+    match matches.get_str(id) {
         Some(text) => text == "true",
         None => false,
     }
@@ -164,34 +166,69 @@ fn dry_asked(alloc: Global, matches: &ArgMatches<'_>) -> Result<Asked, AllocErro
         table: required(alloc, matches, "table")?,
         range: range_asked(alloc, matches)?,
         workers,
-        progress: progress_asked(matches),
+        progress: is_told(matches, "progress"),
     }))
 }
 
-fn run_asked(alloc: Global, matches: &ArgMatches<'_>) -> Result<Asked, AllocError>
-    ensures { IfOk result (IsAskedBy (Some (codes "run", rows_of (found_of matches.now)))) }
+#[tactic(auto, using(crate::proofs::Rows::first_rows))]
+fn stop_after_asked(matches: &ArgMatches<'_>) -> Result<Option<u32>, AllocError>
+    ensures { IfOk result (IsNumberIfGiven (first_of (codes "stop_after") (rows_of (found_of matches.now)))) }
 {
-    Ok(Asked::Run(programs_asked(alloc, matches)?))
+    let Some(text) = matches.get_str("stop_after") else {
+        return Ok(None);
+    };
+    match text.parse::<u32>() {
+        Ok(count) => Ok(Some(count)),
+        Err(_) => Err(AllocError),
+    }
 }
 
-/// What a command that starts programs asks for, in the form that `run` has.
-fn programs_asked(alloc: Global, matches: &ArgMatches<'_>) -> Result<RunAsked, AllocError>
-    ensures { IfOk result (λ r. IsAskedBy (Some (codes "run", rows_of (found_of matches.now))) (Asked.Run r)) }
+/// The journal of a command of this name, where it names one.
+fn journal_asked(
+    alloc: Global,
+    name: &str,
+    matches: &ArgMatches<'_>,
+) -> Result<Option<JournalAsked>, Error>
+    ensures ok { IfOk result (IsJournalBy (rows_of (found_of matches.now))) }
+    ensures err { FailsBy (journal_wrongs (rows_of (found_of matches.now))) result }
+{
+    let stop_after = stop_after_asked(matches)?;
+    let retry_failed = is_told(matches, "retry_failed");
+    match optional(alloc, matches, "journal")? {
+        Some(path) => Ok(Some(JournalAsked {
+            path,
+            stop_after,
+            retry_failed,
+        })),
+        None if stop_after.is_some() || retry_failed => Err(no_journal(alloc, name)?),
+        None => Ok(None),
+    }
+}
+
+/// What a command of this name that starts programs asks for, in the form that `run` has.
+fn programs_asked(alloc: Global, name: &str, matches: &ArgMatches<'_>) -> Result<RunAsked, Error>
+    ensures ok { IfOk result (λ r. IsAskedBy (Some (codes "run", rows_of (found_of matches.now))) (Asked.Run r)) }
+    ensures err { FailsBy (journal_wrongs (rows_of (found_of matches.now))) result }
 {
     let workers = workers_asked(matches)?;
+    let journal = journal_asked(alloc, name, matches)?;
     Ok(RunAsked {
         graph: graph_asked(alloc, matches)?,
         range: range_asked(alloc, matches)?,
         workers,
-        progress: progress_asked(matches),
+        progress: is_told(matches, "progress") && !is_told(matches, "quiet"),
+        quiet: is_told(matches, "quiet"),
         launcher: optional(alloc, matches, "launcher")?,
+        logs: optional(alloc, matches, "logs")?,
+        journal,
     })
 }
 
-fn clear_asked(alloc: Global, matches: &ArgMatches<'_>) -> Result<Asked, AllocError>
-    ensures { IfOk result (IsAskedBy (Some (codes "clear", rows_of (found_of matches.now)))) }
+fn clear_asked(alloc: Global, name: &str, matches: &ArgMatches<'_>) -> Result<Asked, Error>
+    ensures ok { IfOk result (IsAskedBy (Some (codes "clear", rows_of (found_of matches.now)))) }
+    ensures err { FailsBy (journal_wrongs (rows_of (found_of matches.now))) result }
 {
-    let run = programs_asked(alloc, matches)?;
+    let run = programs_asked(alloc, name, matches)?;
     let report = required(alloc, matches, "report")?;
     let seed = seed_asked(alloc, matches)?;
     let table = optional(alloc, matches, "table")?;
@@ -203,7 +240,10 @@ fn clear_asked(alloc: Global, matches: &ArgMatches<'_>) -> Result<Asked, AllocEr
         table,
         workers: run.workers,
         progress: run.progress,
+        quiet: run.quiet,
         launcher: run.launcher,
+        logs: run.logs,
+        journal: run.journal,
     }))
 }
 

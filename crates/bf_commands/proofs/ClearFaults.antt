@@ -7,7 +7,7 @@ use Rattle.bf_interval.specs.declared.interval.Interval.{Interval}
 use Rattle.bf_table.specs.declared.table.TableEntry.{TableEntry}
 use Rattle.bf_table.specs.Tables.{table_of}
 use Rattle.bf_try.specs.Tries.{Look}
-use Rattle.bf_process.specs.Words.{MayGiveUp}
+use Rattle.bf_process.specs.Words.{LaunchingOf}
 use Rattle.bf_kept.specs.Kept.{MayGiveUpAnew}
 use Rattle.bf_report.specs.declared.report.Report.{Report}
 use Rattle.bf_dependents.specs.declared.seeds.Seed.{Seed}
@@ -15,7 +15,7 @@ use Rattle.bf_command_fault.specs.declared.fault.CommandFault.{CommandFault}
 use Rattle.bf_commands.specs.Cleared.{AreAnswersIn, IsFaultAgain, IsFaultBefore, IsFaultOfNamed, IsKeptOf, IsPrepared, IsStopOrWantingFrom}
 use Rattle.bf_commands.specs.Graphs.{IsPlanOf}
 use Rattle.bf_commands.specs.Lists.{HasListing, IsRangeFault}
-use Rattle.bf_commands.specs.Programs.{Losing}
+use Rattle.bf_commands.specs.Programs.{AreClocksOf, Losing, MayGiveUpLaunched}
 use Rattle.bf_commands.proofs.Faults.{range_cases, stop_cases, table_cases, workers_cases}
 
 -- ---- the faults of parts are those of what comes before the report
@@ -29,17 +29,17 @@ module _ (graph : List ℕ) (file table : Option (List ℕ)) (from to : ℤ) whe
   range_before answers says = range_cases (IsFaultBefore graph file table from to) graph file from to (λ fault is. (answers, says, is)) tt
 
   pub prepared : (plan : Checked) → IsPlanOf graph file plan → (answers : Option (List TableEntry)) → AreAnswersIn table answers → (found : List Interval) → HasListing graph file from to (Ok found)
-      → IsPrepared graph file table from to plan.dag found answers
-  prepared plan said answers says found listing = record { draft = said.draft; graph_is = said.graph_is; dag_is = said.dag; table_says = says; listing = listing }
+      → (clocks : List ℤ) → AreClocksOf graph file found clocks → IsPrepared graph file table from to plan.dag found clocks answers
+  prepared plan said answers says found listing clocks are = record { draft = said.draft; graph_is = said.graph_is; dag_is = said.dag; table_says = says; listing = listing; clocks_are = are }
 
 -- ---- the faults of what comes after it
 
-module _ (alone : Bool) (may_lose : Losing) (dag : Dag) (intervals : List Interval) (was : Report) (seed : Seed) (kept : Look) (is_kept : IsKeptOf dag intervals was seed kept) where
-  stops_again : (answers : Option (List TableEntry)) (fault : CommandFault) → IsStopOrWantingFrom alone kept may_lose answers dag intervals fault → IsFaultAgain alone may_lose answers dag intervals was seed fault
+module _ (alone : Bool) (launching : LaunchingOf) (may_lose : Losing) (dag : Dag) (intervals : List Interval) (was : Report) (seed : Seed) (kept : Look) (is_kept : IsKeptOf dag intervals was seed kept) where
+  stops_again : (answers : Option (List TableEntry)) (fault : CommandFault) → IsStopOrWantingFrom alone kept launching may_lose answers dag intervals fault → IsFaultAgain alone launching may_lose answers dag intervals was seed fault
   stops_again None =
-      stop_cases (IsFaultAgain alone may_lose None dag intervals was seed) (MayGiveUpAnew kept (MayGiveUp may_lose dag intervals)) dag (λ stop is. (kept, is_kept, is)) tt (λ n. tt)
-  stops_again (Some entries) = workers_cases (IsFaultAgain alone may_lose (Some entries) dag intervals was seed) alone (λ started. (kept, is_kept, (refl, started))) tt (λ n. tt)
+      stop_cases (IsFaultAgain alone launching may_lose None dag intervals was seed) (MayGiveUpAnew kept (MayGiveUpLaunched launching may_lose dag intervals)) launching.logs dag intervals (λ stop is. (kept, is_kept, is)) tt (λ n. tt)
+  stops_again (Some entries) = workers_cases (IsFaultAgain alone launching may_lose (Some entries) dag intervals was seed) alone (λ started. (kept, is_kept, (refl, started))) tt (λ n. tt)
 
-  pub again_stop_in : (answers : Option (List TableEntry)) (r : Result Bool CommandFault) → IfErr r (IsStopOrWantingFrom alone kept may_lose answers dag intervals)
-      → IfErr r (IsFaultAgain alone may_lose answers dag intervals was seed)
+  pub again_stop_in : (answers : Option (List TableEntry)) (r : Result Bool CommandFault) → IfErr r (IsStopOrWantingFrom alone kept launching may_lose answers dag intervals)
+      → IfErr r (IsFaultAgain alone launching may_lose answers dag intervals was seed)
   again_stop_in answers r = IfErr-weaker r _ _ (stops_again answers)

@@ -20,7 +20,7 @@ use Rattle.bf_interval.specs.declared.interval.Interval.{Interval}
 use Rattle.bf_interval.specs.Runs.{IsNoRunAt, intervals_at}
 use Rattle.bf_interval.specs.Years.{IsInYears}
 use Rattle.bf_kept.specs.Kept.{MayGiveUpAnew, nothing}
-use Rattle.bf_process.specs.Words.{MayAnswer, MayGiveUp}
+use Rattle.bf_process.specs.Words.{LaunchingOf, MayAnswer}
 use Rattle.bf_try.specs.Tries.{Look}
 use Rattle.bf_table.specs.declared.table.TableEntry.{TableEntry}
 use Rattle.bf_table.specs.declared.table.TableFault.{TableFault}
@@ -38,7 +38,7 @@ use Rattle.bf_commands.specs.Graphs.{IsFaultIn, IsFileOf, IsPlanOf}
 use Rattle.bf_commands.specs.Lists.{HasListing, IsFaultOfList, IsRangeFault}
 use Rattle.bf_commands.specs.OneRun.{IsFaultOfSingle, IsReportAt}
 use Rattle.bf_commands.specs.OverTable.{AnswersByTable, IsReportOver, IsTableFault, IsWanting, IsWantingWorkers}
-use Rattle.bf_commands.specs.Programs.{Hearing, IsFaultOfRun, IsRunReport, IsStopOf, IsStopOfOrWanting, Losing}
+use Rattle.bf_commands.specs.Programs.{AreClocksOf, Hearing, IsFaultOfRun, IsRunReport, IsStop, IsStopOf, IsStopOfOrWanting, Losing, MayGiveUpLaunched, StopsRunning, launched_by, with_clocks}
 use Rattle.bf_commands.specs.Reported.{IsReportBy, IsReportFrom}
 use Rattle.bf_commands.proofs.ByPrograms.{stop_weaker}
 use Rattle.bf_commands.proofs.FromKept.{from_nothing}
@@ -59,10 +59,11 @@ module _ {graph : List ℕ} {file : Option (List ℕ)} {plan : Checked} {from to
       let over : IsReportOver plan.dag entries found text success = from_nothing text success from in
       record { draft = is.draft; entries = entries; found = found; graph_is = is.graph_is; table_says = says; listing = listing; reported = rw is.dag at over }
 
-  pub reported_by : {may_hear : Hearing} (text : List ℕ) (success : Bool) → IsReportFrom nothing (MayAnswer may_hear plan.dag found) plan.dag found text success → IsRunReport may_hear graph file from to text success
-  reported_by {may_hear = may_hear} text success from =
-      let by : IsReportBy (MayAnswer may_hear plan.dag found) plan.dag found text success = from_nothing text success from in
-      record { draft = is.draft; found = found; graph_is = is.graph_is; listing = listing; reported = rw is.dag at by }
+  pub reported_by : {launching : LaunchingOf} {may_hear : Hearing} {clocks : List ℤ} → AreClocksOf graph file found clocks → (text : List ℕ) (success : Bool)
+      → IsReportFrom nothing (MayAnswer (launched_by launching may_hear clocks) plan.dag found) plan.dag found text success → IsRunReport launching may_hear graph file from to text success
+  reported_by {launching = launching} {may_hear = may_hear} {clocks = clocks} are text success from =
+      let by : IsReportBy (MayAnswer (launched_by launching may_hear clocks) plan.dag found) plan.dag found text success = from_nothing text success from in
+      record { draft = is.draft; found = found; graph_is = is.graph_is; listing = listing; clocks = clocks; clocks_are = are; reported = rw is.dag at by }
 
 -- ---- the faults of parts
 
@@ -100,10 +101,10 @@ module _ (P : CommandFault → Type 0) where
   workers_cases alone start memory write fault is = wanting_cases memory write fault is
 
   -- a backfill with programs stops, or something is wanting
-  pub stop_cases : (may_give_up : JobName → Given → Type 0) (dag : Dag) → ((stop : StopFault) → IsStopOf may_give_up dag stop → P (Stopped stop)) → P OutOfMemory → ((n : ℕ) → P (CannotWrite n))
-      → (fault : CommandFault) → IsStopOfOrWanting may_give_up dag fault → P fault
-  stop_cases may_give_up dag stops memory write (Stopped stop) is = stops stop is
-  stop_cases may_give_up dag stops memory write fault is = wanting_cases memory write fault is
+  pub stop_cases : (may_give_up : JobName → Given → Type 0) (logs : Option (List ℕ)) (dag : Dag) (intervals : List Interval) → ((stop : StopFault) → IsStopOf may_give_up logs dag intervals stop → P (Stopped stop))
+      → P OutOfMemory → ((n : ℕ) → P (CannotWrite n)) → (fault : CommandFault) → IsStopOfOrWanting may_give_up logs dag intervals fault → P fault
+  stop_cases may_give_up logs dag intervals stops memory write (Stopped stop) is = stops stop is
+  stop_cases may_give_up logs dag intervals stops memory write fault is = wanting_cases memory write fault is
 
   -- a table has a fault, or memory is wanting
   pub table_cases : (table : List ℕ) → ((fault : TableFault) → table_of table ≡ Err fault → P (Table fault)) → P OutOfMemory → (fault : CommandFault) → IsTableFault table fault → P fault
@@ -150,18 +151,24 @@ module _ (graph : List ℕ) (file : Option (List ℕ)) (table : List ℕ) (from 
   dry_stop_in alone entries says found listing r =
       IfErr-weaker r _ _ (workers_cases (IsFaultOfDry alone graph file table from to) alone (λ started. (found, record { entries = entries; says = says }, listing, refl, started)) tt (λ n. tt))
 
-module _ (may_lose : Losing) (graph : List ℕ) (file : Option (List ℕ)) (from to : ℤ) where
-  pub run_stop_in : (plan : Checked) → IsPlanOf graph file plan → (found : List Interval) → HasListing graph file from to (Ok found) → (r : Result Bool CommandFault)
-      → IfErr r (IsStopOrWantingAnew nothing may_lose plan.dag found) → IfErr r (IsFaultOfRun may_lose graph file from to)
-  run_stop_in plan said found listing r =
-      IfErr-weaker r _ _ (stop_cases (IsFaultOfRun may_lose graph file from to) (MayGiveUpAnew nothing (MayGiveUp may_lose plan.dag found)) plan.dag
-      (λ stop is. (said.draft, found, said.graph_is, listing, rw said.dag at (stop_weaker {Q = MayGiveUp may_lose plan.dag found} (λ n g may. may.1) plan.dag stop is))) tt (λ n. tt))
+module _ (launching : LaunchingOf) (may_lose : Losing) (graph : List ℕ) (file : Option (List ℕ)) (from to : ℤ) where
+  stops_running : (plan : Checked) → IsPlanOf graph file plan → (found : List Interval) → HasListing graph file from to (Ok found) → (clocks : List ℤ) → AreClocksOf graph file found clocks → (stop : StopFault)
+      → IsStop (with_clocks launching clocks) may_lose plan.dag found stop → StopsRunning launching may_lose graph file from to stop
+  stops_running plan said found listing clocks are stop is =
+      record { draft = said.draft; found = found; graph_is = said.graph_is; listing = listing; clocks = clocks; clocks_are = are; stops = subst (λ (d : Dag). IsStop (with_clocks launching clocks) may_lose d found stop) said.dag is }
+
+  pub run_stop_in : (plan : Checked) → IsPlanOf graph file plan → (found : List Interval) → HasListing graph file from to (Ok found) → (clocks : List ℤ) → AreClocksOf graph file found clocks → (r : Result Bool CommandFault)
+      → IfErr r (IsStopOrWantingAnew nothing (with_clocks launching clocks) may_lose plan.dag found) → IfErr r (IsFaultOfRun launching may_lose graph file from to)
+  run_stop_in plan said found listing clocks are r =
+      IfErr-weaker r _ _ (stop_cases (IsFaultOfRun launching may_lose graph file from to) (MayGiveUpAnew nothing (MayGiveUpLaunched (with_clocks launching clocks) may_lose plan.dag found)) launching.logs plan.dag found
+      (λ stop is. stops_running plan said found listing clocks are stop
+      (stop_weaker {Q = MayGiveUpLaunched (with_clocks launching clocks) may_lose plan.dag found} (λ n g may. may.1) launching.logs plan.dag found stop is)) tt (λ n. tt))
 
 -- what is wanting, whoever answers
-pub wanting_from : (alone : Bool) (kept : Look) (may_lose : Losing) (answers : Option (List TableEntry)) (dag : Dag) (found : List Interval) (r : Result Bool CommandFault) → IfErr r IsWanting
-    → IfErr r (IsStopOrWantingFrom alone kept may_lose answers dag found)
-wanting_from alone kept may_lose None dag found r = IfErr-weaker r _ _ (wanting_cases (IsStopOrWantingFrom alone kept may_lose None dag found) tt (λ n. tt))
-wanting_from alone kept may_lose (Some entries) dag found r = IfErr-weaker r _ _ (wanting_cases (IsStopOrWantingFrom alone kept may_lose (Some entries) dag found) tt (λ n. tt))
+pub wanting_from : (alone : Bool) (kept : Look) (launching : LaunchingOf) (may_lose : Losing) (answers : Option (List TableEntry)) (dag : Dag) (found : List Interval) (r : Result Bool CommandFault) → IfErr r IsWanting
+    → IfErr r (IsStopOrWantingFrom alone kept launching may_lose answers dag found)
+wanting_from alone kept launching may_lose None dag found r = IfErr-weaker r _ _ (wanting_cases (IsStopOrWantingFrom alone kept launching may_lose None dag found) tt (λ n. tt))
+wanting_from alone kept launching may_lose (Some entries) dag found r = IfErr-weaker r _ _ (wanting_cases (IsStopOrWantingFrom alone kept launching may_lose (Some entries) dag found) tt (λ n. tt))
 
 -- ---- what a fault leaves
 

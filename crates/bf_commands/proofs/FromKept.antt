@@ -1,5 +1,5 @@
 -- Backfills that go on from what is kept, if anything is.
-use Rattle.std.proofs.Common.{◌≡◌, ℕ, Bool, List, [], ◌∷◌, length, Option, None, Some, Result, Ok, Err, IfOk, sym, subst}
+use Rattle.std.proofs.Common.{◌≡◌, ℕ, Bool, List, [], ◌∷◌, length, Option, None, Some, Result, Ok, Err, IfOk, subst}
 use Rattle.bf_value.specs.declared.name.JobName.{JobName}
 use Rattle.bf_plan.specs.declared.plan.Dag.{Dag}
 use Rattle.bf_plan.specs.declared.plan.Limits.{Limits}
@@ -11,7 +11,7 @@ use Rattle.bf_table.specs.Tables.{Answering, answer_of}
 use Rattle.bf_try.specs.Tries.{AreAlike, Look}
 use Rattle.bf_kept.specs.Kept.{AreFit, AreGradedAnew, nothing}
 use Rattle.bf_core.specs.Agreement.{HoldsItsTries}
-use Rattle.bf_core.specs.Answered.{MayFault}
+use Rattle.bf_core.specs.Answered.{AreGraded, MayFault}
 use Rattle.bf_core.specs.Endings.{Ending, IsEnd, IsEndOf, KeepsWorkers}
 use Rattle.bf_core.specs.Events.{entry_in}
 use Rattle.bf_core.specs.declared.fault.BackfillFault.{BackfillFault}
@@ -23,17 +23,17 @@ use Rattle.bf_clear.specs.Keeping.{AreKept}
 use Rattle.bf_clear.specs.Matching.{clear_fault}
 use Rattle.bf_commands.specs.Cleared.{IsReportAfter, MayAnswerBy}
 use Rattle.bf_commands.specs.OverTable.{AnswersByTable, answering}
-use Rattle.bf_commands.specs.Programs.{Hearing}
+use Rattle.bf_commands.specs.Programs.{HearingTries}
 use Rattle.bf_commands.specs.Reported.{IsEndFrom, IsReportBy, IsReportFrom, IsReportOf}
 
 -- ---- ends
 
 -- what a call that goes on says of the end
 pub end_from : (kept : Look) (may_answer : JobName → Given → Raw → Type 0) (dag : Dag) (limits : Limits) (runs workers : ℕ) {E : Type 0} (r : Result Ending E)
-    → IfOk r (IsEndOf dag limits runs) → IfOk r (λ e. AreAlike kept (entry_in e.state.ledger)) → IfOk r (λ e. AreGradedAnew kept may_answer dag (entry_in e.state.ledger)) → IfOk r (λ e. KeepsWorkers dag runs workers e.journal)
+    → IfOk r (IsEndOf dag limits runs) → IfOk r (λ e. AreAlike kept (entry_in e.state.ledger)) → IfOk r (λ e. AreGradedAnew kept may_answer dag (entry_in e.state.ledger)) → (AreGraded may_answer dag kept → IfOk r (λ e. AreGraded may_answer dag (entry_in e.state.ledger))) → IfOk r (λ e. KeepsWorkers dag runs workers e.journal)
     → IfOk r (IsEndFrom kept may_answer dag limits runs workers)
-end_from kept may_answer dag limits runs workers (Ok e) of again anew within = record { of = of; again = again; anew = anew; within = within }
-end_from kept may_answer dag limits runs workers (Err f) of again anew within = tt
+end_from kept may_answer dag limits runs workers (Ok e) of again anew all within = record { of = of; again = again; anew = anew; all = all; within = within }
+end_from kept may_answer dag limits runs workers (Err f) of again anew all within = tt
 
 -- a runner that answers as the table does has the table's answers
 pub end_over : (kept : Look) (dag : Dag) (table : List TableEntry) (intervals : List Interval) (runner : Answering) (limits : Limits) (runs workers : ℕ) (ending : Ending) → runner ≡ answering dag table intervals
@@ -52,14 +52,20 @@ reported_from {dag = dag} {intervals = intervals} {ending = ending} end is text 
   tries = subst (λ (p : Dag × ℕ). HoldsItsTries p.0 p.1 (entry_in ending.state.ledger)) (λ i. (is.of.dag_is i, is.of.runs_are i)) end.outcome.tries;
   again = is.again;
   anew = is.anew;
+  all = is.all;
   reported = subst (λ (d : Dag). IsReportOf d intervals (entry_in ending.state.ledger) text success) is.of.dag_is reports;
 }
 
 -- the same of what is kept of a report where a seed is cleared
-pub reported_after : {may_hear : Hearing} {answers : Option (List TableEntry)} {dag : Dag} {intervals : List Interval} {was : Report} {seed : Seed} {kept : Look} → clear_fault dag intervals was (seed ∷ []) ≡ None
+pub reported_after : {may_hear : HearingTries} {answers : Option (List TableEntry)} {dag : Dag} {intervals : List Interval} {was : Report} {seed : Seed} {kept : Look} → clear_fault dag intervals was (seed ∷ []) ≡ None
     → AreKept dag (places_of dag intervals (seed ∷ [])) was kept → (text : List ℕ) (success : Bool) → IsReportFrom kept (MayAnswerBy may_hear answers dag intervals) dag intervals text success
     → IsReportAfter may_hear answers dag intervals was seed text success
 reported_after {kept = kept} none are text success reports = record { kept = kept; kept_is = record { not_refused = none; are_kept = are }; reported = reports }
+
+-- where what is kept could have been answered, the report is that of a backfill from nothing
+pub from_graded : {kept : Look} {may_answer : JobName → Given → Raw → Type 0} {dag : Dag} {intervals : List Interval} → AreGraded may_answer dag kept → (text : List ℕ) (success : Bool)
+    → IsReportFrom kept may_answer dag intervals text success → IsReportBy may_answer dag intervals text success
+from_graded graded text success is = record { ledger = is.ledger; tries = is.tries; graded = is.all graded; reported = is.reported }
 
 -- ---- where nothing is kept
 
@@ -69,8 +75,7 @@ nothing_fits dag n e is = let bad : None ≡ Some e = is in cc
 -- each try is answered
 pub from_nothing : {may_answer : JobName → Given → Raw → Type 0} {dag : Dag} {intervals : List Interval} (text : List ℕ) (success : Bool) → IsReportFrom nothing may_answer dag intervals text success
     → IsReportBy may_answer dag intervals text success
-from_nothing text success is =
-    record { ledger = is.ledger; tries = is.tries; graded = λ n e there. is.anew n e there (λ d kept. (let bad : None ≡ Some d = kept.0 in cc)); reported = is.reported }
+from_nothing = from_graded (λ n e kept. (let bad : None ≡ Some e = kept in cc))
 
 -- ---- faults
 

@@ -1,6 +1,11 @@
 pub mod Over
 pub mod ByPrograms
 pub mod FromKept
+pub mod Recording
+pub mod Starts
+pub mod Shown
+pub mod Crashes
+pub mod Kept
 pub mod Sharing
 pub mod Results
 pub mod Faults

@@ -1,4 +1,4 @@
--- What is lent to the workers of a backfill that goes on from a report may be shared by threads.
+-- What is lent to the workers of a backfill that goes on from a report, or from a journal, may be shared by threads.
 use denote.Param.Send.{sendable}
 use Rattle.std.proofs.Crossing.{crosses}
 use Rattle.bf_value.proofs.sequence.Sequence.TheSendSync as sequence

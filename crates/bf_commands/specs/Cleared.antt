@@ -10,7 +10,7 @@ use Rattle.bf_try.specs.declared.answers.Raw.{Raw}
 use Rattle.bf_table.specs.declared.table.TableEntry.{TableEntry}
 use Rattle.bf_table.specs.Tables.{table_of}
 use Rattle.bf_try.specs.Tries.{Look}
-use Rattle.bf_process.specs.Words.{MayAnswer, MayGiveUp}
+use Rattle.bf_process.specs.Words.{LaunchingOf, MayAnswer}
 use Rattle.bf_kept.specs.Kept.{MayGiveUpAnew}
 use Rattle.bf_report.specs.declared.report.Report.{Report}
 use Rattle.bf_report.specs.Report.{report_text}
@@ -26,11 +26,11 @@ use Rattle.bf_command_fault.specs.declared.stop.StopFault.{StopFault}
 use Rattle.bf_commands.specs.Graphs.{IsFaultIn, IsGraph}
 use Rattle.bf_commands.specs.Lists.{HasListing}
 use Rattle.bf_commands.specs.OverTable.{AnswersByTable, IsTableFault, IsWanting, IsWantingWorkers}
-use Rattle.bf_commands.specs.Programs.{Hearing, IsStopOf, IsStopOfOrWanting, Losing}
+use Rattle.bf_commands.specs.Programs.{AreClocksOf, Hearing, HearingTries, IsStopOf, IsStopOfOrWanting, Losing, MayGiveUpLaunched, launched_by, with_clocks}
 use Rattle.bf_commands.specs.Reported.{IsReportFrom}
 
--- the answers of the table where there is one, and else what is heard of the programs of a try's words
-abbrev pub MayAnswerBy : Hearing → Option (List TableEntry) → Dag → List Interval → JobName → Given → Raw → Type 0
+-- the answers of the table where there is one, and else what is heard of tries
+abbrev pub MayAnswerBy : HearingTries → Option (List TableEntry) → Dag → List Interval → JobName → Given → Raw → Type 0
 MayAnswerBy may_hear (Some entries) dag intervals n given raw = AnswersByTable dag entries intervals n given raw
 MayAnswerBy may_hear None dag intervals n given raw = MayAnswer may_hear dag intervals n given raw
 
@@ -45,7 +45,7 @@ pub record IsKeptOf (dag : Dag) (intervals : List Interval) (was : Report) (seed
   pub are_kept : AreKept dag (places_of dag intervals (seed ∷ [])) was kept
 
 -- the text is the report of the backfill that goes on from what is kept of this report where this seed is cleared
-pub record IsReportAfter (may_hear : Hearing) (answers : Option (List TableEntry)) (dag : Dag) (intervals : List Interval) (was : Report) (seed : Seed) (text : List ℕ) (success : Bool) : Type 0 where
+pub record IsReportAfter (may_hear : HearingTries) (answers : Option (List TableEntry)) (dag : Dag) (intervals : List Interval) (was : Report) (seed : Seed) (text : List ℕ) (success : Bool) : Type 0 where
   pub kept : Look
   pub kept_is : IsKeptOf dag intervals was seed kept
   pub reported : IsReportFrom kept (MayAnswerBy may_hear answers dag intervals) dag intervals text success
@@ -56,7 +56,7 @@ AreAnswersIn table answers = option_map table_of table ≡ option_map Ok answers
 
 -- the bytes say a graph, which has no fault, a table where there is one, and a report of the graph's runs in the range; and the
 -- text is the report of the backfill that goes on from it where the seed is cleared
-pub record IsClearReport (may_hear : Hearing) (graph : List ℕ) (file table : Option (List ℕ)) (report : List ℕ) (from to : ℤ) (seed : Seed) (text : List ℕ) (success : Bool) : Type 0 where
+pub record IsClearReport (launching : LaunchingOf) (may_hear : Hearing) (graph : List ℕ) (file table : Option (List ℕ)) (report : List ℕ) (from to : ℤ) (seed : Seed) (text : List ℕ) (success : Bool) : Type 0 where
   pub draft : Draft
   pub answers : Option (List TableEntry)
   pub found : List Interval
@@ -65,24 +65,29 @@ pub record IsClearReport (may_hear : Hearing) (graph : List ℕ) (file table : O
   pub table_says : AreAnswersIn table answers
   pub listing : HasListing graph file from to (Ok found)
   pub report_says : IsReadAs report was
-  pub reported : IsReportAfter may_hear answers (dag_of draft) found was seed text success
+  pub clocks : List ℤ
+  pub clocks_are : AreClocksOf graph file found clocks
+  pub reported : IsReportAfter (launched_by launching may_hear clocks) answers (dag_of draft) found was seed text success
 
 -- ---- what goes wrong
 
--- what the bytes of a graph and of a table come to over a range: a graph's tasks, its runs, and the answers where there is a table
-pub record IsPrepared (graph : List ℕ) (file table : Option (List ℕ)) (from to : ℤ) (dag : Dag) (found : List Interval) (answers : Option (List TableEntry)) : Type 0 where
+-- what the bytes of a graph and of a table come to over a range: a graph's tasks, its runs, what clocks show at their moments, and the
+-- answers where there is a table
+pub record IsPrepared (graph : List ℕ) (file table : Option (List ℕ)) (from to : ℤ) (dag : Dag) (found : List Interval) (clocks : List ℤ) (answers : Option (List TableEntry)) : Type 0 where
   pub draft : Draft
   pub graph_is : IsGraph graph file draft
   pub dag_is : dag ≡ dag_of draft
   pub table_says : AreAnswersIn table answers
   pub listing : HasListing graph file from to (Ok found)
+  pub clocks_are : AreClocksOf graph file found clocks
 
 -- the graph, the table and the range have no fault
 pub record IsReady (graph : List ℕ) (file table : Option (List ℕ)) (from to : ℤ) : Type 0 where
   pub dag : Dag
   pub found : List Interval
+  pub clocks : List ℤ
   pub answers : Option (List TableEntry)
-  pub prepared : IsPrepared graph file table from to dag found answers
+  pub prepared : IsPrepared graph file table from to dag found clocks answers
 
 -- the fault is the first: those of the graph go before those of the table, where there is one, and those of the range come last
 abbrev pub IsFaultBefore : List ℕ → Option (List ℕ) → Option (List ℕ) → ℤ → ℤ → CommandFault → Type 0
@@ -99,36 +104,36 @@ pub record IsUnclearable (graph : List ℕ) (file table : Option (List ℕ)) (re
 
 -- where a table answers and workers are started, one can't be; else the backfill stops as one of programs does, but at no try
 -- that is kept
-abbrev pub IsStopFrom : Bool → Look → Losing → Option (List TableEntry) → Dag → List Interval → StopFault → Type 0
-IsStopFrom alone kept may_lose (Some entries) dag intervals stop = (stop ≡ StopFault.CannotStart) × (alone ≡ false)
-IsStopFrom alone kept may_lose None dag intervals stop = IsStopOf (MayGiveUpAnew kept (MayGiveUp may_lose dag intervals)) dag stop
+abbrev pub IsStopFrom : Bool → Look → LaunchingOf → Losing → Option (List TableEntry) → Dag → List Interval → StopFault → Type 0
+IsStopFrom alone kept launching may_lose (Some entries) dag intervals stop = (stop ≡ StopFault.CannotStart) × (alone ≡ false)
+IsStopFrom alone kept launching may_lose None dag intervals stop = IsStopOf (MayGiveUpAnew kept (MayGiveUpLaunched launching may_lose dag intervals)) launching.logs dag intervals stop
 
 -- the fault is the first: the seed isn't cleared in the report for this; or it is, and the backfill stops; or memory or the device is wanting
-abbrev pub IsFaultAgain : Bool → Losing → Option (List TableEntry) → Dag → List Interval → Report → Seed → CommandFault → Type 0
-IsFaultAgain alone may_lose answers dag intervals was seed (NotCleared fault) = clear_fault dag intervals was (seed ∷ []) ≡ Some fault
-IsFaultAgain alone may_lose answers dag intervals was seed (Stopped stop) = (kept : Look) × IsKeptOf dag intervals was seed kept × IsStopFrom alone kept may_lose answers dag intervals stop
-IsFaultAgain alone may_lose answers dag intervals was seed fault = IsWanting fault
+abbrev pub IsFaultAgain : Bool → LaunchingOf → Losing → Option (List TableEntry) → Dag → List Interval → Report → Seed → CommandFault → Type 0
+IsFaultAgain alone launching may_lose answers dag intervals was seed (NotCleared fault) = clear_fault dag intervals was (seed ∷ []) ≡ Some fault
+IsFaultAgain alone launching may_lose answers dag intervals was seed (Stopped stop) = (kept : Look) × IsKeptOf dag intervals was seed kept × IsStopFrom alone kept launching may_lose answers dag intervals stop
+IsFaultAgain alone launching may_lose answers dag intervals was seed fault = IsWanting fault
 
 -- they have none, the bytes say a report, the seed is cleared in it, and the backfill that goes on from it stops
-pub record StopsClearing (alone : Bool) (may_lose : Losing) (graph : List ℕ) (file table : Option (List ℕ)) (report : List ℕ) (from to : ℤ) (seed : Seed) (stop : StopFault) : Type 0 where
+pub record StopsClearing (alone : Bool) (launching : LaunchingOf) (may_lose : Losing) (graph : List ℕ) (file table : Option (List ℕ)) (report : List ℕ) (from to : ℤ) (seed : Seed) (stop : StopFault) : Type 0 where
   pub ready : IsReady graph file table from to
   pub was : Report
   pub report_says : IsReadAs report was
   pub kept : Look
   pub kept_is : IsKeptOf ready.dag ready.found was seed kept
-  pub stops : IsStopFrom alone kept may_lose ready.answers ready.dag ready.found stop
+  pub stops : IsStopFrom alone kept (with_clocks launching ready.clocks) may_lose ready.answers ready.dag ready.found stop
 
 -- ---- for private clauses
 
 -- the backfill with programs that goes on from what is kept stops, at no try that is kept; or memory or the device is wanting
-abbrev pub IsStopOrWantingAnew : Look → Losing → Dag → List Interval → CommandFault → Type 0
-IsStopOrWantingAnew kept may_lose dag intervals fault = IsStopOfOrWanting (MayGiveUpAnew kept (MayGiveUp may_lose dag intervals)) dag fault
+abbrev pub IsStopOrWantingAnew : Look → LaunchingOf → Losing → Dag → List Interval → CommandFault → Type 0
+IsStopOrWantingAnew kept launching may_lose dag intervals fault = IsStopOfOrWanting (MayGiveUpAnew kept (MayGiveUpLaunched launching may_lose dag intervals)) launching.logs dag intervals fault
 
 -- where a table answers and workers are started, one can't be; else it stops as one of programs does; or memory or the device is
 -- wanting
-abbrev pub IsStopOrWantingFrom : Bool → Look → Losing → Option (List TableEntry) → Dag → List Interval → CommandFault → Type 0
-IsStopOrWantingFrom alone kept may_lose (Some entries) dag intervals fault = IsWantingWorkers alone fault
-IsStopOrWantingFrom alone kept may_lose None dag intervals fault = IsStopOrWantingAnew kept may_lose dag intervals fault
+abbrev pub IsStopOrWantingFrom : Bool → Look → LaunchingOf → Losing → Option (List TableEntry) → Dag → List Interval → CommandFault → Type 0
+IsStopOrWantingFrom alone kept launching may_lose (Some entries) dag intervals fault = IsWantingWorkers alone fault
+IsStopOrWantingFrom alone kept launching may_lose None dag intervals fault = IsStopOrWantingAnew kept launching may_lose dag intervals fault
 
 -- the fault is that of the table's bytes, where there are some
 abbrev pub IsFaultOfNamed : Option (List ℕ) → CommandFault → Type 0

@@ -6,3 +6,4 @@ pub mod Graphs
 pub mod Lists
 pub mod Programs
 pub mod Cleared
+pub mod Journaled

@@ -1,6 +1,6 @@
 -- What the command `run` reports: a run for each data interval of a range, with the programs of its tasks.
-use Rattle.std.specs.Prelude.{◌≡◌, ℕ, ℤ, Bool, List, Option, Ok, Err, String, option_map, string_bytes}
-use Rattle.std.specs.Global.{Global}
+use Rattle.std.specs.Prelude.{◌≡◌, ℕ, ℤ, Bool, List, map, codes, Option, None, Some, Ok, Err}
+use Rattle.jiff.specs.Types.{TimeZone}
 use Rattle.bf_value.specs.declared.name.JobName.{JobName}
 use Rattle.bf_read.specs.declared.draft.Draft.{Draft}
 use Rattle.bf_check.specs.Checking.{dag_of}
@@ -10,71 +10,129 @@ use Rattle.bf_interval.specs.declared.interval.Interval.{Interval}
 use Rattle.bf_xcom.specs.declared.values.Given.{Given}
 use Rattle.bf_try.specs.declared.answers.Raw.{Raw}
 use Rattle.bf_core.specs.declared.fault.BackfillFault.{BackfillFault}
-use Rattle.bf_process.specs.Words.{MayAnswer, MayGiveUp, lost_through, through}
+use Rattle.bf_zone.specs.Zones.{asked, IsZone}
+use Rattle.bf_words.specs.declared.context.JobContext.{JobContext}
+use Rattle.bf_failure.specs.Tried.{IsContextOf, log_of}
+use Rattle.bf_process.specs.Clocks.{clock_in}
+use Rattle.bf_process.specs.Words.{Launched, LaunchingOf, MayAnswer, MayGiveUp, Tried, lost_through, through}
 use Rattle.bf_command_fault.specs.declared.fault.CommandFault.{CommandFault}
 use Rattle.bf_command_fault.specs.declared.fault.CommandFault.TheVariants.{OutOfMemory, Range, CannotWrite, Stopped}
 use Rattle.bf_command_fault.specs.declared.stop.StopFault.{StopFault}
+use Rattle.bf_commands.specs.declared.plan.DatedPlan.{DatedPlan}
 use Rattle.bf_commands.specs.Graphs.{IsGraph, IsFaultIn}
 use Rattle.bf_commands.specs.Lists.{HasListing}
 use Rattle.bf_commands.specs.OverTable.{IsWanting}
 use Rattle.bf_commands.specs.Reported.{IsReportBy}
 
--- what is heard of programs that are started by these words
+-- what is heard of programs that are started so
 abbrev pub Hearing : Type 1
-Hearing = List (List ℕ) → Raw → Type 0
+Hearing = Launched → Raw → Type 0
 
--- which of them may be lost: they can't be waited for
+-- which of them may be lost: their logs can't be made, or they can't be waited for
 abbrev pub Losing : Type 1
-Losing = List (List ℕ) → Type 0
+Losing = Launched → Type 0
 
--- what is heard of words that are handed to the launcher of this path, where there is one
-abbrev pub launched : Option (String Global) → Hearing → Hearing
-launched path may_hear = through (option_map string_bytes path) may_hear
+-- what is heard of tries
+abbrev pub HearingTries : Type 1
+HearingTries = Tried → Raw → Type 0
 
--- and which of them may be lost
-abbrev pub launched_lost : Option (String Global) → Losing → Losing
-launched_lost path may_lose = lost_through (option_map string_bytes path) may_lose
+-- the same launching, with this that clocks show
+abbrev pub with_clocks : LaunchingOf → List ℤ → LaunchingOf
+with_clocks launching clocks = record launching { clocks = clocks }
+
+-- what is heard of tries that are launched so, with this that clocks show
+abbrev pub launched_by : LaunchingOf → Hearing → List ℤ → HearingTries
+launched_by launching may_hear clocks = through (with_clocks launching clocks) may_hear
+
+-- this is what the clocks of the graph's zone show at the moments of these runs
+pub record AreClocksOf (graph : List ℕ) (file : Option (List ℕ)) (found : List Interval) (clocks : List ℤ) : Type 0 where
+  pub draft : Draft
+  pub graph_is : IsGraph graph file draft
+  pub zone : TimeZone
+  pub zone_is : IsZone (asked draft.zone) file zone
+  pub clocks_are : clocks ≡ map (λ run. clock_in zone run.start.nanosecond) found
+
+-- what the clocks of a plan with its runs show
+abbrev pub clocks_in : DatedPlan → List ℤ
+clocks_in dated = map (λ clock. clock.at.nanosecond) dated.clocks.items
+
+-- what is heard of the tries of a plan with its runs that are launched so
+abbrev pub launched_in : DatedPlan → LaunchingOf → Hearing → HearingTries
+launched_in dated launching may_hear = launched_by launching may_hear (clocks_in dated)
 
 -- the bytes say a graph, which has no fault, and the text is the report of its runs in the range, with the programs of its tasks
-pub record IsRunReport (may_hear : Hearing) (graph : List ℕ) (file : Option (List ℕ)) (from to : ℤ) (text : List ℕ) (success : Bool) : Type 0 where
+pub record IsRunReport (launching : LaunchingOf) (may_hear : Hearing) (graph : List ℕ) (file : Option (List ℕ)) (from to : ℤ) (text : List ℕ) (success : Bool) : Type 0 where
   pub draft : Draft
   pub found : List Interval
   pub graph_is : IsGraph graph file draft
   pub listing : HasListing graph file from to (Ok found)
-  pub reported : IsReportBy (MayAnswer may_hear (dag_of draft) found) (dag_of draft) found text success
+  pub clocks : List ℤ
+  pub clocks_are : AreClocksOf graph file found clocks
+  pub reported : IsReportBy (MayAnswer (launched_by launching may_hear clocks) (dag_of draft) found) (dag_of draft) found text success
 
--- a worker can't be started; or a try was given up that may be, and this is its task, its index and its number
-abbrev pub IsStopOf : (JobName → Given → Type 0) → Dag → StopFault → Type 0
-IsStopOf may_give_up dag StopFault.CannotStart = Unit {0}
-IsStopOf may_give_up dag (StopFault.GaveUp task index attempt) =
+-- ---- what stops backfills
+
+-- this is the path of the log of the try's standard output, below the folder of logs
+pub record IsLogBelow (folder : List ℕ) (dag : Dag) (intervals : List Interval) (name : JobName) (path : List ℕ) : Type 0 where
+  pub context : JobContext
+  pub is_context : IsContextOf dag intervals name context
+  pub path_is : path ≡ log_of folder context (codes ".out")
+
+-- logs are kept, and this is that path
+abbrev pub IsLogOf : Option (List ℕ) → Dag → List Interval → JobName → List ℕ → Type 0
+IsLogOf None dag intervals name path = ⊥
+IsLogOf (Some folder) dag intervals name path = IsLogBelow folder dag intervals name path
+
+-- a worker can't be started; or a try was given up that may be, and this is its log, or its task, its index and its number
+abbrev pub IsStopOf : (JobName → Given → Type 0) → Option (List ℕ) → Dag → List Interval → StopFault → Type 0
+IsStopOf may_give_up logs dag intervals StopFault.CannotStart = Unit {0}
+IsStopOf may_give_up logs dag intervals StopFault.CannotRecord = ⊥
+IsStopOf may_give_up logs dag intervals (StopFault.EnoughFailed count) = ⊥
+IsStopOf may_give_up logs dag intervals (StopFault.CannotLog path) = (name : JobName) × (given : Given) × may_give_up name given × IsLogOf logs dag intervals name path
+IsStopOf may_give_up logs dag intervals (StopFault.GaveUp task index attempt) =
     (name : JobName) × (given : Given) × may_give_up name given × (task ≡ (task_of dag name.task).id) × (index ≡ name.index) × (attempt ≡ name.attempt)
 
--- a worker can't be started; or the program of this try can't be waited for
-abbrev pub IsStop : Losing → Dag → List Interval → StopFault → Type 0
-IsStop may_lose dag intervals stop = IsStopOf (MayGiveUp may_lose dag intervals) dag stop
+-- which tries may be given up whose programs are launched so
+abbrev pub MayGiveUpLaunched : LaunchingOf → Losing → Dag → List Interval → JobName → Given → Type 0
+MayGiveUpLaunched launching may_lose dag intervals name given = MayGiveUp (lost_through launching may_lose) dag intervals name given
+
+-- a worker can't be started; or the logs of this try can't be made; or its program can't be waited for
+abbrev pub IsStop : LaunchingOf → Losing → Dag → List Interval → StopFault → Type 0
+IsStop launching may_lose dag intervals stop = IsStopOf (MayGiveUpLaunched launching may_lose dag intervals) launching.logs dag intervals stop
+
+-- the bytes say a graph, which has no fault, and the backfill of its runs in the range stops
+pub record StopsRunning (launching : LaunchingOf) (may_lose : Losing) (graph : List ℕ) (file : Option (List ℕ)) (from to : ℤ) (stop : StopFault) : Type 0 where
+  pub draft : Draft
+  pub found : List Interval
+  pub graph_is : IsGraph graph file draft
+  pub listing : HasListing graph file from to (Ok found)
+  pub clocks : List ℤ
+  pub clocks_are : AreClocksOf graph file found clocks
+  pub stops : IsStop (with_clocks launching clocks) may_lose (dag_of draft) found stop
 
 -- the fault is the first: those of the graph go before those of the range; then the backfill stops; or memory or the device is wanting
-abbrev pub IsFaultOfRun : Losing → List ℕ → Option (List ℕ) → ℤ → ℤ → CommandFault → Type 0
-IsFaultOfRun may_lose graph file from to (Range fault) = HasListing graph file from to (Err fault)
-IsFaultOfRun may_lose graph file from to (CannotWrite n) = Unit {0}
-IsFaultOfRun may_lose graph file from to (Stopped stop) = (draft : Draft) × (found : List Interval) × IsGraph graph file draft × HasListing graph file from to (Ok found) × IsStop may_lose (dag_of draft) found stop
-IsFaultOfRun may_lose graph file from to fault = IsFaultIn graph file fault
+abbrev pub IsFaultOfRun : LaunchingOf → Losing → List ℕ → Option (List ℕ) → ℤ → ℤ → CommandFault → Type 0
+IsFaultOfRun launching may_lose graph file from to (Range fault) = HasListing graph file from to (Err fault)
+IsFaultOfRun launching may_lose graph file from to (CannotWrite n) = Unit {0}
+IsFaultOfRun launching may_lose graph file from to (Stopped stop) = StopsRunning launching may_lose graph file from to stop
+IsFaultOfRun launching may_lose graph file from to fault = IsFaultIn graph file fault
 
 -- ---- for private clauses
 
 -- the backfill stops; or memory or the device is wanting
-abbrev pub IsStopOfOrWanting : (JobName → Given → Type 0) → Dag → CommandFault → Type 0
-IsStopOfOrWanting may_give_up dag (Stopped stop) = IsStopOf may_give_up dag stop
-IsStopOfOrWanting may_give_up dag fault = IsWanting fault
+abbrev pub IsStopOfOrWanting : (JobName → Given → Type 0) → Option (List ℕ) → Dag → List Interval → CommandFault → Type 0
+IsStopOfOrWanting may_give_up logs dag intervals (Stopped stop) = IsStopOf may_give_up logs dag intervals stop
+IsStopOfOrWanting may_give_up logs dag intervals fault = IsWanting fault
 
--- this try is told as given up; or memory is wanting
-abbrev pub IsGivenUp : Dag → JobName → CommandFault → Type 0
-IsGivenUp dag name (Stopped (StopFault.GaveUp task index attempt)) = (task ≡ (task_of dag name.task).id) × (index ≡ name.index) × (attempt ≡ name.attempt)
-IsGivenUp dag name OutOfMemory = Unit {0}
-IsGivenUp dag name fault = ⊥
+-- this try is told as given up, or its log; or memory is wanting
+abbrev pub IsGivenUp : Option (List ℕ) → Dag → List Interval → JobName → CommandFault → Type 0
+IsGivenUp logs dag intervals name (Stopped (StopFault.GaveUp task index attempt)) = (task ≡ (task_of dag name.task).id) × (index ≡ name.index) × (attempt ≡ name.attempt)
+IsGivenUp logs dag intervals name (Stopped (StopFault.CannotLog path)) = IsLogOf logs dag intervals name path
+IsGivenUp logs dag intervals name OutOfMemory = Unit {0}
+IsGivenUp logs dag intervals name fault = ⊥
 
 -- what is told of what stopped a backfill
-abbrev pub IsToldOf : Dag → BackfillFault → CommandFault → Type 0
-IsToldOf dag BackfillFault.OutOfMemory told = told ≡ OutOfMemory
-IsToldOf dag BackfillFault.Start told = told ≡ Stopped StopFault.CannotStart
-IsToldOf dag (BackfillFault.Runner name) told = IsGivenUp dag name told
+abbrev pub IsToldOf : Option (List ℕ) → Dag → List Interval → BackfillFault → CommandFault → Type 0
+IsToldOf logs dag intervals BackfillFault.OutOfMemory told = told ≡ OutOfMemory
+IsToldOf logs dag intervals BackfillFault.Start told = told ≡ Stopped StopFault.CannotStart
+IsToldOf logs dag intervals (BackfillFault.Runner name) told = IsGivenUp logs dag intervals name told

@@ -42,20 +42,23 @@ pub record IsReportBy (may_answer : JobName → Given → Raw → Type 0) (dag :
   pub graded : AreGraded may_answer dag (finite.get ledger)
   pub reported : IsReportOf dag intervals (finite.get ledger) text success
 
--- so it is where the kept tries stand as they are kept, and every other has the grade of an answer that may come
+-- so it is where the kept tries stand as they are kept, and every other has the grade of an answer that may come; so where those
+-- that are kept have such a grade, all have
 pub record IsReportFrom (kept : Look) (may_answer : JobName → Given → Raw → Type 0) (dag : Dag) (intervals : List Interval) (text : List ℕ) (success : Bool) : Type 0 where
   pub ledger : finite.FinMap name_cmp Entry
   pub tries : HoldsItsTries dag (length intervals) (finite.get ledger)
   pub again : AreAlike kept (finite.get ledger)
   pub anew : AreGradedAnew kept may_answer dag (finite.get ledger)
+  pub all : AreGraded may_answer dag kept → AreGraded may_answer dag (finite.get ledger)
   pub reported : IsReportOf dag intervals (finite.get ledger) text success
 
 -- ---- for private clauses
 
--- the end of a backfill in which the kept tries stand as they are kept, every other has the grade of an answer that may come, and
--- no more tries ran at once than there are workers
+-- the end of a backfill in which the kept tries stand as they are kept, every other has the grade of an answer that may come, as all
+-- have where the kept ones do, and no more tries ran at once than there are workers
 pub record IsEndFrom (kept : Look) (may_answer : JobName → Given → Raw → Type 0) (dag : Dag) (limits : Limits) (runs workers : ℕ) (ending : Ending) : Type 0 where
   pub of : IsEndOf dag limits runs ending
   pub again : AreAlike kept (entry_in ending.state.ledger)
   pub anew : AreGradedAnew kept may_answer dag (entry_in ending.state.ledger)
+  pub all : AreGraded may_answer dag kept → AreGraded may_answer dag (entry_in ending.state.ledger)
   pub within : KeepsWorkers dag runs workers ending.journal

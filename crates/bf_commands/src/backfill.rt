@@ -1,16 +1,16 @@
 //! A backfill that goes on from tries that are kept, if any, to its report.
 ghost use Rattle.std.specs.Prelude.{◌≡◌, Bool, None, IfOk, IfErr, length, map};
 ghost use Rattle.bf_kept.specs.Kept.{AreFit};
-ghost use Rattle.bf_process.specs.Words.{MayAnswer};
+ghost use Rattle.bf_process.specs.Words.{MayAnswer, launching_of, through};
 ghost use Rattle.bf_table.specs.Tables.{answer_of};
 ghost use Rattle.bf_device.specs.Device.{HasHalted};
 ghost use Rattle.bf_command_fault.specs.Refusal.{Leaves, Sends};
 ghost use Rattle.bf_commands.specs.Cleared.{IsStopOrWantingAnew, IsStopOrWantingFrom, MayAnswerBy};
 ghost use Rattle.bf_commands.specs.OverTable.{AnswersByTable, IsUnsent, IsWantingWorkers, answering, is_alone};
-ghost use Rattle.bf_commands.specs.Programs.{launched, launched_lost};
 ghost use Rattle.bf_commands.specs.Reported.{IsEndFrom, IsReportFrom};
 
 use crate::crew::Crew;
+use crate::programs::{programs_of, tell_of_logs};
 use crate::reported::write_ended;
 use crate::screen::Screen;
 use crate::stop::{stopped_alone, stopped_by_programs, stopped_over_table};
@@ -22,7 +22,7 @@ use bf_kept::{Keeping, KeptTries};
 use bf_lane::{Jump, MachineClock};
 use bf_plain::resume_one_by_one;
 use bf_plan::Plan;
-use bf_process::{ProcessRunner, Starter};
+use bf_process::Starter;
 use bf_table::{Table, TableRunner};
 use bf_value::OutOfMemory;
 use jiff::Timestamp;
@@ -43,7 +43,7 @@ fn starts_of(alloc: Global, intervals: &[Interval]) -> Result<Vec<Timestamp>, Ou
 }
 
 /// A table's answers to the tries of these runs.
-fn runner_over<'p>(
+pub(crate) fn runner_over<'p>(
     alloc: Global,
     plan: &'p Plan,
     table: Table,
@@ -110,21 +110,27 @@ fn ended_by_programs<'p, RT: Starter + Screen + Threads + Wait + Clock + Sync, K
 ) -> Result<Ended<'p>, CommandFault>
     requires { AreFit plan.now.dag (K.kept kept.now) }
     ensures end { IfOk result (IsEndFrom (K.kept kept.now)
-        (MayAnswer (launched crew.now.launcher (RT.may_hear crew.now.rt.now)) plan.entry.now.dag runs.now)
+        (MayAnswer (through (launching_of crew.now.launching) (RT.may_hear crew.now.rt.now)) plan.entry.now.dag runs.now)
         plan.entry.now.dag plan.entry.now.limits (length runs.now) crew.now.workers) }
     ensures stop { IfErr result (IsStopOrWantingAnew (K.kept kept.now)
-        (launched_lost crew.now.launcher (RT.may_lose crew.now.rt.now)) plan.entry.now.dag runs.now) }
+        (launching_of crew.now.launching) (RT.may_lose crew.now.rt.now) plan.entry.now.dag runs.now) }
     ensures unsent { IfErr result IsUnsent }
 {
-    let runner = ProcessRunner::new(crew.rt, crew.alloc, plan, runs, crew.launcher());
+    let programs = programs_of(crew, plan, runs);
     let keeping = Keeping {
         alloc: crew.alloc,
         kept,
-        runner: &runner,
+        runner: &programs,
     };
-    match crew.resumed(plan, runs, &keeping, MachineClock::new(crew.rt)) {
+    let ended = crew.resumed(plan, runs, &keeping, MachineClock::new(crew.rt));
+    let log_faults = programs.runner().log_faults();
+    tell_of_logs(crew.rt, log_faults);
+    match ended {
         Ok(ended) => Ok(ended),
-        Err(fault) => Err(stopped_by_programs(crew, plan, runs.intervals(), &fault)),
+        Err(fault) => {
+            let stopping = crew.stopping(plan, runs, Some(log_faults));
+            Err(stopped_by_programs(&stopping, &fault))
+        }
     }
 }
 
@@ -138,10 +144,10 @@ fn ended<'p, RT: Starter + Screen + Threads + Wait + Clock + Sync, K: KeptTries 
 ) -> Result<Ended<'p>, CommandFault>
     requires { AreFit plan.now.dag (K.kept kept.now) }
     ensures end { IfOk result (IsEndFrom (K.kept kept.now)
-        (MayAnswerBy (launched crew.now.launcher (RT.may_hear crew.now.rt.now)) answers plan.entry.now.dag runs.now)
+        (MayAnswerBy (through (launching_of crew.now.launching) (RT.may_hear crew.now.rt.now)) answers plan.entry.now.dag runs.now)
         plan.entry.now.dag plan.entry.now.limits (length runs.now) crew.now.workers) }
     ensures stop { IfErr result (IsStopOrWantingFrom (is_alone crew.now.workers crew.now.progress) (K.kept kept.now)
-        (launched_lost crew.now.launcher (RT.may_lose crew.now.rt.now)) answers plan.entry.now.dag runs.now) }
+        (launching_of crew.now.launching) (RT.may_lose crew.now.rt.now) answers plan.entry.now.dag runs.now) }
     ensures unsent { IfErr result IsUnsent }
 {
     match answers {
@@ -166,14 +172,14 @@ pub(crate) fn write_backfill<
 ) -> Result<bool, CommandFault>
     requires fit { AreFit plan.now.dag (K.kept kept.now) }
     ensures ok { IfOk result (λ success. Sends (λ text. IsReportFrom (K.kept kept.now)
-        (MayAnswerBy (launched crew.now.launcher (RT.may_hear crew.now.rt.now)) answers plan.now.dag runs.now)
+        (MayAnswerBy (through (launching_of crew.now.launching) (RT.may_hear crew.now.rt.now)) answers plan.now.dag runs.now)
         plan.now.dag runs.now text success) (W.written out.old) (W.written out.new)) }
     ensures stop { IfErr result (IsStopOrWantingFrom (is_alone crew.now.workers crew.now.progress) (K.kept kept.now)
-        (launched_lost crew.now.launcher (RT.may_lose crew.now.rt.now)) answers plan.now.dag runs.now) }
+        (launching_of crew.now.launching) (RT.may_lose crew.now.rt.now) answers plan.now.dag runs.now) }
     ensures left { IfErr result (Leaves (HasHalted (W.failures out.old) (W.failures out.new)
         (W.interruptions out.old) (W.interruptions out.new))
         (λ text. (success : Bool) × IsReportFrom (K.kept kept.now)
-        (MayAnswerBy (launched crew.now.launcher (RT.may_hear crew.now.rt.now)) answers plan.now.dag runs.now)
+        (MayAnswerBy (through (launching_of crew.now.launching) (RT.may_hear crew.now.rt.now)) answers plan.now.dag runs.now)
         plan.now.dag runs.now text success) (W.written out.old) (W.written out.new)) }
 {
     let ended = ended(crew, plan, runs, kept, answers)?;

@@ -1,25 +1,35 @@
 //! The command `clear`: a backfill that goes on from its report, where a task in a run is cleared.
-ghost use Rattle.std.specs.Prelude.{Bool, IfOk, IfErr, option_map};
+ghost use Rattle.std.specs.Prelude.{◌≡◌, Bool, IfOk, IfErr, option_map};
 ghost use Rattle.bf_device.specs.Device.{HasHalted};
 ghost use Rattle.bf_command_fault.specs.Refusal.{Leaves, Sends};
-ghost use Rattle.bf_commands.specs.Cleared.{AreAnswersIn, IsFaultAgain, IsFaultBefore, IsFaultOfNamed, IsPrepared, IsReportAfter};
+ghost use Rattle.bf_kept.specs.Kept.{AreFit};
+ghost use Rattle.bf_process.specs.Words.{launching_of};
+ghost use Rattle.bf_clear.specs.Keeping.{kept_in};
+ghost use Rattle.bf_commands.specs.Cleared.{AreAnswersIn, IsFaultAgain, IsFaultBefore, IsFaultOfNamed, IsKeptOf, IsPrepared, IsReportAfter, MayAnswerBy};
+ghost use Rattle.bf_journal.specs.Heads.{head_text};
+ghost use Rattle.bf_journal.specs.Left.{KeepsJournal};
+ghost use Rattle.bf_commands.specs.Journaled.{IsFaultOfSeed, IsFaultSince, IsReportSince, TellsOf};
 ghost use Rattle.bf_commands.specs.OverTable.{is_alone};
-ghost use Rattle.bf_commands.specs.Programs.{launched, launched_lost};
+ghost use Rattle.bf_commands.specs.Programs.{clocks_in, launched_in, with_clocks};
 
 use crate::backfill::write_backfill;
 use crate::crew::Crew;
-use crate::plan::{table_in, timed_plan_in};
+use crate::heading::heading_of;
+use crate::journal::Journal;
+use crate::journaled::{Backfill, Recorded, record_backfill};
+use crate::plan::{DatedPlan, table_in, timed_plan_in};
 use crate::range::MomentRange;
 use crate::screen::Screen;
-use bf_clear::clear;
+use bf_clear::{Cleared, clear};
 use bf_command_fault::CommandFault;
 use bf_dependents::Seed;
 use bf_device::Write;
-use bf_interval::Runs;
-use bf_plan::Plan;
+use bf_journal::Cuttable;
+use bf_moment::Moment;
 use bf_process::Starter;
 use bf_report::Report;
 use bf_table::Table;
+use bf_value::Text;
 use std::alloc::Global;
 use std::sync::Wait;
 use std::thread::Threads;
@@ -39,12 +49,10 @@ fn answers_in(alloc: Global, table: Option<&[u8]>) -> Result<Option<Table>, Comm
     }
 }
 
-/// What the files of the command come to but for the report: a plan, its runs, and the answers of the table, where there is
-/// one.
+/// What the files of the command come to but for the report: a plan with its runs, and the answers of the table, where there is one.
 #[derive(Drop)]
 pub struct Prepared {
-    pub plan: Plan,
-    pub runs: Runs,
+    pub dated: DatedPlan,
     pub answers: Option<Table>,
 }
 
@@ -57,18 +65,14 @@ pub fn prepare(
     range: MomentRange,
 ) -> Result<Prepared, CommandFault>
     ensures ok { IfOk result (λ p. IsPrepared graph.now (option_map (λ s. s.now) zone_file.entry) (option_map (λ s. s.now) table.entry)
-        range.from.nanosecond range.to.nanosecond p.plan.dag p.runs p.answers) }
+        range.from.nanosecond range.to.nanosecond p.dated.plan.dag p.dated.runs (clocks_in p.dated) p.answers) }
     ensures fault { IfErr result (IsFaultBefore graph.now (option_map (λ s. s.now) zone_file.entry) (option_map (λ s. s.now) table.entry)
         range.from.nanosecond range.to.nanosecond) }
 {
     let timed = timed_plan_in(alloc, graph, zone_file)?;
     let answers = answers_in(alloc, table)?;
-    let runs = timed.runs(alloc, range)?;
-    Ok(Prepared {
-        plan: timed.plan,
-        runs,
-        answers,
-    })
+    let dated = timed.dated(alloc, range)?;
+    Ok(Prepared { dated, answers })
 }
 
 /// Writes the report of a backfill that goes on from a report where a task in a run is cleared, with all that follows from it.
@@ -80,24 +84,97 @@ pub fn run_again<RT: Starter + Screen + Threads + Wait + Clock + Sync, W: Write>
     seed: Seed,
     out: &mut W,
 ) -> Result<bool, CommandFault>
-    ensures ok { IfOk result (λ success. Sends (λ text. IsReportAfter (launched crew.now.launcher (RT.may_hear crew.now.rt.now))
-        prepared.answers prepared.plan.dag prepared.runs report.now seed text success)
+    ensures ok { IfOk result (λ success. Sends (λ text. IsReportAfter (launched_in prepared.dated (launching_of crew.now.launching) (RT.may_hear crew.now.rt.now))
+        prepared.answers prepared.dated.plan.dag prepared.dated.runs report.now seed text success)
         (W.written out.old) (W.written out.new)) }
     ensures fault { IfErr result (IsFaultAgain (is_alone crew.now.workers crew.now.progress)
-        (launched_lost crew.now.launcher (RT.may_lose crew.now.rt.now))
-        prepared.answers prepared.plan.dag prepared.runs report.now seed) }
+        (with_clocks (launching_of crew.now.launching) (clocks_in prepared.dated)) (RT.may_lose crew.now.rt.now)
+        prepared.answers prepared.dated.plan.dag prepared.dated.runs report.now seed) }
     ensures left { IfErr result (Leaves (HasHalted (W.failures out.old) (W.failures out.new)
         (W.interruptions out.old) (W.interruptions out.new))
-        (λ text. (success : Bool) × IsReportAfter (launched crew.now.launcher (RT.may_hear crew.now.rt.now))
-        prepared.answers prepared.plan.dag prepared.runs report.now seed text success)
+        (λ text. (success : Bool) × IsReportAfter (launched_in prepared.dated (launching_of crew.now.launching) (RT.may_hear crew.now.rt.now))
+        prepared.answers prepared.dated.plan.dag prepared.dated.runs report.now seed text success)
         (W.written out.old) (W.written out.new)) }
 {
-    let Prepared {
-        plan,
-        runs,
-        answers,
-    } = prepared;
+    let Prepared { dated, answers } = prepared;
     let seeds = [seed];
-    let kept = clear(crew.alloc, &plan, &runs, report, &seeds)?;
-    write_backfill(crew, &plan, &runs, &kept, answers, out)
+    let kept = clear(crew.alloc, &dated.plan, &dated.runs, report, &seeds)?;
+    let crew = crew.at(&dated.clocks);
+    write_backfill(&crew, &dated.plan, &dated.runs, &kept, answers, out)
+}
+
+/// What a backfill goes over that goes on from its report, what is kept of that, and what the head of a journal tells of what is
+/// cleared.
+#[derive(Drop)]
+pub struct Clearing<'a> {
+    pub dated: &'a DatedPlan,
+    pub kept: Cleared<'a>,
+    pub cleared: Vec<(Text, Moment)>,
+}
+
+/// Clears a task in a run of a report, with all that follows from it.
+pub fn clear_in<'a>(
+    alloc: Global,
+    dated: &'a DatedPlan,
+    report: &'a Report,
+    seed: Seed,
+) -> Result<Clearing<'a>, CommandFault>
+    ensures dated { IfOk result (λ c. c.dated ≡ dated.entry) }
+    ensures kept { IfOk result (λ c. IsKeptOf dated.entry.now.plan.dag dated.entry.now.runs report.entry.now seed (kept_in c.kept)) }
+    ensures fit { IfOk result (λ c. AreFit dated.entry.now.plan.dag (kept_in c.kept)) }
+    ensures tells { IfOk result (λ c. TellsOf seed c.cleared.items) }
+    ensures fault { IfErr result (IsFaultOfSeed dated.entry.now.plan.dag dated.entry.now.runs report.entry.now seed) }
+{
+    let seeds = [seed];
+    let kept = clear(alloc, &dated.plan, &dated.runs, report, &seeds)?;
+    let [seed] = &seeds;
+    let cleared = heading_of(alloc, &dated.runs, seed)?;
+    Ok(Clearing {
+        dated,
+        kept,
+        cleared,
+    })
+}
+
+/// Goes on from a journal, and else from what is kept of a report, records each other try there as it ends, and writes the report.
+/// Says whether every run is a success.
+pub fn record_again<RT, D, W>(
+    crew: &Crew<'_, RT>,
+    clearing: &Clearing<'_>,
+    answers: Option<Table>,
+    journal: Journal<D>,
+    out: &mut W,
+) -> Recorded<D>
+where
+    RT: Starter + Screen + Threads + Wait + Clock + Sync,
+    D: Cuttable + Drop + Send,
+    W: Write,
+    requires { AreFit clearing.now.dated.now.plan.dag (kept_in clearing.now.kept) }
+    ensures ok { IfOk result.report (λ success. Sends (λ text.
+        IsReportSince (kept_in clearing.now.kept) journal.retry_failed journal.held.items clearing.now.cleared.items
+        (MayAnswerBy (launched_in clearing.now.dated.now (launching_of crew.now.launching) (RT.may_hear crew.now.rt.now)) answers clearing.now.dated.now.plan.dag clearing.now.dated.now.runs)
+        clearing.now.dated.now.plan.dag clearing.now.dated.now.runs text success) (W.written out.old) (W.written out.new)) }
+    ensures fault { IfErr result.report (IsFaultSince journal.stop_after (kept_in clearing.now.kept) journal.retry_failed
+        journal.held.items clearing.now.cleared.items (launching_of crew.now.launching).logs
+        clearing.now.dated.now.plan.dag clearing.now.dated.now.runs) }
+    ensures left { IfErr result.report (Leaves (HasHalted (W.failures out.old) (W.failures out.new)
+        (W.interruptions out.old) (W.interruptions out.new))
+        (λ text. (success : Bool)
+        × IsReportSince (kept_in clearing.now.kept) journal.retry_failed journal.held.items clearing.now.cleared.items
+        (MayAnswerBy (launched_in clearing.now.dated.now (launching_of crew.now.launching) (RT.may_hear crew.now.rt.now)) answers clearing.now.dated.now.plan.dag clearing.now.dated.now.runs)
+        clearing.now.dated.now.plan.dag clearing.now.dated.now.runs text success) (W.written out.old) (W.written out.new)) }
+    ensures journal { KeepsJournal
+        (MayAnswerBy (launched_in clearing.now.dated.now (launching_of crew.now.launching) (RT.may_hear crew.now.rt.now)) answers clearing.now.dated.now.plan.dag clearing.now.dated.now.runs)
+        clearing.now.dated.now.plan.dag clearing.now.dated.now.runs
+        (head_text clearing.now.dated.now.plan.dag clearing.now.dated.now.runs clearing.now.cleared.items)
+        journal.held.items (D.written journal.device) (D.written result.device) }
+{
+    let backfill = Backfill {
+        plan: &clearing.dated.plan,
+        runs: &clearing.dated.runs,
+        before: &clearing.kept,
+        cleared: clearing.cleared.as_slice(),
+    };
+    let crew = crew.at(&clearing.dated.clocks);
+    record_backfill(&crew, &backfill, answers, journal, out)
 }

@@ -1,5 +1,5 @@
 //! What runs the tries of a backfill.
-ghost use Rattle.std.specs.Prelude.{◌≡◌, IfOk, IfErr, length, option_map, string_bytes};
+ghost use Rattle.std.specs.Prelude.{◌≡◌, IfOk, IfErr, length};
 ghost use Rattle.bf_exec.specs.Faults.{MayFail};
 ghost use Rattle.bf_kept.specs.Kept.{AreFit, MayGiveUpAnew};
 ghost use Rattle.bf_commands.specs.OverTable.{is_alone as alone_by};
@@ -7,11 +7,14 @@ ghost use Rattle.bf_commands.specs.Reported.{IsEndFrom};
 
 use crate::progress::Progress;
 use crate::screen::Screen;
+use crate::stop::Stopping;
 use bf_core::{BackfillFault, Ended};
 use bf_exec::{Watch, resume};
 use bf_interval::Runs;
 use bf_kept::{Keeping, KeptTries};
+use bf_moment::Moment;
 use bf_plan::Plan;
+use bf_process::{Launching, LogFaults};
 use bf_try::TaskRunner;
 use bf_workers::Workers;
 use std::alloc::Global;
@@ -19,37 +22,101 @@ use std::sync::Wait;
 use std::thread::Threads;
 use std::time::Clock;
 
-/// A machine that tries run on, with its memory, how many of them may run at once, whether progress is told, and the path of the
-/// launcher that the words of commands are handed to, where there is one.
+/// A machine that tries run on, with its memory, how many of them may run at once, whether progress is told, whether tries that fail
+/// are, and how programs are launched.
 #[derive(Drop)]
 pub struct Crew<'m, RT> {
     pub rt: &'m RT,
     pub alloc: Global,
     pub workers: Workers,
     pub progress: bool,
-    pub launcher: Option<String>,
+    pub tells_failures: bool,
+    pub launching: Launching<'m>,
 }
 
 impl<'m, RT> Crew<'m, RT> {
-    /// The crew that is asked for.
-    pub fn of(
-        rt: &'m RT,
-        alloc: Global,
-        workers: Workers,
-        progress: bool,
-        launcher: Option<String>,
-    ) -> Crew<'m, RT>
+    /// The crew that is asked for, which tells of no try that fails, and launches each program by itself and without logs.
+    pub fn of(rt: &'m RT, alloc: Global, workers: Workers, progress: bool) -> Crew<'m, RT>
         ensures machine { result.rt ≡ rt.entry }
         ensures workers { result.workers ≡ workers }
         ensures progress { result.progress ≡ progress }
-        ensures launcher { result.launcher ≡ launcher }
     {
         Crew {
             rt,
             alloc,
             workers,
             progress,
-            launcher,
+            tells_failures: false,
+            launching: Launching {
+                launcher: None,
+                logs: None,
+                clocks: &[],
+            },
+        }
+    }
+
+    /// The same crew, which launches programs so, and tells of tries that fail where that is asked for.
+    pub fn launching(self, launching: Launching<'m>, tells_failures: bool) -> Crew<'m, RT>
+        ensures machine { result.rt ≡ self.entry.rt }
+        ensures workers { result.workers ≡ self.entry.workers }
+        ensures progress { result.progress ≡ self.entry.progress }
+        ensures launching { result.launching ≡ launching.entry }
+    {
+        Crew {
+            rt: self.rt,
+            alloc: self.alloc,
+            workers: self.workers,
+            progress: self.progress,
+            tells_failures,
+            launching,
+        }
+    }
+
+    /// The same crew, for runs at whose moments clocks show this.
+    pub(crate) fn at<'c>(&self, clocks: &'c [Moment]) -> Crew<'c, RT>
+    where
+        'm: 'c,
+        ensures machine { result.rt ≡ self.now.rt }
+        ensures workers { result.workers ≡ self.now.workers }
+        ensures progress { result.progress ≡ self.now.progress }
+        ensures launching { result.launching ≡ record self.now.launching { clocks = clocks.entry } }
+    {
+        Crew {
+            rt: self.rt,
+            alloc: self.alloc,
+            workers: self.workers,
+            progress: self.progress,
+            tells_failures: self.tells_failures,
+            launching: Launching {
+                launcher: self.launching.launcher,
+                logs: self.launching.logs,
+                clocks,
+            },
+        }
+    }
+
+    /// This crew's backfill of these runs of a plan, which stopped, and of whose logs this is known where programs were started.
+    pub(crate) fn stopping<'a>(
+        &self,
+        plan: &'a Plan,
+        runs: &'a Runs,
+        log_faults: Option<&LogFaults>,
+    ) -> Stopping<'a>
+    where
+        'm: 'a,
+        ensures plan { result.plan ≡ plan.entry }
+        ensures runs { result.runs ≡ runs.entry }
+        ensures logs { result.logs ≡ self.now.launching.logs }
+    {
+        Stopping {
+            alloc: self.alloc,
+            plan,
+            runs,
+            logs: self.launching.logs,
+            cannot_log: match log_faults {
+                Some(faults) => faults.cannot_make(),
+                None => false,
+            },
         }
     }
 
@@ -58,13 +125,6 @@ impl<'m, RT> Crew<'m, RT> {
         ensures { result ≡ alone_by self.now.workers self.now.progress }
     {
         self.workers.count() == 1 && !self.progress
-    }
-
-    /// The path of the launcher.
-    pub(crate) fn launcher(&self) -> Option<&str>
-        ensures { option_map (λ s. s.now) result ≡ option_map string_bytes self.now.launcher }
-    {
-        self.launcher.as_deref()
     }
 }
 

@@ -2,13 +2,22 @@
 ghost use Rattle.std.specs.Prelude.{◌≡◌, ℕ, ℤ, Bool, List, Option, Ok};
 ghost use Rattle.jiff.specs.declared.timestamp.Timestamp.{Timestamp as TimestampTerm};
 ghost use Rattle.bf_plan.specs.declared.plan.Dag.{Dag as DagTerm};
-ghost use Rattle.bf_plan.specs.Sound.{IsSound};
+ghost use Rattle.bf_plan.specs.Sound.{IsNamed, IsSound};
 ghost use Rattle.bf_interval.specs.declared.interval.Interval.{Interval as IntervalTerm};
+ghost use Rattle.bf_interval.specs.Runs.{AreOfRuns};
+ghost use Rattle.bf_try.specs.Tries.{Look};
+ghost use Rattle.bf_core.specs.Answered.{AreGraded};
 ghost use Rattle.bf_table.specs.declared.table.TableEntry.{TableEntry as TableEntryTerm};
+ghost use Rattle.bf_journal.specs.Heads.{head_text};
+ghost use Rattle.bf_journal.specs.Left.{IsLeftByCrashes};
 ghost use Rattle.bf_commands.specs.DatedRuns.{IsReportIn};
+ghost use Rattle.bf_commands.specs.Journaled.{Heading, IsReportSince};
 ghost use Rattle.bf_commands.specs.Lists.{HasListing};
 ghost use Rattle.bf_commands.specs.OneRun.{IsReportAt};
 ghost use Rattle.bf_commands.specs.OverTable.{IsReportOver};
+ghost use Rattle.bf_commands.specs.Reported.{IsReportBy};
+
+use bf_try::TaskRunner;
 
 /// A graph file, a zone file and a range have one listing.
 pub fn one_list()
@@ -36,4 +45,15 @@ pub fn one_single_report()
     ensures { (graph : List ℕ) (file : Option (List ℕ)) (table : List ℕ) (at : TimestampTerm) (one two : List ℕ) (success other : Bool)
         → IsReportAt graph file table at one success → IsReportAt graph file table at two other
         → (one ≡ two) × (success ≡ other) }
+{}
+
+/// However often a backfill was broken off that records its tries, at whatever byte of its journal, and gone on with: the report is
+/// one that a backfill from nothing may write, where what was kept before it could have been answered too. (What a command leaves
+/// in its journal is again what crashes leave, and so is each beginning of that.)
+pub fn crashes_change_no_report<R: TaskRunner>(runner: &R)
+    ensures { (dag : DagTerm) (intervals : List IntervalTerm) → IsNamed dag → AreOfRuns intervals → (cleared : Heading)
+        → (before : Look) → AreGraded (R.may_answer runner.now) dag before → (retry : Bool) (held : List ℕ)
+        → IsLeftByCrashes (R.may_answer runner.now) dag intervals (head_text dag intervals cleared) held → (text : List ℕ) (success : Bool)
+        → IsReportSince before retry held cleared (R.may_answer runner.now) dag intervals text success
+        → IsReportBy (R.may_answer runner.now) dag intervals text success }
 {}

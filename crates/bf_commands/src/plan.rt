@@ -1,18 +1,22 @@
 //! The plans of graph files, and the tables that answer their tries.
-ghost use Rattle.std.specs.Prelude.{◌≡◌, ℕ, List, Option, option_map, IfOk, IfErr, Ok};
+ghost use Rattle.std.specs.Prelude.{◌≡◌, ℕ, List, Option, map, option_map, IfOk, IfErr, Ok};
 ghost use Rattle.bf_interval.specs.Runs.{IsSaid};
 ghost use Rattle.bf_table.specs.Tables.{table_of};
 ghost use Rattle.bf_commands.specs.Graphs.{IsFileOf, IsFaultIn, IsPlanOf, IsTimed};
 ghost use Rattle.bf_commands.specs.Lists.{HasListing, IsDatedFault, IsRangeFault};
 ghost use Rattle.bf_commands.specs.OverTable.{IsTableFault};
+ghost use Rattle.bf_commands.specs.Programs.{AreClocksOf, clocks_in};
 
 use crate::range::MomentRange;
 use bf_check::{Zone, check};
 use bf_command_fault::CommandFault;
 use bf_interval::Runs;
+use bf_moment::Moment;
 use bf_plan::Plan;
+use bf_process::clocks_of;
 use bf_read::{Draft, read_graph};
 use bf_table::Table;
+use bf_value::OutOfMemory;
 use std::alloc::Global;
 
 /// The plan of a graph file, and the zone of its schedule.
@@ -34,6 +38,35 @@ impl TimedPlan {
         let zone = self.zone.as_time_zone();
         let runs = Runs::in_range(alloc, self.plan.schedule(), &zone, range.from, range.to)?;
         Ok(runs)
+    }
+
+    /// What the clocks of the zone show at the moments of these runs.
+    fn clocks(&self, alloc: Global, runs: &Runs) -> Result<Vec<Moment>, OutOfMemory>
+        ensures { IfOk result (λ clocks. (graph : List ℕ) (file : Option (List ℕ)) → IsTimed graph file self.now.plan.schedule self.now.zone
+            → AreClocksOf graph file runs.now (map (λ clock. clock.at.nanosecond) clocks.items)) }
+    {
+        let zone = self.zone.as_time_zone();
+        clocks_of(alloc, &zone, runs)
+    }
+
+    /// With a run for each data interval of the plan's schedule that starts in the range.
+    pub(crate) fn dated(self, alloc: Global, range: MomentRange) -> Result<DatedPlan, CommandFault>
+        requires { IsSaid self.plan.schedule }
+        ensures plan { IfOk result (λ dated. dated.plan ≡ self.plan) }
+        ensures listing { IfOk result (λ dated. (graph : List ℕ) (file : Option (List ℕ)) → IsTimed graph file self.plan.schedule self.zone
+            → HasListing graph file range.from.nanosecond range.to.nanosecond (Ok dated.runs)) }
+        ensures clocks { IfOk result (λ dated. (graph : List ℕ) (file : Option (List ℕ)) → IsTimed graph file self.plan.schedule self.zone
+            → AreClocksOf graph file dated.runs (clocks_in dated)) }
+        ensures fault { IfErr result (λ f. (graph : List ℕ) (file : Option (List ℕ)) → IsTimed graph file self.plan.schedule self.zone
+            → IsRangeFault graph file range.from.nanosecond range.to.nanosecond f) }
+    {
+        let runs = self.runs(alloc, range)?;
+        let clocks = self.clocks(alloc, &runs)?;
+        Ok(DatedPlan {
+            plan: self.plan,
+            runs,
+            clocks,
+        })
     }
 }
 
@@ -71,15 +104,16 @@ pub(crate) fn timed_plan_in(
     Ok(TimedPlan { plan, zone })
 }
 
-/// The plan of a graph file, and its runs.
+/// The plan of a graph file, its runs, and what the clocks of the graph's zone show at their moments.
 #[derive(Drop)]
-pub(crate) struct DatedPlan {
-    pub(crate) plan: Plan,
-    pub(crate) runs: Runs,
+pub struct DatedPlan {
+    pub plan: Plan,
+    pub runs: Runs,
+    pub clocks: Vec<Moment>,
 }
 
 /// The plan of a graph file, and a run for each data interval of its schedule that starts in the range, its ends included.
-pub(crate) fn dated_plan_in(
+pub fn dated_plan_in(
     alloc: Global,
     graph: &[u8],
     zone_file: Option<&[u8]>,
@@ -88,12 +122,10 @@ pub(crate) fn dated_plan_in(
     ensures plan { IfOk result (λ dated. IsPlanOf graph.now (option_map (λ s. s.now) zone_file.entry) dated.plan) }
     ensures listing { IfOk result (λ dated. HasListing graph.now (option_map (λ s. s.now) zone_file.entry)
         range.from.nanosecond range.to.nanosecond (Ok dated.runs)) }
+    ensures clocks { IfOk result (λ dated. AreClocksOf graph.now (option_map (λ s. s.now) zone_file.entry)
+        dated.runs (clocks_in dated)) }
     ensures fault { IfErr result (IsDatedFault graph.now (option_map (λ s. s.now) zone_file.entry) range.from.nanosecond range.to.nanosecond) }
 {
     let timed = timed_plan_in(alloc, graph, zone_file)?;
-    let runs = timed.runs(alloc, range)?;
-    Ok(DatedPlan {
-        plan: timed.plan,
-        runs,
-    })
+    timed.dated(alloc, range)
 }

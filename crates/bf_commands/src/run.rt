@@ -1,16 +1,24 @@
 //! The command `run`: a run for each data interval of a range, with the programs of its tasks.
-ghost use Rattle.std.specs.Prelude.{Bool, IfOk, IfErr, option_map};
+ghost use Rattle.std.specs.Prelude.{[], Bool, IfOk, IfErr, option_map};
 ghost use Rattle.bf_device.specs.Device.{HasHalted};
 ghost use Rattle.bf_command_fault.specs.Refusal.{Leaves, Sends};
-ghost use Rattle.bf_commands.specs.Programs.{IsFaultOfRun, IsRunReport, launched, launched_lost};
+ghost use Rattle.bf_kept.specs.Kept.{nothing};
+ghost use Rattle.bf_process.specs.Words.{MayAnswer, launching_of};
+ghost use Rattle.bf_journal.specs.Heads.{head_text};
+ghost use Rattle.bf_journal.specs.Left.{KeepsJournal};
+ghost use Rattle.bf_commands.specs.Journaled.{IsFaultSince, IsReportSince};
+ghost use Rattle.bf_commands.specs.Programs.{IsFaultOfRun, IsRunReport, launched_in};
 
 use crate::backfill::write_backfill;
 use crate::crew::Crew;
-use crate::plan::dated_plan_in;
+use crate::journal::Journal;
+use crate::journaled::{Backfill, Recorded, record_backfill};
+use crate::plan::{DatedPlan, dated_plan_in};
 use crate::range::MomentRange;
 use crate::screen::Screen;
 use bf_command_fault::CommandFault;
 use bf_device::Write;
+use bf_journal::Cuttable;
 use bf_kept::NothingKept;
 use bf_process::Starter;
 use std::sync::Wait;
@@ -28,15 +36,54 @@ pub fn run_programs<RT: Starter + Screen + Threads + Wait + Clock + Sync, W: Wri
     out: &mut W,
 ) -> Result<bool, CommandFault>
     ensures ok { IfOk result (λ success. Sends (λ text.
-        IsRunReport (launched crew.now.launcher (RT.may_hear crew.now.rt.now)) graph.now (option_map (λ s. s.now) zone_file.entry) range.from.nanosecond range.to.nanosecond text success)
+        IsRunReport (launching_of crew.now.launching) (RT.may_hear crew.now.rt.now) graph.now (option_map (λ s. s.now) zone_file.entry) range.from.nanosecond range.to.nanosecond text success)
         (W.written out.old) (W.written out.new)) }
-    ensures fault { IfErr result (IsFaultOfRun (launched_lost crew.now.launcher (RT.may_lose crew.now.rt.now)) graph.now (option_map (λ s. s.now) zone_file.entry) range.from.nanosecond range.to.nanosecond) }
+    ensures fault { IfErr result (IsFaultOfRun (launching_of crew.now.launching) (RT.may_lose crew.now.rt.now) graph.now (option_map (λ s. s.now) zone_file.entry) range.from.nanosecond range.to.nanosecond) }
     ensures left { IfErr result (Leaves (HasHalted (W.failures out.old) (W.failures out.new)
         (W.interruptions out.old) (W.interruptions out.new))
         (λ text. (success : Bool)
-        × IsRunReport (launched crew.now.launcher (RT.may_hear crew.now.rt.now)) graph.now (option_map (λ s. s.now) zone_file.entry) range.from.nanosecond range.to.nanosecond text success)
+        × IsRunReport (launching_of crew.now.launching) (RT.may_hear crew.now.rt.now) graph.now (option_map (λ s. s.now) zone_file.entry) range.from.nanosecond range.to.nanosecond text success)
         (W.written out.old) (W.written out.new)) }
 {
     let dated = dated_plan_in(crew.alloc, graph, zone_file, range)?;
-    write_backfill(crew, &dated.plan, &dated.runs, &NothingKept, None, out)
+    let crew = crew.at(&dated.clocks);
+    write_backfill(&crew, &dated.plan, &dated.runs, &NothingKept, None, out)
+}
+
+/// Goes on from a journal with the programs of the tasks, records each other try there as it ends, and writes the report. Says whether
+/// every run is a success.
+pub fn record_programs<RT, D, W>(
+    crew: &Crew<'_, RT>,
+    dated: &DatedPlan,
+    journal: Journal<D>,
+    out: &mut W,
+) -> Recorded<D>
+where
+    RT: Starter + Screen + Threads + Wait + Clock + Sync,
+    D: Cuttable + Drop + Send,
+    W: Write,
+    ensures ok { IfOk result.report (λ success. Sends (λ text.
+        IsReportSince nothing journal.retry_failed journal.held.items []
+        (MayAnswer (launched_in dated.now (launching_of crew.now.launching) (RT.may_hear crew.now.rt.now)) dated.now.plan.dag dated.now.runs)
+        dated.now.plan.dag dated.now.runs text success) (W.written out.old) (W.written out.new)) }
+    ensures fault { IfErr result.report (IsFaultSince journal.stop_after nothing journal.retry_failed
+        journal.held.items [] (launching_of crew.now.launching).logs dated.now.plan.dag dated.now.runs) }
+    ensures left { IfErr result.report (Leaves (HasHalted (W.failures out.old) (W.failures out.new)
+        (W.interruptions out.old) (W.interruptions out.new))
+        (λ text. (success : Bool) × IsReportSince nothing journal.retry_failed journal.held.items []
+        (MayAnswer (launched_in dated.now (launching_of crew.now.launching) (RT.may_hear crew.now.rt.now)) dated.now.plan.dag dated.now.runs)
+        dated.now.plan.dag dated.now.runs text success) (W.written out.old) (W.written out.new)) }
+    ensures journal { KeepsJournal
+        (MayAnswer (launched_in dated.now (launching_of crew.now.launching) (RT.may_hear crew.now.rt.now)) dated.now.plan.dag dated.now.runs)
+        dated.now.plan.dag dated.now.runs (head_text dated.now.plan.dag dated.now.runs [])
+        journal.held.items (D.written journal.device) (D.written result.device) }
+{
+    let backfill = Backfill {
+        plan: &dated.plan,
+        runs: &dated.runs,
+        before: &NothingKept,
+        cleared: &[],
+    };
+    let crew = crew.at(&dated.clocks);
+    record_backfill(&crew, &backfill, None, journal, out)
 }

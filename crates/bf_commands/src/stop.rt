@@ -1,19 +1,19 @@
 //! What is told of a backfill that stopped.
-ghost use Rattle.std.specs.Prelude.{◌≡◌, false};
-ghost use Rattle.bf_xcom.specs.declared.values.Given.{Given as GivenTerm};
-ghost use Rattle.bf_process.specs.Words.{MayGiveUp};
+ghost use Rattle.std.specs.Prelude.{◌≡◌, IfSome, false, option_map};
 ghost use Rattle.bf_core.specs.Answered.{MayFault};
 ghost use Rattle.bf_exec.specs.Faults.{MayFail};
+ghost use Rattle.bf_commands.specs.Journaled.{IsToldAt, IsToldOfRecorded};
 ghost use Rattle.bf_commands.specs.OverTable.{IsUnsent, IsWantingWorkers};
-ghost use Rattle.bf_commands.specs.Programs.{IsGivenUp, IsToldOf, launched_lost};
+ghost use Rattle.bf_commands.specs.Programs.{IsGivenUp, IsToldOf};
 
-use crate::crew::Crew;
 use bf_command_fault::{CommandFault, StopFault};
 use bf_core::BackfillFault;
-use bf_interval::Interval;
+use bf_failure::{context_of, log_path};
+use bf_interval::Runs;
+use bf_journal::{Stop, id_of};
 use bf_plan::Plan;
-use bf_process::Starter;
-use bf_value::JobName;
+use bf_value::{JobName, Text};
+use std::alloc::Global;
 
 /// What stopped the calling thread, where a table answers its tries: memory is wanting, and no try is given up.
 pub(crate) fn stopped_alone(fault: &BackfillFault) -> CommandFault
@@ -39,41 +39,108 @@ pub(crate) fn stopped_over_table(fault: &BackfillFault) -> CommandFault
     }
 }
 
-/// The fault of a try that was given up.
-fn given_up<RT: Starter>(
-    crew: &Crew<'_, RT>,
-    plan: &Plan,
-    intervals: &[Interval],
-    name: JobName,
-) -> CommandFault
-    requires { (given : GivenTerm) × MayGiveUp (launched_lost crew.now.launcher (RT.may_lose crew.now.rt.now)) plan.now.dag intervals.now name given }
-    ensures told { IsGivenUp plan.now.dag name result }
-    ensures unsent { IsUnsent result }
-{
-    match plan.dag().task(name.task).id.copy(crew.alloc) {
-        Ok(task) => CommandFault::Stopped(StopFault::GaveUp {
-            task,
-            index: name.index,
-            attempt: name.attempt,
-        }),
-        Err(_) => CommandFault::OutOfMemory,
+/// The backfill that stopped, the folder of its logs, where they are kept, and whether one of them couldn't be made.
+#[derive(Drop)]
+pub(crate) struct Stopping<'a> {
+    pub(crate) alloc: Global,
+    pub(crate) plan: &'a Plan,
+    pub(crate) runs: &'a Runs,
+    pub(crate) logs: Option<&'a str>,
+    pub(crate) cannot_log: bool,
+}
+
+impl<'a> Stopping<'a> {
+    /// The fault of a try whose logs can't be made. There is none of a try of no task or of no run, or without a folder of logs.
+    fn unlogged(&self, name: JobName) -> Option<CommandFault>
+        ensures told { IfSome result (IsGivenUp (option_map (λ l. l.now) self.now.logs) self.now.plan.now.dag self.now.runs.now name) }
+        ensures unsent { IfSome result IsUnsent }
+    {
+        let (Some(folder), Some(context)) = (self.logs, context_of(self.plan, self.runs, name))
+        else {
+            return None;
+        };
+        match log_path(self.alloc, folder, &context, ".out") {
+            Ok(path) => Some(CommandFault::Stopped(StopFault::CannotLog(Text::new(path)))),
+            Err(_) => Some(CommandFault::OutOfMemory),
+        }
+    }
+
+    /// The fault of a try whose program can't be waited for.
+    fn lost(&self, name: JobName) -> CommandFault
+        ensures told { IsGivenUp (option_map (λ l. l.now) self.now.logs) self.now.plan.now.dag self.now.runs.now name result }
+        ensures unsent { IsUnsent result }
+    {
+        match String::from_str(self.alloc, id_of(self.plan.dag(), name.task)) {
+            Ok(task) => CommandFault::Stopped(StopFault::GaveUp {
+                task: Text::new(task),
+                index: name.index,
+                attempt: name.attempt,
+            }),
+            Err(_) => CommandFault::OutOfMemory,
+        }
+    }
+
+    /// The fault of a try that was given up.
+    fn given_up(&self, name: JobName) -> CommandFault
+        ensures told { IsGivenUp (option_map (λ l. l.now) self.now.logs) self.now.plan.now.dag self.now.runs.now name result }
+        ensures unsent { IsUnsent result }
+    {
+        if !self.cannot_log {
+            return self.lost(name);
+        }
+        match self.unlogged(name) {
+            Some(fault) => fault,
+            None => self.lost(name),
+        }
     }
 }
 
 /// What stopped a backfill with the programs of the tasks.
-pub(crate) fn stopped_by_programs<RT: Starter>(
-    crew: &Crew<'_, RT>,
-    plan: &Plan,
-    intervals: &[Interval],
-    fault: &BackfillFault,
-) -> CommandFault
-    requires { MayFail (MayGiveUp (launched_lost crew.now.launcher (RT.may_lose crew.now.rt.now)) plan.now.dag intervals.now) fault.now }
-    ensures told { IsToldOf plan.now.dag fault.now result }
+pub(crate) fn stopped_by_programs(stopping: &Stopping<'_>, fault: &BackfillFault) -> CommandFault
+    ensures told { IsToldOf (option_map (λ l. l.now) stopping.now.logs) stopping.now.plan.now.dag stopping.now.runs.now fault.now result }
     ensures unsent { IsUnsent result }
 {
     match fault {
         BackfillFault::OutOfMemory => CommandFault::OutOfMemory,
         BackfillFault::Start => CommandFault::Stopped(StopFault::CannotStart),
-        BackfillFault::Runner(name) => given_up(crew, plan, intervals, *name),
+        BackfillFault::Runner(name) => stopping.given_up(*name),
+    }
+}
+
+/// Why a try was given up whose end was to be recorded: no further one was begun, or the runner gave it up.
+fn stopped_at(
+    stopping: &Stopping<'_>,
+    name: JobName,
+    stop: Option<Stop>,
+    most_failed: Option<u32>,
+) -> CommandFault
+    ensures told { IsToldAt most_failed (option_map (λ l. l.now) stopping.now.logs) stopping.now.plan.now.dag stopping.now.runs.now name result }
+    ensures unsent { IsUnsent result }
+{
+    match (stop, most_failed) {
+        (Some(Stop::WriteFailed), _) => CommandFault::Stopped(StopFault::CannotRecord),
+        (Some(Stop::OutOfMemory), _) => CommandFault::OutOfMemory,
+        (Some(Stop::EnoughFailed), Some(most)) => {
+            CommandFault::Stopped(StopFault::EnoughFailed(most))
+        }
+        _ => stopping.given_up(name),
+    }
+}
+
+/// What stopped a backfill whose tries were recorded, and of which so many may fail.
+pub(crate) fn stopped_recording(
+    stopping: &Stopping<'_>,
+    fault: &BackfillFault,
+    stop: Option<Stop>,
+    most_failed: Option<u32>,
+) -> CommandFault
+    ensures told { IsToldOfRecorded most_failed (option_map (λ l. l.now) stopping.now.logs) stopping.now.plan.now.dag stopping.now.runs.now
+        fault.now result }
+    ensures unsent { IsUnsent result }
+{
+    match fault {
+        BackfillFault::OutOfMemory => CommandFault::OutOfMemory,
+        BackfillFault::Start => CommandFault::Stopped(StopFault::CannotStart),
+        BackfillFault::Runner(name) => stopped_at(stopping, *name, stop, most_failed),
     }
 }

@@ -11,7 +11,7 @@ use Rattle.bf_core.specs.Deciding.{Decision}
 use Rattle.bf_core.specs.Events.{no_run, cell_at, cell_in, put, put_in, phase_put_in, with_phase, next_run, instance_of, change_at, change_instance, begun, ended, fresh, cell_of, decision_in, given_in, given_of, place_in, one_running, running_in, held_by, held_from, occupied, has_room, IsPresent, IsDecidable, IsEnabled, after, empty_runs, start, undecided_cells}
 use Rattle.bf_core.specs.Running.{running_by_place, running_now, running_tries, sum_by_place, sum_of_running, while_running}
 use Rattle.bf_core.specs.Cores.{Backfill, GoesOn, IsReplay}
-use Rattle.bf_core.proofs.Steps.{decided-held}
+use Rattle.bf_core.proofs.Decided.{decided-held}
 use Rattle.bf_core.proofs.Shape.{IsShaped, row_in, open-run}
 use Rattle.bf_core.proofs.Pools.{not-running, in-row, decide_in}
 use Rattle.bf_core.proofs.Waiting.{never-stuck-in-time}

@@ -1,5 +1,5 @@
 //! The core: the state of a backfill, the events that led to it, and what one more event does.
-ghost use Rattle.std.specs.Prelude.{◌≡◌, length, OnOk, OnErr, IfOk, IfErr, IfSome, IfNone};
+ghost use Rattle.std.specs.Prelude.{◌≡◌, OnOk, OnErr, IfOk, IfErr, IfSome, IfNone};
 ghost use Rattle.bf_core.specs.Events.{next_run, decision_in};
 ghost use Rattle.bf_core.specs.Cores.{deciding, opening, HasCome, IsRefusal, MayCome};
 ghost use Rattle.bf_core.specs.Tries.{IsBeginning};
@@ -12,9 +12,9 @@ use crate::opening::unopened_runs;
 use crate::places::place_of;
 use crate::state::{RunPhase, State};
 use crate::trying::Change;
-use bf_interval::Runs;
 use bf_plan::{Demand, Plan};
 use bf_pool::{NoRoom, Pools};
+use bf_runs::RunCount;
 use bf_try::Ledger;
 use bf_value::{JobName, OutOfMemory};
 use bf_xcom::RunState;
@@ -60,8 +60,12 @@ impl<'a> Model for Core<'a> {
 
 impl<'a> Core<'a> {
     /// The core of a plan over these runs, of which nothing has happened yet.
-    pub fn new(alloc: Global, plan: &'a Plan, runs: &Runs) -> Result<Core<'a>, OutOfMemory>
-        ensures { IfOk result (λ core. core ≡ opening plan.entry.now.dag plan.entry.now.limits (length runs.now)) }
+    pub fn new<R: RunCount>(
+        alloc: Global,
+        plan: &'a Plan,
+        runs: &R,
+    ) -> Result<Core<'a>, OutOfMemory>
+        ensures { IfOk result (λ core. core ≡ opening plan.entry.now.dag plan.entry.now.limits (R.runs runs.now)) }
     {
         let count = runs.count();
         let cells = unopened_runs(alloc, plan.dag().tasks.len(), count)?;

@@ -25,5 +25,6 @@ mod spec;
 pub use field::Field;
 pub use item::Item;
 pub use laws::{fires_in_each_leap_year, item_form, schedule_form};
+pub use matching::{Matches, Scheduled};
 pub use minutes::{DATES, date_of, minute_of};
 pub use spec::{CronFault, CronSpec};

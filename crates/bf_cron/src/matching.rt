@@ -62,17 +62,6 @@ impl CronSpec {
         reading::spec(minute, hour, day, month, weekday).ok_or(CronFault::Bad)
     }
 
-    /// Whether the schedule has the date. Where both day and weekday are restricted either suffices, else both must
-    /// match (crontab(5)).
-    pub fn has_date(&self, date: Date) -> bool
-        ensures { result ≡ spec_has_date self.now date }
-    {
-        if !has(self.months, month_number(date)) {
-            return false;
-        }
-        self.has_day(day_number(date), weekday_number(date))
-    }
-
     fn has_weekday(&self, weekday: u8) -> bool
         requires { weekday < 7 }
         ensures { result ≡ spec_on_weekday self.now weekday }
@@ -108,14 +97,64 @@ impl CronSpec {
     {
         has(self.minutes, minute)
     }
+}
+
+/// What has a schedule, as a schedule itself.
+pub trait Scheduled {
+    ghost use Rattle.bf_cron.specs.declared.spec.CronSpec.{CronSpec};
+
+    ghost spec: { Self → CronSpec };
+
+    fn schedule(&self) -> &CronSpec
+        ensures { result.now ≡ spec self.now };
+}
+
+impl Scheduled for CronSpec {
+    ghost spec = { λ s. s };
+
+    fn schedule(&self) -> &CronSpec {
+        self
+    }
+}
+
+/// Which dates and civil minutes a schedule has. They are methods of a trait that is implemented for no type by its name,
+/// so that a crate that holds a schedule, and asks for no date, has no calendar in its interface.
+pub trait Matches: Scheduled {
+    /// Whether the schedule has the date. Where both day and weekday are restricted either suffices, else both must
+    /// match (crontab(5)).
+    fn has_date(&self, date: Date) -> bool
+        ensures { result ≡ spec_has_date (Self.spec self.now) date };
 
     /// Whether the schedule has the civil minute. Only its minute, hour, day, month and weekday count.
-    pub fn matches(&self, at: DateTime) -> bool
-        ensures value { result ≡ spec_matches self.now at }
-        ensures rule { (s : Schedule) → Keeps self.now s → spec_matches self.now at ≡ matches s at }
-    {
-        self.has_minute(minute_number(at))
-            && self.has_hour(hour_number(at))
-            && self.has_date(at.date())
+    fn matches(&self, at: DateTime) -> bool
+        ensures value { result ≡ spec_matches (Self.spec self.now) at }
+        ensures rule { (s : Schedule) → Keeps (Self.spec self.now) s → spec_matches (Self.spec self.now) at ≡ matches s at };
+}
+
+impl<S: Scheduled> Matches for S {
+    fn has_date(&self, date: Date) -> bool {
+        is_on_date(self.schedule(), date)
     }
+
+    fn matches(&self, at: DateTime) -> bool {
+        is_at(self.schedule(), at)
+    }
+}
+
+fn is_on_date(spec: &CronSpec, date: Date) -> bool
+    ensures { result ≡ spec_has_date spec.now date }
+{
+    if !has(spec.months, month_number(date)) {
+        return false;
+    }
+    spec.has_day(day_number(date), weekday_number(date))
+}
+
+fn is_at(spec: &CronSpec, at: DateTime) -> bool
+    ensures value { result ≡ spec_matches spec.now at }
+    ensures rule { (s : Schedule) → Keeps spec.now s → spec_matches spec.now at ≡ matches s at }
+{
+    spec.has_minute(minute_number(at))
+        && spec.has_hour(hour_number(at))
+        && is_on_date(spec, at.date())
 }

@@ -4,6 +4,7 @@ ghost use Rattle.jiff.specs.Words.{time_nanos};
 ghost use Rattle.bf_cron.specs.Cron.{spec_has_time};
 ghost use Rattle.bf_cron.specs.Minutes.{IsMinute, IsDay, NeverFires};
 
+use crate::matching::Matches;
 use crate::spec::CronSpec;
 use jiff::civil::{Date, DateTime};
 use jiff_core::civil;

@@ -16,7 +16,7 @@ use Rattle.bf_core.specs.Events.{cell_at, phase_of, results, cons_result, counts
 use Rattle.bf_core.proofs.Depth.{ruling-cong}
 use Rattle.bf_core.proofs.Reading.{put-cases, with_phase-cell}
 use Rattle.bf_core.proofs.Instances.{IsUnfinished, not_yet}
-use Rattle.bf_core.proofs.Steps.{lets}
+use Rattle.bf_core.proofs.Decided.{lets}
 use Rattle.bf_core.proofs.Taken.{mapped-not}
 use Rattle.bf_core.proofs.Shape.{put-phase, phase-cases}
 

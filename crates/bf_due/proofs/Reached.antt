@@ -14,7 +14,7 @@ use Rattle.bf_core.specs.Events.{IsEnabled, IsDecidable, IsPresent, after, begun
 use Rattle.bf_core.specs.Cores.{Backfill, MayCome, moved}
 use Rattle.bf_core.proofs.Instances.{IsUnfinished, instance-kept, open-cell}
 use Rattle.bf_core.proofs.Reading.{put-cases, set-read, with_phase-cell}
-use Rattle.bf_core.proofs.Steps.{decided-held, settled-kept}
+use Rattle.bf_core.proofs.Decided.{decided-held, settled-kept}
 use Rattle.bf_core.specs.Words.{is_finished}
 use Rattle.bf_core.proofs.Numbers.{below-or, le-from, lt-from}
 use Rattle.bf_core.proofs.Sums.{finished_settled}

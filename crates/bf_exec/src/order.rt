@@ -1,5 +1,4 @@
 //! What a backfill is asked for, and what its workers share.
-use bf_interval::Runs;
 use bf_plan::Plan;
 use bf_try::{Done, RunnerFault, TaskRunner, Ticket};
 use bf_workers::Workers;
@@ -8,9 +7,9 @@ use std::thread::Parker;
 
 /// A plan, its runs, and how many workers there are.
 #[derive(Drop)]
-pub(crate) struct Order<'p, 'r> {
+pub(crate) struct Order<'p, 'r, N> {
     pub plan: &'p Plan,
-    pub runs: &'r Runs,
+    pub runs: &'r N,
     pub workers: Workers,
 }
 

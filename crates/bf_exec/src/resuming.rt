@@ -1,5 +1,5 @@
 //! A backfill by workers that goes on from kept tries.
-ghost use Rattle.std.specs.Prelude.{IfOk, IfErr, length};
+ghost use Rattle.std.specs.Prelude.{IfOk, IfErr};
 ghost use Rattle.bf_kept.specs.Kept.{AreFit, AreGradedAnew, MayGiveUpAnew};
 ghost use Rattle.bf_core.specs.Answered.{AreGraded};
 ghost use Rattle.bf_core.specs.Endings.{IsEndOf, KeepsWorkers};
@@ -10,10 +10,10 @@ ghost use Rattle.bf_exec.specs.Faults.{MayFail};
 use crate::running::run_backfill;
 use crate::watch::{Observer, Watch};
 use bf_core::{BackfillFault, Ended};
-use bf_interval::Runs;
 use bf_kept::{Keeping, KeptTries};
 use bf_lane::Clock;
 use bf_plan::Plan;
+use bf_runs::RunCount;
 use bf_try::TaskRunner;
 use bf_workers::Workers;
 use std::alloc::Global;
@@ -28,6 +28,7 @@ use std::thread::Threads;
 pub fn resume<
     'p,
     W: Threads + Wait + Sync,
+    N: RunCount,
     K: KeptTries + Sync,
     R: TaskRunner + Sync,
     C: Clock,
@@ -36,13 +37,13 @@ pub fn resume<
     rt: &W,
     alloc: Global,
     plan: &'p Plan,
-    runs: &Runs,
+    runs: &N,
     workers: Workers,
     keeping: &Keeping<'_, K, R>,
     watch: &mut Watch<C, O>,
 ) -> Result<Ended<'p>, BackfillFault>
     requires { AreFit plan.now.dag (K.kept keeping.now.kept.now) }
-    ensures of { IfOk result (IsEndOf plan.entry.now.dag plan.entry.now.limits (length runs.now)) }
+    ensures of { IfOk result (IsEndOf plan.entry.now.dag plan.entry.now.limits (N.runs runs.now)) }
     ensures again { IfOk result (λ ended.
         AreAlike (K.kept keeping.now.kept.now) (entry_in ended.state.ledger)) }
     ensures anew { IfOk result (λ ended.
@@ -53,7 +54,7 @@ pub fn resume<
         → IfOk result (λ ended. AreGraded (R.may_answer keeping.now.runner.now)
         plan.entry.now.dag (entry_in ended.state.ledger)) }
     ensures workers { IfOk result (λ ended.
-        KeepsWorkers plan.entry.now.dag (length runs.now) workers ended.journal) }
+        KeepsWorkers plan.entry.now.dag (N.runs runs.now) workers ended.journal) }
     ensures err { IfErr result (MayFail
         (MayGiveUpAnew (K.kept keeping.now.kept.now) (R.may_give_up keeping.now.runner.now))) }
 {

@@ -19,9 +19,9 @@ use crate::order::{Desk, Order, Shared};
 use crate::starting::{all_fresh, all_started};
 use crate::watch::{Observer, Watch};
 use bf_core::{BackfillFault, Core, Ended};
-use bf_interval::Runs;
 use bf_lane::{Clock, Queues, Seats, Service};
 use bf_plan::Plan;
+use bf_runs::RunCount;
 use bf_sched::Scheduler;
 use bf_try::TaskRunner;
 use bf_workers::Workers;
@@ -56,24 +56,25 @@ fn all_turns<'s, K: Service + Send + Sync + 's, W: Wait, C: Clock, O: Observer>(
 }
 
 /// Drives a backfill to its end.
-fn drive<'s, 'p, K, W, C, O>(
+fn drive<'s, 'p, K, W, N, C, O>(
     rt: &W,
     alloc: Global,
     executor: &mut Executor<'s, K>,
-    order: &Order<'p, '_>,
+    order: &Order<'p, '_, N>,
     watch: &mut Watch<C, O>,
 ) -> Result<Ended<'p>, Halt>
 where
     K: Service + Send + Sync + 's,
     W: Wait,
+    N: RunCount,
     C: Clock,
     O: Observer,
     requires lanes { length executor.old ≡ order.now.workers }
     requires unused { AreUnused executor.old }
-    ensures over { IfOk result (IsOver K.answers order.now.plan.now.dag order.now.plan.now.limits (length order.now.runs.now) order.now.workers) }
+    ensures over { IfOk result (IsOver K.answers order.now.plan.now.dag order.now.plan.now.limits (N.runs order.now.runs.now) order.now.workers) }
     ensures left { IfErr result (IsLeftBy executor.new) }
     ensures fault { IfErr result (MayHalt K.gives_up) }
-    ensures shown { IfOk result (WasShown O.shows order.now.plan.now.dag (length order.now.runs.now) watch.old.observer watch.new.observer) }
+    ensures shown { IfOk result (WasShown O.shows order.now.plan.now.dag (N.runs order.now.runs.now) watch.old.observer watch.new.observer) }
 {
     let _sound = order.plan.dag();
     let _fit = order.plan.limits();
@@ -100,27 +101,28 @@ fn fault_of(halt: Halt) -> BackfillFault
 
 /// Starts the workers, drives the backfill, and joins the workers.
 #[tactic(auto, using(crate::proofs::Closing::may_fail))]
-fn in_scope<'s, 'p, K, E, W, D, C, O>(
+fn in_scope<'s, 'p, K, E, W, D, N, C, O>(
     scope: &Scope<'s, E>,
     rt: &'s W,
     queues: &'s [Queues<K>],
     seats: Vec<Seats<K>>,
     desk: &'s D,
-    order: &Order<'p, '_>,
+    order: &Order<'p, '_, N>,
     watch: &mut Watch<C, O>,
 ) -> Result<Ended<'p>, BackfillFault>
 where
     K: Service + Send + Sync + 's,
     W: Threads + Wait + Sync,
     D: TaskRunner + Shared + Sync,
+    N: RunCount,
     C: Clock,
     O: Observer,
     requires many { length seats.items ≡ order.now.workers }
     requires fresh { AreFresh queues.now seats.items }
     requires fulfils { Fulfils (D.may_answer desk.now) (D.may_give_up desk.now) K.answers K.gives_up }
-    ensures over { IfOk result (IsOver K.answers order.now.plan.now.dag order.now.plan.now.limits (length order.now.runs.now) order.now.workers) }
+    ensures over { IfOk result (IsOver K.answers order.now.plan.now.dag order.now.plan.now.limits (N.runs order.now.runs.now) order.now.workers) }
     ensures fault { IfErr result (MayFail K.gives_up) }
-    ensures shown { IfOk result (WasShown O.shows order.now.plan.now.dag (length order.now.runs.now) watch.old.observer watch.new.observer) }
+    ensures shown { IfOk result (WasShown O.shows order.now.plan.now.dag (N.runs order.now.runs.now) watch.old.observer watch.new.observer) }
 {
     let lanes = all_started(scope, rt, queues, seats, desk)?;
     let mut executor = Executor::of(lanes);
@@ -134,20 +136,21 @@ where
 }
 
 /// Runs an order by its workers, which share the desk.
-fn run_order<'p, K, W, D, C, O>(
+fn run_order<'p, K, W, D, N, C, O>(
     rt: &W,
     desk: &D,
-    order: &Order<'p, '_>,
+    order: &Order<'p, '_, N>,
     watch: &mut Watch<C, O>,
 ) -> Result<Ended<'p>, BackfillFault>
 where
     K: Service + Send + Sync,
     W: Threads + Wait + Sync,
     D: TaskRunner + Shared + Sync,
+    N: RunCount,
     C: Clock,
     O: Observer,
     requires { Fulfils (D.may_answer desk.now) (D.may_give_up desk.now) K.answers K.gives_up }
-    ensures over { IfOk result (IsOver K.answers order.now.plan.now.dag order.now.plan.now.limits (length order.now.runs.now) order.now.workers) }
+    ensures over { IfOk result (IsOver K.answers order.now.plan.now.dag order.now.plan.now.limits (N.runs order.now.runs.now) order.now.workers) }
     ensures fault { IfErr result (MayFail K.gives_up) }
 {
     let (queues, seats) = all_fresh::<K>(desk.alloc(), order.workers)?;
@@ -159,7 +162,7 @@ where
             requires many { length seats.items ≡ order.now.workers }
             requires fresh { AreFresh rows.now seats.items }
             requires fulfils { Fulfils (D.may_answer desk.now) (D.may_give_up desk.now) K.answers K.gives_up }
-            ensures over { IfOk result (IsOver K.answers order.entry.now.plan.now.dag order.entry.now.plan.now.limits (length order.entry.now.runs.now) order.entry.now.workers) }
+            ensures over { IfOk result (IsOver K.answers order.entry.now.plan.now.dag order.entry.now.plan.now.limits (N.runs order.entry.now.runs.now) order.entry.now.workers) }
             ensures fault { IfErr result (MayFail K.gives_up) }
         { in_scope(scope, rt, rows, seats, desk, order, watch) },
     );
@@ -171,20 +174,27 @@ where
 /// begins, those that run are waited for, and all threads have ended.
 ///
 /// A try that the runner gives up is the fault `Runner`, and a thread that can't be started is `Start`.
-pub fn run_backfill<'p, W: Threads + Wait + Sync, R: TaskRunner + Sync, C: Clock, O: Observer>(
+pub fn run_backfill<
+    'p,
+    W: Threads + Wait + Sync,
+    N: RunCount,
+    R: TaskRunner + Sync,
+    C: Clock,
+    O: Observer,
+>(
     rt: &W,
     alloc: Global,
     plan: &'p Plan,
-    runs: &Runs,
+    runs: &N,
     workers: Workers,
     runner: &R,
     watch: &mut Watch<C, O>,
 ) -> Result<Ended<'p>, BackfillFault>
-    ensures of { IfOk result (IsEndOf plan.entry.now.dag plan.entry.now.limits (length runs.now)) }
+    ensures of { IfOk result (IsEndOf plan.entry.now.dag plan.entry.now.limits (N.runs runs.now)) }
     ensures graded { IfOk result (λ ended.
         AreGraded (R.may_answer runner.now) plan.entry.now.dag (entry_in ended.state.ledger)) }
     ensures workers { IfOk result (λ ended.
-        KeepsWorkers plan.entry.now.dag (length runs.now) workers ended.journal) }
+        KeepsWorkers plan.entry.now.dag (N.runs runs.now) workers ended.journal) }
     ensures err { IfErr result (MayFail (R.may_give_up runner.now)) }
 {
     let desk = Desk {
@@ -197,5 +207,5 @@ pub fn run_backfill<'p, W: Threads + Wait + Sync, R: TaskRunner + Sync, C: Clock
         runs,
         workers,
     };
-    run_order::<Brand, W, Desk<'_, R>, C, O>(rt, &desk, &order, watch)
+    run_order::<Brand, W, Desk<'_, R>, N, C, O>(rt, &desk, &order, watch)
 }

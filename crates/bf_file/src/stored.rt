@@ -9,12 +9,12 @@ use crate::replacement::Replacement;
 use bf_value::{Sequence, Text};
 use std::alloc::Global;
 
-/// A new file in memory, which is the calls that were made of it.
+/// A new file in memory, which is the calls that were made of it and went well.
 #[derive(Drop)]
 pub struct StoredNew {
     alloc: Global,
-    calls: Sequence<Call>,
-    failed: bool,
+    pub calls: Sequence<Call>,
+    pub failed: bool,
 }
 
 /// A folder in memory, which tells all: that a folder can do so and keep the clauses of `Folder` is proved of it. A call that finds no

@@ -1,6 +1,8 @@
 -- The shape of a graph, which is what contracts see of it.
-use Rattle.std.specs.Prelude.{◌≡◌, ℕ, ◌<◌, ◌≤◌, ◌+◌, ◌^◌, Bool, List, length, map, String, string_bytes, Vec}
+use Rattle.std.specs.Prelude.{◌≡◌, ℕ, ◌<◌, ◌≤◌, ◌+◌, ◌^◌, Bool, List, length, map, position, String, string_bytes, Vec}
+use Rattle.std.specs.BTreeMap.{BTreeMap, get_by_text}
 use Rattle.std.specs.List.{slice_index_or}
+use Rattle.std.specs.Str.{bytes_eq}
 use Rattle.std.specs.declared.alloc.Global.{Global}
 use Rattle.bf_value.specs.Distinct.{AreDistinct}
 use Rattle.bf_graph.specs.Edges.{lists, AreInRange, IsRank}
@@ -16,10 +18,9 @@ pub record Shape : Type 0 where
 abbrev pub texts : List (String Global) → List (List ℕ)
 texts ss = map string_bytes ss
 
--- the ids of the tasks of a graph
-pub record AreIds (ids : List (List ℕ)) : Type 0 where
-  pub distinct : AreDistinct ids
-  pub few : length ids + 1 < 2 ^ 32
+-- a map has the number of each id, and no other
+abbrev pub AreNumbersOf : List (List ℕ) → BTreeMap (String Global) ℕ → Type 0
+AreNumbersOf ids numbers = (id : List ℕ) → get_by_text numbers id ≡ position (bytes_eq id) ids
 
 -- the rank of each task
 pub record HasRanks (ups : List (List ℕ)) (ranks : List ℕ) : Type 0 where

@@ -2,28 +2,30 @@
 ghost use Rattle.std.specs.Prelude.{◌≡◌, ◌<◌, ◌+◌, ◌^◌, length, position, slice_get, Some, IfOk};
 ghost use Rattle.std.specs.Str.{bytes_eq};
 ghost use Rattle.bf_value.specs.Distinct.{AreDistinct};
-ghost use Rattle.bf_graph.specs.Shape.{texts};
+ghost use Rattle.bf_graph.specs.Shape.{texts, AreNumbersOf};
 
 use bf_value::OutOfMemory;
-use indexmap::IndexSet;
 use std::alloc::Global;
+use std::collections::BTreeMap;
 use std::marker::Model;
 
 /// The distinct ids of tasks, which number them in order. Contracts see the list of them.
 #[derive(Drop)]
 pub struct Ids {
-    set: IndexSet<String>,
+    ids: Vec<String>,
+    /// The number of each id. A tree of std, and no `IndexSet`, since all that a crate holds is read where others build on it.
+    numbers: BTreeMap<String, u32>,
 }
 
 impl Model for Ids {
     ghost use Rattle.std.specs.Prelude.{List, ℕ};
-    ghost use Rattle.bf_graph.specs.Shape.{texts, AreIds};
+    ghost use Rattle.bf_graph.specs.Shape.{texts, AreNumbersOf};
 
     ghost Value = { List (List ℕ) };
 
-    ghost view = { λ ids. texts ids.set.keys };
+    ghost view = { λ i. texts i.ids.items };
 
-    ghost invariant = { λ ids. AreIds (texts ids.set.keys) };
+    ghost invariant = { λ i. AreNumbersOf (texts i.ids.items) i.numbers };
 }
 
 impl Ids {
@@ -33,15 +35,15 @@ impl Ids {
         requires few { length ids.items + 1 < 2 ^ 32 }
         ensures { IfOk result (λ numbered. numbered ≡ texts ids.items) }
     {
-        let set = set_of(alloc, ids)?;
-        Ok(Ids { set })
+        let numbers = numbers_of(alloc, ids.as_slice())?;
+        Ok(Ids { ids, numbers })
     }
 
     /// The number of an id.
     pub fn number_of(&self, id: &str) -> Option<u32>
         ensures { result ≡ position (bytes_eq id.now) self.now }
     {
-        self.set.get_index_of(id).map(|number| number as u32)
+        self.numbers.get(id).copied()
     }
 
     /// The id with a number.
@@ -49,18 +51,19 @@ impl Ids {
         requires { number < length self.now }
         ensures { slice_get self.now number ≡ Some result.now }
     {
-        self.set.as_slice()[number as usize].as_str()
+        self.ids[number as usize].as_str()
     }
 }
 
-/// Ids as a set that numbers them in order.
-fn set_of(alloc: Global, ids: Vec<String>) -> Result<IndexSet<String>, OutOfMemory>
-    requires { AreDistinct (texts ids.items) }
-    ensures { IfOk result (λ set. set.keys ≡ ids.items) }
+/// The number of each id.
+fn numbers_of(alloc: Global, ids: &[String]) -> Result<BTreeMap<String, u32>, OutOfMemory>
+    requires distinct { AreDistinct (texts ids.now) }
+    requires few { length ids.now + 1 < 2 ^ 32 }
+    ensures { IfOk result (AreNumbersOf (texts ids.now)) }
 {
-    let mut set = IndexSet::new(alloc);
-    for id in ids {
-        set.insert(id)?;
+    let mut numbers = BTreeMap::new(alloc);
+    for (number, id) in ids.iter().enumerate() {
+        numbers.insert(id.clone()?, number as u32)?;
     }
-    Ok(set)
+    Ok(numbers)
 }

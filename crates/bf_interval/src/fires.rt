@@ -7,7 +7,7 @@ ghost use Rattle.bf_interval.specs.Search.{seconds, Collects, IsSettled, AreFirs
 
 use crate::listing::MOST_RUNS;
 use crate::rising::{place_above, put};
-use bf_cron::{CronSpec, DATES, date_of, minute_of};
+use bf_cron::{CronSpec, DATES, Matches, date_of, minute_of};
 use jiff::civil::DateTime;
 use jiff::tz::TimeZone;
 use std::alloc::{AllocError, Global};

@@ -11,6 +11,7 @@ use crate::interval::Interval;
 use crate::listing::intervals;
 use crate::years::is_in_years;
 use bf_cron::CronSpec;
+use bf_runs::RunCount;
 use jiff::Timestamp;
 use jiff::tz::TimeZone;
 use std::alloc::Global;
@@ -89,5 +90,13 @@ impl Runs {
         ensures few { result ≤ 4_096 }
     {
         self.intervals.len()
+    }
+}
+
+impl RunCount for Runs {
+    ghost runs = { λ runs. length runs };
+
+    fn count(&self) -> usize {
+        Runs::count(self)
     }
 }

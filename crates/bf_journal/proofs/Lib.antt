@@ -1,4 +1,4 @@
-mod Going
+pub mod Going
 mod Cutting
 mod Finding
 mod Telling
@@ -9,6 +9,9 @@ mod Lasting
 mod Passing
 mod Heading
 mod Wholes
-mod Naming
-mod Crashes
+pub mod Naming
+pub mod Crashes
+pub mod Left
 mod Leaving
+pub mod Answering
+pub mod Sharing

@@ -5,4 +5,6 @@ pub mod Recording
 pub mod Tells
 pub mod Found
 pub mod Retrying
+pub mod Since
 pub mod Cuts
+pub mod Left

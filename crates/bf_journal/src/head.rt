@@ -20,7 +20,7 @@ const VERSION: i64 = 1;
 
 /// The id of a task, which is empty where there is no such task.
 #[tactic(auto, unfolding(bf_plan::specs::Plans::task_of))]
-fn id_of(dag: &Dag, task: u32) -> &str
+pub fn id_of(dag: &Dag, task: u32) -> &str
     ensures { result.now ≡ (task_of dag.now task).id }
 {
     match dag.tasks.get(task as usize) {

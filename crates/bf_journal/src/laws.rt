@@ -14,6 +14,7 @@ ghost use Rattle.bf_journal.specs.Records.{IsTellable};
 ghost use Rattle.bf_journal.specs.Tells.{TellAll};
 ghost use Rattle.bf_journal.specs.Recording.{IsRecordBy, IsWritten};
 ghost use Rattle.bf_journal.specs.Retrying.{without_failed};
+ghost use Rattle.bf_journal.specs.Left.{IsLeftByCrashes};
 ghost use Rattle.bf_journal.specs.Cuts.{AreAllTold, IsCutJournal, KeepsGraded, ReadsWholeOnes};
 
 use bf_try::TaskRunner;
@@ -61,4 +62,13 @@ pub fn what_is_left_is_kept()
     ensures part { (dag : DagTerm) (kept : Look) (n : JobNameTerm) (e : EntryTerm)
         → without_failed dag kept n ≡ Some e → kept n ≡ Some e }
     ensures fit { (dag : DagTerm) (kept : Look) → AreFit dag kept → AreFit dag (without_failed dag kept) }
+{}
+
+/// No byte is what crashes leave of a journal, and so is each beginning of what they leave.
+pub fn what_crashes_leave_may_be_cut<R: TaskRunner>(runner: &R)
+    ensures nothing { (dag : DagTerm) (intervals : List IntervalTerm) (head : List ℕ)
+        → IsLeftByCrashes (R.may_answer runner.now) dag intervals head [] }
+    ensures cut { (dag : DagTerm) (intervals : List IntervalTerm) (head held : List ℕ) (n : ℕ)
+        → IsLeftByCrashes (R.may_answer runner.now) dag intervals head held
+        → IsLeftByCrashes (R.may_answer runner.now) dag intervals head (take n held) }
 {}

@@ -7,6 +7,7 @@
 //! or `WithoutFailed` ones. The laws say that what is read of any beginning of a journal is what was written there.
 #![tactic(auto)]
 
+mod cuttable;
 mod durable;
 mod fault;
 mod field;
@@ -21,24 +22,29 @@ mod recorder;
 mod recording;
 mod retrying;
 mod run;
+mod since;
 mod stop;
 mod times;
 mod told;
 mod tried;
 mod value;
+mod whole;
 
+pub use cuttable::Cuttable;
 pub use durable::Durable;
 pub use fault::JournalFault;
 pub use found::{Found, read_journal};
-pub use head::head_of;
+pub use head::{head_of, id_of};
 pub use journaled::Journaled;
 pub use laws::{
     cut_journals_keep_graded_tries, journals_are_cut_and_gone_on_with, journals_tell_one_list,
-    what_is_left_is_kept, whole_records_are_read,
+    what_crashes_leave_may_be_cut, what_is_left_is_kept, whole_records_are_read,
 };
 pub use record::record_of;
 pub use recorder::Recorder;
 pub use recording::Recording;
 pub use retrying::WithoutFailed;
+pub use since::Since;
 pub use stop::Stop;
 pub use times::Times;
+pub use whole::is_made_whole;

@@ -2,7 +2,7 @@
 ghost use Rattle.std.specs.Prelude.{◌≡◌, option_copied};
 ghost use Rattle.std.specs.FinMap as map;
 ghost use Rattle.bf_plan.specs.Plans.{task_of};
-ghost use Rattle.bf_journal.specs.Retrying.{has_failed, has_passed, some_passed, with_attempt};
+ghost use Rattle.bf_journal.specs.Retrying.{has_failed, has_passed, some_passed, with_attempt, without_failed};
 
 use bf_kept::KeptTries;
 use bf_plan::{Dag, Plan};
@@ -63,22 +63,35 @@ fn some_passed_in(plan: &Plan, tries: &Ledger, name: JobName) -> bool
     (1..last + 1).any(|attempt| passed_at(tries, name, attempt))
 }
 
+impl<'a> WithoutFailed<'a> {
+    /// What is kept of the try of a name.
+    #[tactic(auto, unfolding(crate::specs::Retrying::without_failed))]
+    pub(crate) fn entry(&self, name: JobName) -> Option<&'a Entry>
+        ensures { option_copied result ≡ without_failed self.now.plan.now.dag (map.get self.now.tries.now) name }
+    {
+        let entry = self.tries.get(name);
+        if has_failed_in(entry) && !some_passed_in(self.plan, self.tries, name) {
+            return None;
+        }
+        entry
+    }
+}
+
 impl KeptTries for WithoutFailed<'_> {
     ghost use Rattle.std.specs.FinMap as map;
     ghost use Rattle.bf_journal.specs.Retrying.{without_failed};
 
     ghost kept = { λ s. without_failed s.plan.now.dag (map.get s.tries.now) };
 
-    #[tactic(auto, unfolding(crate::specs::Retrying::without_failed))]
     fn answer(
         &self,
         alloc: Global,
         name: JobName,
         given: &Given,
     ) -> Result<Option<Raw>, OutOfMemory> {
-        if has_failed_in(self.tries.get(name)) && !some_passed_in(self.plan, self.tries, name) {
-            return Ok(None);
+        match self.entry(name) {
+            Some(_) => self.tries.answer(alloc, name, given),
+            None => Ok(None),
         }
-        self.tries.answer(alloc, name, given)
     }
 }

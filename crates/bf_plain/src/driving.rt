@@ -1,5 +1,5 @@
 //! A backfill, driven to its end.
-ghost use Rattle.std.specs.Prelude.{◌≡◌, ◌+◌, length, true, false, OnOk, IfOk, IfErr};
+ghost use Rattle.std.specs.Prelude.{◌≡◌, ◌+◌, true, false, OnOk, IfOk, IfErr};
 ghost use Rattle.bf_core.specs.Answered.{AreGraded, MayFault};
 ghost use Rattle.bf_core.specs.Driven.{IsOver};
 ghost use Rattle.bf_core.specs.Endings.{IsEndOf, KeepsWorkers};
@@ -11,8 +11,8 @@ ghost use Rattle.bf_plain.specs.Driving.{IsIdle, IsLonger, fault_by};
 ghost use Rattle.bf_plain.specs.Ticks.{TicksSo, TicksToFirstMoments};
 
 use bf_core::{BackfillFault, Core, Ended, Illegal};
-use bf_interval::Runs;
 use bf_plan::Plan;
+use bf_runs::RunCount;
 use bf_sched::{Next, Scheduler};
 use bf_try::{Done, RunnerFault, TaskRunner, Ticket};
 use bf_value::OutOfMemory;
@@ -117,16 +117,16 @@ fn all_turns<R: TaskRunner>(runner: &R, scheduler: &mut Scheduler<'_>) -> Result
 }
 
 /// Drives a backfill from its start to its end.
-fn drive<'p, R: TaskRunner>(
+fn drive<'p, N: RunCount, R: TaskRunner>(
     alloc: Global,
     plan: &'p Plan,
-    runs: &Runs,
+    runs: &N,
     runner: &R,
 ) -> Result<Ended<'p>, BackfillFault>
-    ensures over { IfOk result (IsOver (R.may_answer runner.now) plan.entry.now.dag plan.entry.now.limits (length runs.now) 1) }
+    ensures over { IfOk result (IsOver (R.may_answer runner.now) plan.entry.now.dag plan.entry.now.limits (N.runs runs.now) 1) }
     ensures err { IfErr result (MayFault (R.may_give_up runner.now)) }
     ensures ticks { IfOk result (λ ended.
-        TicksToFirstMoments plan.entry.now.dag plan.entry.now.limits (length runs.now) ended.journal) }
+        TicksToFirstMoments plan.entry.now.dag plan.entry.now.limits (N.runs runs.now) ended.journal) }
 {
     let _sound = plan.dag();
     let _fit = plan.limits();
@@ -141,20 +141,20 @@ fn drive<'p, R: TaskRunner>(
 
 /// The end of a backfill of a plan over these runs, whose tries the runner answers, one after the other in this thread. A
 /// try that waits for a moment is made once nothing else is left to do, and no time passes.
-pub fn one_by_one<'p, R: TaskRunner>(
+pub fn one_by_one<'p, N: RunCount, R: TaskRunner>(
     alloc: Global,
     plan: &'p Plan,
-    runs: &Runs,
+    runs: &N,
     runner: &R,
 ) -> Result<Ended<'p>, BackfillFault>
-    ensures of { IfOk result (IsEndOf plan.entry.now.dag plan.entry.now.limits (length runs.now)) }
+    ensures of { IfOk result (IsEndOf plan.entry.now.dag plan.entry.now.limits (N.runs runs.now)) }
     ensures graded { IfOk result (λ ended.
         AreGraded (R.may_answer runner.now) plan.entry.now.dag (entry_in ended.state.ledger)) }
     ensures workers { IfOk result (λ ended.
-        KeepsWorkers plan.entry.now.dag (length runs.now) 1 ended.journal) }
+        KeepsWorkers plan.entry.now.dag (N.runs runs.now) 1 ended.journal) }
     ensures err { IfErr result (MayFault (R.may_give_up runner.now)) }
     ensures ticks { IfOk result (λ ended.
-        TicksToFirstMoments plan.entry.now.dag plan.entry.now.limits (length runs.now) ended.journal) }
+        TicksToFirstMoments plan.entry.now.dag plan.entry.now.limits (N.runs runs.now) ended.journal) }
 {
     drive(alloc, plan, runs, runner)
 }

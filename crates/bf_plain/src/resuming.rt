@@ -1,5 +1,5 @@
 //! A backfill by one worker that goes on from kept tries.
-ghost use Rattle.std.specs.Prelude.{IfOk, IfErr, length};
+ghost use Rattle.std.specs.Prelude.{IfOk, IfErr};
 ghost use Rattle.bf_kept.specs.Kept.{AreFit, AreGradedAnew, MayGiveUpAnew};
 ghost use Rattle.bf_core.specs.Answered.{AreGraded, MayFault};
 ghost use Rattle.bf_core.specs.Endings.{IsEndOf, KeepsWorkers};
@@ -8,22 +8,22 @@ ghost use Rattle.bf_core.specs.Terms.{AreAlike};
 
 use crate::driving::one_by_one;
 use bf_core::{BackfillFault, Ended};
-use bf_interval::Runs;
 use bf_kept::{Keeping, KeptTries};
 use bf_plan::Plan;
+use bf_runs::RunCount;
 use bf_try::TaskRunner;
 use std::alloc::Global;
 
 /// The end of a backfill of a plan over these runs, of which tries are kept: a try that is kept, and is given the same
 /// again, ends as it did and is never given up, and the runner answers every other. All else is as in `one_by_one`.
-pub fn resume_one_by_one<'p, K: KeptTries, R: TaskRunner>(
+pub fn resume_one_by_one<'p, N: RunCount, K: KeptTries, R: TaskRunner>(
     alloc: Global,
     plan: &'p Plan,
-    runs: &Runs,
+    runs: &N,
     keeping: &Keeping<'_, K, R>,
 ) -> Result<Ended<'p>, BackfillFault>
     requires { AreFit plan.now.dag (K.kept keeping.now.kept.now) }
-    ensures of { IfOk result (IsEndOf plan.entry.now.dag plan.entry.now.limits (length runs.now)) }
+    ensures of { IfOk result (IsEndOf plan.entry.now.dag plan.entry.now.limits (N.runs runs.now)) }
     ensures again { IfOk result (λ ended.
         AreAlike (K.kept keeping.now.kept.now) (entry_in ended.state.ledger)) }
     ensures anew { IfOk result (λ ended.
@@ -34,7 +34,7 @@ pub fn resume_one_by_one<'p, K: KeptTries, R: TaskRunner>(
         → IfOk result (λ ended. AreGraded (R.may_answer keeping.now.runner.now)
         plan.entry.now.dag (entry_in ended.state.ledger)) }
     ensures workers { IfOk result (λ ended.
-        KeepsWorkers plan.entry.now.dag (length runs.now) 1 ended.journal) }
+        KeepsWorkers plan.entry.now.dag (N.runs runs.now) 1 ended.journal) }
     ensures err { IfErr result (MayFault
         (MayGiveUpAnew (K.kept keeping.now.kept.now) (R.may_give_up keeping.now.runner.now))) }
 {

@@ -1,1 +1,3 @@
 mod Held
+mod Picked
+mod Variables

@@ -1,71 +1,125 @@
--- The words that are started for a try, and what may come of them.
-use Rattle.std.specs.Prelude.{◌≡◌, ℕ, pos, List, [], ◌∷◌, Option, None, Some, slice_get}
+-- What is started for a try, and what may come of it.
+use Rattle.std.specs.Prelude.{◌≡◌, ℕ, ℤ, pos, List, [], ◌∷◌, codes, map, Option, None, Some, option_map, slice_get, string_bytes}
 use Rattle.bf_value.specs.declared.name.JobName.{JobName}
 use Rattle.bf_plan.specs.declared.plan.Task.{Task}
 use Rattle.bf_plan.specs.declared.plan.Dag.{Dag}
 use Rattle.bf_interval.specs.declared.interval.Interval.{Interval}
-use Rattle.bf_xcom.specs.declared.context.JobContext.{JobContext}
+use Rattle.bf_words.specs.declared.context.JobContext.{JobContext}
 use Rattle.bf_xcom.specs.declared.values.Given.{Given}
-use Rattle.bf_xcom.specs.Words.{words_of}
+use Rattle.bf_words.specs.Words.{words_of}
 use Rattle.bf_try.specs.declared.answers.Exit.{Exit}
 use Rattle.bf_try.specs.declared.answers.Line.{Line}
 use Rattle.bf_try.specs.declared.answers.Raw.{Raw}
+use Rattle.bf_failure.specs.Tried.{IsContext, log_of}
+use Rattle.bf_process.specs.declared.launching.Launching.{Launching}
+use Rattle.bf_process.specs.declared.setting.Setting.{Setting}
+use Rattle.bf_process.specs.Clocks.{clock_of}
+use Rattle.bf_process.specs.Environment.{environment_of}
 use Rattle.bf_process.specs.Output.{not_started}
 
--- what contracts see of a runner: what starts its programs, the tasks, the runs' data intervals, and the path of its launcher
+-- ---- what is started
+
+-- a program that is started: its words, of which the first names it, and the variables that are added to the environment of this process
+pub record Launched : Type 0 where
+  pub words : List (List ℕ)
+  pub variables : List (List ℕ × List ℕ)
+
+-- the variables that are added in a setting
+abbrev pub variables_in : Setting → List (List ℕ × List ℕ)
+variables_in setting = environment_of setting.context.now setting.clock.now.at.nanosecond (option_map (λ logs. string_bytes logs.now.given) setting.logs)
+
+-- what is started by these words in a setting
+abbrev pub launched_in : Setting → List (List ℕ) → Launched
+launched_in setting words = record { words = words; variables = variables_in setting }
+
+-- the words of a try, the try as they see it, and the number of its run
+pub record Tried : Type 0 where
+  pub words : List (List ℕ)
+  pub context : JobContext
+  pub run : ℕ
+
+-- how tries are launched: the path of the launcher that words are handed to, where there is one; the folder of the logs, where they are
+-- kept; and what the clocks of the graph's zone show at the moments of runs
+pub record LaunchingOf : Type 0 where
+  pub launcher : Option (List ℕ)
+  pub logs : Option (List ℕ)
+  pub clocks : List ℤ
+
+abbrev pub launching_of : Launching → LaunchingOf
+launching_of launching = record {
+  launcher = option_map (λ path. path.now) launching.launcher;
+  logs = option_map (λ folder. folder.now) launching.logs;
+  clocks = map (λ clock. clock.at.nanosecond) launching.clocks.now;
+}
+
+abbrev pub behind : Option (List ℕ) → List (List ℕ) → List (List ℕ)
+behind None words = words
+behind (Some path) words = path ∷ words
+
+-- the path of what the try was given, where that is written
+abbrev pub given_path : Option (List ℕ) → JobContext → Option (List ℕ)
+given_path logs try = option_map (λ folder. log_of folder try (codes ".given.json")) logs
+
+-- what is started for a try
+abbrev pub launched_for : LaunchingOf → Tried → Launched
+launched_for launching try =
+    record {
+      words = behind launching.launcher try.words;
+      variables = environment_of try.context (clock_of launching.clocks try.run try.context) (given_path launching.logs try.context);
+    }
+
+-- what may be heard of a try, by what may be heard of what is started for it
+abbrev pub through : LaunchingOf → (Launched → Raw → Type 0) → Tried → Raw → Type 0
+through launching may_hear try raw = may_hear (launched_for launching try) raw
+
+-- and whether its program may be lost
+abbrev pub lost_through : LaunchingOf → (Launched → Type 0) → Tried → Type 0
+lost_through launching may_lose try = may_lose (launched_for launching try)
+
+-- ---- what may come of it
+
+-- what contracts see of a runner: what starts its programs, the tasks, the runs' data intervals, and how tries are launched
 pub record Programs (S : Type 0) : Type 0 where
   pub starter : S
   pub dag : Dag
   pub intervals : List Interval
-  pub launcher : Option (List ℕ)
+  pub launching : LaunchingOf
 
--- the try of this name, of this task in a run of this data interval, as the words of a command see it
-pub record IsContext (dag : Dag) (task : Task) (interval : Interval) (name : JobName) (context : JobContext) : Type 0 where
-  pub starts : context.data_interval_start.at ≡ interval.start
-  pub ends : context.data_interval_end.at ≡ interval.end
-  pub dag_id : context.dag_id.now ≡ dag.id
-  pub task_id : context.task_id.now ≡ task.id
-  pub map_index : context.map_index ≡ name.index
-  pub try_number : context.try_number ≡ name.attempt
-
--- this holds of the words that the try's command comes to
-pub record HoldsOfWords (P : List (List ℕ) → Type 0) (dag : Dag) (task : Task) (interval : Interval) (name : JobName) (given : Given) : Type 0 where
+-- this holds of what the try's command comes to
+pub record HoldsOfWords (P : Tried → Type 0) (dag : Dag) (task : Task) (interval : Interval) (name : JobName) (given : Given) : Type 0 where
   pub context : JobContext
   pub is_context : IsContext dag task interval name context
-  pub holds : P (words_of context given task.command)
+  pub holds : P (record { words = words_of context given task.command; context = context; run = name.run })
 
 -- the same, where there are such a task and such a run, and else the other
-abbrev pub HoldsOfTry : Type 0 → (List (List ℕ) → Type 0) → Dag → JobName → Given → Option Task → Option Interval → Type 0
+abbrev pub HoldsOfTry : Type 0 → (Tried → Type 0) → Dag → JobName → Given → Option Task → Option Interval → Type 0
 HoldsOfTry other P dag name given (Some task) (Some interval) = HoldsOfWords P dag task interval name given
 HoldsOfTry other P dag name given (Some task) None = other
 HoldsOfTry other P dag name given None run = other
 
--- what may be heard of words that are handed to a launcher, where there is one: they are started behind its path
-abbrev pub through : Option (List ℕ) → (List (List ℕ) → Raw → Type 0) → List (List ℕ) → Raw → Type 0
-through None may_hear words raw = may_hear words raw
-through (Some path) may_hear words raw = may_hear (path ∷ words) raw
+-- one fact where there is no word, another where there is a program
+abbrev pub IfProgram : List (List ℕ) → Type 0 → Type 0 → Type 0
+IfProgram [] none some = none
+IfProgram (program ∷ arguments) none some = some
 
--- and whether their program may be lost
-abbrev pub lost_through : Option (List ℕ) → (List (List ℕ) → Type 0) → List (List ℕ) → Type 0
-lost_through None may_lose words = may_lose words
-lost_through (Some path) may_lose words = may_lose (path ∷ words)
+-- code 0 and an empty line
+abbrev pub nothing_done : Raw
+nothing_done = record { exit = Exit.Code (pos 0); line = Line.Bytes [] }
 
--- without a word code 0 and an empty line, else what may be heard of the program
-abbrev pub IsHeard : (List (List ℕ) → Raw → Type 0) → List (List ℕ) → Raw → Type 0
-IsHeard may_hear [] raw = raw ≡ record { exit = Exit.Code (pos 0); line = Line.Bytes [] }
-IsHeard may_hear (program ∷ arguments) raw = may_hear (program ∷ arguments) raw
+-- without a word nothing is done, else what may be heard of the program
+abbrev pub IsHeard : (Tried → Raw → Type 0) → Tried → Raw → Type 0
+IsHeard may_hear try raw = IfProgram try.words (raw ≡ nothing_done) (may_hear try raw)
 
 -- there is a program, and it may be lost
-abbrev pub IsLost : (List (List ℕ) → Type 0) → List (List ℕ) → Type 0
-IsLost may_lose [] = ⊥
-IsLost may_lose (program ∷ arguments) = may_lose (program ∷ arguments)
+abbrev pub IsLost : (Tried → Type 0) → Tried → Type 0
+IsLost may_lose try = IfProgram try.words ⊥ (may_lose try)
 
 -- what the try of this name may answer, given this: what is heard of its words; a try of no task or of no run isn't started
-abbrev pub MayAnswer : (List (List ℕ) → Raw → Type 0) → Dag → List Interval → JobName → Given → Raw → Type 0
+abbrev pub MayAnswer : (Tried → Raw → Type 0) → Dag → List Interval → JobName → Given → Raw → Type 0
 MayAnswer may_hear dag intervals name given raw =
-    HoldsOfTry (raw ≡ not_started) (λ words. IsHeard may_hear words raw) dag name given (slice_get dag.tasks name.task) (slice_get intervals name.run)
+    HoldsOfTry (raw ≡ not_started) (λ try. IsHeard may_hear try raw) dag name given (slice_get dag.tasks name.task) (slice_get intervals name.run)
 
 -- the try of this name, given this, is given up only where its program is lost
-abbrev pub MayGiveUp : (List (List ℕ) → Type 0) → Dag → List Interval → JobName → Given → Type 0
+abbrev pub MayGiveUp : (Tried → Type 0) → Dag → List Interval → JobName → Given → Type 0
 MayGiveUp may_lose dag intervals name given =
     HoldsOfTry ⊥ (IsLost may_lose) dag name given (slice_get dag.tasks name.task) (slice_get intervals name.run)

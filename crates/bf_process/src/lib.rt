@@ -7,6 +7,11 @@
 //!
 //! Where there is a launcher, the words of a command are handed to it: it is started, and they are its arguments.
 //!
+//! A program has this process's environment, to which the variables of its try are added: `Variable` lists them.
+//!
+//! Where there is a folder of logs, all that a program writes to its standard output is kept there, also behind the limit, and its
+//! standard error goes into a file; what the try was given is written beside them. They are made anew, and no link is followed.
+//!
 //! Between the runner and the machine stands the trait `Starter`, whose one form is the machine. Its two
 //! relations say what may be heard of the words that it is handed; so a runner's contract says that the words which are
 //! started for a try are those of its command, behind the path of the launcher where there is one.
@@ -14,11 +19,26 @@
 //! A program may start others that hold its output open: then its try ends when the last of them closes it.
 #![tactic(auto)]
 
+mod clocks;
+mod given;
+mod heard;
+mod launching;
 mod line;
+mod log_faults;
+mod logs;
 mod program;
 mod runner;
+mod setting;
 mod starter;
+mod tee;
+mod variable;
 
+pub use clocks::clocks_of;
+pub use heard::Heard;
+pub use launching::Launching;
 pub use line::{LONGEST_OUTPUT, line_of};
+pub use log_faults::LogFaults;
 pub use runner::ProcessRunner;
+pub use setting::{Setting, TryLogs};
 pub use starter::Starter;
+pub use variable::Variable;

@@ -1,16 +1,32 @@
 //! A program that is started, read and waited for.
-ghost use Rattle.std.specs.Prelude.{◌≡◌, ℕ, List, false, None, Some, IsSome, IfOk, IfErr, IfSome, IfNone, option_map};
-ghost use Rattle.std.specs.Process.{child_status, clears_env, command_program, command_args, command_dir, command_var, exit_code};
+ghost use Rattle.std.specs.Prelude.{◌≡◌, ℕ, List, [], ◌∷◌, false, None, Some, IsSome, IfOk, IfErr, IfSome, IfNone, OnOk, option_map};
+ghost use Rattle.std.specs.Process.{child_status, clears_env, command_program, command_args, command_dir, command_var, exit_code, exit_signal};
 ghost use Rattle.bf_graph.specs.Shape.{texts};
 ghost use Rattle.bf_try.specs.declared.answers.Line.{Line as LineTerm};
+ghost use Rattle.bf_failure.specs.declared.detail.Detail.{Detail as DetailTerm};
+ghost use Rattle.bf_process.specs.Environment.{pairs_of, said_after, variables as all_variables};
+ghost use Rattle.bf_process.specs.Commands.{IsSaidAfter, IsSameElse};
+ghost use Rattle.bf_process.specs.Words.{variables_in};
 ghost use Rattle.bf_process.specs.Output.{IsLineOf, exit_in, not_started as nothing_started};
 
+use crate::heard::Heard;
 use crate::line::line_of;
-use bf_device::Input;
+use crate::log_faults::LogFaults;
+use crate::logs::{OpenLogs, OutputLog};
+use crate::setting::Setting;
+use crate::tee::Tee;
+use crate::variable::variables;
+use bf_device::{Input, Output, Read, Write};
+use bf_failure::Detail;
+use bf_moment::Moment;
 use bf_try::{Exit, Line, Raw, RunnerFault};
-use bf_value::{OutOfMemory, Sequence};
+use bf_value::{OutOfMemory, Sequence, Text};
+use bf_words::JobContext;
 use std::alloc::Global;
+use std::fs::File;
+use std::io;
 use std::io::ErrorKind;
+use std::os::unix::process::ExitStatusExt;
 use std::process::{Child, Command, ExitStatus, OpenProcess, Processes, Stdio};
 
 /// The answer of what isn't started.
@@ -23,13 +39,63 @@ pub(crate) fn not_started(alloc: Global) -> Raw
     }
 }
 
-/// The command of a program with these arguments, which has this process's folder and environment.
-fn command_of(alloc: Global, program: &str, arguments: &[String]) -> Result<Command, OutOfMemory>
+/// Adds a variable to what a command says of the environment.
+fn add_variable(command: &mut Command, name: &str, value: &str) -> Result<(), OutOfMemory>
+    ensures variable { OnOk result (IsSaidAfter command.old command.new ((name.now, value.now) ∷ [])) }
+    ensures same { OnOk result (IsSameElse command.old command.new) }
+{
+    command.env(name, value)?;
+    Ok(())
+}
+
+/// Adds those variables of a try that each has.
+fn add_variables(
+    alloc: Global,
+    command: &mut Command,
+    context: &JobContext<'_>,
+    clock: &Moment,
+) -> Result<(), OutOfMemory>
+    ensures variables { OnOk result (IsSaidAfter command.old command.new (pairs_of context.now clock.now.at.nanosecond all_variables)) }
+    ensures same { OnOk result (IsSameElse command.old command.new) }
+{
+    for variable in variables() {
+        let value = variable.value(alloc, context, clock)?;
+        add_variable(command, variable.name(), value.as_str())?;
+    }
+    Ok(())
+}
+
+/// Adds the variables of a try to what a command says of the environment.
+fn add_environment(
+    alloc: Global,
+    command: &mut Command,
+    setting: &Setting<'_, '_>,
+) -> Result<(), OutOfMemory>
+    ensures variables { OnOk result (IsSaidAfter command.old command.new (variables_in setting.now)) }
+    ensures same { OnOk result (IsSameElse command.old command.new) }
+{
+    add_variables(alloc, command, setting.context, setting.clock)?;
+    match setting.given() {
+        Some(path) => add_variable(command, "BACKFILL_GIVEN", path),
+        None => Ok(()),
+    }
+}
+
+/// The command of a program with these arguments, which has this process's folder and environment, with the variables of a try.
+/// Its standard error is that of this process, unless it goes into a file.
+fn command_of(
+    alloc: Global,
+    program: &str,
+    arguments: &[String],
+    setting: &Setting<'_, '_>,
+    err: Option<File>,
+) -> Result<Command, OutOfMemory>
     ensures program { IfOk result (λ command. command_program command ≡ program.now) }
     ensures arguments { IfOk result (λ command. command_args command ≡ texts arguments.now) }
     ensures folder { IfOk result (λ command. command_dir command ≡ None) }
     ensures environment { IfOk result (λ command. clears_env command ≡ false) }
-    ensures variables { IfOk result (λ command. (k : List ℕ) → command_var command k ≡ None) }
+    ensures variables { IfOk result (λ command. (k : List ℕ) →
+        command_var command k ≡ said_after k None (variables_in setting.now)) }
 {
     let mut command = Command::new(alloc, program)?;
     for argument in arguments {
@@ -37,7 +103,11 @@ fn command_of(alloc: Global, program: &str, arguments: &[String]) -> Result<Comm
     }
     command.stdin(Stdio::null());
     command.stdout(Stdio::piped());
-    command.stderr(Stdio::inherit());
+    command.stderr(match err {
+        Some(err) => Stdio::from(err),
+        None => Stdio::inherit(),
+    });
+    add_environment(alloc, &mut command, setting)?;
     Ok(command)
 }
 
@@ -50,52 +120,127 @@ fn exit_of(status: ExitStatus) -> Exit
     }
 }
 
-/// The last line that a child prints. The pipe is closed then, so that a child which goes on printing gets SIGPIPE.
-fn line_from<P: OpenProcess>(alloc: Global, child: &mut Child<P>) -> Result<Line, OutOfMemory>
+/// The signal that ended a program, where one did.
+fn signal_of(status: ExitStatus) -> Option<Detail>
+    ensures { result ≡ option_map (λ number. DetailTerm.Signal number) (exit_signal status) }
+{
+    match status.signal() {
+        Some(number) => Some(Detail::Signal(number)),
+        None => None,
+    }
+}
+
+/// The words of a system's fault without its number, which stands behind them.
+fn without_number(words: &str) -> &str {
+    match words.split_once(" (os error ") {
+        Some((words, _)) => words,
+        None => words,
+    }
+}
+
+/// Why a program wasn't started, in the system's words, where there is memory for them.
+fn start_fault(alloc: Global, error: &io::Error) -> Option<Detail> {
+    let Ok(words) = error.to_string(alloc) else {
+        return None;
+    };
+    match Text::copied(alloc, without_number(words.as_str())) {
+        Ok(words) => Some(Detail::NotStarted(words)),
+        Err(_) => None,
+    }
+}
+
+/// The last line of what a device gives, all of which is kept in a log. What is behind the limit is read and kept too, so that the
+/// program that writes it goes on.
+fn line_kept<R: Read + Drop, W: Write + Drop>(
+    alloc: Global,
+    device: R,
+    log: W,
+    faults: &LogFaults,
+) -> Result<Line, OutOfMemory>
+    ensures { IfOk result (λ line. IfSome (R.left device) (λ output. IsLineOf output line)) }
+{
+    let mut tee = Tee::new(device, log);
+    let line = line_of(alloc, &mut tee);
+    tee.drain();
+    if tee.has_failed() {
+        faults.note_lost();
+    }
+    line
+}
+
+/// The last line that a child prints. The pipe is closed then, so that a child which goes on printing gets SIGPIPE, unless all
+/// that it prints is kept in a log.
+fn line_from<P: OpenProcess>(
+    alloc: Global,
+    child: &mut Child<P>,
+    log: Option<OutputLog<'_>>,
+) -> Result<Line, OutOfMemory>
     ensures line { IfOk result (λ line. IfSome child.old.stdout (λ pipe.
         IfSome (P.Stdout.remaining pipe) (λ output. IsLineOf output line))) }
     ensures no_pipe { IfOk result (λ line. IfNone child.old.stdout (line ≡ LineTerm.ReadFault)) }
     ensures closed { child.new.stdout ≡ None }
 {
-    match child.stdout.take() {
-        Some(pipe) => line_of(alloc, &mut Input::new(pipe)),
-        None => Ok(Line::ReadFault),
+    let Some(pipe) = child.stdout.take() else {
+        return Ok(Line::ReadFault);
+    };
+    match log {
+        Some(log) => line_kept(alloc, Input::new(pipe), Output::new(log.file), log.faults),
+        None => line_of(alloc, &mut Input::new(pipe)),
     }
 }
 
 /// What a child answers: how it ended, and the last line that it printed. It is waited for also where memory was wanting for
 /// the line, since nobody else waits for it.
-fn heard_of<P: OpenProcess>(alloc: Global, child: &mut Child<P>) -> Result<Raw, RunnerFault>
-    ensures exit { IfOk result (λ raw.
-        option_map (λ status. exit_in (exit_code status)) (child_status child.new) ≡ Some raw.exit) }
-    ensures line { IfOk result (λ raw. IfSome child.old.stdout (λ pipe.
-        IfSome (P.Stdout.remaining pipe) (λ output. IsLineOf output raw.line))) }
+fn heard_of<P: OpenProcess>(
+    alloc: Global,
+    child: &mut Child<P>,
+    log: Option<OutputLog<'_>>,
+) -> Result<Heard, RunnerFault>
+    ensures exit { IfOk result (λ heard.
+        option_map (λ status. exit_in (exit_code status)) (child_status child.new) ≡ Some heard.raw.exit) }
+    ensures signal { IfOk result (λ heard.
+        option_map (λ status. option_map (λ number. DetailTerm.Signal number) (exit_signal status)) (child_status child.new) ≡ Some heard.detail) }
+    ensures line { IfOk result (λ heard. IfSome child.old.stdout (λ pipe.
+        IfSome (P.Stdout.remaining pipe) (λ output. IsLineOf output heard.raw.line))) }
     ensures waited { IfErr result (λ fault.
         fault ≡ RunnerFault.OutOfMemory → IsSome (child_status child.new)) }
 {
-    let line = line_from(alloc, child);
+    let line = line_from(alloc, child, log);
     let Ok(status) = child.wait() else {
         return Err(RunnerFault::GaveUp);
     };
-    Ok(Raw {
+    let raw = Raw {
         exit: exit_of(status),
         line: line?,
+    };
+    Ok(Heard {
+        raw,
+        detail: signal_of(status),
     })
 }
 
-/// Starts a program with these arguments, and answers what is heard of it.
+/// Starts a program with these arguments for a try, and answers what is heard of it.
 pub(crate) fn run_program<P: Processes>(
     processes: &P,
     alloc: Global,
     program: &str,
     arguments: &[String],
-) -> Result<Raw, RunnerFault> {
-    let mut command = command_of(alloc, program, arguments)?;
+    setting: &Setting<'_, '_>,
+    logs: Option<OpenLogs<'_>>,
+) -> Result<Heard, RunnerFault> {
+    let (out, err) = match logs {
+        Some(OpenLogs { out, err }) => (Some(out), Some(err)),
+        None => (None, None),
+    };
+    let mut command = command_of(alloc, program, arguments, setting, err)?;
     match command.spawn(processes) {
-        Ok(mut child) => heard_of(alloc, &mut child),
+        Ok(mut child) => heard_of(alloc, &mut child, out),
         Err(error) => match error.kind() {
             ErrorKind::OutOfMemory => Err(RunnerFault::OutOfMemory),
-            _ => Ok(not_started(alloc)),
+            _ => Ok(Heard {
+                raw: not_started(alloc),
+                detail: start_fault(alloc, &error),
+            }),
         },
     }
 }

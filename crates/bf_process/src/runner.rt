@@ -1,17 +1,24 @@
 //! The runner of tries as programs.
-ghost use Rattle.std.specs.Prelude.{◌≡◌, All, IfOk, IfErr, option_map};
+ghost use Rattle.std.specs.Prelude.{◌≡◌, IfOk, IfErr, option_map, string_bytes};
 ghost use Rattle.bf_graph.specs.Shape.{texts};
-ghost use Rattle.bf_interval.specs.Intervals.{IsShownInterval};
-ghost use Rattle.bf_process.specs.Words.{IsContext, IsHeard, IsLost, HoldsOfWords, MayAnswer, MayGiveUp, lost_through, through};
+ghost use Rattle.bf_words.specs.Words.{words_of};
+ghost use Rattle.bf_process.specs.Words.{IfProgram, IsHeard, IsLost, MayAnswer, MayGiveUp, behind, given_path, launched_in, launching_of, lost_through, nothing_done, through};
 
+use crate::clocks::clock_of_run;
+use crate::given::given_text;
+use crate::heard::Heard;
+use crate::launching::Launching;
+use crate::log_faults::LogFaults;
 use crate::program::not_started;
+use crate::setting::{Setting, TryLogs};
 use crate::starter::Starter;
-use bf_interval::{Interval, Runs};
-use bf_moment::Moment;
+use bf_failure::{Detail, DetailedRunner, context_of};
+use bf_interval::Runs;
 use bf_plan::{Plan, Task};
 use bf_try::{Done, Raw, RunnerFault, TaskRunner, Ticket};
-use bf_value::{JobName, Sequence};
-use bf_xcom::{Given, JobContext, words};
+use bf_value::{JobName, OutOfMemory, Sequence};
+use bf_words::{JobContext, words};
+use bf_xcom::Given;
 use std::alloc::Global;
 use std::marker::Model;
 
@@ -22,136 +29,158 @@ pub struct ProcessRunner<'s, 'p, 'i, 'l, S> {
     starter: &'s S,
     alloc: Global,
     plan: &'p Plan,
-    intervals: &'i [Interval],
-    launcher: Option<&'l str>,
+    runs: &'i Runs,
+    launching: Launching<'l>,
+    log_faults: LogFaults,
 }
 
 impl<'s, 'p, 'i, 'l, S> Model for ProcessRunner<'s, 'p, 'i, 'l, S> {
-    ghost use Rattle.std.specs.Prelude.{All, option_map};
     ghost use Rattle.std.specs.Coded.{codes};
     ghost use Rattle.bf_plan.specs.contracts.plan.Dag as d;
-    ghost use Rattle.bf_interval.specs.Intervals.{IsShownInterval};
-    ghost use Rattle.bf_process.specs.Words.{Programs};
+    ghost use Rattle.bf_interval.specs.contracts.interval.Interval as i;
+    ghost use Rattle.bf_process.specs.Words.{Programs, launching_of};
 
     ghost Value = { Programs S };
 
-    ghost coded = { Prim.hlevel (codes, d.the_row.coded) };
+    ghost coded = { Prim.hlevel (codes, d.the_row.coded, i.the_row.coded) };
 
     ghost view = { λ r. record {
       starter = r.starter.now;
       dag = r.plan.now.dag;
-      intervals = r.intervals.now;
-      launcher = option_map (λ l. l.now) r.launcher;
+      intervals = r.runs.now;
+      launching = launching_of r.launching;
     } };
-
-    ghost invariant = { λ r. All IsShownInterval r.intervals.now };
 }
 
 impl<'s, 'p, 'i, 'l, S: Starter> ProcessRunner<'s, 'p, 'i, 'l, S> {
-    /// A runner of the tasks of a plan in these runs, by the launcher of this path where there is one. It takes no memory
-    /// before it runs a try.
+    /// A runner of the tasks of a plan in these runs. It takes no memory before it runs a try.
     pub fn new(
         starter: &'s S,
         alloc: Global,
         plan: &'p Plan,
         runs: &'i Runs,
-        launcher: Option<&'l str>,
+        launching: Launching<'l>,
     ) -> ProcessRunner<'s, 'p, 'i, 'l, S>
         ensures { result ≡ record {
           starter = starter.now;
           dag = plan.now.dag;
           intervals = runs.now;
-          launcher = option_map (λ l. l.now) launcher.entry;
+          launching = launching_of launching.entry;
         } }
     {
         ProcessRunner {
             starter,
             alloc,
             plan,
-            intervals: runs.intervals(),
-            launcher,
+            runs,
+            launching,
+            log_faults: LogFaults::new(),
         }
     }
 
-    /// What comes of these words. Without a word nothing is started, and no launcher either.
-    fn heard(&self, words: &[String]) -> Result<Raw, RunnerFault>
-        ensures heard { IfOk result (λ raw. IsHeard (through self.now.launcher (S.may_hear self.now.starter)) (texts words.now) raw) }
-        ensures lost { IfErr result (λ fault.
-            fault ≡ RunnerFault.GaveUp → IsLost (lost_through self.now.launcher (S.may_lose self.now.starter)) (texts words.now)) }
+    /// What went wrong with the logs of its tries.
+    pub fn log_faults(&self) -> &LogFaults {
+        &self.log_faults
+    }
+
+    /// What comes of these words in a setting. Without a word nothing is started, and no launcher either.
+    fn heard(&self, words: &[String], setting: &Setting<'_, '_>) -> Result<Heard, RunnerFault>
+        ensures heard { IfOk result (λ heard. IfProgram (texts words.now) (heard.raw ≡ nothing_done)
+            (S.may_hear self.now.starter (launched_in setting.now (behind self.now.launching.launcher (texts words.now))) heard.raw)) }
+        ensures lost { IfErr result (λ fault. fault ≡ RunnerFault.GaveUp → IfProgram (texts words.now) ⊥
+            (S.may_lose self.now.starter (launched_in setting.now (behind self.now.launching.launcher (texts words.now))))) }
     {
         let Some((program, arguments)) = words.split_first() else {
-            return Ok(Raw::with_code(0, Sequence::new(self.alloc)));
+            return Ok(Heard::plain(Raw::with_code(0, Sequence::new(self.alloc))));
         };
-        match self.launcher {
-            Some(launcher) => self.starter.start(self.alloc, launcher, words),
-            None => self.starter.start(self.alloc, program.as_str(), arguments),
+        match self.launching.launcher {
+            Some(launcher) => self.starter.start(self.alloc, launcher, words, setting),
+            None => {
+                self.starter
+                    .start(self.alloc, program.as_str(), arguments, setting)
+            }
         }
     }
 
-    /// The try as the words of its command see it.
-    fn context<'a>(&'a self, task: &'a Task, run: &Interval, name: JobName) -> JobContext<'a>
-        requires { IsShownInterval run.now }
-        ensures { IsContext self.now.dag task.entry.now run.now name result }
+    /// The logs of a try that is given this, where they are kept.
+    fn logs(
+        &self,
+        task: &Task,
+        context: &JobContext<'_>,
+        given: &Given,
+    ) -> Result<Option<TryLogs>, OutOfMemory>
+        ensures { IfOk result (λ logs.
+            option_map (λ l. string_bytes l.given) logs ≡ given_path self.now.launching.logs context.now) }
     {
-        JobContext {
-            data_interval_start: Moment::new(run.start),
-            data_interval_end: Moment::new(run.end),
-            dag_id: self.plan.dag().id.as_str(),
-            task_id: task.id.as_str(),
-            map_index: name.index,
-            try_number: name.attempt,
-        }
+        let Some(folder) = self.launching.logs else {
+            return Ok(None);
+        };
+        let given_text = given_text(self.alloc, self.plan.dag(), task, given)?;
+        Ok(Some(TryLogs::below(self.alloc, folder, context, given_text)?))
     }
 
-    /// What the try of this name answers, given this, which is one of this task in a run of this data interval.
+    /// What comes of the command of a task for a try that is given this.
     fn answer_in(
         &self,
         task: &Task,
-        run: &Interval,
-        name: JobName,
+        run: u32,
+        context: &JobContext<'_>,
         given: &Given,
-    ) -> Result<Raw, RunnerFault>
-        requires { IsShownInterval run.now }
-        ensures ok { IfOk result (λ raw. HoldsOfWords
-            (λ words. IsHeard (through self.now.launcher (S.may_hear self.now.starter)) words raw)
-            self.now.dag task.now run.now name given.now) }
-        ensures err { IfErr result (λ fault. fault ≡ RunnerFault.GaveUp → HoldsOfWords
-            (IsLost (lost_through self.now.launcher (S.may_lose self.now.starter))) self.now.dag task.now run.now name given.now) }
+    ) -> Result<Heard, RunnerFault>
+        ensures ok { IfOk result (λ heard. IsHeard (through self.now.launching (S.may_hear self.now.starter))
+            (record { words = words_of context.now given.now task.now.command; context = context.now; run = run }) heard.raw) }
+        ensures err { IfErr result (λ fault. fault ≡ RunnerFault.GaveUp →
+            IsLost (lost_through self.now.launching (S.may_lose self.now.starter))
+            (record { words = words_of context.now given.now task.now.command; context = context.now; run = run })) }
     {
-        let context = self.context(task, run, name);
-        match words(self.alloc, task.command.as_slice(), &context, given) {
-            Ok(words) => self.heard(words.as_slice()),
-            Err(_) => Err(RunnerFault::OutOfMemory),
-        }
+        let words = words(self.alloc, task.command.as_slice(), context, given)?;
+        let logs = self.logs(task, context, given)?;
+        let setting = Setting {
+            context,
+            clock: clock_of_run(self.launching.clocks, run, context),
+            logs: logs.as_ref(),
+            log_faults: &self.log_faults,
+        };
+        self.heard(words.as_slice(), &setting)
     }
 
     /// What the try of this name answers, given this.
-    fn answer(&self, name: JobName, given: &Given) -> Result<Raw, RunnerFault>
-        ensures ok { IfOk result (λ raw.
-            MayAnswer (through self.now.launcher (S.may_hear self.now.starter)) self.now.dag self.now.intervals name given.now raw) }
+    fn answer(&self, name: JobName, given: &Given) -> Result<Heard, RunnerFault>
+        ensures ok { IfOk result (λ heard.
+            MayAnswer (through self.now.launching (S.may_hear self.now.starter)) self.now.dag self.now.intervals name given.now heard.raw) }
         ensures err { IfErr result (λ fault. fault ≡ RunnerFault.GaveUp →
-            MayGiveUp (lost_through self.now.launcher (S.may_lose self.now.starter)) self.now.dag self.now.intervals name given.now) }
+            MayGiveUp (lost_through self.now.launching (S.may_lose self.now.starter)) self.now.dag self.now.intervals name given.now) }
     {
-        let (Some(task), Some(run)) = (
+        let (Some(task), Some(context)) = (
             self.plan.dag().tasks.get(name.task as usize),
-            self.intervals.get(name.run as usize),
+            context_of(self.plan, self.runs, name),
         ) else {
-            return Ok(not_started(self.alloc));
+            return Ok(Heard::plain(not_started(self.alloc)));
         };
-        self.answer_in(task, run, name, given)
+        self.answer_in(task, name.run, &context, given)
     }
 }
 
 impl<'s, 'p, 'i, 'l, S: Starter> TaskRunner for ProcessRunner<'s, 'p, 'i, 'l, S> {
     ghost use Rattle.bf_process.specs.Words.{MayAnswer, MayGiveUp, lost_through, through};
 
-    ghost may_answer = { λ s n g r. MayAnswer (through s.launcher (S.may_hear s.starter)) s.dag s.intervals n g r };
+    ghost may_answer = { λ s n g r. MayAnswer (through s.launching (S.may_hear s.starter)) s.dag s.intervals n g r };
 
-    ghost may_give_up = { λ s n g. MayGiveUp (lost_through s.launcher (S.may_lose s.starter)) s.dag s.intervals n g };
+    ghost may_give_up = { λ s n g. MayGiveUp (lost_through s.launching (S.may_lose s.starter)) s.dag s.intervals n g };
 
     fn run(&self, ticket: Ticket) -> Result<Done, (Ticket, RunnerFault)> {
+        let (done, _) = self.run_in_detail(ticket)?;
+        Ok(done)
+    }
+}
+
+impl<'s, 'p, 'i, 'l, S: Starter> DetailedRunner for ProcessRunner<'s, 'p, 'i, 'l, S> {
+    fn run_in_detail(
+        &self,
+        ticket: Ticket,
+    ) -> Result<(Done, Option<Detail>), (Ticket, RunnerFault)> {
         match self.answer(ticket.name(), ticket.given()) {
-            Ok(raw) => Ok(ticket.answer(raw)),
+            Ok(Heard { raw, detail }) => Ok((ticket.answer(raw), detail)),
             Err(fault) => Err((ticket, fault)),
         }
     }

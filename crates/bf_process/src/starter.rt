@@ -1,42 +1,64 @@
 //! What starts programs.
 ghost use Rattle.std.specs.Prelude.{◌≡◌, ◌∷◌, IfOk, IfErr};
 ghost use Rattle.bf_graph.specs.Shape.{texts};
+ghost use Rattle.bf_process.specs.Words.{launched_in};
 
+use crate::heard::Heard;
+use crate::logs::{note_start_fault, open_logs};
 use crate::program::run_program;
-use bf_try::{Raw, RunnerFault};
+use crate::setting::Setting;
+use bf_try::RunnerFault;
 use std::alloc::Global;
 
-/// Starts programs and hears them to their end. Its two relations say what may be heard of the words of a command, of which the
-/// first names the program; they are a promise of the starter.
+/// Starts programs and hears them to their end. Its two relations say what may be heard of a program that is started by the
+/// words of a command, of which the first names it, with variables added to the environment of this process; they are a promise
+/// of the starter.
 pub trait Starter {
-    ghost use Rattle.std.specs.Prelude.{ℕ, List};
     ghost use Rattle.bf_try.specs.declared.answers.Raw.{Raw};
+    ghost use Rattle.bf_process.specs.Words.{Launched};
 
-    /// A program that is started by these words may answer so.
-    ghost may_hear: { Self → List (List ℕ) → Raw → Type 0 };
+    /// A program that is started so may answer so.
+    ghost may_hear: { Self → Launched → Raw → Type 0 };
 
-    /// A program that is started by these words may be lost: it can't be waited for.
-    ghost may_lose: { Self → List (List ℕ) → Type 0 };
+    /// A program that is to be started so may be lost: its logs can't be made, or it can't be waited for.
+    ghost may_lose: { Self → Launched → Type 0 };
 
-    /// Starts a program and waits for its end.
-    fn start(&self, alloc: Global, program: &str, arguments: &[String]) -> Result<Raw, RunnerFault>
-        ensures heard { IfOk result (λ raw. may_hear self.now (program.now ∷ texts arguments.now) raw) }
-        ensures lost { IfErr result (λ fault.
-            fault ≡ RunnerFault.GaveUp → may_lose self.now (program.now ∷ texts arguments.now)) };
+    /// Makes the logs of a try, starts a program for it, with its variables added to the environment, and waits for its end.
+    fn start(
+        &self,
+        alloc: Global,
+        program: &str,
+        arguments: &[String],
+        setting: &Setting<'_, '_>,
+    ) -> Result<Heard, RunnerFault>
+        ensures heard { IfOk result (λ heard.
+            may_hear self.now (launched_in setting.now (program.now ∷ texts arguments.now)) heard.raw) }
+        ensures lost { IfErr result (λ fault. fault ≡ RunnerFault.GaveUp →
+            may_lose self.now (launched_in setting.now (program.now ∷ texts arguments.now))) };
 }
 
 /// The machine. A program may answer anything, and waiting for any may fail.
 impl Starter for HostRuntime {
-    ghost may_hear = { λ _ words raw. Unit {0} };
+    ghost may_hear = { λ _ launched raw. Unit {0} };
 
-    ghost may_lose = { λ _ words. Unit {0} };
+    ghost may_lose = { λ _ launched. Unit {0} };
 
     fn start(
         &self,
         alloc: Global,
         program: &str,
         arguments: &[String],
-    ) -> Result<Raw, RunnerFault> {
-        run_program(self, alloc, program, arguments)
+        setting: &Setting<'_, '_>,
+    ) -> Result<Heard, RunnerFault> {
+        let Some(logs) = setting.logs else {
+            return run_program(self, alloc, program, arguments, setting, None);
+        };
+        let Ok(open) = open_logs(self, logs, setting.log_faults) else {
+            setting.log_faults.note_unmade();
+            return Err(RunnerFault::GaveUp);
+        };
+        let heard = run_program(self, alloc, program, arguments, setting, Some(open))?;
+        note_start_fault(self, logs, program, &heard);
+        Ok(heard)
     }
 }

@@ -14,10 +14,12 @@ use Rattle.bf_command_fault.specs.declared.fault.CommandFault.TheVariants.{Read,
 use Rattle.bf_commands.specs.declared.check.GraphSize.{GraphSize}
 use Rattle.bf_commands.specs.DatedRuns.{IsFaultOfDry, IsReportIn}
 use Rattle.bf_commands.specs.Graphs.{IsFaultIn, IsFileOf, IsGraph, IsSizeOf}
+use Rattle.bf_commands.specs.Journaled.{IsJournaledReport}
 use Rattle.bf_commands.specs.Lists.{HasListing, IsFaultOfList, IsListIn}
 use Rattle.bf_commands.specs.OneRun.{IsFaultOfSingle, IsReportAt}
 use Rattle.bf_commands.specs.OverTable.{IsTable}
-use Rattle.bf_commands.specs.Programs.{Hearing, Losing, IsFaultOfRun, IsRunReport}
+use Rattle.bf_process.specs.Words.{LaunchingOf}
+use Rattle.bf_commands.specs.Programs.{AreClocksOf, Hearing, Losing, IsFaultOfRun, IsRunReport}
 use Rattle.bf_program.specs.Files.{AreAlike}
 
 module _ (read held : List ℕ) (one two : Option (List ℕ)) (alike : AreAlike read held one two) where
@@ -65,12 +67,44 @@ module _ (read held : List ℕ) (one two : Option (List ℕ)) (alike : AreAlike 
   list_fault from to (CannotWrite n) is = tt
   list_fault from to fault is = fault_in fault is
 
-  pub run_report : (may_hear : Hearing) (from to : ℤ) (text : List ℕ) (success : Bool) → IsRunReport may_hear read one from to text success → IsRunReport may_hear held two from to text success
-  run_report may_hear from to text success is = record { draft = is.draft; found = is.found; graph_is = graph_of is.draft is.graph_is; listing = listing_of from to _ is.listing; reported = is.reported }
+  pub clocks_alike : (found : List Interval) (clocks : List ℤ) → AreClocksOf read one found clocks → AreClocksOf held two found clocks
+  clocks_alike found clocks are = record { draft = are.draft; graph_is = graph_of are.draft are.graph_is; zone = are.zone; zone_is = alike.means.to _ are.zone are.zone_is; clocks_are = are.clocks_are }
 
-  pub run_fault : (may_lose : Losing) (from to : ℤ) (fault : CommandFault) → IsFaultOfRun may_lose read one from to fault → IsFaultOfRun may_lose held two from to fault
-  run_fault may_lose from to (Stopped stop) is = (is.0, is.1, graph_of is.0 is.2, listing_of from to _ is.3, is.4)
-  run_fault may_lose from to fault is = list_fault from to fault is
+  pub run_report : (launching : LaunchingOf) (may_hear : Hearing) (from to : ℤ) (text : List ℕ) (success : Bool) → IsRunReport launching may_hear read one from to text success
+      → IsRunReport launching may_hear held two from to text success
+  run_report launching may_hear from to text success is = record {
+    draft = is.draft;
+    found = is.found;
+    graph_is = graph_of is.draft is.graph_is;
+    listing = listing_of from to _ is.listing;
+    clocks = is.clocks;
+    clocks_are = clocks_alike is.found is.clocks is.clocks_are;
+    reported = is.reported;
+  }
+
+  pub journaled_report : (launching : LaunchingOf) (may_hear : Hearing) (retry : Bool) (bytes : List ℕ) (from to : ℤ) (text : List ℕ) (success : Bool) → IsJournaledReport launching may_hear read one retry bytes from to text success
+      → IsJournaledReport launching may_hear held two retry bytes from to text success
+  journaled_report launching may_hear retry bytes from to text success is = record {
+    draft = is.draft;
+    found = is.found;
+    graph_is = graph_of is.draft is.graph_is;
+    listing = listing_of from to _ is.listing;
+    clocks = is.clocks;
+    clocks_are = clocks_alike is.found is.clocks is.clocks_are;
+    reported = is.reported;
+  }
+
+  pub run_fault : (launching : LaunchingOf) (may_lose : Losing) (from to : ℤ) (fault : CommandFault) → IsFaultOfRun launching may_lose read one from to fault → IsFaultOfRun launching may_lose held two from to fault
+  run_fault launching may_lose from to (Stopped stop) is = record {
+    draft = is.draft;
+    found = is.found;
+    graph_is = graph_of is.draft is.graph_is;
+    listing = listing_of from to _ is.listing;
+    clocks = is.clocks;
+    clocks_are = clocks_alike is.found is.clocks is.clocks_are;
+    stops = is.stops;
+  }
+  run_fault launching may_lose from to fault is = list_fault from to fault is
 
   module _ (table other : List ℕ) (same : table_of table ≡ table_of other) where
     a_table : IsTable table → IsTable other

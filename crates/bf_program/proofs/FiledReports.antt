@@ -1,5 +1,5 @@
 -- Reports that go to files.
-use Rattle.std.proofs.Common.{◌≡◌, ℕ, List, [], Option, None, Some, true, option_map, refl, ap, ◌∙◌, subst}
+use Rattle.std.proofs.Common.{◌≡◌, ℕ, List, [], Option, None, Some, true, option_map, refl, ap, ◌∙◌, subst, inl, inr}
 use Rattle.bf_device.specs.Device.{sent}
 use Rattle.bf_file.specs.declared.call.Call.{Call}
 use Rattle.bf_file.specs.declared.call.Placed.{Placed}
@@ -10,9 +10,9 @@ use Rattle.bf_command_fault.specs.Refusal.{Leaves}
 use Rattle.bf_command_fault.specs.declared.fault.CommandFault.{CommandFault}
 use Rattle.bf_command_fault.specs.declared.fault.CommandFault.TheVariants.{CannotWriteFile, CannotWrite, OutOfMemory}
 use Rattle.bf_command_line.specs.declared.forms.Asked.{Asked}
-use Rattle.bf_command_line.specs.declared.forms.Asked.TheVariants as asked
 use Rattle.bf_commands.specs.Programs.{Losing}
-use Rattle.bf_program.specs.Commands.{Files, IsFault, IsFaultBy}
+use Rattle.bf_program.specs.Commands.{Files, Machine}
+use Rattle.bf_program.specs.CommandFaults.{IsFault, IsFaultBy}
 use Rattle.bf_program.specs.Filed.{filed_fault, replacing_fault}
 
 -- ---- the file
@@ -38,35 +38,24 @@ empty_text (Some before) calls is = ap (option_map text_by) is
 
 -- ---- faults
 
-module _ (may_lose : Losing) (files : Files) where
-  -- no command tells of a file that it can't write: it knows of none
-  no_file_fault : (a : Asked) (path : List ℕ) → IsFault may_lose files a (CannotWriteFile path) → ⊥
-  no_file_fault (asked.Check a) path is = is
-  no_file_fault (asked.List a) path is = is.2
-  no_file_fault (asked.Single a) path is = is.2
-  no_file_fault (asked.Dry a) path is = is.2
-  no_file_fault (asked.Run a) path is = is.2
-  no_file_fault (asked.Clear a) path is = is.4
-  no_file_fault (asked.Schema format) path is = is
-  no_file_fault (asked.Completions shell) path is = is
-
+module _ (may_lose : Losing) (files : Files) (machine : Machine) where
   -- where a command ends with a fault
   pub fault_by_file : (path : List ℕ) (HasFailed Halted : Type 0) (IsDue : List ℕ → Type 0) (before after : Option (List ℕ))
       (a : Asked) (fault : CommandFault) (reason : ReplaceFault)
-      → IsFault may_lose files a fault → Leaves Halted IsDue before after fault → (Halted → HasFailed)
-      → IsFaultBy (Some path) HasFailed may_lose files a (filed_fault path reason fault)
+      → IsFault may_lose files machine a fault → Leaves Halted IsDue before after fault → (Halted → HasFailed)
+      → IsFaultBy (Some path) HasFailed may_lose files machine a (filed_fault path reason fault)
   fault_by_file path HasFailed Halted IsDue before after a (CannotWrite n) ReplaceFault.CannotReplace is left failed =
-      (refl, failed left.0)
+      inl (refl, failed left.0)
   fault_by_file path HasFailed Halted IsDue before after a (CannotWrite n) ReplaceFault.OutOfMemory is left failed = tt
   fault_by_file path HasFailed Halted IsDue before after a (CannotWriteFile p) reason is left failed =
-      absurd (no_file_fault a p is)
+      inr is
   fault_by_file path HasFailed Halted IsDue before after a OutOfMemory reason is left failed = tt
   fault_by_file path HasFailed Halted IsDue before after a fault reason is left failed = is
 
   -- where the file can't be replaced
   pub unreplaced_fault : (path : List ℕ) (HasFailed : Type 0) (a : Asked) (fault : ReplaceFault) → HasFailed
-      → IsFaultBy (Some path) HasFailed may_lose files a (replacing_fault path fault)
-  unreplaced_fault path HasFailed a ReplaceFault.CannotReplace failed = (refl, failed)
+      → IsFaultBy (Some path) HasFailed may_lose files machine a (replacing_fault path fault)
+  unreplaced_fault path HasFailed a ReplaceFault.CannotReplace failed = inl (refl, failed)
   unreplaced_fault path HasFailed a ReplaceFault.OutOfMemory failed = tt
 
 -- ---- all of these

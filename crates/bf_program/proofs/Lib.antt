@@ -7,3 +7,4 @@ pub mod CommandFacts
 pub mod CommandEnds
 pub mod ClearEnds
 pub mod FiledReports
+mod Recorded

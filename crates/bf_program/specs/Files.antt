@@ -17,7 +17,8 @@ use Rattle.bf_command_fault.specs.declared.fault.CommandFault.{CommandFault}
 use Rattle.bf_command_fault.specs.declared.fault.CommandFault.TheVariants.{OutOfMemory, CannotRead, Report as BadReport}
 use Rattle.bf_commands.specs.declared.range.MomentRange.{MomentRange}
 use Rattle.bf_commands.specs.Cleared.{IsFaultAgain, IsFaultBefore, IsReadAs, IsReportAfter}
-use Rattle.bf_commands.specs.Programs.{Hearing, Losing}
+use Rattle.bf_process.specs.Words.{LaunchingOf}
+use Rattle.bf_commands.specs.Programs.{HearingTries, Losing}
 use Rattle.bf_program.specs.declared.source.SourceFault.{SourceFault}
 use Rattle.bf_program.specs.declared.source.SourceFault.TheVariants as source
 use Rattle.bf_program.specs.Commands.{AreReadable, Files, IsFirstUntold, IsHeld, IsReadable, IsUntold, OfFilesAndNamedTable, clear_paths}
@@ -75,12 +76,12 @@ pub record IsReadOf (file : Option (Option (List ℕ))) (report : Report) : Type
   pub says : (held : List ℕ) → IsHeld file held → IsReadAs held report
 
 -- the report of the backfill that goes on from that of a file, and whether each run of it is a success
-pub record IsReportAfterFile (may_hear : Hearing) (answers : Option (List TableEntry)) (dag : Dag) (found : List Interval) (file : Option (Option (List ℕ))) (seed : Seed) (text : List ℕ) (success : Bool) : Type 0 where
+pub record IsReportAfterFile (may_hear : HearingTries) (answers : Option (List TableEntry)) (dag : Dag) (found : List Interval) (file : Option (Option (List ℕ))) (seed : Seed) (text : List ℕ) (success : Bool) : Type 0 where
   pub was : Report
   pub read : IsReadOf file was
   pub reported : IsReportAfter may_hear answers dag found was seed text success
 
 -- the fault of a report's file, or else of the backfill that goes on from its report
-abbrev pub IsFaultAfterFile : Bool → Losing → Option (List TableEntry) → Dag → List Interval → List ℕ → Option (Option (List ℕ)) → Seed → CommandFault → Type 0
-IsFaultAfterFile alone may_lose answers dag found path file seed fault =
-    IsReportFault path file fault ⊎ ((was : Report) × IsReadOf file was × IsFaultAgain alone may_lose answers dag found was seed fault)
+abbrev pub IsFaultAfterFile : Bool → LaunchingOf → Losing → Option (List TableEntry) → Dag → List Interval → List ℕ → Option (Option (List ℕ)) → Seed → CommandFault → Type 0
+IsFaultAfterFile alone launching may_lose answers dag found path file seed fault =
+    IsReportFault path file fault ⊎ ((was : Report) × IsReadOf file was × IsFaultAgain alone launching may_lose answers dag found was seed fault)

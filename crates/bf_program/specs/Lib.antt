@@ -1,7 +1,10 @@
 pub mod Source
 pub mod Stored
+pub mod Disks
 pub mod Shown
 pub mod Texts
 pub mod Commands
+pub mod CommandFaults
 pub mod Files
 pub mod Filed
+pub mod Journals

@@ -3,7 +3,8 @@ ghost use Rattle.std.specs.Prelude.{IfOk, IfErr, ◌≡◌, string_bytes};
 ghost use Rattle.bf_device.specs.Device.{HasHalted};
 ghost use Rattle.bf_command_fault.specs.Refusal.{Leaves, Sends};
 ghost use Rattle.bf_command_fault.specs.declared.status.Status.{Status as StatusTerm};
-ghost use Rattle.bf_program.specs.Commands.{IsCheckAnswer, IsCheckFault, size_text};
+ghost use Rattle.bf_program.specs.Commands.{IsCheckAnswer, size_text};
+ghost use Rattle.bf_program.specs.CommandFaults.{IsCheckFault};
 
 use crate::input::graph_files;
 use crate::source::Source;

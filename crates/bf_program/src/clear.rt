@@ -4,17 +4,24 @@ ghost use Rattle.bf_device.specs.Device.{HasHalted};
 ghost use Rattle.bf_table.specs.Tables.{table_of};
 ghost use Rattle.bf_commands.specs.Cleared.{IsPrepared};
 ghost use Rattle.bf_commands.specs.OverTable.{is_alone};
-ghost use Rattle.bf_commands.specs.Programs.{launched, launched_lost};
+ghost use Rattle.bf_process.specs.Words.{launching_of};
+ghost use Rattle.bf_commands.specs.Programs.{clocks_in, launched_in, with_clocks};
 ghost use Rattle.bf_command_fault.specs.Refusal.{Leaves, Sends};
 ghost use Rattle.bf_command_fault.specs.declared.status.Status.{Status as StatusTerm};
-ghost use Rattle.bf_program.specs.Commands.{AreReadable, IsClearAnswer, IsClearFault, IsNoMoment, MeansSeed, OfFilesAndNamedTable, clear_paths};
+ghost use Rattle.bf_program.specs.Commands.{AreReadable, IsClearAnswer, IsNoMoment, MeansSeed, OfFilesAndNamedTable, clear_paths, launcher_used as used, machine_of};
+ghost use Rattle.bf_program.specs.CommandFaults.{IsClearFault};
 ghost use Rattle.bf_program.specs.Files.{AreAlike, IsFaultAfterFile, IsOfBytes, IsPreparingFault, IsReadingFault, IsReportAfterFile, bytes_of};
+ghost use Rattle.bf_program.specs.Journals.{IsFaultAfterFileBy, IsFaultSinceFile, IsJournaledAfterFile, IsReportAfterFileBy};
 
 use crate::input::{GraphFiles, graph_files, moment_of, named_table_bytes, range_of, report_in};
+use crate::journaled::clear_recorded;
+use crate::journals::Journals;
+use crate::launchers::{Launchers, look_at};
+use crate::launching::{launching_asked, path_named, tells_failures};
 use crate::source::Source;
 use bf_command_fault::{CommandFault, Status};
-use bf_command_line::{ClearAsked, GraphAsked, SeedAsked};
-use bf_commands::{Crew, MomentRange, Prepared, Screen, prepare, run_again};
+use bf_command_line::{ClearAsked, GraphAsked, JournalAsked, SeedAsked};
+use bf_commands::{Crew, MomentRange, Prepared, Screen, clear_in, prepare, run_again};
 use bf_dependents::Seed;
 use bf_device::Write;
 use bf_process::Starter;
@@ -34,6 +41,16 @@ fn seed_of(asked: SeedAsked) -> Result<Seed, CommandFault>
         task: Text::new(asked.task),
         run,
     })
+}
+
+/// The launcher that is named, where no table is.
+fn launcher_used<'a>(table: &Option<String>, launcher: &'a Option<String>) -> Option<&'a str>
+    ensures { option_map (λ l. l.now) result ≡ used table.now launcher.entry.now }
+{
+    match table {
+        Some(_) => None,
+        None => path_named(launcher),
+    }
 }
 
 /// The files that are read before any is looked at. The report isn't one of them.
@@ -79,7 +96,7 @@ fn prepared_in<S: Source>(
     files: &mut S,
 ) -> Result<Prepared, CommandFault>
     ensures said { IfOk result (λ p. IsOfBytes (S.file files.old) graph (option_map string_bytes table) (λ bytes zone entries.
-        IsPrepared bytes zone entries range.from.nanosecond range.to.nanosecond p.plan.dag p.runs p.answers)) }
+        IsPrepared bytes zone entries range.from.nanosecond range.to.nanosecond p.dated.plan.dag p.dated.runs (clocks_in p.dated) p.answers)) }
     ensures readable { OnOk result (AreReadable (S.file files.old) (clear_paths graph (option_map string_bytes table))) }
     ensures fault { IfErr result (IsPreparingFault (S.file files.old) graph (option_map string_bytes table) range) }
     ensures stays { (p : List ℕ) → S.file files.new p ≡ S.file files.old p }
@@ -103,42 +120,134 @@ fn go_on<RT: Starter + Screen + Threads + Wait + Clock + Sync, S: Source, W: Wri
     files: &mut S,
     out: &mut W,
 ) -> Result<bool, CommandFault>
-    ensures ok { IfOk result (λ success. Sends (λ text. IsReportAfterFile (launched crew.now.launcher (RT.may_hear crew.now.rt.now))
-        prepared.answers prepared.plan.dag prepared.runs (S.file files.old (string_bytes report)) seed text success)
+    ensures ok { IfOk result (λ success. Sends (λ text. IsReportAfterFile (launched_in prepared.dated (launching_of crew.now.launching) (RT.may_hear crew.now.rt.now))
+        prepared.answers prepared.dated.plan.dag prepared.dated.runs (S.file files.old (string_bytes report)) seed text success)
         (W.written out.old) (W.written out.new)) }
-    ensures fault { IfErr result (IsFaultAfterFile (is_alone crew.now.workers crew.now.progress) (launched_lost crew.now.launcher (RT.may_lose crew.now.rt.now))
-        prepared.answers prepared.plan.dag prepared.runs (string_bytes report) (S.file files.old (string_bytes report)) seed) }
+    ensures fault { IfErr result (IsFaultAfterFile (is_alone crew.now.workers crew.now.progress) (with_clocks (launching_of crew.now.launching) (clocks_in prepared.dated)) (RT.may_lose crew.now.rt.now)
+        prepared.answers prepared.dated.plan.dag prepared.dated.runs (string_bytes report) (S.file files.old (string_bytes report)) seed) }
     ensures left { IfErr result (Leaves (HasHalted (W.failures out.old) (W.failures out.new)
         (W.interruptions out.old) (W.interruptions out.new))
-        (λ text. (success : Bool) × IsReportAfterFile (launched crew.now.launcher (RT.may_hear crew.now.rt.now))
-        prepared.answers prepared.plan.dag prepared.runs (S.file files.old (string_bytes report)) seed text success)
+        (λ text. (success : Bool) × IsReportAfterFile (launched_in prepared.dated (launching_of crew.now.launching) (RT.may_hear crew.now.rt.now))
+        prepared.answers prepared.dated.plan.dag prepared.dated.runs (S.file files.old (string_bytes report)) seed text success)
         (W.written out.old) (W.written out.new)) }
 {
     let report = report_in(crew.alloc, report, files)?;
     run_again(crew, prepared, &report, seed, out)
 }
 
-/// The moments are looked at first. Then the files are read but for the report, and what they hold is looked at; then the
+/// The same, where a journal is named: it is opened when the seed is known to be one of the report.
+fn go_on_recorded<RT, J: Journals, S: Source, W: Write>(
+    crew: &Crew<'_, RT>,
+    prepared: Prepared,
+    report: String,
+    seed: Seed,
+    journal: JournalAsked,
+    files: &mut S,
+    journals: &J,
+    out: &mut W,
+) -> Result<bool, CommandFault>
+where
+    RT: Starter + Screen + Threads + Wait + Clock + Sync,
+    J::Device: Send,
+    ensures ok { IfOk result (λ success. Sends (λ text. IsJournaledAfterFile (launched_in prepared.dated (launching_of crew.now.launching) (RT.may_hear crew.now.rt.now))
+        (J.journal journals.now) prepared.answers prepared.dated.plan.dag prepared.dated.runs
+        (S.file files.old (string_bytes report)) seed journal text success) (W.written out.old) (W.written out.new)) }
+    ensures fault { IfErr result (IsFaultSinceFile (launching_of crew.now.launching).logs (J.journal journals.now)
+        prepared.dated.plan.dag prepared.dated.runs (string_bytes report) (S.file files.old (string_bytes report)) seed journal) }
+    ensures left { IfErr result (Leaves (HasHalted (W.failures out.old) (W.failures out.new)
+        (W.interruptions out.old) (W.interruptions out.new))
+        (λ text. (success : Bool) × IsJournaledAfterFile (launched_in prepared.dated (launching_of crew.now.launching) (RT.may_hear crew.now.rt.now))
+        (J.journal journals.now) prepared.answers prepared.dated.plan.dag prepared.dated.runs
+        (S.file files.old (string_bytes report)) seed journal text success) (W.written out.old) (W.written out.new)) }
+{
+    let report = report_in(crew.alloc, report, files)?;
+    let Prepared { dated, answers } = prepared;
+    let clearing = clear_in(crew.alloc, &dated, &report, seed)?;
+    clear_recorded(crew, &clearing, answers, journal, journals, out)
+}
+
+/// Goes on from a report, and from a journal where one is named.
+fn gone_on<RT, J: Journals, S: Source, W: Write>(
+    crew: &Crew<'_, RT>,
+    prepared: Prepared,
+    report: String,
+    seed: Seed,
+    journal: Option<JournalAsked>,
+    files: &mut S,
+    journals: &J,
+    out: &mut W,
+) -> Result<bool, CommandFault>
+where
+    RT: Starter + Screen + Threads + Wait + Clock + Sync,
+    J::Device: Send,
+    ensures ok { IfOk result (λ success. Sends (λ text. IsReportAfterFileBy (launched_in prepared.dated (launching_of crew.now.launching) (RT.may_hear crew.now.rt.now))
+        (J.journal journals.now) journal prepared.answers prepared.dated.plan.dag prepared.dated.runs
+        (S.file files.old (string_bytes report)) seed text success) (W.written out.old) (W.written out.new)) }
+    ensures fault { IfErr result (IsFaultAfterFileBy (is_alone crew.now.workers crew.now.progress)
+        (with_clocks (launching_of crew.now.launching) (clocks_in prepared.dated)) (RT.may_lose crew.now.rt.now) (J.journal journals.now) journal
+        prepared.answers prepared.dated.plan.dag prepared.dated.runs (string_bytes report) (S.file files.old (string_bytes report)) seed) }
+    ensures left { IfErr result (Leaves (HasHalted (W.failures out.old) (W.failures out.new)
+        (W.interruptions out.old) (W.interruptions out.new))
+        (λ text. (success : Bool) × IsReportAfterFileBy (launched_in prepared.dated (launching_of crew.now.launching) (RT.may_hear crew.now.rt.now))
+        (J.journal journals.now) journal prepared.answers prepared.dated.plan.dag prepared.dated.runs
+        (S.file files.old (string_bytes report)) seed text success) (W.written out.old) (W.written out.new)) }
+{
+    match journal {
+        Some(journal) => go_on_recorded(
+            crew, prepared, report, seed, journal, files, journals, out,
+        ),
+        None => go_on(crew, prepared, report, seed, files, out),
+    }
+}
+
+/// The moments are looked at first, and then the launcher, where no table is named. Then the files are read but for the report, and what they hold is looked at; then the
 /// report is read, and the seed is looked for.
-pub fn clear_answered<RT: Starter + Screen + Threads + Wait + Clock + Sync, S: Source, W: Write>(
+pub fn clear_answered<
+    RT: Starter + Screen + Threads + Wait + Clock + Sync,
+    J: Journals + Launchers,
+    S: Source,
+    W: Write,
+>(
     rt: &RT,
     alloc: Global,
     asked: ClearAsked,
     files: &mut S,
+    journals: &J,
     out: &mut W,
 ) -> Result<Status, CommandFault>
-    ensures answer { IfOk result (λ status. Sends (λ text. IsClearAnswer (RT.may_hear rt.now) (S.file files.old) asked text status)
+where
+    J::Device: Send,
+    ensures answer { IfOk result (λ status. Sends (λ text. IsClearAnswer (RT.may_hear rt.now) (S.file files.old) (machine_of (J.journal journals.now) (J.startable journals.now)) asked text status)
         (W.written out.old) (W.written out.new)) }
-    ensures fault { IfErr result (IsClearFault (RT.may_lose rt.now) (S.file files.old) asked) }
+    ensures fault { IfErr result (IsClearFault (RT.may_lose rt.now) (S.file files.old) (machine_of (J.journal journals.now) (J.startable journals.now)) asked) }
     ensures left { IfErr result (Leaves (HasHalted (W.failures out.old) (W.failures out.new)
         (W.interruptions out.old) (W.interruptions out.new))
-        (λ text. (status : StatusTerm) × IsClearAnswer (RT.may_hear rt.now) (S.file files.old) asked text status)
+        (λ text. (status : StatusTerm) × IsClearAnswer (RT.may_hear rt.now) (S.file files.old) (machine_of (J.journal journals.now) (J.startable journals.now)) asked text status)
         (W.written out.old) (W.written out.new)) }
 {
     let range = range_of(&asked.range)?;
     let seed = seed_of(asked.seed)?;
+    look_at(
+        journals,
+        alloc,
+        launcher_used(&asked.table, &asked.launcher),
+    )?;
     let prepared = prepared_in(alloc, asked.graph, asked.table, range, files)?;
-    let crew = Crew::of(rt, alloc, asked.workers, asked.progress, asked.launcher);
-    let succeeded = go_on(&crew, prepared, asked.report, seed, files, out)?;
+    let (launcher, logs) = (asked.launcher, asked.logs);
+    let tells = tells_failures(rt, asked.quiet, asked.progress, &logs);
+    let crew = Crew::of(rt, alloc, asked.workers, asked.progress).launching(
+        launching_asked(&launcher, &logs),
+        tells,
+    );
+    let succeeded = gone_on(
+        &crew,
+        prepared,
+        asked.report,
+        seed,
+        asked.journal,
+        files,
+        journals,
+        out,
+    )?;
     Ok(Status::of_runs(succeeded))
 }

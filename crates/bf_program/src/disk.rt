@@ -1,5 +1,6 @@
 //! The system's files.
 ghost use Rattle.std.specs.Prelude.{◌≡◌, None, false};
+ghost use Rattle.bf_program.specs.Disks.{has_failed_on};
 
 use crate::source::{Source, SourceFault};
 use bf_device::Input;
@@ -28,7 +29,7 @@ pub struct Disk<'a, R> {
 impl<'a, R: Files> Disk<'a, R> {
     /// The files that a runtime reaches.
     pub fn new(rt: &'a R) -> Self
-        ensures { result.failed ≡ false }
+        ensures { has_failed_on result ≡ false }
     {
         Disk {
             rt,

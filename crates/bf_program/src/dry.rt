@@ -3,7 +3,8 @@ ghost use Rattle.std.specs.Prelude.{IfOk, IfErr};
 ghost use Rattle.bf_device.specs.Device.{HasHalted};
 ghost use Rattle.bf_command_fault.specs.Refusal.{Leaves, Sends};
 ghost use Rattle.bf_command_fault.specs.declared.status.Status.{Status as StatusTerm};
-ghost use Rattle.bf_program.specs.Commands.{IsDryAnswer, IsDryFault};
+ghost use Rattle.bf_program.specs.Commands.{IsDryAnswer};
+ghost use Rattle.bf_program.specs.CommandFaults.{IsDryFault};
 
 use crate::input::{files_with_table, range_of};
 use crate::source::Source;
@@ -36,7 +37,7 @@ pub fn dry_answered<RT: Starter + Screen + Threads + Wait + Clock + Sync, S: Sou
     let range = range_of(&asked.range)?;
     let files = files_with_table(alloc, asked.graph, asked.table, files)?;
     let graph = &files.graph;
-    let crew = Crew::of(rt, alloc, asked.workers, asked.progress, None);
+    let crew = Crew::of(rt, alloc, asked.workers, asked.progress);
     let succeeded = run_dry(
         &crew,
         &graph.graph,

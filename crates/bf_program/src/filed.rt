@@ -1,9 +1,12 @@
 //! Reports that go to files.
 ghost use Rattle.std.specs.Prelude.{◌≡◌, List, ℕ, IfErr, IfOk, OnErr, Some, string_bytes, true};
 ghost use Rattle.bf_file.specs.Replacing.{HasReplaced};
-ghost use Rattle.bf_program.specs.Commands.{IsAnswer, IsFaultBy};
+ghost use Rattle.bf_program.specs.Commands.{IsAnswer, machine_of};
+ghost use Rattle.bf_program.specs.CommandFaults.{IsFaultBy};
 ghost use Rattle.bf_program.specs.Filed.{filed_fault, replacing_fault};
 
+use crate::journals::Journals;
+use crate::launchers::Launchers;
 use crate::program::command_answered;
 use crate::source::Source;
 use bf_command_fault::{CommandFault, Status};
@@ -39,21 +42,23 @@ fn told_of_file(fault: CommandFault, reason: ReplaceFault, path: String) -> Comm
 
 /// Answers a command, whose text takes the place of a path's file. That this can be is looked at first, before anything is read.
 #[tactic(auto, using(crate::proofs::FiledReports::filing))]
-pub(crate) fn filed<RT, S: Source, F: Folder>(
+pub(crate) fn filed<RT, J: Journals + Launchers, S: Source, F: Folder>(
     rt: &RT,
     alloc: Global,
     command: Asked,
     path: String,
     files: &mut S,
+    journals: &J,
     folder: &mut F,
 ) -> Result<Status, CommandFault>
 where
     RT: Starter + Screen + Threads + Wait + Clock + Sync,
+    J::Device: Send,
     ensures answer { IfOk result (λ status. (text : List ℕ)
-        × IsAnswer (RT.may_hear rt.now) (S.file files.old) command text status
+        × IsAnswer (RT.may_hear rt.now) (S.file files.old) (machine_of (J.journal journals.now) (J.startable journals.now)) command text status
         × HasReplaced (F.placed folder.old) (F.placed folder.new) (string_bytes path) text) }
     ensures fault { IfErr result (IsFaultBy (Some (string_bytes path)) (F.failed folder.new ≡ true)
-        (RT.may_lose rt.now) (S.file files.old) command) }
+        (RT.may_lose rt.now) (S.file files.old) (machine_of (J.journal journals.now) (J.startable journals.now)) command) }
     ensures same { OnErr result (F.placed folder.new ≡ F.placed folder.old) }
 {
     let new = match folder.begin(alloc, path.as_str()) {
@@ -61,7 +66,7 @@ where
         Err(fault) => return Err(unreplaced(fault, path)),
     };
     let mut page = Page::of(new);
-    match command_answered(rt, alloc, command, files, &mut page) {
+    match command_answered(rt, alloc, command, files, journals, &mut page) {
         Ok(status) => match replace(folder, page) {
             Ok(()) => Ok(status),
             Err(fault) => Err(unreplaced(fault, path)),

@@ -3,7 +3,8 @@ ghost use Rattle.std.specs.Prelude.{IfOk, IfErr};
 ghost use Rattle.bf_device.specs.Device.{HasHalted};
 ghost use Rattle.bf_command_fault.specs.Refusal.{Leaves, Sends};
 ghost use Rattle.bf_command_fault.specs.declared.status.Status.{Status as StatusTerm};
-ghost use Rattle.bf_program.specs.Commands.{IsListAnswer, IsListFault};
+ghost use Rattle.bf_program.specs.Commands.{IsListAnswer};
+ghost use Rattle.bf_program.specs.CommandFaults.{IsListFault};
 
 use crate::input::{graph_files, range_of};
 use crate::source::Source;

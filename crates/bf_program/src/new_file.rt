@@ -166,10 +166,11 @@ impl<'a, R: Files> NewFile<'a, R> {
 
 impl<'a, R: Files> Replacement for NewFile<'a, R> {
     ghost use Rattle.std.specs.Prelude.{None};
+    ghost use Rattle.bf_program.specs.Disks.{has_failed};
 
     ghost calls = { λ _. None };
 
-    ghost failed = { λ n. n.failed };
+    ghost failed = { λ n. has_failed n };
 
     fn write(&mut self, bytes: &[u8]) -> Result<usize, ReplaceFault> {
         let written = self.written(bytes);
@@ -221,15 +222,16 @@ fn renamed_to<R: Files>(new: &NewFile<'_, R>, file: &str) -> Result<(), ReplaceF
 }
 
 impl<'a, R: Files> Folder for Disk<'a, R> {
-    ghost use Rattle.std.specs.Prelude.{None, option_map, string_bytes};
+    ghost use Rattle.std.specs.Prelude.{None};
+    ghost use Rattle.bf_program.specs.Disks.{has_failed_on, path_begun};
 
     type New = NewFile<'a, R>;
 
     ghost placed = { λ _. None };
 
-    ghost begun = { λ d. option_map (λ target. string_bytes target.path) d.target };
+    ghost begun = { λ d. path_begun d };
 
-    ghost failed = { λ d. d.failed };
+    ghost failed = { λ d. has_failed_on d };
 
     fn begin(&mut self, alloc: Global, path: &str) -> Result<NewFile<'a, R>, ReplaceFault> {
         match begun_on(self.rt, alloc, path) {

@@ -6,13 +6,16 @@ ghost use Rattle.bf_command_fault.specs.Refusal.{Leaves, Sends, number_of};
 ghost use Rattle.bf_command_fault.specs.Status.{code_of};
 ghost use Rattle.bf_command_fault.specs.declared.fault.CommandFault.{CommandFault as FaultTerm};
 ghost use Rattle.bf_command_fault.specs.declared.status.Status.{Status as StatusTerm};
-ghost use Rattle.bf_program.specs.Commands.{IsAnswer, IsDone, IsFault, IsTold, MayBeFaulted, MayTell, Tells, found_in, outputs, wrongs_of};
+ghost use Rattle.bf_program.specs.Commands.{IsAnswer, IsDone, found_in, machine_of, outputs, wrongs_of};
+ghost use Rattle.bf_program.specs.CommandFaults.{IsFault, IsTold, MayBeFaulted, MayTell, Tells};
 ghost use Rattle.bf_program.specs.Shown.{shown_as, EndsAs, IsUnshown, ShowsHelp};
 
 use crate::check::check_answered;
 use crate::clear::clear_answered;
 use crate::dry::dry_answered;
 use crate::filed::filed;
+use crate::journals::Journals;
+use crate::launchers::Launchers;
 use crate::list::list_answered;
 use crate::run::run_answered;
 use crate::single::single_answered;
@@ -37,23 +40,25 @@ use std::time::Clock;
 /// is a success, a graph has no fault, the intervals were listed, or a text was asked for, 1 where some run failed, 2
 /// where something was refused, and 3 at a fault.
 #[tactic(auto, using(crate::proofs::Ends::fault_ends))]
-pub fn answer<RT, S: Source, F: Folder, W: Write, E: Write>(
+pub fn answer<RT, J: Journals + Launchers, S: Source, F: Folder, W: Write, E: Write>(
     rt: &RT,
     alloc: Global,
     words: &[String],
     files: &mut S,
+    journals: &J,
     folder: &mut F,
     out: &mut W,
     err: &mut E,
 ) -> u8
 where
     RT: Starter + Screen + Threads + Wait + Clock + Sync,
+    J::Device: Send,
     ensures range { result ≤ 3 }
     ensures answered { result ≤ 1 → E.written err.new ≡ E.written err.old }
     ensures refused { result ≡ 2 → W.written out.new ≡ W.written out.old }
     ensures line { wrongs_of words.now ≢ [] → EndsAs (wrongs_of words.now) result }
     ensures done { wrongs_of words.now ≡ [] → result ≤ 1
-        → IsDone (RT.may_hear rt.now) (S.file files.old) (found_in words.now)
+        → IsDone (RT.may_hear rt.now) (S.file files.old) (machine_of (J.journal journals.now) (J.startable journals.now)) (found_in words.now)
         (outputs (W.written out.old) (F.placed folder.old))
         (outputs (W.written out.new) (F.placed folder.new)) result }
     ensures kept { wrongs_of words.now ≢ [] → F.placed folder.new ≡ F.placed folder.old }
@@ -61,7 +66,7 @@ where
     // Of a line with which nothing is wrong: which fault came, and what is told of it.
     ensures why { wrongs_of words.now ≡ [] → 2 ≤ result → (fault : FaultTerm)
         × MayBeFaulted (RT.may_hear rt.now) (RT.may_lose rt.now)
-        (S.file files.old) (found_in words.now) (HasHalted (W.failures out.old) (W.failures out.new)
+        (S.file files.old) (machine_of (J.journal journals.now) (J.startable journals.now)) (found_in words.now) (HasHalted (W.failures out.old) (W.failures out.new)
         (W.interruptions out.old) (W.interruptions out.new)) (F.failed folder.new ≡ true)
         (outputs (W.written out.old) (F.placed folder.old))
         (outputs (W.written out.new) (F.placed folder.new)) fault
@@ -84,23 +89,25 @@ where
         (E.interruptions err.old) (E.interruptions err.new))
         (E.written err.old) (E.written err.new) fault 3 }
 {
-    match line_answered(rt, alloc, words, files, folder, out, err) {
+    match line_answered(rt, alloc, words, files, journals, folder, out, err) {
         Ok(status) => status.code(),
         Err(fault) => told(alloc, &fault, err).code(),
     }
 }
 
-fn line_answered<RT, S: Source, F: Folder, W: Write, E: Write>(
+fn line_answered<RT, J: Journals + Launchers, S: Source, F: Folder, W: Write, E: Write>(
     rt: &RT,
     alloc: Global,
     words: &[String],
     files: &mut S,
+    journals: &J,
     folder: &mut F,
     out: &mut W,
     err: &mut E,
 ) -> Result<Status, CommandFault>
 where
     RT: Starter + Screen + Threads + Wait + Clock + Sync,
+    J::Device: Send,
     ensures range { IfOk result (λ s. s ≢ Status.Fault) }
     ensures answered { IfOk result (λ s. s ≢ Status.Refused → E.written err.new ≡ E.written err.old) }
     ensures wrong { IfOk result (λ s. s ≡ Status.Refused → W.written out.new ≡ W.written out.old) }
@@ -113,12 +120,12 @@ where
         (W.interruptions out.old) (W.interruptions out.new))
         (W.written out.old) (W.written out.new)) }
     ensures done { wrongs_of words.now ≡ [] → IfOk result (λ s.
-        IsDone (RT.may_hear rt.now) (S.file files.old) (found_in words.now)
+        IsDone (RT.may_hear rt.now) (S.file files.old) (machine_of (J.journal journals.now) (J.startable journals.now)) (found_in words.now)
         (outputs (W.written out.old) (F.placed folder.old))
         (outputs (W.written out.new) (F.placed folder.new)) (code_of s)) }
     ensures kept { wrongs_of words.now ≢ [] → F.placed folder.new ≡ F.placed folder.old }
     ensures why { wrongs_of words.now ≡ [] → IfErr result (λ f. MayBeFaulted
-        (RT.may_hear rt.now) (RT.may_lose rt.now) (S.file files.old) (found_in words.now)
+        (RT.may_hear rt.now) (RT.may_lose rt.now) (S.file files.old) (machine_of (J.journal journals.now) (J.startable journals.now)) (found_in words.now)
         (HasHalted (W.failures out.old) (W.failures out.new)
         (W.interruptions out.old) (W.interruptions out.new)) (F.failed folder.new ≡ true)
         (outputs (W.written out.old) (F.placed folder.old))
@@ -126,29 +133,31 @@ where
 {
     match asked(alloc, words) {
         Ok(CommandLine { command, out: file }) => match file {
-            Some(path) => filed(rt, alloc, command, path, files, folder),
-            None => command_answered(rt, alloc, command, files, out),
+            Some(path) => filed(rt, alloc, command, path, files, journals, folder),
+            None => command_answered(rt, alloc, command, files, journals, out),
         },
         Err(error) => shown(alloc, &error, out, err),
     }
 }
 
 /// Answers a command, whose text goes to `out`.
-pub(crate) fn command_answered<RT, S: Source, W: Write>(
+pub(crate) fn command_answered<RT, J: Journals + Launchers, S: Source, W: Write>(
     rt: &RT,
     alloc: Global,
     command: Asked,
     files: &mut S,
+    journals: &J,
     out: &mut W,
 ) -> Result<Status, CommandFault>
 where
     RT: Starter + Screen + Threads + Wait + Clock + Sync,
-    ensures answer { IfOk result (λ status. Sends (λ text. IsAnswer (RT.may_hear rt.now) (S.file files.old) command text status)
+    J::Device: Send,
+    ensures answer { IfOk result (λ status. Sends (λ text. IsAnswer (RT.may_hear rt.now) (S.file files.old) (machine_of (J.journal journals.now) (J.startable journals.now)) command text status)
         (W.written out.old) (W.written out.new)) }
-    ensures fault { IfErr result (IsFault (RT.may_lose rt.now) (S.file files.old) command) }
+    ensures fault { IfErr result (IsFault (RT.may_lose rt.now) (S.file files.old) (machine_of (J.journal journals.now) (J.startable journals.now)) command) }
     ensures left { IfErr result (Leaves (HasHalted (W.failures out.old) (W.failures out.new)
         (W.interruptions out.old) (W.interruptions out.new))
-        (λ text. (status : StatusTerm) × IsAnswer (RT.may_hear rt.now) (S.file files.old) command text status)
+        (λ text. (status : StatusTerm) × IsAnswer (RT.may_hear rt.now) (S.file files.old) (machine_of (J.journal journals.now) (J.startable journals.now)) command text status)
         (W.written out.old) (W.written out.new)) }
 {
     match command {
@@ -156,8 +165,8 @@ where
         Asked::List(list) => list_answered(alloc, list, files, out),
         Asked::Single(single) => single_answered(rt, alloc, single, files, out),
         Asked::Dry(dry) => dry_answered(rt, alloc, dry, files, out),
-        Asked::Run(ran) => run_answered(rt, alloc, ran, files, out),
-        Asked::Clear(clear) => clear_answered(rt, alloc, clear, files, out),
+        Asked::Run(ran) => run_answered(rt, alloc, ran, files, journals, out),
+        Asked::Clear(clear) => clear_answered(rt, alloc, clear, files, journals, out),
         Asked::Schema(format) => schema_answered(format, out),
         Asked::Completions(shell) => completions_answered(shell, out),
     }

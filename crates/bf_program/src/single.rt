@@ -3,7 +3,8 @@ ghost use Rattle.std.specs.Prelude.{IfOk, IfErr};
 ghost use Rattle.bf_device.specs.Device.{HasHalted};
 ghost use Rattle.bf_command_fault.specs.Refusal.{Leaves, Sends};
 ghost use Rattle.bf_command_fault.specs.declared.status.Status.{Status as StatusTerm};
-ghost use Rattle.bf_program.specs.Commands.{IsSingleAnswer, IsSingleFault};
+ghost use Rattle.bf_program.specs.Commands.{IsSingleAnswer};
+ghost use Rattle.bf_program.specs.CommandFaults.{IsSingleFault};
 
 use crate::input::{files_with_table, moment_of};
 use crate::source::Source;

@@ -2,7 +2,8 @@
 use bf_moment::Moment;
 use bf_plan::{ContextVariable, Word};
 use bf_value::{OutOfMemory, Sequence, Text, Values, Xval};
-use bf_xcom::{Given, JobContext, words};
+use bf_words::{JobContext, words};
+use bf_xcom::Given;
 use jiff::Timestamp;
 use std::alloc::Global;
 use std::test::Fail;

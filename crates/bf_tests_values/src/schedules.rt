@@ -1,5 +1,5 @@
 //! Schedules: which texts are one, and which civil minutes they have, crontab(5)'s own examples among them.
-use bf_cron::{CronFault, CronSpec};
+use bf_cron::{CronFault, CronSpec, Matches};
 use jiff::civil::DateTime;
 use std::test::Fail;
 

@@ -24,11 +24,11 @@ _backfill() {
     done
 
     case $before in
-        --zone-file | --table | --out | --launcher)
+        --zone-file | --table | --out | --launcher | --logs | --journal)
             _backfill_files "$word"
             return
             ;;
-        --at | --from | --to | --task | --run | --workers) return ;;
+        --at | --from | --to | --task | --run | --workers | --stop-after) return ;;
     esac
 
     case $command in
@@ -38,8 +38,8 @@ _backfill() {
         list) options='--zone-file --from --to --help' ;;
         single) options='--zone-file --at --out --help' ;;
         dry) options='--zone-file --from --to --workers --progress --out --help' ;;
-        run) options='--zone-file --from --to --workers --progress --out --launcher --help' ;;
-        clear) options='--zone-file --task --run --table --from --to --workers --progress --out --launcher --help' ;;
+        run) options='--zone-file --from --to --workers --progress --out --launcher --logs --journal --stop-after --retry-failed --quiet --help' ;;
+        clear) options='--zone-file --task --run --table --from --to --workers --progress --out --launcher --logs --journal --stop-after --retry-failed --quiet --help' ;;
         schema) options='--help' words='graph table' ;;
         completions) options='--help' words='bash zsh fish' ;;
     esac
@@ -62,7 +62,7 @@ pub const ZSH: &str = r#"#compdef backfill
 _backfill() {
     local curcontext=$curcontext state line
     typeset -A opt_args
-    local -a commands help version zone_file at from to task run table workers progress out launcher graph_file table_file report_file format shell
+    local -a commands help version zone_file at from to task run table workers progress out launcher logs journal stop_after retry_failed quiet graph_file table_file report_file format shell
 
     commands=(
         'check:Checks the graph, and tells how many tasks and edges it has'
@@ -89,6 +89,11 @@ _backfill() {
     progress=('--progress[Tells how far the runs are]')
     out=('--out[The file that the report goes to]:report:_files')
     launcher=('--launcher[The program that the words of commands are handed to]:program:_files')
+    logs=('--logs[The folder in which the logs of tries are kept]:folder:_files -/')
+    journal=('--journal[The file that tries are recorded in as they end, and gone on from]:journal:_files')
+    stop_after=('--stop-after[Behind how many failed tries no further one begins]:number: ')
+    retry_failed=('--retry-failed[Makes the failed tries of the journal again]')
+    quiet=('--quiet[Tells neither progress nor which tries fail]')
     graph_file=('1:graph:_files')
     table_file=('2:table:_files')
     report_file=('2:report:_files')
@@ -105,8 +110,8 @@ _backfill() {
                 list) _arguments $help $zone_file $from $to $graph_file ;;
                 single) _arguments $help $zone_file $at $out $graph_file $table_file ;;
                 dry) _arguments $help $zone_file $from $to $workers $progress $out $graph_file $table_file ;;
-                run) _arguments $help $zone_file $from $to $workers $progress $out $launcher $graph_file ;;
-                clear) _arguments $help $zone_file $task $run $table $from $to $workers $progress $out $launcher $graph_file $report_file ;;
+                run) _arguments $help $zone_file $from $to $workers $progress $out $launcher $logs $journal $stop_after $retry_failed $quiet $graph_file ;;
+                clear) _arguments $help $zone_file $task $run $table $from $to $workers $progress $out $launcher $logs $journal $stop_after $retry_failed $quiet $graph_file $report_file ;;
                 schema) _arguments $help $format ;;
                 completions) _arguments $help $shell ;;
             esac
@@ -155,4 +160,9 @@ complete -c backfill -n '__fish_seen_subcommand_from dry run clear' -l workers -
 complete -c backfill -n '__fish_seen_subcommand_from dry run clear' -l progress -d 'Tells how far the runs are'
 complete -c backfill -n '__fish_seen_subcommand_from single dry run clear' -l out -r -F -d 'The file that the report goes to'
 complete -c backfill -n '__fish_seen_subcommand_from run clear' -l launcher -r -F -d 'The program that the words of commands are handed to'
+complete -c backfill -n '__fish_seen_subcommand_from run clear' -l logs -r -F -d 'The folder in which the logs of tries are kept'
+complete -c backfill -n '__fish_seen_subcommand_from run clear' -l journal -r -F -d 'The file that tries are recorded in as they end, and gone on from'
+complete -c backfill -n '__fish_seen_subcommand_from run clear' -l stop-after -x -d 'Behind how many failed tries no further one begins'
+complete -c backfill -n '__fish_seen_subcommand_from run clear' -l retry-failed -d 'Makes the failed tries of the journal again'
+complete -c backfill -n '__fish_seen_subcommand_from run clear' -l quiet -d 'Tells neither progress nor which tries fail'
 "#;

@@ -5,4 +5,4 @@ pub returns : goal.returns
 returns c =
     let reported = c.arg.ensures _ _ c.over_graph.ensures c.positional.ensures refl in
     let seeded = c.arg-3.ensures _ _ (c.arg-2.ensures _ _ reported c.required_option.ensures refl) c.required_option-2.ensures refl in
-    c.arg-4.ensures _ _ (c.ranged.ensures _ (c.arg-command.ensures _ _ seeded c.option.ensures refl)) c.launcher.ensures refl
+    c.with_programs.ensures _ (c.ranged.ensures _ (c.arg-command.ensures _ _ seeded c.option.ensures refl))

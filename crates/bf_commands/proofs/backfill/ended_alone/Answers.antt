@@ -7,4 +7,4 @@ stopped_alone-requires g c = fault_weaker (λ n given may. may.1) _ (c.in-Err.en
 pub returns-in-Ok-clause-end : goal.returns-in-Ok-clause-end
 returns-in-Ok-clause-end g c =
     let is = c.in-Ok.ensures {u = tt} in
-    record { of = is.of; again = is.again; anew = is.anew; within = is.workers }
+    record { of = is.of; again = is.again; anew = is.anew; all = is.all; within = is.workers }

@@ -1,17 +1,15 @@
-use Rattle.bf_process.specs.Words.{MayGiveUp}
+use Rattle.bf_process.specs.Words.{launching_of}
 use Rattle.bf_kept.specs.Kept.{MayGiveUpAnew}
-use Rattle.bf_commands.specs.Programs.{launched_lost}
+use Rattle.bf_commands.specs.Programs.{MayGiveUpLaunched}
 use Rattle.bf_commands.proofs.ByPrograms.{told_stop}
-use Rattle.bf_commands.proofs.FromKept.{fail_weaker}
 use Rattle.bf_commands.proofs.backfill.ended_by_programs.Goals as goal
 
-pub stopped_by_programs-requires : goal.stopped_by_programs-requires
-stopped_by_programs-requires g c =
-    let may : _ = rw (c.new-runner.ensures, c.launcher.ensures) at (c.in-Err.ensures {u = tt}).err in
-    rw c.intervals.ensures.intervals (fail_weaker (λ n given may. may.1) _ may)
+pub returns-in-Ok-clause-end : goal.returns-in-Ok-clause-end
+returns-in-Ok-clause-end g c = rw (c.in-Ok.is, c.programs_of-programs.ensures) at c.resumed-ended.ensures.end
 
-pub returns-in-Err-clause-stop : goal.returns-in-Err-clause-stop
-returns-in-Err-clause-stop g c =
-    let may : _ = rw (c.new-runner.ensures, c.launcher.ensures) at (c.in-Err.ensures {u = tt}).err in
-    told_stop (MayGiveUpAnew (g.K.KeptTries.kept c.args.kept.now) (MayGiveUp (launched_lost c.args.crew.now.launcher (g.RT.Starter.may_lose c.args.crew.now.rt.now)) c.args.plan.now.dag c.args.runs.now)) c.args.plan.now.dag _ _ may
-    c.stopped_by_programs.ensures.told
+pub returns-clause-stop : goal.returns-clause-stop
+returns-clause-stop g c =
+    let may : _ = rw (c.in-Err.is, c.programs_of-programs.ensures) at c.resumed-ended.ensures.err in
+    let told : _ = rw (c.stopping-stopping.ensures.plan, c.stopping-stopping.ensures.runs, c.stopping-stopping.ensures.logs) at c.stopped_by_programs.ensures.told in
+    told_stop (MayGiveUpAnew (g.K.KeptTries.kept c.args.kept.now) (MayGiveUpLaunched (launching_of c.args.crew.now.launching) (g.RT.Starter.may_lose c.args.crew.now.rt.now) c.args.plan.now.dag c.args.runs.now))
+    (launching_of c.args.crew.now.launching).logs c.args.plan.now.dag c.args.runs.now _ _ may told

@@ -1,4 +1,5 @@
-use Rattle.bf_commands.specs.Programs.{launched_lost}
+use Rattle.bf_process.specs.Words.{launching_of}
+use Rattle.bf_commands.specs.Programs.{clocks_in}
 use Rattle.bf_commands.proofs.Faults.{reported_by, run_stop_in}
 use Rattle.bf_commands.proofs.FromKept.{nothing_fits}
 use Rattle.bf_commands.proofs.Results.{leaves_as, sends_as}
@@ -13,9 +14,14 @@ write_backfill-requires-clause-fit g c κs held = nothing_fits c.in_ok-dated.dat
 
 pub returns : goal.returns
 returns g c =
-    let is = reported_by c.in_ok-dated.ensures.plan c.in_ok-dated.ensures.listing in
+    let launching = launching_of c.args.crew.now.launching in
+    let dated = c.in_ok-dated.ensures in
+    let is = reported_by dated.plan dated.listing {launching = launching} {may_hear = g.RT.Starter.may_hear c.args.crew.now.rt.now} dated.clocks in
+    let ok : _ = rw (c.at-crew.ensures.machine, c.at-crew.ensures.launching, c.deref.ensures.value) at c.write_backfill.ensures.ok in
+    let stop : _ = rw (c.at-crew.ensures.machine, c.at-crew.ensures.launching, c.deref.ensures.value) at c.write_backfill.ensures.stop in
+    let left : _ = rw (c.at-crew.ensures.machine, c.at-crew.ensures.launching, c.deref.ensures.value) at c.write_backfill.ensures.left in
     record {
-      ok = sends_as is _ _ _ c.write_backfill.ensures.ok;
-      fault = run_stop_in (launched_lost c.args.crew.now.launcher (g.RT.Starter.may_lose c.args.crew.now.rt.now)) c.args.graph.now _ _ _ _ c.in_ok-dated.ensures.plan _ c.in_ok-dated.ensures.listing _ c.write_backfill.ensures.stop;
-      left = leaves_as is _ _ _ _ c.write_backfill.ensures.left;
+      ok = sends_as is _ _ _ ok;
+      fault = run_stop_in launching (g.RT.Starter.may_lose c.args.crew.now.rt.now) c.args.graph.now _ _ _ _ dated.plan _ dated.listing (clocks_in c.in_ok-dated.dated) dated.clocks _ stop;
+      left = leaves_as is _ _ _ _ left;
     }

@@ -1,4 +1,4 @@
-use Rattle.std.proofs.Common.{◌≡◌, true, refl, rules}
+use Rattle.std.proofs.Common.{◌≡◌, true, refl}
 use Rattle.bf_commands.specs.OverTable.{is_alone}
 use Rattle.bf_commands.proofs.Faults.{no_run_leaves, reported_at, single_moment, single_table, single_wanting_in, table_leaves}
 use Rattle.bf_commands.proofs.FromKept.{nothing_fits}

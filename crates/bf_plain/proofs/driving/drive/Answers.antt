@@ -16,7 +16,7 @@ pub returns-clause-over : goal.returns-clause-over
 returns-clause-over g c =
     let over = ends_over (g.R.TaskRunner.may_answer c.args.runner.now) c.in_ok-core.core c.args.plan.now.dag c.args.plan.now.limits _ c.one.result c.in_ok-scheduler.scheduler c.all_turns.new.scheduler c.in-Ok.ended c.dag-sound.ensures.sound c.limits-fit.ensures.fit
     (c.in_ok-core.ensures {u = tt}) (c.in_ok-scheduler.ensures {u = tt}) c.in_ok-all_turns.ensures.driven c.in-Ok.ensures.ok in
-    subst (λ (w : ℕ). IsOver (g.R.TaskRunner.may_answer c.args.runner.now) c.args.plan.now.dag c.args.plan.now.limits (length c.args.runs.now) w c.in-Ok.ended) c.one.ensures over
+    subst (λ (w : ℕ). IsOver (g.R.TaskRunner.may_answer c.args.runner.now) c.args.plan.now.dag c.args.plan.now.limits (g.N.RunCount.runs c.args.runs.now) w c.in-Ok.ended) c.one.ensures over
 
 pub returns-clause-ticks : goal.returns-clause-ticks
 returns-clause-ticks g c =
@@ -24,7 +24,7 @@ returns-clause-ticks g c =
     let dag = c.args.plan.now.dag in
     let limits = c.args.plan.now.limits in
     let last = c.all_turns.new.scheduler in
-    let driven : IsDriven may dag limits (length c.args.runs.now) c.one.result last.backfill = driven_first may c.in_ok-core.core dag limits _ _ c.in_ok-scheduler.scheduler last c.dag-sound.ensures.sound c.limits-fit.ensures.fit
+    let driven : IsDriven may dag limits (g.N.RunCount.runs c.args.runs.now) c.one.result last.backfill = driven_first may c.in_ok-core.core dag limits _ _ c.in_ok-scheduler.scheduler last c.dag-sound.ensures.sound c.limits-fit.ensures.fit
     (c.in_ok-core.ensures {u = tt}) (c.in_ok-scheduler.ensures {u = tt}) c.in_ok-all_turns.ensures.driven in
     ends-so c.in_ok-core.core dag limits _ _ c.in_ok-scheduler.scheduler last c.in-Ok.ended (c.in_ok-core.ensures {u = tt}) (c.in_ok-scheduler.ensures {u = tt}) c.in_ok-all_turns.ensures.ticks
     driven.dag driven.limits driven.runs c.in-Ok.ensures.ok

@@ -5,7 +5,7 @@ use Rattle.bf_core.proofs.Starting.{core-opening}
 use Rattle.bf_core.proofs.machine.Core.new.Goals as goal
 
 pub invariant_of-result : goal.invariant_of-result
-invariant_of-result c =
+invariant_of-result g c =
     let tasks : c.len.result ≡ length c.args.plan.now.dag.tasks = c.len.ensures ∙ ap (λ (d : Dag). length d.tasks) c.dag.ensures.dag in
     core-opening c.args.plan.now.dag c.args.plan.now.limits _ c.in_ok-cells.cells c.new-2.result _ c.new-4.result.items c.in_ok-pools.pools _
     c.dag.ensures.sound c.limits-fit.ensures.fit c.count-count.ensures.few

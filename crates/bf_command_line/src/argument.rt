@@ -1,0 +1,199 @@
+//! Arguments of commands, as `clap` reads them.
+ghost use Rattle.std.specs.Prelude.{◌≡◌};
+ghost use Rattle.clap.specs.Words.{rule_of};
+ghost use Rattle.bf_command_line.specs.CommandLine.{from_rule, graph_rule, journal_rule, launcher_rule, logs_rule, option_rule, out_rule, positional_rule, progress_rule, quiet_rule, required_option_rule, retry_failed_rule, stop_after_rule, table_rule, to_rule, workers_rule, zone_file_rule};
+
+use bf_workers::MOST_WORKERS;
+use clap::{Arg, ArgAction, value_parser};
+use std::alloc::Global;
+
+/// An argument by its place, which has to be there.
+pub(crate) fn positional<'a>(alloc: Global, id: &'a str, value: &'a str, help: &'a str) -> Arg<'a>
+    ensures { rule_of result ≡ positional_rule id.entry.now }
+{
+    Arg::new(alloc, id)
+        .value_name(value)
+        .help(help)
+        .required(true)
+}
+
+/// An option with a value.
+pub(crate) fn option<'a>(
+    alloc: Global,
+    id: &'a str,
+    long: &'a str,
+    value: &'a str,
+    help: &'a str,
+) -> Arg<'a>
+    ensures { rule_of result ≡ option_rule id.entry.now long.entry.now }
+{
+    Arg::new(alloc, id).long(long).value_name(value).help(help)
+}
+
+/// An option with a value, which has to be there.
+pub(crate) fn required_option<'a>(
+    alloc: Global,
+    id: &'a str,
+    value: &'a str,
+    help: &'a str,
+) -> Arg<'a>
+    ensures { rule_of result ≡ required_option_rule id.entry.now }
+{
+    Arg::new(alloc, id)
+        .long(id)
+        .value_name(value)
+        .help(help)
+        .required(true)
+}
+
+pub(crate) fn graph<'a>(alloc: Global) -> Arg<'a>
+    ensures { rule_of result ≡ graph_rule }
+{
+    positional(alloc, "graph", "GRAPH", "The task graph, a JSON file")
+}
+
+pub(crate) fn zone_file<'a>(alloc: Global) -> Arg<'a>
+    ensures { rule_of result ≡ zone_file_rule }
+{
+    option(
+        alloc,
+        "zone_file",
+        "zone-file",
+        "PATH",
+        "The zone file that the graph's zone `file` means, as of the tz database",
+    )
+}
+
+pub(crate) fn table<'a>(alloc: Global) -> Arg<'a>
+    ensures { rule_of result ≡ table_rule }
+{
+    positional(
+        alloc,
+        "table",
+        "TABLE",
+        "The answers of the tasks' tries, a JSON file",
+    )
+}
+
+pub(crate) fn from<'a>(alloc: Global) -> Arg<'a>
+    ensures { rule_of result ≡ from_rule }
+{
+    required_option(
+        alloc,
+        "from",
+        "T",
+        "The first moment at which an interval may start, in UTC, as 2024-01-31 or 2024-01-31T06:00:00Z",
+    )
+}
+
+pub(crate) fn to<'a>(alloc: Global) -> Arg<'a>
+    ensures { rule_of result ≡ to_rule }
+{
+    required_option(
+        alloc,
+        "to",
+        "T",
+        "The last moment at which an interval may start, in UTC, as 2024-01-31 or 2024-01-31T06:00:00Z",
+    )
+}
+
+pub(crate) fn workers<'a>(alloc: Global) -> Arg<'a>
+    ensures { rule_of result ≡ workers_rule }
+{
+    option(
+        alloc,
+        "workers",
+        "workers",
+        "N",
+        "How many tries may run at once, 1 to 64; 1 where this isn't given",
+    )
+    .value_parser(value_parser!(u32).range(1..=i64::from(MOST_WORKERS)))
+}
+
+pub(crate) fn progress<'a>(alloc: Global) -> Arg<'a>
+    ensures { rule_of result ≡ progress_rule }
+{
+    Arg::new(alloc, "progress")
+        .long("progress")
+        .help("Tells on standard error how far the runs are, at most once a second")
+        .action(ArgAction::SetTrue)
+}
+
+pub(crate) fn out<'a>(alloc: Global) -> Arg<'a>
+    ensures { rule_of result ≡ out_rule }
+{
+    option(
+        alloc,
+        "out",
+        "out",
+        "PATH",
+        "Writes the report to this file, whole or not at all, in place of standard output",
+    )
+}
+
+pub(crate) fn launcher<'a>(alloc: Global) -> Arg<'a>
+    ensures { rule_of result ≡ launcher_rule }
+{
+    option(
+        alloc,
+        "launcher",
+        "launcher",
+        "PATH",
+        "Hands the words of each task's command to this program; without it the first word is the program",
+    )
+}
+
+pub(crate) fn logs<'a>(alloc: Global) -> Arg<'a>
+    ensures { rule_of result ≡ logs_rule }
+{
+    option(
+        alloc,
+        "logs",
+        "logs",
+        "FOLDER",
+        "Keeps below this folder what each try writes and what it was given",
+    )
+}
+
+pub(crate) fn journal<'a>(alloc: Global) -> Arg<'a>
+    ensures { rule_of result ≡ journal_rule }
+{
+    option(
+        alloc,
+        "journal",
+        "journal",
+        "PATH",
+        "Records each try in this file as it ends; where it has some, goes on from them",
+    )
+}
+
+pub(crate) fn stop_after<'a>(alloc: Global) -> Arg<'a>
+    ensures { rule_of result ≡ stop_after_rule }
+{
+    option(
+        alloc,
+        "stop_after",
+        "stop-after",
+        "N",
+        "Begins no further try behind N failed ones; needs a journal",
+    )
+    .value_parser(value_parser!(u32).range(1..))
+}
+
+pub(crate) fn retry_failed<'a>(alloc: Global) -> Arg<'a>
+    ensures { rule_of result ≡ retry_failed_rule }
+{
+    Arg::new(alloc, "retry_failed")
+        .long("retry-failed")
+        .help("Makes the failed tries of the journal again, of what hasn't succeeded since")
+        .action(ArgAction::SetTrue)
+}
+
+pub(crate) fn quiet<'a>(alloc: Global) -> Arg<'a>
+    ensures { rule_of result ≡ quiet_rule }
+{
+    Arg::new(alloc, "quiet")
+        .long("quiet")
+        .help("Tells neither progress nor which tries fail")
+        .action(ArgAction::SetTrue)
+}

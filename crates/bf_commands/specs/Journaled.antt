@@ -1,0 +1,175 @@
+-- What is reported of a backfill that records its tries: it goes on from those of its journal, and else from those that were kept before.
+use Rattle.std.specs.Prelude.{◌≡◌, ℕ, ℤ, Bool, true, List, [], ◌∷◌, Option, Some, Ok}
+use Rattle.bf_value.specs.declared.name.JobName.{JobName}
+use Rattle.bf_read.specs.declared.draft.Draft.{Draft}
+use Rattle.bf_check.specs.Checking.{dag_of}
+use Rattle.bf_plan.specs.declared.plan.Dag.{Dag}
+use Rattle.bf_moment.specs.declared.moment.Moment.{Moment}
+use Rattle.bf_interval.specs.declared.interval.Interval.{Interval}
+use Rattle.bf_xcom.specs.declared.values.Given.{Given}
+use Rattle.bf_try.specs.declared.answers.Raw.{Raw}
+use Rattle.bf_try.specs.Tries.{Look}
+use Rattle.bf_table.specs.declared.table.TableEntry.{TableEntry}
+use Rattle.bf_core.specs.declared.fault.BackfillFault.{BackfillFault}
+use Rattle.bf_kept.specs.Kept.{IsNew, nothing}
+use Rattle.bf_process.specs.Words.{LaunchingOf, MayAnswer}
+use Rattle.bf_journal.specs.Found.{IsFault}
+use Rattle.bf_journal.specs.Heads.{head_text}
+use Rattle.bf_journal.specs.Left.{IsFoundIn}
+use Rattle.bf_journal.specs.Since.{left_of, since}
+use Rattle.bf_report.specs.declared.report.Report.{Report}
+use Rattle.bf_dependents.specs.declared.fault.ClearFault.{ClearFault}
+use Rattle.bf_dependents.specs.declared.seeds.Seed.{Seed}
+use Rattle.bf_dependents.specs.Seeds.{is_unknown_run}
+use Rattle.bf_command_fault.specs.declared.fault.CommandFault.{CommandFault}
+use Rattle.bf_command_fault.specs.declared.fault.CommandFault.TheVariants.{Clear as NotCleared, Journal as BadJournal, OutOfMemory, Stopped}
+use Rattle.bf_command_fault.specs.declared.stop.StopFault.{StopFault}
+use Rattle.bf_clear.specs.Matching.{clear_fault}
+use Rattle.bf_commands.specs.Cleared.{AreAnswersIn, IsKeptOf, IsReadAs, IsReady, MayAnswerBy}
+use Rattle.bf_commands.specs.Graphs.{IsGraph}
+use Rattle.bf_commands.specs.Lists.{HasListing}
+use Rattle.bf_commands.specs.OverTable.{IsWanting}
+use Rattle.bf_commands.specs.Programs.{AreClocksOf, Hearing, HearingTries, IsGivenUp, IsStopOf, launched_by}
+use Rattle.bf_commands.specs.Reported.{IsReportFrom}
+
+-- what the head of a journal tells of what is cleared: a task, and the start of its run
+abbrev pub Heading : Type 0
+Heading = List (List ℕ × Moment)
+
+-- of a backfill that clears a seed, it tells of that one
+pub record TellsOf (seed : Seed) (cleared : Heading) : Type 0 where
+  pub moment : Moment
+  pub is_start : moment.at.nanosecond ≡ seed.run.nanosecond
+  pub cleared_is : cleared ≡ (seed.task, moment) ∷ []
+
+-- ---- what is kept of a journal
+
+-- a journal of these bytes tells these tries
+pub record HasTries (dag : Dag) (intervals : List Interval) (cleared : Heading) (held : List ℕ) (tries : Look) : Type 0 where
+  pub whole : ℕ
+  pub found : IsFoundIn dag intervals (head_text dag intervals cleared) held whole tries
+
+-- ---- reports
+
+-- the text is the report of the backfill that goes on from the tries of a journal, but for failed ones that are made again, and
+-- else from those that were kept before
+pub record IsReportSince (before : Look) (retry : Bool) (held : List ℕ) (cleared : Heading) (may_answer : JobName → Given → Raw → Type 0) (dag : Dag) (intervals : List Interval) (text : List ℕ) (success : Bool) : Type 0 where
+  pub tries : Look
+  pub has_tries : HasTries dag intervals cleared held tries
+  pub reported : IsReportFrom (since (left_of retry dag tries) before) may_answer dag intervals text success
+
+-- the bytes say a graph, which has no fault, and the text is the report of its runs in the range, with the programs of its tasks,
+-- that goes on from a journal of these bytes
+pub record IsJournaledReport (launching : LaunchingOf) (may_hear : Hearing) (graph : List ℕ) (file : Option (List ℕ)) (retry : Bool) (held : List ℕ) (from to : ℤ) (text : List ℕ) (success : Bool) : Type 0 where
+  pub draft : Draft
+  pub found : List Interval
+  pub graph_is : IsGraph graph file draft
+  pub listing : HasListing graph file from to (Ok found)
+  pub clocks : List ℤ
+  pub clocks_are : AreClocksOf graph file found clocks
+  pub reported : IsReportSince nothing retry held [] (MayAnswer (launched_by launching may_hear clocks) (dag_of draft) found) (dag_of draft) found text success
+
+-- the text is the report of the backfill that goes on from a journal, and else from what is kept of a report where the seed is cleared
+pub record IsJournaledAfter (may_hear : HearingTries) (answers : Option (List TableEntry)) (dag : Dag) (intervals : List Interval) (was : Report) (seed : Seed) (retry : Bool) (held : List ℕ) (text : List ℕ) (success : Bool) : Type 0 where
+  pub kept : Look
+  pub kept_is : IsKeptOf dag intervals was seed kept
+  pub cleared : Heading
+  pub tells : TellsOf seed cleared
+  pub reported : IsReportSince kept retry held cleared (MayAnswerBy may_hear answers dag intervals) dag intervals text success
+
+-- the bytes say a graph, which has no fault, a table where there is one, and a report of the graph's runs in the range; and the text
+-- is the report of the backfill that goes on from a journal of these bytes, and else from that report where the seed is cleared
+pub record IsJournaledClearReport (launching : LaunchingOf) (may_hear : Hearing) (graph : List ℕ) (file table : Option (List ℕ)) (report : List ℕ) (retry : Bool) (held : List ℕ) (from to : ℤ) (seed : Seed) (text : List ℕ) (success : Bool) : Type 0 where
+  pub draft : Draft
+  pub answers : Option (List TableEntry)
+  pub found : List Interval
+  pub was : Report
+  pub graph_is : IsGraph graph file draft
+  pub table_says : AreAnswersIn table answers
+  pub listing : HasListing graph file from to (Ok found)
+  pub report_says : IsReadAs report was
+  pub clocks : List ℤ
+  pub clocks_are : AreClocksOf graph file found clocks
+  pub reported : IsJournaledAfter (launched_by launching may_hear clocks) answers (dag_of draft) found was seed retry held text success
+
+-- ---- what goes wrong
+
+-- a worker can't be started; or a try can't be recorded; or so many tries have failed as may; or a try was given up that isn't kept
+abbrev pub IsStopRecorded : Option ℕ → Look → Option (List ℕ) → Dag → List Interval → StopFault → Type 0
+IsStopRecorded most kept logs dag intervals StopFault.CannotRecord = Unit {0}
+IsStopRecorded most kept logs dag intervals (StopFault.EnoughFailed count) = most ≡ Some count
+IsStopRecorded most kept logs dag intervals stop = IsStopOf (IsNew kept) logs dag intervals stop
+
+-- a try can't be recorded; or the backfill that goes on from the journal stops
+abbrev pub IsStopSince : Option ℕ → Look → Bool → List ℕ → Heading → Option (List ℕ) → Dag → List Interval → StopFault → Type 0
+IsStopSince most before retry held cleared logs dag intervals StopFault.CannotRecord = Unit {0}
+IsStopSince most before retry held cleared logs dag intervals stop =
+    (tries : Look) × HasTries dag intervals cleared held tries × IsStopRecorded most (since (left_of retry dag tries) before) logs dag intervals stop
+
+-- the fault is the first: the journal is refused; or the backfill that goes on from it stops; or memory or the device is wanting
+abbrev pub IsFaultSince : Option ℕ → Look → Bool → List ℕ → Heading → Option (List ℕ) → Dag → List Interval → CommandFault → Type 0
+IsFaultSince most before retry held cleared logs dag intervals (BadJournal fault) = IsFault dag intervals (head_text dag intervals cleared) held fault
+IsFaultSince most before retry held cleared logs dag intervals (Stopped stop) = IsStopSince most before retry held cleared logs dag intervals stop
+IsFaultSince most before retry held cleared logs dag intervals fault = IsWanting fault
+
+-- the bytes say a graph, which has no fault, its runs lie in the range, and the backfill that goes on from a journal of these bytes has
+-- this fault
+pub record GoesWrong (most : Option ℕ) (logs : Option (List ℕ)) (graph : List ℕ) (file : Option (List ℕ)) (retry : Bool) (held : List ℕ) (from to : ℤ) (fault : CommandFault) : Type 0 where
+  pub draft : Draft
+  pub found : List Interval
+  pub graph_is : IsGraph graph file draft
+  pub listing : HasListing graph file from to (Ok found)
+  pub fault_is : IsFaultSince most nothing retry held [] logs (dag_of draft) found fault
+
+-- the graph, the table and the range have no fault, the bytes say a report, and the seed is cleared in it
+pub record IsClearable (graph : List ℕ) (file table : Option (List ℕ)) (report : List ℕ) (from to : ℤ) (seed : Seed) : Type 0 where
+  pub ready : IsReady graph file table from to
+  pub was : Report
+  pub report_says : IsReadAs report was
+  pub kept : Look
+  pub kept_is : IsKeptOf ready.dag ready.found was seed kept
+
+-- so it is, and the backfill that goes on from a journal of these bytes, and else from that report, has this fault
+pub record GoesWrongClearing (most : Option ℕ) (logs : Option (List ℕ)) (graph : List ℕ) (file table : Option (List ℕ)) (report : List ℕ) (retry : Bool) (held : List ℕ) (from to : ℤ) (seed : Seed) (fault : CommandFault) : Type 0 where
+  pub clearable : IsClearable graph file table report from to seed
+  pub cleared : Heading
+  pub tells : TellsOf seed cleared
+  pub fault_is : IsFaultSince most clearable.kept retry held cleared logs clearable.ready.dag clearable.ready.found fault
+
+-- the seed isn't cleared in the report for this; or memory is wanting
+abbrev pub IsFaultOfSeed : Dag → List Interval → Report → Seed → CommandFault → Type 0
+IsFaultOfSeed dag intervals was seed (NotCleared fault) = clear_fault dag intervals was (seed ∷ []) ≡ Some fault
+IsFaultOfSeed dag intervals was seed OutOfMemory = Unit {0}
+IsFaultOfSeed dag intervals was seed fault = ⊥
+
+-- ---- for private clauses
+
+-- the journal is refused; or a write to it fails; or memory is wanting
+abbrev pub IsFaultOfJournal : Dag → List Interval → Heading → List ℕ → CommandFault → Type 0
+IsFaultOfJournal dag intervals cleared held (BadJournal fault) = IsFault dag intervals (head_text dag intervals cleared) held fault
+IsFaultOfJournal dag intervals cleared held (Stopped StopFault.CannotRecord) = Unit {0}
+IsFaultOfJournal dag intervals cleared held OutOfMemory = Unit {0}
+IsFaultOfJournal dag intervals cleared held fault = ⊥
+
+-- a backfill that records its tries stops; or memory or the device is wanting
+abbrev pub IsStopRecordedOrWanting : Option ℕ → Look → Option (List ℕ) → Dag → List Interval → CommandFault → Type 0
+IsStopRecordedOrWanting most kept logs dag intervals (Stopped stop) = IsStopRecorded most kept logs dag intervals stop
+IsStopRecordedOrWanting most kept logs dag intervals fault = IsWanting fault
+
+-- the run of the seed isn't there; or memory is wanting
+abbrev pub IsFaultOfHeading : List Interval → Seed → CommandFault → Type 0
+IsFaultOfHeading intervals seed (NotCleared ClearFault.UnknownRun) = is_unknown_run intervals seed ≡ true
+IsFaultOfHeading intervals seed OutOfMemory = Unit {0}
+IsFaultOfHeading intervals seed fault = ⊥
+
+-- what is told of a try that was given up while tries were recorded: why no further one was begun, or the try
+abbrev pub IsToldAt : Option ℕ → Option (List ℕ) → Dag → List Interval → JobName → CommandFault → Type 0
+IsToldAt most logs dag intervals name (Stopped StopFault.CannotRecord) = Unit {0}
+IsToldAt most logs dag intervals name (Stopped (StopFault.EnoughFailed count)) = most ≡ Some count
+IsToldAt most logs dag intervals name fault = IsGivenUp logs dag intervals name fault
+
+-- what is told of what stopped a backfill that records its tries
+abbrev pub IsToldOfRecorded : Option ℕ → Option (List ℕ) → Dag → List Interval → BackfillFault → CommandFault → Type 0
+IsToldOfRecorded most logs dag intervals BackfillFault.OutOfMemory told = told ≡ OutOfMemory
+IsToldOfRecorded most logs dag intervals BackfillFault.Start told = told ≡ Stopped StopFault.CannotStart
+IsToldOfRecorded most logs dag intervals (BackfillFault.Runner name) told = IsToldAt most logs dag intervals name told

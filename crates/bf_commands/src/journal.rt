@@ -1,0 +1,59 @@
+//! The journal of a backfill: what is kept of it, and what stands in it when the first try begins.
+ghost use Rattle.std.specs.Prelude.{◌≡◌, IfErr, IfOk};
+ghost use Rattle.std.specs.FinMap as map;
+ghost use Rattle.bf_kept.specs.Kept.{AreFit};
+ghost use Rattle.bf_journal.specs.Heads.{head_text};
+ghost use Rattle.bf_journal.specs.Left.{IsLeftPart, IsMadeWhole};
+ghost use Rattle.bf_commands.specs.Journaled.{HasTries, IsFaultOfJournal};
+
+use crate::screen::Screen;
+use crate::telling::tell_of;
+use bf_command_fault::{CommandFault, StopFault};
+use bf_interval::Runs;
+use bf_journal::{Cuttable, head_of, is_made_whole, read_journal};
+use bf_moment::Moment;
+use bf_plan::Plan;
+use bf_try::Ledger;
+use bf_value::Text;
+use std::alloc::Global;
+
+/// A journal that is open.
+#[derive(Drop)]
+pub struct Journal<D: Cuttable + Drop> {
+    /// What it holds.
+    pub held: Vec<u8>,
+    /// What is written to this goes behind that.
+    pub device: D,
+    /// Behind how many failed tries no further one begins.
+    pub stop_after: Option<u32>,
+    /// Whether failed tries that are recorded are made again.
+    pub retry_failed: bool,
+}
+
+/// The tries that are kept of a journal. What was cut short stands there no more, and the head does.
+pub(crate) fn tries_of<RT: Screen, D: Cuttable + Drop>(
+    rt: &RT,
+    alloc: Global,
+    plan: &Plan,
+    runs: &Runs,
+    cleared: &[(Text, Moment)],
+    journal: &mut Journal<D>,
+) -> Result<Ledger, CommandFault>
+    ensures tries { IfOk result (λ tries. HasTries plan.now.dag runs.now cleared.now journal.old.held.items (map.get tries)) }
+    ensures fit { IfOk result (λ tries. AreFit plan.now.dag (map.get tries)) }
+    ensures fault { IfErr result (IsFaultOfJournal plan.now.dag runs.now cleared.now journal.old.held.items) }
+    ensures made_whole { IfOk result (λ tries. IsMadeWhole plan.now.dag runs.now (head_text plan.now.dag runs.now cleared.now)
+        journal.old.held.items (map.get tries) (D.written journal.old.device) (D.written journal.new.device)) }
+    ensures part { IfErr result (λ _. IsLeftPart (head_text plan.now.dag runs.now cleared.now)
+        journal.old.held.items (D.written journal.old.device) (D.written journal.new.device)) }
+    ensures stop_after { journal.new.stop_after ≡ journal.old.stop_after }
+    ensures retry_failed { journal.new.retry_failed ≡ journal.old.retry_failed }
+{
+    let head = head_of(alloc, plan, runs, cleared)?;
+    let found = read_journal(alloc, plan, runs, head.as_bytes(), &journal.held)?;
+    if !is_made_whole(&mut journal.device, head.as_bytes(), &found) {
+        return Err(CommandFault::Stopped(StopFault::CannotRecord));
+    }
+    tell_of(rt, alloc, &journal.held, &found);
+    Ok(found.tries)
+}

@@ -1,0 +1,149 @@
+//! Backfills whose tries are recorded.
+ghost use Rattle.std.specs.Prelude.{◌≡◌, IfErr, IfOk, length};
+ghost use Rattle.bf_kept.specs.Kept.{AreFit};
+ghost use Rattle.bf_journal.specs.Recording.{IsRecordBy, IsWritten, MayRecord, is_write_failed};
+ghost use Rattle.bf_process.specs.Words.{launching_of};
+ghost use Rattle.bf_commands.specs.Journaled.{IsStopRecordedOrWanting};
+ghost use Rattle.bf_commands.specs.OverTable.{IsUnsent};
+ghost use Rattle.bf_commands.specs.Reported.{IsEndFrom};
+
+use crate::crew::Crew;
+use crate::screen::Screen;
+use crate::stop::stopped_recording;
+use bf_command_fault::CommandFault;
+use bf_core::Ended;
+use bf_interval::Runs;
+use bf_journal::{Durable, Journaled, Recorder, Recording, Stop};
+use bf_kept::{Keeping, KeptTries};
+use bf_plan::Plan;
+use bf_process::LogFaults;
+use bf_try::TaskRunner;
+use std::alloc::Global;
+use std::marker::Brand;
+use std::sync::Wait;
+use std::thread::Threads;
+use std::time::{Clock, Duration};
+
+/// Where tries are recorded, and behind how many failed ones no further try is to begin.
+#[derive(Drop)]
+pub(crate) struct Record<D: Durable + Drop> {
+    pub(crate) device: D,
+    pub(crate) most_failed: Option<u32>,
+}
+
+/// The end of a backfill whose tries were recorded, or why there is none; the device; and why no further try was begun, if that
+/// was so.
+#[derive(Drop)]
+pub(crate) struct RecordedEnd<'p, D: Durable + Drop> {
+    pub(crate) ended: Result<Ended<'p>, CommandFault>,
+    pub(crate) device: D,
+    pub(crate) stop: Option<Stop>,
+}
+
+/// A runner that records, for a backfill that picks what may be recorded.
+fn recording_of<'a, J, RT, R, D>(
+    rt: &'a RT,
+    alloc: Global,
+    plan: &'a Plan,
+    runs: &'a Runs,
+    runner: &'a R,
+    record: Record<D>,
+) -> Recording<'a, J, RT, R, D>
+where
+    J: Journaled,
+    RT: Wait + Clock,
+    R: TaskRunner,
+    D: Durable + Drop,
+    requires base { J.base ≡ D.written record.device }
+    requires may { MayRecord J.may_record (R.may_answer runner.now) plan.now.dag runs.now }
+    ensures { result ≡ record { runner = runner.entry.now; dag = plan.entry.now.dag; intervals = runs.entry.now } }
+{
+    let now = rt.monotonic().unwrap_or(Duration::ZERO);
+    let recorder = Recorder::<J, D>::new(record.device, record.most_failed, now);
+    Recording::new(rt, alloc, plan, runs, runner, recorder)
+}
+
+impl<'m, RT: Screen + Threads + Wait + Clock + Sync> Crew<'m, RT> {
+    fn recorded<'p, J, K, R, D, C>(
+        &self,
+        plan: &'p Plan,
+        runs: &Runs,
+        keeping: &Keeping<'_, K, R>,
+        record: Record<D>,
+        clock: C,
+        log_faults: Option<&LogFaults>,
+    ) -> RecordedEnd<'p, D>
+    where
+        J: Journaled + Send + Sync,
+        K: KeptTries + Sync,
+        R: TaskRunner + Sync,
+        D: Durable + Drop + Send,
+        C: bf_lane::Clock + Drop,
+        requires fit { AreFit plan.now.dag (K.kept keeping.now.kept.now) }
+        requires base { J.base ≡ D.written record.device }
+        requires may { MayRecord J.may_record (R.may_answer keeping.now.runner.now) plan.now.dag runs.now }
+        ensures end { IfOk result.ended (IsEndFrom (K.kept keeping.now.kept.now) (R.may_answer keeping.now.runner.now)
+            plan.entry.now.dag plan.entry.now.limits (length runs.now) self.now.workers) }
+        ensures stop { IfErr result.ended (IsStopRecordedOrWanting record.most_failed
+            (K.kept keeping.now.kept.now) (launching_of self.now.launching).logs plan.entry.now.dag runs.now) }
+        ensures unsent { IfErr result.ended IsUnsent }
+        ensures written { IsWritten J.may_record J.base (D.written result.device) (is_write_failed result.stop) }
+    {
+        let most_failed = record.most_failed;
+        let recording = recording_of::<J, RT, R, D>(
+            self.rt,
+            self.alloc,
+            plan,
+            runs,
+            keeping.runner,
+            record,
+        );
+        let kept = Keeping {
+            alloc: self.alloc,
+            kept: keeping.kept,
+            runner: &recording,
+        };
+        let ended = self.resumed(plan, runs, &kept, clock);
+        let (device, stop) = recording.end();
+        let ended = match ended {
+            Ok(ended) => Ok(ended),
+            Err(fault) => {
+                let stopping = self.stopping(plan, runs, log_faults);
+                Err(stopped_recording(&stopping, &fault, stop, most_failed))
+            }
+        };
+        RecordedEnd {
+            ended,
+            device,
+            stop,
+        }
+    }
+
+    /// As `resumed`, and each try that the runner makes is recorded as it ends. Where a record can't be written, and behind as
+    /// many failed tries as may be, no further try is begun: those that run are waited for, and recorded if they can be.
+    pub(crate) fn resumed_recorded<'p, K, R, D, C>(
+        &self,
+        plan: &'p Plan,
+        runs: &Runs,
+        keeping: &Keeping<'_, K, R>,
+        record: Record<D>,
+        clock: C,
+        log_faults: Option<&LogFaults>,
+    ) -> RecordedEnd<'p, D>
+    where
+        K: KeptTries + Sync,
+        R: TaskRunner + Sync,
+        D: Durable + Drop + Send,
+        C: bf_lane::Clock + Drop,
+        requires { AreFit plan.now.dag (K.kept keeping.now.kept.now) }
+        ensures end { IfOk result.ended (IsEndFrom (K.kept keeping.now.kept.now) (R.may_answer keeping.now.runner.now)
+            plan.entry.now.dag plan.entry.now.limits (length runs.now) self.now.workers) }
+        ensures stop { IfErr result.ended (IsStopRecordedOrWanting record.most_failed
+            (K.kept keeping.now.kept.now) (launching_of self.now.launching).logs plan.entry.now.dag runs.now) }
+        ensures unsent { IfErr result.ended IsUnsent }
+        ensures written { IsWritten (IsRecordBy (R.may_answer keeping.now.runner.now) plan.entry.now.dag runs.now)
+            (D.written record.device) (D.written result.device) (is_write_failed result.stop) }
+    {
+        self.recorded::<Brand, K, R, D, C>(plan, runs, keeping, record, clock, log_faults)
+    }
+}

@@ -1,0 +1,4 @@
+mod Lines
+mod Failed
+mod Caused
+mod Telltale

@@ -1,0 +1,4 @@
+pub mod Failures
+pub mod Causes
+pub mod Tried
+pub mod Told

@@ -1,0 +1,24 @@
+//! What a runner knows beside a raw answer.
+ghost use Rattle.std.specs.Prelude.{◌≡◌, IfOk, IfErr};
+
+use bf_try::{Done, RunnerFault, TaskRunner, Ticket};
+use bf_value::Text;
+
+/// What is known of how a program ended, beside its raw answer.
+#[derive(Debug, Drop)]
+pub enum Detail {
+    /// The number of the signal that ended it.
+    Signal(i32),
+    /// Why it wasn't started, in the system's words, as `No such file or directory`.
+    NotStarted(Text),
+}
+
+/// A runner that knows more of a try than its raw answer says.
+pub trait DetailedRunner: TaskRunner {
+    /// Runs the try of a ticket, as `run` does, and hands out what is known beside its answer.
+    fn run_in_detail(&self, ticket: Ticket) -> Result<(Done, Option<Detail>), (Ticket, RunnerFault)>
+        ensures ok { IfOk result (λ d. (d.0.name ≡ ticket.name) × (d.0.given ≡ ticket.given)
+            × Self.may_answer self.now d.0.name d.0.given d.0.raw) }
+        ensures err { IfErr result (λ f. (f.0 ≡ ticket)
+            × (f.1 ≡ RunnerFault.GaveUp → Self.may_give_up self.now ticket.name ticket.given)) };
+}

@@ -1,0 +1,178 @@
+//! Which line of grading a raw answer came to.
+ghost use Rattle.std.specs.Prelude.{◌≡◌, ◌<◌, ◌&&◌, not, length, IfOk, option_copied};
+ghost use Rattle.std.specs.List.{list_any};
+ghost use Rattle.bf_rule.specs.Branches.{names_downstreams as downstreams};
+ghost use Rattle.bf_plan.specs.Plans.{task_of, shape_of, is_branch as branch};
+ghost use Rattle.bf_try.specs.declared.answers.Line.{Line as LineTerm};
+ghost use Rattle.bf_try.specs.Grades.{gives_items as items_given, is_list_of_items as list_of_items, is_short as short, is_source};
+ghost use Rattle.bf_failure.specs.Failures.{answer_failure, failure_of, first_expanded, id_in, line_failure, text_in, value_failure};
+
+use crate::failure::Failure;
+use bf_plan::{Dag, Plan, Task};
+use bf_rule::names_downstreams;
+use bf_try::{Exit, LONGEST_VALUE, Line, MOST_ITEMS, Raw};
+use bf_value::{LineFault, OutOfMemory, Text, Xval, read_line, text_of};
+use std::alloc::Global;
+
+/// The status by which a try says that it is skipped.
+const SKIP_STATUS: i32 = 99;
+
+fn is_short(value: &Option<Xval>) -> bool
+    ensures { result ≡ short value.now }
+{
+    match value {
+        Some(value) => value.has_text_within(LONGEST_VALUE),
+        None => true,
+    }
+}
+
+fn is_list_of_items(value: &Option<Xval>) -> bool
+    ensures { result ≡ list_of_items value.now }
+{
+    match value {
+        Some(Xval::List(values)) => values.as_slice().len() <= MOST_ITEMS,
+        _ => false,
+    }
+}
+
+fn is_expanded_over(task: &Task, source: u32) -> bool
+    ensures { result ≡ is_source task.now.expand source }
+{
+    task.expand == Some(source)
+}
+
+/// The first task that is expanded over this one.
+fn first_expanded_over(dag: &Dag, source: u32) -> Option<&Task>
+    ensures { option_copied result ≡ first_expanded dag.now source }
+{
+    dag.tasks
+        .as_slice()
+        .iter()
+        .find(|task| is_expanded_over(task, source))
+}
+
+/// The id of the first task that is expanded over this one, or no text where there is none.
+fn expanded_id(alloc: Global, dag: &Dag, source: u32) -> Result<Text, OutOfMemory>
+    ensures { IfOk result (λ id. id ≡ id_in (first_expanded dag.now source)) }
+{
+    match first_expanded_over(dag, source) {
+        Some(task) => task.id.copy(alloc),
+        None => Ok(Text::new(String::new(alloc))),
+    }
+}
+
+fn has_expanded(dag: &Dag, source: u32) -> bool
+    ensures { result ≡ list_any (λ t. is_source t.expand source) dag.now.tasks }
+{
+    dag.tasks
+        .as_slice()
+        .iter()
+        .any(|task| is_expanded_over(task, source))
+}
+
+fn gives_items(dag: &Dag, task: u32) -> bool
+    requires { task < length dag.now.tasks }
+    ensures { result ≡ items_given dag.now task }
+{
+    dag.task(task).expand.is_none() && has_expanded(dag, task)
+}
+
+fn names_no_downstream(plan: &Plan, task: u32, value: &Option<Xval>) -> bool
+    ensures { result ≡ (branch (task_of plan.now.dag task)
+        && not (downstreams (shape_of plan.now.dag) task value.now)) }
+{
+    plan.dag().is_branch(task) && !names_downstreams(plan.graph(), task, value.as_ref())
+}
+
+fn is_no_list_of_items(plan: &Plan, task: u32, value: &Option<Xval>) -> bool
+    requires { task < length plan.now.dag.tasks }
+    ensures { result ≡ (items_given plan.now.dag task && not (list_of_items value.now)) }
+{
+    gives_items(plan.dag(), task) && !is_list_of_items(value)
+}
+
+/// The compact JSON text of a value, or no text of none.
+fn json_of(alloc: Global, value: &Option<Xval>) -> Result<Text, OutOfMemory>
+    ensures { IfOk result (λ text. text ≡ text_in value.now) }
+{
+    match value {
+        Some(value) => Ok(Text::new(text_of(alloc, value)?)),
+        None => Ok(Text::new(String::new(alloc))),
+    }
+}
+
+/// Why the task may not push this.
+fn find_in_value(
+    alloc: Global,
+    plan: &Plan,
+    task: u32,
+    value: &Option<Xval>,
+) -> Result<Option<Failure>, OutOfMemory>
+    requires { task < length plan.now.dag.tasks }
+    ensures { IfOk result (λ failure. failure ≡ value_failure plan.now.dag task value.now) }
+{
+    if !is_short(value) {
+        return Ok(Some(Failure::LongValue));
+    }
+    if names_no_downstream(plan, task, value) {
+        return Ok(Some(Failure::NoDownstream(json_of(alloc, value)?)));
+    }
+    if is_no_list_of_items(plan, task, value) {
+        return Ok(Some(Failure::NoItems(expanded_id(alloc, plan.dag(), task)?)));
+    }
+    Ok(None)
+}
+
+fn find_in_line(
+    alloc: Global,
+    plan: &Plan,
+    task: u32,
+    line: &[u8],
+) -> Result<Option<Failure>, OutOfMemory>
+    requires { task < length plan.now.dag.tasks }
+    ensures { IfOk result (λ failure. failure ≡ line_failure plan.now.dag task line.now) }
+{
+    match read_line(alloc, line) {
+        Ok(value) => find_in_value(alloc, plan, task, &value),
+        Err(LineFault::NotUtf8) => Ok(Some(Failure::NotUtf8)),
+        Err(LineFault::OutOfMemory) => Err(OutOfMemory),
+    }
+}
+
+fn find_in_exit(
+    alloc: Global,
+    plan: &Plan,
+    task: u32,
+    exit: Exit,
+    line: &[u8],
+) -> Result<Option<Failure>, OutOfMemory>
+    requires { task < length plan.now.dag.tasks }
+    ensures { IfOk result (λ failure. failure ≡ answer_failure plan.now.dag task exit (LineTerm.Bytes line.now)) }
+{
+    match exit {
+        Exit::Code(SKIP_STATUS) => Ok(None),
+        Exit::Code(0) => find_in_line(alloc, plan, task, line),
+        Exit::Code(status) => Ok(Some(Failure::Status(status))),
+        Exit::Signal => Ok(Some(Failure::Signal(None))),
+        Exit::NotStarted => Ok(Some(Failure::NotStarted(None))),
+    }
+}
+
+/// Why a raw answer of a try of the task is graded as failed, in the order of grading; none, where it isn't: where it is
+/// skipped, or a success. What is known beside the raw answer is left open.
+#[tactic(auto, unfolding(crate::specs::Failures::failure_of))]
+pub fn find_failure(
+    alloc: Global,
+    plan: &Plan,
+    task: u32,
+    raw: &Raw,
+) -> Result<Option<Failure>, OutOfMemory>
+    requires { task < length plan.now.dag.tasks }
+    ensures { IfOk result (λ failure. failure ≡ failure_of plan.now.dag task raw.now) }
+{
+    match &raw.line {
+        Line::Bytes(line) => find_in_exit(alloc, plan, task, raw.exit, line.as_slice()),
+        Line::TooMuch => Ok(Some(Failure::TooMuchOutput)),
+        Line::ReadFault => Ok(Some(Failure::UnreadOutput)),
+    }
+}

@@ -1,0 +1,56 @@
+//! The line of a failed try.
+ghost use Rattle.std.specs.Prelude.{◌≡◌, IfOk, option_map, string_bytes};
+ghost use Rattle.bf_failure.specs.Told.{ending_of, failed_line as line_of, see_text as text_of_see};
+
+use crate::failure::Failure;
+use crate::log::{index_text, log_path};
+use bf_value::OutOfMemory;
+use bf_words::JobContext;
+use std::alloc::Global;
+
+/// The ending of the log that tells more.
+fn ending(failure: &Failure) -> &'static str
+    ensures { result.now ≡ ending_of failure.now }
+{
+    match failure {
+        Failure::Status(_) | Failure::Signal(_) | Failure::NotStarted(_) => ".err",
+        _ => ".out",
+    }
+}
+
+fn see_text(
+    alloc: Global,
+    logs: Option<&str>,
+    context: &JobContext<'_>,
+    failure: &Failure,
+) -> Result<String, OutOfMemory>
+    ensures { IfOk result (λ text.
+        string_bytes text ≡ text_of_see (option_map (λ l. l.now) logs.entry) context.now failure.now) }
+{
+    let Some(folder) = logs else {
+        return Ok(String::new(alloc));
+    };
+    let path = log_path(alloc, folder, context, ending(failure))?;
+    Ok(format!(in alloc; ", see {path}")?)
+}
+
+/// The line that is told of a failed try, as `failed: load 2024-02-14T00:00:00Z index 2 try 1: exit status 3, see PATH` with its
+/// line feed: the index of an instance of an expanded task, and the path below the folder of logs, where there is one.
+pub fn failed_line(
+    alloc: Global,
+    logs: Option<&str>,
+    context: &JobContext<'_>,
+    failure: &Failure,
+) -> Result<String, OutOfMemory>
+    ensures { IfOk result (λ line.
+        string_bytes line ≡ line_of (option_map (λ l. l.now) logs.entry) context.now failure.now) }
+{
+    let (task, run, attempt) = (
+        context.task_id,
+        context.data_interval_start,
+        context.try_number,
+    );
+    let index = index_text(alloc, " index ", context.map_index, "")?;
+    let see = see_text(alloc, logs, context, failure)?;
+    Ok(format!(in alloc; "failed: {task} {run}{index} try {attempt}: {failure}{see}\n")?)
+}

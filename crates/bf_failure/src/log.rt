@@ -1,0 +1,38 @@
+//! Where the logs of a try stand.
+ghost use Rattle.std.specs.Prelude.{◌≡◌, IfOk, string_bytes};
+ghost use Rattle.bf_failure.specs.Tried.{index_text as text_of_index, log_of};
+
+use bf_value::OutOfMemory;
+use bf_words::JobContext;
+use std::alloc::Global;
+
+/// The index of an instance of an expanded task between these texts, or no text where there is no index.
+pub(crate) fn index_text(
+    alloc: Global,
+    before: &str,
+    index: i32,
+    behind: &str,
+) -> Result<String, OutOfMemory>
+    ensures { IfOk result (λ text. string_bytes text ≡ text_of_index before.now index behind.now) }
+{
+    if index < 0 {
+        return Ok(String::new(alloc));
+    }
+    Ok(format!(in alloc; "{before}{index}{behind}")?)
+}
+
+/// The path of a log of a try below the folder of logs, as `FOLDER/dag=ID/run=MOMENT/task=ID/try=N` behind which its ending
+/// stands, and of an instance of an expanded task `index=I,try=N`.
+pub fn log_path(
+    alloc: Global,
+    folder: &str,
+    context: &JobContext<'_>,
+    ending: &str,
+) -> Result<String, OutOfMemory>
+    ensures { IfOk result (λ path. string_bytes path ≡ log_of folder.now context.now ending.now) }
+{
+    let (dag, run, task) = (context.dag_id, context.data_interval_start, context.task_id);
+    let index = index_text(alloc, "index=", context.map_index, ",")?;
+    let attempt = context.try_number;
+    Ok(format!(in alloc; "{folder}/dag={dag}/run={run}/task={task}/{index}try={attempt}{ending}")?)
+}

@@ -1,0 +1,117 @@
+//! A runner that tells why tries fail.
+ghost use Rattle.std.specs.Prelude.{◌≡◌, Some, option_map};
+ghost use Rattle.bf_failure.specs.Told.{MayTellOf, may_tell_to};
+
+use crate::context::context_of;
+use crate::detail::{Detail, DetailedRunner};
+use crate::finding::find_failure;
+use crate::line::failed_line;
+use crate::teller::Teller;
+use bf_interval::Runs;
+use bf_plan::Plan;
+use bf_try::{Done, RunnerFault, TaskRunner, Ticket};
+use bf_value::OutOfMemory;
+use std::alloc::Global;
+use std::marker::Model;
+
+/// Hands each try on to a runner, and tells the line of each that fails, as it ends, where there is somebody to tell. Where memory is
+/// wanting for a line nothing is told, and the answer is the same.
+#[derive(Drop)]
+pub struct Telling<'a, R: DetailedRunner + Drop, T: Teller + Drop> {
+    alloc: Global,
+    plan: &'a Plan,
+    runs: &'a Runs,
+    logs: Option<&'a str>,
+    runner: R,
+    teller: Option<T>,
+}
+
+impl<'a, R: DetailedRunner + Drop, T: Teller + Drop> Model for Telling<'a, R, T> {
+    ghost use Rattle.std.specs.Prelude.{option_map};
+    ghost use Rattle.std.specs.Coded.{codes};
+    ghost use Rattle.bf_plan.specs.contracts.plan.Dag as d;
+    ghost use Rattle.bf_interval.specs.contracts.interval.Interval as i;
+    ghost use Rattle.bf_failure.specs.Told.{MayTellOf, TellingOf, may_tell_to};
+
+    ghost Value = { TellingOf R T };
+
+    ghost coded = { Prim.hlevel (codes, d.the_row.coded, i.the_row.coded) };
+
+    ghost view = { λ s. record {
+      runner = s.runner;
+      teller = s.teller;
+      dag = s.plan.now.dag;
+      intervals = s.runs.now;
+      logs = option_map (λ l. l.now) s.logs;
+    } };
+
+    ghost invariant = { λ s. MayTellOf (may_tell_to T.may_tell s.teller) (R.may_answer s.runner) s.plan.now.dag s.runs.now (option_map (λ l. l.now) s.logs) };
+}
+
+impl<'a, R: DetailedRunner + Drop, T: Teller + Drop> Telling<'a, R, T> {
+    /// A runner round a runner, for the runs of a plan, whose lines name the log below this folder, where there is one.
+    pub fn new(
+        alloc: Global,
+        plan: &'a Plan,
+        runs: &'a Runs,
+        logs: Option<&'a str>,
+        runner: R,
+        teller: Option<T>,
+    ) -> Self
+        requires { MayTellOf (may_tell_to T.may_tell teller) (R.may_answer runner) plan.now.dag runs.now (option_map (λ l. l.now) logs) }
+        ensures { result ≡ record {
+          runner = runner;
+          teller = teller;
+          dag = plan.entry.now.dag;
+          intervals = runs.entry.now;
+          logs = option_map (λ l. l.now) logs.entry;
+        } }
+    {
+        Telling {
+            alloc,
+            plan,
+            runs,
+            logs,
+            runner,
+            teller,
+        }
+    }
+
+    /// The runner that tries are handed on to.
+    pub fn runner(&self) -> &R
+        ensures { result.now ≡ self.now.runner }
+    {
+        &self.runner
+    }
+
+    /// Tells the line of a try that has failed. One of a task or a run that isn't there has none.
+    fn tell(&self, teller: &T, done: &Done, detail: Option<Detail>) -> Result<(), OutOfMemory>
+        requires teller { self.now.teller ≡ Some teller.now }
+        requires may { R.may_answer self.now.runner done.now.name done.now.given done.now.raw }
+    {
+        let Some(context) = context_of(self.plan, self.runs, done.name()) else {
+            return Ok(());
+        };
+        let Some(failure) = find_failure(self.alloc, self.plan, done.name().task, done.raw())?
+        else {
+            return Ok(());
+        };
+        let line = failed_line(self.alloc, self.logs, &context, &failure.detailed(detail))?;
+        teller.tell(line.as_str());
+        Ok(())
+    }
+}
+
+impl<'a, R: DetailedRunner + Drop, T: Teller + Drop> TaskRunner for Telling<'a, R, T> {
+    ghost may_answer = { λ s n g raw. R.may_answer s.runner n g raw };
+
+    ghost may_give_up = { λ s n g. R.may_give_up s.runner n g };
+
+    fn run(&self, ticket: Ticket) -> Result<Done, (Ticket, RunnerFault)> {
+        let (done, detail) = self.runner.run_in_detail(ticket)?;
+        if let Some(teller) = &self.teller {
+            let _ = self.tell(teller, &done, detail);
+        }
+        Ok(done)
+    }
+}

@@ -1,0 +1,23 @@
+-- What is lent to the workers of a backfill that goes on from a journal may be shared by threads.
+use denote.Param.Send.{IsSync, sendable, struct_sync, recorded_sync}
+use denote.RattleType.{RattleType}
+use denote.Ref.{NamedLft}
+use denote.Struct.Declared as declared
+use Rattle.std.proofs.Crossing.{crosses}
+use Rattle.std.proofs.MapsCrossing as maps
+use Rattle.bf_value.proofs.sequence.Sequence.TheSendSync as sequence
+use Rattle.bf_value.proofs.xval.Values.TheLaws.TheKnot as xval
+use Rattle.bf_plan.proofs.plan.Plan.TheSendSync as plan
+use Rattle.bf_try.specs.contracts.ledger.Entry as Entry
+use Rattle.bf_try.specs.contracts.ledger.Ledger as Ledger
+use Rattle.bf_journal.specs.contracts.since.Since as Since
+
+entry : IsSync Entry.the_row
+entry = search (sendable, crosses, xval.crosses, sequence.the_sync) depth 40 fits 20000
+
+pub ledger : IsSync Ledger.the_row
+ledger = search (sendable, crosses, maps.crosses, entry) depth 40 fits 20000
+
+pub since : (κ : NamedLft) (K : RattleType) → IsSync K → IsSync (Since.the_row κ K)
+since κ K shared = recorded_sync _ _ _ ((Since.the_type κ K).to_one)
+    (struct_sync (declared.shape (Since.the_type κ K)) (search (sendable, plan.the_sync), (search (sendable, ledger), (search sendable, (search (sendable, shared), tt)))))

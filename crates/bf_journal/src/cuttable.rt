@@ -1,0 +1,40 @@
+//! Devices whose last bytes can be dropped.
+ghost use Rattle.std.specs.Prelude.{◌≡◌, OnErr, OnOk, false, option_map, take, true};
+
+use crate::durable::Durable;
+use bf_device::{Halt, MOST_INTERRUPTIONS, Output};
+use std::fs::OpenFile;
+use std::io;
+
+/// A device that can drop the last of the bytes that it was given.
+pub trait Cuttable: Durable {
+    /// Drops all bytes but the first so many.
+    fn cut(&mut self, count: usize) -> Result<(), Halt>
+        ensures ok { OnOk result (Self.written self.new ≡ option_map (take count) (Self.written self.old)) }
+        ensures err { OnErr result (Self.written self.new ≡ Self.written self.old) };
+}
+
+impl<F: io::Write + OpenFile + Drop> Cuttable for Output<F> {
+    fn cut(&mut self, count: usize) -> Result<(), Halt> {
+        match self.inner.set_len(count as u64) {
+            Ok(()) => Ok(()),
+            Err(error) => Err(Halt::of(&error)),
+        }
+    }
+}
+
+/// Drops all bytes but the first so many, and says whether it was done. It gives up where that fails, and at the 1,001st
+/// interruption.
+pub(crate) fn is_cut<D: Cuttable>(device: &mut D, count: usize) -> bool
+    ensures cut { result ≡ true → D.written device.new ≡ option_map (take count) (D.written device.old) }
+    ensures kept { result ≡ false → D.written device.new ≡ D.written device.old }
+{
+    for _ in 0..=MOST_INTERRUPTIONS {
+        match device.cut(count) {
+            Ok(()) => return true,
+            Err(Halt::Again) => {}
+            Err(Halt::Failed) => return false,
+        }
+    }
+    false
+}

@@ -1,0 +1,56 @@
+//! Tries that are kept of a journal, over those that were kept before it.
+ghost use Rattle.std.specs.Prelude.{◌≡◌, option_copied};
+ghost use Rattle.std.specs.FinMap as map;
+ghost use Rattle.bf_journal.specs.Since.{left_of};
+
+use crate::retrying::WithoutFailed;
+use bf_kept::KeptTries;
+use bf_plan::Plan;
+use bf_try::{Entry, Ledger, Raw};
+use bf_value::{JobName, OutOfMemory};
+use bf_xcom::Given;
+use std::alloc::Global;
+
+/// The tries of a journal, all or those that aren't to be made again, and of every other name the try that was kept before.
+#[derive(Drop)]
+pub struct Since<'a, K> {
+    pub plan: &'a Plan,
+    pub tries: &'a Ledger,
+    pub retry_failed: bool,
+    pub before: &'a K,
+}
+
+impl<K> Since<'_, K> {
+    /// What is kept of the journal's try of a name.
+    fn entry(&self, name: JobName) -> Option<&Entry>
+        ensures { option_copied result ≡ left_of self.now.retry_failed self.now.plan.now.dag (map.get self.now.tries.now) name }
+    {
+        if !self.retry_failed {
+            return self.tries.get(name);
+        }
+        let left = WithoutFailed {
+            plan: self.plan,
+            tries: self.tries,
+        };
+        left.entry(name)
+    }
+}
+
+impl<K: KeptTries> KeptTries for Since<'_, K> {
+    ghost use Rattle.std.specs.FinMap as map;
+    ghost use Rattle.bf_journal.specs.Since.{left_of, since};
+
+    ghost kept = { λ s. since (left_of s.retry_failed s.plan.now.dag (map.get s.tries.now)) (K.kept s.before.now) };
+
+    fn answer(
+        &self,
+        alloc: Global,
+        name: JobName,
+        given: &Given,
+    ) -> Result<Option<Raw>, OutOfMemory> {
+        match self.entry(name) {
+            Some(_) => self.tries.answer(alloc, name, given),
+            None => self.before.answer(alloc, name, given),
+        }
+    }
+}

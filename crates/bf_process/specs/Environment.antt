@@ -1,0 +1,62 @@
+-- What is added to the environment of a try's program.
+use Rattle.std.specs.Prelude.{ℕ, ℤ, List, [], ◌∷◌, ◌++◌, map, fold, codes, decimal, if◌then◌else◌, Option, None, Some}
+use Rattle.std.specs.Fmt.{signed_decimal}
+use Rattle.std.specs.Str.{bytes_eq}
+use Rattle.bf_moment.specs.Moment.{date_text, moment_text}
+use Rattle.bf_words.specs.declared.context.JobContext.{JobContext}
+use Rattle.bf_process.specs.Clocks.{date_digits}
+use Rattle.bf_process.specs.declared.variable.Variable.{Variable}
+use Rattle.bf_process.specs.declared.variable.Variable.TheVariants.{DagId, TaskId, Run, Date, DateNodash, IntervalStart, IntervalEnd, MapIndex, TryNumber, AirflowDagId, AirflowTaskId, AirflowExecutionDate, AirflowTryNumber}
+
+abbrev pub variable_name : Variable → List ℕ
+variable_name DagId = codes "BACKFILL_DAG_ID"
+variable_name TaskId = codes "BACKFILL_TASK_ID"
+variable_name Run = codes "BACKFILL_RUN"
+variable_name Date = codes "BACKFILL_DATE"
+variable_name DateNodash = codes "BACKFILL_DATE_NODASH"
+variable_name IntervalStart = codes "BACKFILL_INTERVAL_START"
+variable_name IntervalEnd = codes "BACKFILL_INTERVAL_END"
+variable_name MapIndex = codes "BACKFILL_MAP_INDEX"
+variable_name TryNumber = codes "BACKFILL_TRY_NUMBER"
+variable_name AirflowDagId = codes "AIRFLOW_CTX_DAG_ID"
+variable_name AirflowTaskId = codes "AIRFLOW_CTX_TASK_ID"
+variable_name AirflowExecutionDate = codes "AIRFLOW_CTX_EXECUTION_DATE"
+variable_name AirflowTryNumber = codes "AIRFLOW_CTX_TRY_NUMBER"
+
+-- the dates are those of the clock
+abbrev pub variable_value : JobContext → ℤ → Variable → List ℕ
+variable_value try clock DagId = try.dag_id.now
+variable_value try clock TaskId = try.task_id.now
+variable_value try clock Run = moment_text try.data_interval_start.at.nanosecond
+variable_value try clock Date = date_text clock
+variable_value try clock DateNodash = date_digits clock
+variable_value try clock IntervalStart = moment_text try.data_interval_start.at.nanosecond
+variable_value try clock IntervalEnd = moment_text try.data_interval_end.at.nanosecond
+variable_value try clock MapIndex = signed_decimal try.map_index
+variable_value try clock TryNumber = decimal try.try_number
+variable_value try clock AirflowDagId = try.dag_id.now
+variable_value try clock AirflowTaskId = try.task_id.now
+variable_value try clock AirflowExecutionDate = moment_text try.data_interval_start.at.nanosecond
+variable_value try clock AirflowTryNumber = decimal try.try_number
+
+abbrev pub variables : List Variable
+variables =
+    DagId ∷ TaskId ∷ Run ∷ Date ∷ DateNodash ∷ IntervalStart ∷ IntervalEnd ∷ MapIndex ∷ TryNumber
+    ∷ AirflowDagId ∷ AirflowTaskId ∷ AirflowExecutionDate ∷ AirflowTryNumber ∷ []
+
+-- a name and its value, of each of these
+abbrev pub pairs_of : JobContext → ℤ → List Variable → List (List ℕ × List ℕ)
+pairs_of try clock some = map (λ v. (variable_name v, variable_value try clock v)) some
+
+-- the path of what the try was given, where that is written
+abbrev pub given_pairs : Option (List ℕ) → List (List ℕ × List ℕ)
+given_pairs None = []
+given_pairs (Some path) = (codes "BACKFILL_GIVEN", path) ∷ []
+
+-- the variables that are added for a try, by what the clocks of the graph's zone show at its run's moment
+unfoldable pub environment_of : JobContext → ℤ → Option (List ℕ) → List (List ℕ × List ℕ)
+environment_of try clock given = pairs_of try clock variables ++ given_pairs given
+
+-- what is said of a name by pairs that are set in order, where this was said before
+unfoldable pub said_after : List ℕ → Option (Option (List ℕ)) → List (List ℕ × List ℕ) → Option (Option (List ℕ))
+said_after name before pairs = fold (λ said pair. if bytes_eq pair.0 name then Some (Some pair.1) else said) before pairs

@@ -1,0 +1,21 @@
+//! What is heard of a program.
+ghost use Rattle.std.specs.Prelude.{◌≡◌};
+
+use bf_failure::Detail;
+use bf_try::Raw;
+
+/// What is heard of a program: its raw answer, and what is known beside it.
+#[derive(Debug, Drop)]
+pub struct Heard {
+    pub raw: Raw,
+    pub detail: Option<Detail>,
+}
+
+impl Heard {
+    /// What is heard where nothing more is known.
+    pub(crate) fn plain(raw: Raw) -> Heard
+        ensures { result.raw ≡ raw }
+    {
+        Heard { raw, detail: None }
+    }
+}

@@ -1,0 +1,39 @@
+//! What went wrong with logs.
+use std::sync::atomic::{AtomicBool, Ordering};
+
+/// What went wrong with the logs of tries, as the threads note it that run them.
+#[derive(Drop)]
+pub struct LogFaults {
+    cannot_make: AtomicBool,
+    lost_some: AtomicBool,
+}
+
+impl LogFaults {
+    /// Nothing yet.
+    pub(crate) fn new() -> LogFaults {
+        LogFaults {
+            cannot_make: AtomicBool::new(false),
+            lost_some: AtomicBool::new(false),
+        }
+    }
+
+    /// Notes that a log can't be made.
+    pub(crate) fn note_unmade(&self) {
+        self.cannot_make.store(true, Ordering::SeqCst);
+    }
+
+    /// Notes that a log isn't whole.
+    pub(crate) fn note_lost(&self) {
+        self.lost_some.store(true, Ordering::SeqCst);
+    }
+
+    /// Whether a log couldn't be made. Then its try was given up.
+    pub fn cannot_make(&self) -> bool {
+        self.cannot_make.load(Ordering::SeqCst)
+    }
+
+    /// Whether a log isn't whole that was made.
+    pub fn lost_some(&self) -> bool {
+        self.lost_some.load(Ordering::SeqCst)
+    }
+}

@@ -1,0 +1,94 @@
+//! Logs, made anew.
+use crate::heard::Heard;
+use crate::log_faults::LogFaults;
+use crate::setting::TryLogs;
+use bf_failure::Detail;
+use std::fs::{File, OpenOptions};
+use std::io::{ErrorKind, Write};
+use std::{fs, io};
+
+/// The open log of what a try writes to its standard output, and where it is noted that the log isn't whole.
+#[derive(Drop)]
+pub(crate) struct OutputLog<'f> {
+    pub(crate) file: File,
+    pub(crate) faults: &'f LogFaults,
+}
+
+/// The open logs of a try.
+#[derive(Drop)]
+pub(crate) struct OpenLogs<'f> {
+    pub(crate) out: OutputLog<'f>,
+    pub(crate) err: File,
+}
+
+/// Makes a folder, unless it is there. A link that stands in its place isn't followed.
+fn make_folder(files: &HostRuntime, path: &str) -> io::Result<()> {
+    match fs::create_dir(files, path) {
+        Ok(()) => Ok(()),
+        Err(error) => match fs::symlink_metadata(files, path) {
+            Ok(there) if there.is_dir() => Ok(()),
+            _ => Err(error),
+        },
+    }
+}
+
+/// The folder that a path stands in.
+fn folder_of(path: &str) -> &str {
+    match path.rsplit_once('/') {
+        Some((folder, _)) => folder,
+        None => "",
+    }
+}
+
+/// Makes the folders of a log: that of all logs, and below it those of the graph, of the run and of the task.
+fn make_folders(files: &HostRuntime, path: &str) -> io::Result<()> {
+    let task = folder_of(path);
+    let run = folder_of(task);
+    let dag = folder_of(run);
+    fs::create_dir_all(files, folder_of(dag))?;
+    make_folder(files, dag)?;
+    make_folder(files, run)?;
+    make_folder(files, task)
+}
+
+/// An empty file that is written at its end. What stood in its place is removed first, so that a link there isn't followed.
+fn make_log(files: &HostRuntime, path: &str) -> io::Result<File> {
+    match fs::remove_file(files, path) {
+        Ok(()) => {}
+        Err(error) if error.kind() == ErrorKind::NotFound => {}
+        Err(error) => return Err(error),
+    }
+    OpenOptions::new()
+        .append(true)
+        .create_new(true)
+        .open(files, path)
+}
+
+/// Writes what a try was given, and makes its two other logs.
+pub(crate) fn open_logs<'f>(
+    files: &HostRuntime,
+    logs: &TryLogs,
+    faults: &'f LogFaults,
+) -> io::Result<OpenLogs<'f>> {
+    make_folders(files, logs.out.as_str())?;
+    make_log(files, logs.given.as_str())?.write_all(logs.given_text.as_bytes())?;
+    let file = make_log(files, logs.out.as_str())?;
+    Ok(OpenLogs {
+        out: OutputLog { file, faults },
+        err: make_log(files, logs.err.as_str())?,
+    })
+}
+
+/// Writes the system's words for a program that wasn't started behind its standard error, as
+/// `backfill: /no/such: No such file or directory`. Where that fails, nothing is left to say so on.
+pub(crate) fn note_start_fault(files: &HostRuntime, logs: &TryLogs, program: &str, heard: &Heard) {
+    let Some(Detail::NotStarted(words)) = &heard.detail else {
+        return;
+    };
+    if let Ok(mut err) = OpenOptions::new()
+        .append(true)
+        .open(files, logs.err.as_str())
+    {
+        let _ = writeln!(err, "backfill: {program}: {words}");
+    }
+}

@@ -1,0 +1,67 @@
+//! What is read, kept as it comes.
+ghost use Rattle.std.specs.Prelude.{◌≡◌};
+
+use bf_device::{Halt, Read, Write, send};
+
+/// Passes on what a device gives, and writes it to a log. Where the log fails the rest isn't kept, and nothing else changes.
+#[derive(Drop)]
+pub(crate) struct Tee<R: Read + Drop, W: Write + Drop> {
+    inner: R,
+    log: W,
+    failed: bool,
+}
+
+impl<R: Read + Drop, W: Write + Drop> Tee<R, W> {
+    /// A device that passes on what another gives.
+    pub(crate) fn new(inner: R, log: W) -> Tee<R, W>
+        ensures { R.left result.inner ≡ R.left inner }
+    {
+        Tee {
+            inner,
+            log,
+            failed: false,
+        }
+    }
+
+    fn keep(&mut self, bytes: &[u8])
+        ensures { self.new.inner ≡ self.old.inner }
+    {
+        if !self.failed && send(&mut self.log, bytes).is_err() {
+            self.failed = true;
+        }
+    }
+
+    /// Whether a write to the log has failed.
+    pub(crate) fn has_failed(&self) -> bool {
+        self.failed
+    }
+
+    /// Reads to the end of what is left, and keeps it.
+    pub(crate) fn drain(&mut self) {
+        let mut room = [0; 8_192];
+        for _ in 0..u64::MAX {
+            match self.read(&mut room) {
+                Ok(0) | Err(Halt::Failed) => return,
+                Ok(_) | Err(Halt::Again) => {}
+            }
+        }
+    }
+}
+
+impl<R: Read + Drop, W: Write + Drop> Read for Tee<R, W> {
+    ghost left = { λ t. R.left t.inner };
+
+    ghost interruptions = { λ t. R.interruptions t.inner };
+
+    ghost failures = { λ t. R.failures t.inner };
+
+    fn read(&mut self, room: &mut [u8]) -> Result<usize, Halt> {
+        match self.inner.read(room) {
+            Ok(count) => {
+                self.keep(&room[..count]);
+                Ok(count)
+            }
+            Err(halt) => Err(halt),
+        }
+    }
+}

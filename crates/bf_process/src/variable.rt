@@ -1,0 +1,108 @@
+//! The variables of a try's environment.
+ghost use Rattle.std.specs.Prelude.{◌≡◌, IfOk, string_bytes};
+ghost use Rattle.bf_process.specs.Environment.{variable_name, variable_value, variables as all_variables};
+
+use crate::clocks::{date, digits_of_date};
+use bf_moment::Moment;
+use bf_value::OutOfMemory;
+use bf_words::JobContext;
+use std::alloc::Global;
+
+/// A variable of a try's environment. The last four are those of Airflow ("Templates and Environment variables" of its operators).
+#[derive(Clone, Copy, Debug, PartialEq, Eq)]
+pub enum Variable {
+    DagId,
+    TaskId,
+    /// The run's moment, which is its logical date.
+    Run,
+    /// The date of that moment in the zone of the graph, as 2024-03-04.
+    Date,
+    /// The same, as 20240304.
+    DateNodash,
+    IntervalStart,
+    IntervalEnd,
+    /// -1 for an unmapped task.
+    MapIndex,
+    /// From 1.
+    TryNumber,
+    AirflowDagId,
+    AirflowTaskId,
+    AirflowExecutionDate,
+    AirflowTryNumber,
+}
+
+/// All of them.
+static VARIABLES: [Variable; 13] = [
+    Variable::DagId,
+    Variable::TaskId,
+    Variable::Run,
+    Variable::Date,
+    Variable::DateNodash,
+    Variable::IntervalStart,
+    Variable::IntervalEnd,
+    Variable::MapIndex,
+    Variable::TryNumber,
+    Variable::AirflowDagId,
+    Variable::AirflowTaskId,
+    Variable::AirflowExecutionDate,
+    Variable::AirflowTryNumber,
+];
+
+/// All variables of a try's environment.
+pub(crate) fn variables() -> &'static [Variable]
+    ensures { result.now ≡ all_variables }
+{
+    &VARIABLES
+}
+
+impl Variable {
+    /// Its name, as `BACKFILL_DAG_ID`.
+    pub fn name(self) -> &'static str
+        ensures { result.now ≡ variable_name self }
+    {
+        match self {
+            Variable::DagId => "BACKFILL_DAG_ID",
+            Variable::TaskId => "BACKFILL_TASK_ID",
+            Variable::Run => "BACKFILL_RUN",
+            Variable::Date => "BACKFILL_DATE",
+            Variable::DateNodash => "BACKFILL_DATE_NODASH",
+            Variable::IntervalStart => "BACKFILL_INTERVAL_START",
+            Variable::IntervalEnd => "BACKFILL_INTERVAL_END",
+            Variable::MapIndex => "BACKFILL_MAP_INDEX",
+            Variable::TryNumber => "BACKFILL_TRY_NUMBER",
+            Variable::AirflowDagId => "AIRFLOW_CTX_DAG_ID",
+            Variable::AirflowTaskId => "AIRFLOW_CTX_TASK_ID",
+            Variable::AirflowExecutionDate => "AIRFLOW_CTX_EXECUTION_DATE",
+            Variable::AirflowTryNumber => "AIRFLOW_CTX_TRY_NUMBER",
+        }
+    }
+
+    /// Its value for a try, by what the clocks of the graph's zone show at the moment of its run. Moments are spelled as
+    /// `2024-02-14T00:00:00Z`.
+    pub fn value(
+        self,
+        alloc: Global,
+        context: &JobContext<'_>,
+        clock: &Moment,
+    ) -> Result<String, OutOfMemory>
+        ensures { IfOk result (λ value.
+            string_bytes value ≡ variable_value context.now clock.now.at.nanosecond self) }
+    {
+        Ok(match self {
+            Variable::DagId | Variable::AirflowDagId => String::from_str(alloc, context.dag_id)?,
+            Variable::TaskId | Variable::AirflowTaskId => {
+                String::from_str(alloc, context.task_id)?
+            }
+            Variable::Run | Variable::IntervalStart | Variable::AirflowExecutionDate => {
+                context.data_interval_start.to_string(alloc)?
+            }
+            Variable::Date => date(alloc, clock)?,
+            Variable::DateNodash => digits_of_date(alloc, clock)?,
+            Variable::IntervalEnd => context.data_interval_end.to_string(alloc)?,
+            Variable::MapIndex => context.map_index.to_string(alloc)?,
+            Variable::TryNumber | Variable::AirflowTryNumber => {
+                context.try_number.to_string(alloc)?
+            }
+        })
+    }
+}

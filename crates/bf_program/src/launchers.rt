@@ -1,0 +1,76 @@
+//! Which launchers can be started.
+ghost use Rattle.std.specs.Prelude.{◌≡◌, IfErr, IfSome, OnOk, option_map};
+ghost use Rattle.bf_program.specs.Commands.{IsLaunchable};
+ghost use Rattle.bf_program.specs.CommandFaults.{IsFaultOfLauncher};
+
+use crate::disk::Disk;
+use bf_command_fault::CommandFault;
+use bf_value::Text;
+use std::alloc::{Alloc, Global};
+use std::os::unix::fs::PermissionsExt;
+use std::rt::{Env, Files};
+use std::{env, fs};
+
+/// Where launchers are, by their paths.
+pub trait Launchers {
+    ghost use Rattle.std.specs.Prelude.{ℕ, Bool, List, Option};
+
+    /// Whether a path's program can be started, where that is told.
+    ghost startable: { Self → List ℕ → Option Bool };
+
+    /// Whether a path's program can be started.
+    fn can_start(&self, path: &str) -> bool
+        ensures { IfSome (startable self.now path.now) (λ told. result ≡ told) };
+}
+
+/// Whether a regular file stands there that somebody may execute.
+fn is_program<R: Files>(rt: &R, path: &str) -> bool {
+    match fs::metadata(rt, path) {
+        Ok(there) => there.is_file() && there.permissions().mode() & 0o111 != 0,
+        Err(_) => false,
+    }
+}
+
+/// A name without `/` is looked for in the folders of `PATH`. Where these can't be told, or memory is wanting, the system is left to look.
+impl<'a, R: Files + Env + Alloc> Launchers for Disk<'a, R> {
+    ghost use Rattle.std.specs.Prelude.{None};
+
+    ghost startable = { λ _ _. None };
+
+    fn can_start(&self, path: &str) -> bool {
+        if path.is_empty() || path.contains('/') {
+            return is_program(self.rt, path);
+        }
+        let Ok(folders) = env::var(self.rt, "PATH") else {
+            return true;
+        };
+        for folder in folders.split(':') {
+            let Ok(program) = format!(in self.rt.alloc(); "{folder}/{path}") else {
+                return true;
+            };
+            if is_program(self.rt, program.as_str()) {
+                return true;
+            }
+        }
+        false
+    }
+}
+
+/// Looks whether the launcher that is named can be started.
+pub(crate) fn look_at<L: Launchers>(
+    launchers: &L,
+    alloc: Global,
+    launcher: Option<&str>,
+) -> Result<(), CommandFault>
+    ensures ok { OnOk result (IsLaunchable (L.startable launchers.now) (option_map (λ l. l.now) launcher.entry)) }
+    ensures fault { IfErr result (IsFaultOfLauncher (L.startable launchers.now) (option_map (λ l. l.now) launcher.entry)) }
+{
+    let Some(path) = launcher else {
+        return Ok(());
+    };
+    if launchers.can_start(path) {
+        return Ok(());
+    }
+    let path = Text::copied(alloc, path)?;
+    Err(CommandFault::CannotLaunch(path))
+}

@@ -1,0 +1,6 @@
+//! How many runs a backfill has.
+#![tactic(auto)]
+
+mod runs;
+
+pub use runs::RunCount;

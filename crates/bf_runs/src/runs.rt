@@ -1,0 +1,15 @@
+//! How many runs there are.
+ghost use Rattle.std.specs.Prelude.{◌≡◌, ◌≤◌};
+
+/// The runs of a backfill, where only their number counts.
+pub trait RunCount {
+    ghost use Rattle.std.specs.Prelude.{ℕ};
+
+    /// How many runs there are.
+    ghost runs: { Self → ℕ };
+
+    /// How many runs there are.
+    fn count(&self) -> usize
+        ensures count { result ≡ runs self.now }
+        ensures few { result ≤ 4_096 };
+}

@@ -1,0 +1,8 @@
+//! The words of commands.
+#![tactic(auto)]
+
+mod context;
+mod wording;
+
+pub use context::JobContext;
+pub use wording::words;

@@ -1,0 +1,96 @@
+//! The words of commands.
+ghost use Rattle.std.specs.Prelude.{◌≡◌, Option, Some, None, IfOk, slice_index_or, option_map, string_bytes};
+ghost use Rattle.bf_graph.specs.Shape.{texts};
+ghost use Rattle.bf_words.specs.Words.{context_word as context_text, pushed_word as pushed_text, value_word as value_text, word_of, words_of};
+
+use crate::context::JobContext;
+use bf_plan::{ContextVariable, Word};
+use bf_value::{OutOfMemory, Xval, text_of};
+use bf_xcom::Given;
+use std::alloc::Global;
+
+fn value_word(alloc: Global, value: &Xval) -> Result<String, OutOfMemory>
+    ensures { IfOk result (λ word. string_bytes word ≡ value_text value.now) }
+{
+    match value {
+        Xval::Text(text) => Ok(String::from_str(alloc, text.as_str())?),
+        _ => text_of(alloc, value),
+    }
+}
+
+fn pushed_word(alloc: Global, value: Option<&Xval>) -> Result<String, OutOfMemory>
+    ensures { IfOk result (λ word. string_bytes word ≡ pushed_text (option_map (λ v. v.now) value.entry)) }
+{
+    match value {
+        Some(value) => value_word(alloc, value),
+        None => Ok(String::new(alloc)),
+    }
+}
+
+fn context_word(
+    alloc: Global,
+    variable: ContextVariable,
+    context: &JobContext<'_>,
+) -> Result<String, OutOfMemory>
+    ensures { IfOk result (λ word. string_bytes word ≡ context_text variable context.now) }
+{
+    Ok(match variable {
+        ContextVariable::LogicalDate | ContextVariable::DataIntervalStart => {
+            context.data_interval_start.to_string(alloc)?
+        }
+        ContextVariable::DataIntervalEnd => context.data_interval_end.to_string(alloc)?,
+        ContextVariable::DagId => String::from_str(alloc, context.dag_id)?,
+        ContextVariable::TaskId => String::from_str(alloc, context.task_id)?,
+        ContextVariable::MapIndex => context.map_index.to_string(alloc)?,
+        ContextVariable::TryNumber => context.try_number.to_string(alloc)?,
+    })
+}
+
+fn pulled(given: &Given, place: u32) -> Option<&Xval>
+    ensures { option_map (λ v. v.now) result ≡ slice_index_or given.now.pulled place None }
+{
+    match given.pulled.get(place as usize) {
+        Some(value) => value.as_ref(),
+        None => None,
+    }
+}
+
+fn item(given: &Given) -> Option<&Xval>
+    ensures { option_map (λ v. v.now) result ≡ given.now.item }
+{
+    given.item.as_ref()
+}
+
+fn word(
+    alloc: Global,
+    word: &Word,
+    context: &JobContext<'_>,
+    given: &Given,
+) -> Result<String, OutOfMemory>
+    ensures { IfOk result (λ s. string_bytes s ≡ word_of context.now given.now word.now) }
+{
+    match word {
+        Word::Text(text) => Ok(String::from_str(alloc, text.as_str())?),
+        Word::Context(variable) => context_word(alloc, *variable, context),
+        Word::Pull(place) => pushed_word(alloc, pulled(given, *place)),
+        Word::Item => pushed_word(alloc, item(given)),
+    }
+}
+
+/// What the words of a command are for one try, in order: a text is itself, a context variable is the text of what it
+/// names, and what is pulled and the item of an instance are themselves where they are texts, else their compact JSON
+/// text. Where nothing is pulled the word is empty; an item that is null is the word `null`.
+pub fn words(
+    alloc: Global,
+    command: &[Word],
+    context: &JobContext<'_>,
+    given: &Given,
+) -> Result<Vec<String>, OutOfMemory>
+    ensures { IfOk result (λ words. texts words.items ≡ words_of context.now given.now command.now) }
+{
+    let mut words = Vec::with_capacity(alloc, command.len())?;
+    for part in command {
+        words.push(word(alloc, part, context, given)?)?;
+    }
+    Ok(words)
+}
