@@ -1,6 +1,7 @@
 #!/usr/bin/env bash
 # Times `backfill run` over graphs of `true`s, by 1, 4, 8 and 64 workers, beside a bare loop in C that starts as many (bench/bare.c), and
-# beside one whose threads are handed each program, and measures what it takes itself while its programs sleep. Needs a C compiler.
+# beside one whose threads are handed each program, measures what logs cost, and what it takes itself while its programs sleep. Needs a
+# C compiler.
 set -euo pipefail
 
 source "$(dirname "$(readlink -f "${BASH_SOURCE[0]}")")/program.sh"
@@ -61,6 +62,10 @@ for name, layers, width, runs in (
         handed_wall, handed_cpu = measured([*loop, "handed"])
         print(f"{name}, {workers} workers: {wall:.2f} s of wall and {cpu:.2f} s of processor, bare {bare_wall:.2f} and {bare_cpu:.2f}, "
               f"handed {handed_wall:.2f} and {handed_cpu:.2f}")
+
+plain, _ = measured(run_of(graph_of(1, 2_000, ["true"]), 1, 8))
+logged, _ = measured([*run_of(graph_of(1, 2_000, ["true"]), 1, 8), "--logs", f"{work}/logs"])
+print(f"2,000 side by side, 8 workers, with logs: {logged:.2f} s of wall, {logged / plain:.2f} times that without")
 
 wall, cpu = measured(run_of(graph_of(1, 8, ["sleep", "10"]), 1, 8))
 print(f"8 programs that sleep 10 s, 8 workers: {wall:.2f} s of wall and {cpu:.3f} s of processor, the programs' included")

@@ -329,14 +329,18 @@ def kept_outcomes(graph, report, cleared_task, cleared_run):
     return kept
 
 
-def report_by_table(graph, table, intervals, kept):
-    """The report where each try is answered by the kept one of its name that was given the same, and else by the table."""
+def report_by_table(graph, table, intervals, kept, made=None):
+    """The report where each try is answered by the kept one of its name that was given the same, and else by the table: the outcomes of
+    those are put into `made`, as they are kept."""
 
     def outcome(start, task, index, number, lines):
         name = start, task, index, number, *lines
         if name in kept:
             return kept[name]
-        return grade(graph, task, *answer(table, {"run": start, "task": task, "index": index, "try": number}))
+        graded = grade(graph, task, *answer(table, {"run": start, "task": task, "index": index, "try": number}))
+        if made is not None:
+            made[name] = graded
+        return graded
 
     return report_of(graph, backfill(graph, intervals, outcome))
 

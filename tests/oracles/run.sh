@@ -11,7 +11,7 @@ set -euo pipefail
 source "$(dirname "$(readlink -f "${BASH_SOURCE[0]}")")/../shared/compare.sh"
 
 # How many seeds each oracle has by itself.
-declare -A seeds=([backfills]=300 [faults]=1000 [intervals]=600 [reports]=600 [tables_and_clearing]=600)
+declare -A seeds=([backfills]=300 [faults]=1000 [intervals]=600 [journals]=400 [reports]=600 [tables_and_clearing]=600)
 
 # Below, `folder` has the files of a seed, `graph` is its graph file, and the arguments are what its line in the file `cases` has.
 
@@ -54,6 +54,25 @@ compares_intervals() {
         0) answers 0 list "${line[@]}" < "$folder/wanted" ;;
         *) tells "$status" "$(< "$folder/wanted")" list "${line[@]}" ;;
     esac
+}
+
+# Journals, good ones and bad: what `clear` goes on from over a report, by 1 worker and by 8, and what it records. Then it goes on once more.
+compares_journals() {
+    local status=$1 again=$2 option workers
+    mapfile -t line < "$folder/line"
+    mapfile -t option < "$folder/option"
+    for workers in 1 8; do
+        cp "$folder/journal" "$work/journal"
+        cp "$folder/wanted" "$work/wanted_out"
+        cp "$folder/told" "$work/wanted_err"
+        ends "$status" "${line[@]}" "${option[@]}" --workers "$workers" --journal "$work/journal"
+        holds "what stands in the journal, by $workers" cmp -n "$(stat -c %s "$folder/stands")" "$folder/stands" "$work/journal"
+        tail -c "+$(($(stat -c %s "$folder/stands") + 1))" "$work/journal" | sed 's/,\[[0-9]*,[0-9]*,-\?[0-9]*\]\]$//' | LC_ALL=C sort > "$work/made"
+        holds "what is recorded, by $workers" cmp "$folder/made" "$work/made"
+        cp "$folder/again" "$work/wanted_out"
+        cp "$folder/told_again" "$work/wanted_err"
+        ends "$again" "${line[@]}" --workers "$workers" --journal "$work/journal"
+    done
 }
 
 # Reports, good ones and bad. One that is read is refused too, as of another graph.

@@ -1,9 +1,10 @@
 #!/usr/bin/env bash
-# Runs each command line of `./backfill` that stands in a fenced block of these pages, from the root of the repository, and compares
-# what it prints with the block below it where the page says that it prints that, and with the file where the page says that the same
-# stands in it; and its exit status with the one that the page tells, else with 0 or 1. A block of JSON above a command line has to be
-# the graph file that the line names, and a list the table. Each folder of examples/ has a heading in its page, and each report in it is compared. The last
-# line is the sum, and the status is 1 where something differs. Other pages may be named, and then these alone are looked at.
+# Runs each command line of `./backfill`, `jq` and `grep` that stands in a fenced block of these pages, from the root of the repository, with
+# a folder of its own in the place of /tmp. Compares what it prints with the block below it where the page says that it prints that, and with
+# the file where the page says that the same stands in it; and its exit status with the one that the page tells, else with 0 or 1. A block of
+# JSON above a command line has to be the graph file that the line names, and a list the table. Each folder of examples/ has a heading in its
+# page, and each report in it is compared. The last line is the sum, and the status is 1 where something differs. Other pages may be named,
+# and then these alone are looked at.
 set -euo pipefail
 
 source "$(dirname "$(readlink -f "${BASH_SOURCE[0]}")")/../shared/count.sh"
@@ -31,8 +32,14 @@ compare_shown() {
 run_met() {
     local status=0
     [[ -n $command ]] || return 0
+    if [[ -z $(command -v "${command%% *}") ]]; then
+        skips "a line of $page, since there is no ${command%% *}"
+        command=''
+        rm -f "$work/wanted"
+        return
+    fi
     rows=$((rows + 1))
-    bash -c "$command" > "$work/out" 2> "$work/err" < /dev/null || status=$?
+    bash -c "${command//\/tmp\//$work/tmp/}" > "$work/out" 2> "$work/err" < /dev/null || status=$?
     if [[ $status -gt 1 || $status -ne ${told:-$status} ]]; then
         other "with status $status"
         cat "$work/err"
@@ -75,7 +82,7 @@ inside() {
         json) echo "$1" >> "$work/shown" ;;
         report) echo "$1" >> "$work/wanted" ;;
         lines)
-            [[ $1 == './backfill '* ]] || return 0
+            [[ $1 =~ ^(\./backfill|jq|grep)\  ]] || return 0
             run_met
             command=$1
             [[ ! -e $work/shown ]] || compare_shown
@@ -101,6 +108,7 @@ look_at_folders() {
 
 cd "$root"
 : > "$work/compared"
+mkdir "$work/tmp"
 for page in "${pages[@]}"; do
     kind=''
     before=''

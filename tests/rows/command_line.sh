@@ -83,11 +83,17 @@ Options:
       --progress          Tells on standard error how far the runs are, at most once a second
       --out <PATH>        Writes the report to this file, whole or not at all, in place of standard output
       --launcher <PATH>   Hands the words of each task's command to this program; without it the first word is the program
+      --logs <FOLDER>     Keeps below this folder what each try writes and what it was given
+      --journal <PATH>    Records each try in this file as it ends; where it has some, goes on from them
+      --stop-after <N>    Begins no further try behind N failed ones; needs a journal
+      --retry-failed      Makes the failed tries of the journal again, of what hasn't succeeded since
+      --quiet             Tells neither progress nor which tries fail
   -h, --help              Print help
 
 Examples:
   backfill run --from 2024-01-01 --to 2024-01-07 --workers 2 examples/extract_transform_load/graph.json
   backfill run --from 2024-01-01 --to 2024-01-07 --launcher /usr/bin/env examples/extract_transform_load/graph.json
+  backfill run --from 2024-01-01 --to 2024-01-07 --journal journal examples/extract_transform_load/graph.json
 HELP
 answers 0 clear --help <<'HELP'
 Runs a task of a run again, with all that follows from it, and keeps the rest of a report
@@ -109,6 +115,11 @@ Options:
       --progress          Tells on standard error how far the runs are, at most once a second
       --out <PATH>        Writes the report to this file, whole or not at all, in place of standard output
       --launcher <PATH>   Hands the words of each task's command to this program; without it the first word is the program
+      --logs <FOLDER>     Keeps below this folder what each try writes and what it was given
+      --journal <PATH>    Records each try in this file as it ends; where it has some, goes on from them
+      --stop-after <N>    Begins no further try behind N failed ones; needs a journal
+      --retry-failed      Makes the failed tries of the journal again, of what hasn't succeeded since
+      --quiet             Tells neither progress nor which tries fail
   -h, --help              Print help
 
 Examples, the first of which makes the report of the second:
@@ -184,6 +195,15 @@ check g --zone-file => error: a value is required for '--zone-file <PATH>' but n
 clear => error: the following required arguments were not provided:|  --task <ID>|  --run <T>|  --from <T>|  --to <T>|  <GRAPH>|  <REPORT>|
 run g --from 2024-01-01 --to 2024-01-01 --launcher => error: a value is required for '--launcher <PATH>' but none was supplied|
 single g t --at 2024-01-01 --launcher on => error: unexpected argument '--launcher' found|
+run g --from 2024-01-01 --to 2024-01-01 --logs => error: a value is required for '--logs <FOLDER>' but none was supplied|
+dry g t --from 2024-01-01 --to 2024-01-01 --logs l => error: unexpected argument '--logs' found|
+single g t --at 2024-01-01 --quiet => error: unexpected argument '--quiet' found|
+run g --from 2024-01-01 --to 2024-01-01 --journal => error: a value is required for '--journal <PATH>' but none was supplied|
+dry g t --from 2024-01-01 --to 2024-01-01 --journal j => error: unexpected argument '--journal' found|
+run g --from 2024-01-01 --to 2024-01-01 --journal j --stop-after 0 => error: invalid value '0' for '--stop-after <N>': 0 is not in 1..=4294967295|
+run g --from 2024-01-01 --to 2024-01-01 --stop-after 1 => error: the following required arguments were not provided:|  --journal <PATH>|
+run g --from 2024-01-01 --to 2024-01-01 --retry-failed => error: the following required arguments were not provided:|  --journal <PATH>|
+clear g r --task a --run 2024-01-01 --from 2024-01-01 --to 2024-01-01 --retry-failed => error: the following required arguments were not provided:|  --journal <PATH>|
 schema => error: the following required arguments were not provided:|  <FORMAT>|
 schema report => error: invalid value for '<FORMAT>'|  [possible values: graph, table]|
 schema graph table => error: unexpected argument 'table' found|

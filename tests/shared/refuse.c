@@ -1,15 +1,19 @@
 /* Preloaded to a program: refuses one of its calls to the system, and counts how many there were. REFUSED_PROGRAM is the name of the
-   program, REFUSED_CALL the kind of call (memory, open, read, write, clock, look, mode, sync, rename, remove), REFUSED_NUMBER which of these
-   is refused, from 1 on, or 0 for none, and CALL_COUNT the file that gets the count. Where KILLED is `before` or `after`, the call isn't
-   refused: the program is killed before it, or behind it, but never behind a call for memory, a read or a look at the clock. */
+   program, REFUSED_CALL the kind of call (memory, open, read, write, clock, look, mode, lock, cut, sync, rename, remove), REFUSED_NUMBER which
+   of these is refused, from 1 on, or 0 for none, and CALL_COUNT the file that gets the count. Where KILLED is `before` or `after`, the call
+   isn't refused: the program is killed before it, or behind it, but never behind a call for memory, a read or a look at the clock. Where
+   SLOWLY_STARTED is a number, what the program starts waits so many seconds before it becomes another program; where STARTS_LATE is one, the
+   program waits so many milliseconds before it starts another. */
 #define _GNU_SOURCE
 #include <dlfcn.h>
 #include <errno.h>
 #include <signal.h>
+#include <spawn.h>
 #include <stdarg.h>
 #include <stdio.h>
 #include <stdlib.h>
 #include <string.h>
+#include <sys/file.h>
 #include <sys/stat.h>
 #include <sys/types.h>
 #include <time.h>
@@ -109,6 +113,33 @@ int fsync(int file) {
     return status;
 }
 
+int fdatasync(int file) {
+    static int (*real)(int);
+    if (!real) real = dlsym(RTLD_NEXT, "fdatasync");
+    if (is_refused("sync")) { errno = EIO; return -1; }
+    int status = real(file);
+    ended();
+    return status;
+}
+
+int flock(int file, int operation) {
+    static int (*real)(int, int);
+    if (!real) real = dlsym(RTLD_NEXT, "flock");
+    if (is_refused("lock")) { errno = ENOLCK; return -1; }
+    int status = real(file, operation);
+    ended();
+    return status;
+}
+
+int ftruncate(int file, off_t size) {
+    static int (*real)(int, off_t);
+    if (!real) real = dlsym(RTLD_NEXT, "ftruncate");
+    if (is_refused("cut")) { errno = EIO; return -1; }
+    int status = real(file, size);
+    ended();
+    return status;
+}
+
 int fchmod(int file, mode_t mode) {
     static int (*real)(int, mode_t);
     if (!real) real = dlsym(RTLD_NEXT, "fchmod");
@@ -150,4 +181,21 @@ int clock_gettime(clockid_t clock, struct timespec *to) {
     if (!real) real = dlsym(RTLD_NEXT, "clock_gettime");
     if (is_refused("clock")) { errno = EINVAL; return -1; }
     return real(clock, to);
+}
+
+int posix_spawn(pid_t *child, const char *path, const posix_spawn_file_actions_t *actions, const posix_spawnattr_t *attributes,
+                char *const words[], char *const variables[]) {
+    static int (*real)(pid_t *, const char *, const posix_spawn_file_actions_t *, const posix_spawnattr_t *, char *const[], char *const[]);
+    const char *seconds = getenv("SLOWLY_STARTED");
+    const char *milliseconds = getenv("STARTS_LATE");
+    if (!real) real = dlsym(RTLD_NEXT, "posix_spawn");
+    if (milliseconds && is_program()) usleep((useconds_t)atoi(milliseconds) * 1000);
+    if (!seconds || !is_program()) return real(child, path, actions, attributes, words, variables);
+    *child = fork();
+    if (*child == 0) {
+        sleep(atoi(seconds));
+        execve(path, words, variables);
+        abort();
+    }
+    return *child < 0 ? errno : 0;
 }

@@ -1,5 +1,6 @@
 #!/usr/bin/env bash
-# Refuses each call for memory, each open, each read, each write and each look at the clock of runs of the program in turn. A run has
+# Refuses each call for memory, each open, each read, each write and each look at the clock of runs of the program in turn, and of runs that
+# keep logs each look at a file and each removal too. A run has
 # to end as if nothing was refused, or by the fault that the refused call is, with nothing (or, of a refused write, a beginning of the
 # report) on standard output. A look at the clock that fails is no fault. Needs a C compiler. The last line is the sum, and the status
 # is 1 where a call ended a run otherwise.
@@ -38,6 +39,21 @@ is_untold() {
     [[ $1 == write && $status -eq $whole && ! -s $work/err ]] && cmp -s "$work/out" "$work/whole_out"
 }
 
+# Whether the run ended since a log can't be made.
+is_log_fault() {
+    [[ $status -eq 3 && ! -s $work/out ]] && grep -qx "fault: cannot write $work/logs/dag=.*" "$work/err"
+}
+
+# Whether a try wasn't started, whose program was to have an empty standard input that couldn't be opened.
+is_unstarted() {
+    [[ $1 == open && $status -eq 1 ]] && grep -q 'try 1: not started: Permission denied, see ' "$work/err"
+}
+
+# Whether a log isn't whole, and nothing else has changed.
+is_log_lost() {
+    [[ $status -eq $whole && $(< "$work/err") == 'logs: not all could be kept' ]] && cmp -s "$work/out" "$work/whole_out"
+}
+
 each() {
     local call=$1 calls faults=0 number
     shift
@@ -49,9 +65,9 @@ each() {
     for ((number = 1; number <= calls; number++)); do
         run "$call" "$number" "$@"
         rows=$((rows + 1))
-        if is_fault "$call"; then
+        if is_fault "$call" || is_log_fault; then
             faults=$((faults + 1))
-        elif ! is_whole && ! is_untold "$call"; then
+        elif ! is_whole && ! is_untold "$call" && ! is_unstarted "$call" && ! is_log_lost; then
             differs "status $status, of $call $number of: $*"
             cat "$work/out" "$work/err"
         fi
@@ -101,5 +117,8 @@ for call in memory open read write; do
 done
 each memory run extract_transform_load/graph.json --from 2024-01-01 --to 2024-01-02
 each memory run extract_transform_load/graph.json --from 2024-01-01 --to 2024-01-02 --workers 2
+for call in memory open write look remove; do
+    each "$call" run extract_transform_load/graph.json --from 2024-01-01 --to 2024-01-01 --logs "$work/logs"
+done
 each clock run "$work/delayed" --from 2024-01-01 --to 2024-01-01
 sum

@@ -325,11 +325,13 @@ is_same 'status with all three closed' 3 "$status"
 # and waits at the gate.
 
 tasks "{\"id\":\"a\",\"command\":[\"sh\",\"-c\",\"echo there > $work/there; cat $work/gate; echo over > $work/over\"]}"
-# Starts a run, and comes back when its program is there.
+# Starts a run by so many workers, with these options, and comes back when its program is there.
 start() {
+    local workers=$1
+    shift
     rm -f "$work/there" "$work/over"
     set -m
-    "$program" run "$graph" "${day[@]}" --workers "$1" > "$work/out" 2> "$work/err" &
+    "$program" run "$graph" "${day[@]}" --workers "$workers" "$@" > "$work/out" 2> "$work/err" &
     runner=$!
     set +m
     until_holds test -s "$work/there"
@@ -376,6 +378,29 @@ for workers in 1 8; do
     timeout 30 sh -c ": > $work/gate" || true
     ended_with
     is_same 'a program that is ended' "1 $(one_day failed <<< 'a -1 failed 1 -')" "$status $(cat "$work/out" "$work/err")"
+done
+# Below `timeout` a program is in a group of its own, which a terminal's signal doesn't reach.
+command=$(cat "$graph")
+tasks "{\"id\":\"a\",\"command\":[\"timeout\",\"60\",\"sh\",\"-c\",\"echo there > $work/there; cat $work/gate; echo over > $work/over\"]}"
+start 1
+kill -INT -- -"$runner"
+ended_with
+is_same 'status at INT to the group, with a program below timeout' 130 "$status"
+timeout 30 sh -c ": > $work/gate"
+is_same 'whether a program below timeout went on after INT to the group' yes "$(until_holds test -s "$work/over" && echo yes)"
+# By a launcher that asks for it a program is killed with its runner, however that ends.
+printf '#!/bin/sh\nexec setpriv --pdeathsig KILL -- "$@"\n' > "$work/dies"
+chmod +x "$work/dies"
+printf '%s\n' "$command" > "$graph"
+for signal in INT TERM KILL; do
+    start 8 --launcher "$work/dies"
+    kill -"$signal" "$runner"
+    ended_with
+    is_same "status at $signal to the runner, whose programs die with it" "$((128 + $(kill -l "$signal")))" "$status"
+    is_same "whether the program is gone after $signal to the runner" yes "$(until_holds is_gone && echo yes)"
+    # (what the program had started reads at the gate still)
+    timeout 30 sh -c ": > $work/gate"
+    is_same "what the program did after $signal to the runner" '' "$(cat "$work/over" 2> /dev/null)"
 done
 # A program that ends its runner.
 tasks '{"id":"a","command":["sh","-c","kill -TERM $PPID"]}'

@@ -76,20 +76,27 @@ has_lines "$work/words" <<'WORDS'
 <false>
 WORDS
 
-# Where the launcher can't be started, no try is started, and each has failed.
+# Where the launcher can't be started that is the fault, before a file is read: nothing is started, and no journal is made. Where a
+# table answers, nobody looks at it.
 
-tasks '{"id":"a"},{"id":"b","upstream":["a"],"retries":1,"command":["true"]},{"id":"c","upstream":["b"],"command":["true"]}'
-one_day failed > "$work/wanted" <<'LINES'
-a -1 success 1 -
-b -1 failed 2 -
-c -1 upstream_failed 0 -
-LINES
+tasks '{"id":"a","command":["sh","-c","echo >> started"]}'
+one_day success > "$work/report" <<< 'a -1 success 1 -'
+cp "$work/report" "$work/was"
 echo true > "$work/plain_file"
+echo '[]' > "$table"
+cleared=("$graph" "$work/report" "${day[@]}" --task a --run 2024-01-01)
+cd "$work"
 for launcher in /no/such/launcher no_such_launcher "$work/plain_file" "$work" ''; do
     for workers in 1 8; do
-        launches 1 run "$graph" "${day[@]}" --workers "$workers" --launcher "$launcher"
+        tells 3 "fault: cannot start $launcher" run "$graph" "${day[@]}" --workers "$workers" --launcher "$launcher" --journal journal
+        tells 3 "fault: cannot start $launcher" run none "${day[@]}" --workers "$workers" --launcher "$launcher"
+        tells 3 "fault: cannot start $launcher" clear "${cleared[@]}" --workers "$workers" --launcher "$launcher" --out "$work/report"
+        answers 0 clear "${cleared[@]}" --workers "$workers" --launcher "$launcher" --table "$table" < "$work/was"
     done
 done
+holds 'a report that was to be cleared through no launcher' cmp "$work/was" "$work/report"
+is_same 'what is left where no launcher is there' '' "$(ls -d started journal 2> /dev/null || true)"
+cd - > /dev/null
 
 # Words cross as they are, and exit statuses come back.
 
