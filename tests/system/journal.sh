@@ -88,7 +88,7 @@ while read -r task start end code; do
         good) ((end - start >= 200 && code == 0)) || differs "what is told of $task: $start $end $code" ;;
         bad) ((code == 7)) || differs "the code of $task: $code" ;;
         skipped) ((code == 99)) || differs "the code of $task: $code" ;;
-        killed) ((code >= 128)) || differs "the code of $task: $code" ;;
+        killed) ((code == 137)) || differs "the code of $task: $code" ;;
         absent) ((code == -1)) || differs "the code of $task: $code" ;;
     esac
 done <<< "$times"

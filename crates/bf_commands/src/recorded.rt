@@ -12,12 +12,12 @@ use crate::screen::Screen;
 use crate::stop::stopped_recording;
 use bf_command_fault::CommandFault;
 use bf_core::Ended;
+use bf_failure::DetailedRunner;
 use bf_interval::Runs;
 use bf_journal::{Durable, Journaled, Recorder, Recording, Stop};
 use bf_kept::{Keeping, KeptTries};
 use bf_plan::Plan;
 use bf_process::LogFaults;
-use bf_try::TaskRunner;
 use std::alloc::Global;
 use std::marker::Brand;
 use std::sync::Wait;
@@ -52,7 +52,7 @@ fn recording_of<'a, J, RT, R, D>(
 where
     J: Journaled,
     RT: Wait + Clock,
-    R: TaskRunner,
+    R: DetailedRunner,
     D: Durable + Drop,
     requires base { J.base ≡ D.written record.device }
     requires may { MayRecord J.may_record (R.may_answer runner.now) plan.now.dag runs.now }
@@ -76,7 +76,7 @@ impl<'m, RT: Screen + Threads + Wait + Clock + Sync> Crew<'m, RT> {
     where
         J: Journaled + Send + Sync,
         K: KeptTries + Sync,
-        R: TaskRunner + Sync,
+        R: DetailedRunner + Sync,
         D: Durable + Drop + Send,
         C: bf_lane::Clock + Drop,
         requires fit { AreFit plan.now.dag (K.kept keeping.now.kept.now) }
@@ -132,7 +132,7 @@ impl<'m, RT: Screen + Threads + Wait + Clock + Sync> Crew<'m, RT> {
     ) -> RecordedEnd<'p, D>
     where
         K: KeptTries + Sync,
-        R: TaskRunner + Sync,
+        R: DetailedRunner + Sync,
         D: Durable + Drop + Send,
         C: bf_lane::Clock + Drop,
         requires { AreFit plan.now.dag (K.kept keeping.now.kept.now) }

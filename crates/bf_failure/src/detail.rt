@@ -2,7 +2,8 @@
 ghost use Rattle.std.specs.Prelude.{◌≡◌, IfOk, IfErr};
 
 use bf_try::{Done, RunnerFault, TaskRunner, Ticket};
-use bf_value::Text;
+use bf_value::{OutOfMemory, Text};
+use std::alloc::Global;
 
 /// What is known of how a program ended, beside its raw answer.
 #[derive(Debug, Drop)]
@@ -11,6 +12,18 @@ pub enum Detail {
     Signal(i32),
     /// Why it wasn't started, in the system's words, as `No such file or directory`.
     NotStarted(Text),
+}
+
+impl Detail {
+    /// The same detail.
+    pub fn copy(&self, alloc: Global) -> Result<Detail, OutOfMemory>
+        ensures { IfOk result (λ detail. detail ≡ self.now) }
+    {
+        Ok(match self {
+            Detail::Signal(number) => Detail::Signal(*number),
+            Detail::NotStarted(words) => Detail::NotStarted(Text::copied(alloc, words.as_str())?),
+        })
+    }
 }
 
 /// A runner that knows more of a try than its raw answer says.

@@ -102,16 +102,35 @@ impl<'a, R: DetailedRunner + Drop, T: Teller + Drop> Telling<'a, R, T> {
     }
 }
 
+fn copied(alloc: Global, detail: &Option<Detail>) -> Result<Option<Detail>, OutOfMemory> {
+    match detail {
+        Some(detail) => Ok(Some(detail.copy(alloc)?)),
+        None => Ok(None),
+    }
+}
+
 impl<'a, R: DetailedRunner + Drop, T: Teller + Drop> TaskRunner for Telling<'a, R, T> {
     ghost may_answer = { λ s n g raw. R.may_answer s.runner n g raw };
 
     ghost may_give_up = { λ s n g. R.may_give_up s.runner n g };
 
     fn run(&self, ticket: Ticket) -> Result<Done, (Ticket, RunnerFault)> {
+        let (done, _) = self.run_in_detail(ticket)?;
+        Ok(done)
+    }
+}
+
+impl<'a, R: DetailedRunner + Drop, T: Teller + Drop> DetailedRunner for Telling<'a, R, T> {
+    fn run_in_detail(
+        &self,
+        ticket: Ticket,
+    ) -> Result<(Done, Option<Detail>), (Ticket, RunnerFault)> {
         let (done, detail) = self.runner.run_in_detail(ticket)?;
-        if let Some(teller) = &self.teller {
+        if let Some(teller) = &self.teller
+            && let Ok(detail) = copied(self.alloc, &detail)
+        {
             let _ = self.tell(teller, &done, detail);
         }
-        Ok(done)
+        Ok((done, detail))
     }
 }

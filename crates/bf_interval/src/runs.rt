@@ -56,6 +56,14 @@ impl Runs {
         Ok(Runs { intervals })
     }
 
+    /// The runs of these data intervals.
+    pub fn of(intervals: Vec<Interval>) -> Runs
+        requires { AreOfRuns intervals.items }
+        ensures { result ≡ intervals.items }
+    {
+        Runs { intervals }
+    }
+
     /// One run, whose data interval starts and ends at a moment of the years.
     pub fn at(alloc: Global, moment: Timestamp) -> Result<Runs, IntervalFault>
         requires { IsInYears moment.nanosecond → IsWhole moment.nanosecond }

@@ -119,9 +119,9 @@ module _ (may_answer : JobName → Given → Raw → Type 0) (dag : Dag) (interv
   graded_line line is =
       let outcome = grade_of dag is.done.name.task is.done.raw in
       let entry : Entry = record { given = is.done.given; outcome = outcome } in
-      let value = record_of dag is.is.run is.done outcome is.times in
+      let value = record_of dag is.is.run is.done outcome is.stamp in
       let tells : Tells dag intervals value is.done.name entry =
-      record { run = is.is.run; is_run = is.is.is_run; is_task = is.is.is_task; is_name = is.is.is_name; stamp = stamp_value is.times is.done.raw.exit; is = refl } in
+      record { run = is.is.run; is_run = is.is.is_run; is_task = is.is.is_task; is_name = is.is.is_name; stamp = stamp_value is.stamp is.done.raw.exit; is = refl } in
       (value, is.is.told.tellable, record { name = is.done.name; entry = entry; tells = tells; graded = (is.done.raw, is.may, refl) }, is.is.told.is)
 
   are_lines : (lines : List (List ℕ)) → All (IsRecordBy may_answer dag intervals) lines → AreLines lines

@@ -11,7 +11,7 @@ use Rattle.bf_try.specs.declared.answers.Raw.{Raw}
 use Rattle.bf_try.specs.Grades.{grade_of}
 use Rattle.bf_journal.specs.declared.stop.Stop.{Stop}
 use Rattle.bf_journal.specs.declared.stop.Stop.TheVariants.{WriteFailed, OutOfMemory, EnoughFailed}
-use Rattle.bf_journal.specs.declared.times.Times.{Times}
+use Rattle.bf_journal.specs.declared.stamp.Stamp.{Stamp}
 use Rattle.bf_journal.specs.Records.{IsRecord}
 
 -- ---- a device
@@ -69,9 +69,9 @@ pub record IsWritten (may_record : List ℕ → Type 0) (base written : Option (
 -- the line is the record of a try whose outcome is the grade of an answer that may be given to it
 pub record IsRecordBy (may_answer : JobName → Given → Raw → Type 0) (dag : Dag) (intervals : List Interval) (line : List ℕ) : Type 0 where
   pub done : Answered
-  pub times : Times
+  pub stamp : Stamp
   pub may : may_answer done.name done.given done.raw
-  pub is : IsRecord dag intervals done (grade_of dag done.name.task done.raw) times line
+  pub is : IsRecord dag intervals done (grade_of dag done.name.task done.raw) stamp line
 
 -- the answers of a runner may be recorded
 abbrev pub MayRecord : (List ℕ → Type 0) → (JobName → Given → Raw → Type 0) → Dag → List Interval → Type 0

@@ -6,7 +6,7 @@ ghost use Rattle.bf_interval.specs.Intervals.{IsShownInterval};
 ghost use Rattle.bf_journal.specs.Records.{exit_code, HasNoRecord, IsLineOf, IsRecord, optional as optional_value, outcome_word, record_of as record_in, stamp_value};
 
 use crate::run::run_of;
-use crate::times::Times;
+use crate::stamp::Stamp;
 use crate::value::{moment_value, text_value};
 use bf_interval::{Interval, Runs};
 use bf_plan::Plan;
@@ -53,25 +53,26 @@ fn word_of(outcome: &Outcome) -> &'static str
     }
 }
 
-/// The status that a shell shows of what ended so: 128 for a signal, whose number an `Exit` doesn't have, and -1 where nothing
-/// was started.
-fn code_of(exit: Exit) -> i64
-    ensures { result ≡ exit_code exit }
+/// The status that a shell shows of what ended so: 128 and the number of a signal, where that is known, and -1 where nothing was
+/// started.
+fn code_of(exit: Exit, signal: Option<i32>) -> i64
+    ensures { result ≡ exit_code exit signal }
 {
-    match exit {
-        Exit::Code(code) => i64::from(code),
-        Exit::Signal => 128,
-        Exit::NotStarted => -1,
+    match (exit, signal) {
+        (Exit::Code(code), _) => i64::from(code),
+        (Exit::Signal, Some(number)) => 128 + i64::from(number),
+        (Exit::Signal, None) => 128,
+        (Exit::NotStarted, _) => -1,
     }
 }
 
 /// When a try started, when it ended, and by which code.
-fn stamp_of(alloc: Global, times: Times, exit: Exit) -> Result<Xval, OutOfMemory>
-    ensures { IfOk result (λ v. v ≡ stamp_value times exit) }
+fn stamp_of(alloc: Global, stamp: Stamp, exit: Exit) -> Result<Xval, OutOfMemory>
+    ensures { IfOk result (λ v. v ≡ stamp_value stamp exit) }
 {
-    let start = Xval::Int(times.start);
-    let end = Xval::Int(times.end);
-    let code = Xval::Int(code_of(exit));
+    let start = Xval::Int(stamp.start);
+    let end = Xval::Int(stamp.end);
+    let code = Xval::Int(code_of(exit, stamp.signal));
     let numbers = vec![in alloc; start, end, code]?;
     Ok(Xval::List(Values::new(numbers)))
 }
@@ -83,11 +84,11 @@ fn value_of(
     run: &Interval,
     done: &Done,
     outcome: &Outcome,
-    times: Times,
+    stamp: Stamp,
 ) -> Result<Xval, OutOfMemory>
     requires task { done.now.name.task < length plan.now.dag.tasks }
     requires shown { IsShownInterval run.now }
-    ensures { IfOk result (λ v. v ≡ record_in plan.now.dag run.now done.now outcome.now times) }
+    ensures { IfOk result (λ v. v ≡ record_in plan.now.dag run.now done.now outcome.now stamp) }
 {
     let name = done.name();
     let given = done.given();
@@ -99,7 +100,7 @@ fn value_of(
     let pushed = optional(alloc, outcome.pushed())?;
     let item = optional(alloc, given.item.as_ref())?;
     let pulled = Xval::List(Values::new(all_optional(alloc, given.pulled.as_slice())?));
-    let stamp = stamp_of(alloc, times, done.raw().exit)?;
+    let stamp = stamp_of(alloc, stamp, done.raw().exit)?;
     let fields = vec![in alloc;
         run, task, index, attempt, word, pushed, item, pulled, stamp,
     ]?;
@@ -127,16 +128,16 @@ fn line_in(
     run: &Interval,
     done: &Done,
     outcome: &Outcome,
-    times: Times,
+    stamp: Stamp,
 ) -> Result<Option<String>, OutOfMemory>
     requires task { done.now.name.task < length plan.now.dag.tasks }
     requires shown { IsShownInterval run.now }
     ensures some { IfOk result (λ o. IfSome o (λ line.
-        IsLineOf (record_in plan.now.dag run.now done.now outcome.now times) (string_bytes line))) }
+        IsLineOf (record_in plan.now.dag run.now done.now outcome.now stamp) (string_bytes line))) }
     ensures none { IfOk result (λ o. IfNone o
-        (¬ (plain_depth (plain_of (record_in plan.now.dag run.now done.now outcome.now times)) ≤ 127))) }
+        (¬ (plain_depth (plain_of (record_in plan.now.dag run.now done.now outcome.now stamp)) ≤ 127))) }
 {
-    let value = value_of(alloc, plan, run, done, outcome, times)?;
+    let value = value_of(alloc, plan, run, done, outcome, stamp)?;
     line_of(alloc, &value)
 }
 
@@ -148,18 +149,18 @@ pub fn record_of(
     runs: &Runs,
     done: &Done,
     outcome: &Outcome,
-    times: Times,
+    stamp: Stamp,
 ) -> Result<Option<String>, OutOfMemory>
     ensures some { IfOk result (λ o. IfSome o (λ line.
-        IsRecord plan.now.dag runs.now done.now outcome.now times (string_bytes line))) }
-    ensures none { IfOk result (λ o. IfNone o (HasNoRecord plan.now.dag runs.now done.now outcome.now times)) }
+        IsRecord plan.now.dag runs.now done.now outcome.now stamp (string_bytes line))) }
+    ensures none { IfOk result (λ o. IfNone o (HasNoRecord plan.now.dag runs.now done.now outcome.now stamp)) }
 {
     let name = done.name();
     if name.task as usize >= plan.dag().tasks.len() {
         return Ok(None);
     }
     match run_of(runs, name.run) {
-        Some(run) => line_in(alloc, plan, run, done, outcome, times),
+        Some(run) => line_in(alloc, plan, run, done, outcome, stamp),
         None => Ok(None),
     }
 }

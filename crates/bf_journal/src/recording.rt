@@ -6,8 +6,9 @@ use crate::durable::Durable;
 use crate::journaled::Journaled;
 use crate::record::record_of;
 use crate::recorder::Recorder;
+use crate::stamp::{Stamp, milliseconds};
 use crate::stop::Stop;
-use crate::times::{Times, milliseconds};
+use bf_failure::{Detail, DetailedRunner};
 use bf_interval::Runs;
 use bf_plan::Plan;
 use bf_try::{Done, Outcome, RunnerFault, TaskRunner, Ticket, grade};
@@ -20,7 +21,7 @@ use std::time::{Clock, Duration};
 /// Hands each try on to a runner, and records how it ended. Every further try is given up, and not handed on, where a record
 /// can't be written, where memory is wanting for one, and where enough tries have failed; those that run are recorded.
 #[derive(Drop)]
-pub struct Recording<'a, K: Journaled, RT, R: TaskRunner, D: Durable + Drop> {
+pub struct Recording<'a, K: Journaled, RT, R: DetailedRunner, D: Durable + Drop> {
     rt: &'a RT,
     alloc: Global,
     plan: &'a Plan,
@@ -29,7 +30,8 @@ pub struct Recording<'a, K: Journaled, RT, R: TaskRunner, D: Durable + Drop> {
     recorder: Mutex<Recorder<K, D>>,
 }
 
-impl<'a, K: Journaled, RT, R: TaskRunner, D: Durable + Drop> Model for Recording<'a, K, RT, R, D> {
+impl<'a, K: Journaled, RT, R: DetailedRunner, D: Durable + Drop> Model
+    for Recording<'a, K, RT, R, D> {
     ghost use Rattle.std.specs.Coded.{codes};
     ghost use Rattle.bf_plan.specs.contracts.plan.Dag as d;
     ghost use Rattle.bf_interval.specs.contracts.interval.Interval as i;
@@ -55,7 +57,7 @@ impl<'a, K, RT, R, D> Recording<'a, K, RT, R, D>
 where
     K: Journaled,
     RT: Wait + Clock,
-    R: TaskRunner,
+    R: DetailedRunner,
     D: Durable + Drop,
 {
     /// A runner round a runner, for the runs of a plan.
@@ -86,25 +88,25 @@ where
     }
 
     /// What is to be recorded of a try.
-    fn recordable(&self, done: &Done, times: Times) -> Result<Recordable, OutOfMemory>
+    fn recordable(&self, done: &Done, stamp: Stamp) -> Result<Recordable, OutOfMemory>
         requires may { R.may_answer self.now.runner done.now.name done.now.given done.now.raw }
         requires task { done.now.name.task < length self.now.dag.tasks }
         ensures { IfOk result (λ r. IfSome r.line (λ line. K.may_record (string_bytes line))) }
     {
         let outcome = grade(self.alloc, self.plan, done.name().task, done.raw())?;
-        let line = record_of(self.alloc, self.plan, self.runs, done, &outcome, times)?;
+        let line = record_of(self.alloc, self.plan, self.runs, done, &outcome, stamp)?;
         let has_failed = matches!(&outcome, Outcome::Failed);
         Ok(Recordable { has_failed, line })
     }
 
     /// Records a try. One of a task that isn't there has no record.
-    fn record(&self, done: &Done, times: Times) -> Result<(), OutOfMemory>
+    fn record(&self, done: &Done, stamp: Stamp) -> Result<(), OutOfMemory>
         requires { R.may_answer self.now.runner done.now.name done.now.given done.now.raw }
     {
         if done.name().task as usize >= self.plan.dag().tasks.len() {
             return Ok(());
         }
-        let recordable = self.recordable(done, times)?;
+        let recordable = self.recordable(done, stamp)?;
         let now = self.now();
         let mut recorder = self.recorder.lock(self.rt);
         if let Some(line) = &recordable.line {
@@ -144,11 +146,19 @@ where
     }
 }
 
+/// The number of the signal that ended a program, where that is known.
+fn signal_in(detail: &Option<Detail>) -> Option<i32> {
+    match detail {
+        Some(Detail::Signal(number)) => Some(*number),
+        Some(Detail::NotStarted(_)) | None => None,
+    }
+}
+
 impl<'a, K, RT, R, D> TaskRunner for Recording<'a, K, RT, R, D>
 where
     K: Journaled,
     RT: Wait + Clock,
-    R: TaskRunner,
+    R: DetailedRunner,
     D: Durable + Drop,
 {
     ghost may_answer = { λ s n g raw. R.may_answer s.runner n g raw };
@@ -160,9 +170,13 @@ where
             return Err((ticket, RunnerFault::GaveUp));
         }
         let start = milliseconds(self.rt);
-        let done = self.runner.run(ticket)?;
-        let end = milliseconds(self.rt);
-        if self.record(&done, Times { start, end }).is_err() {
+        let (done, detail) = self.runner.run_in_detail(ticket)?;
+        let stamp = Stamp {
+            start,
+            end: milliseconds(self.rt),
+            signal: signal_in(&detail),
+        };
+        if self.record(&done, stamp).is_err() {
             self.lose();
         }
         Ok(done)

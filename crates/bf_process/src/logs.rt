@@ -21,14 +21,31 @@ pub(crate) struct OpenLogs<'f> {
     pub(crate) err: File,
 }
 
-/// Makes a folder, unless it is there. A link that stands in its place isn't followed.
+/// Whether a folder stands there. A link to one is none.
+fn is_folder(files: &HostRuntime, path: &str) -> bool {
+    match fs::symlink_metadata(files, path) {
+        Ok(there) => there.is_dir(),
+        Err(_) => false,
+    }
+}
+
+/// Makes a folder, unless it is there. It is looked for first, since threads that make what is there wait for each other.
 fn make_folder(files: &HostRuntime, path: &str) -> io::Result<()> {
+    if is_folder(files, path) {
+        return Ok(());
+    }
     match fs::create_dir(files, path) {
         Ok(()) => Ok(()),
-        Err(error) => match fs::symlink_metadata(files, path) {
-            Ok(there) if there.is_dir() => Ok(()),
-            _ => Err(error),
-        },
+        Err(_) if is_folder(files, path) => Ok(()),
+        Err(error) => Err(error),
+    }
+}
+
+/// Makes the folder of all logs with those that it stands in, unless it is there. It may be a link to one.
+fn make_all_folders(files: &HostRuntime, path: &str) -> io::Result<()> {
+    match fs::metadata(files, path) {
+        Ok(there) if there.is_dir() => Ok(()),
+        _ => fs::create_dir_all(files, path),
     }
 }
 
@@ -45,23 +62,29 @@ fn make_folders(files: &HostRuntime, path: &str) -> io::Result<()> {
     let task = folder_of(path);
     let run = folder_of(task);
     let dag = folder_of(run);
-    fs::create_dir_all(files, folder_of(dag))?;
+    make_all_folders(files, folder_of(dag))?;
     make_folder(files, dag)?;
     make_folder(files, run)?;
     make_folder(files, task)
 }
 
-/// An empty file that is written at its end. What stood in its place is removed first, so that a link there isn't followed.
-fn make_log(files: &HostRuntime, path: &str) -> io::Result<File> {
-    match fs::remove_file(files, path) {
-        Ok(()) => {}
-        Err(error) if error.kind() == ErrorKind::NotFound => {}
-        Err(error) => return Err(error),
-    }
+/// A new file that is written at its end.
+fn new_log(files: &HostRuntime, path: &str) -> io::Result<File> {
     OpenOptions::new()
         .append(true)
         .create_new(true)
         .open(files, path)
+}
+
+/// An empty file that is written at its end. What stands in its place is removed, so that a link there isn't followed.
+fn make_log(files: &HostRuntime, path: &str) -> io::Result<File> {
+    match new_log(files, path) {
+        Err(error) if error.kind() == ErrorKind::AlreadyExists => {
+            fs::remove_file(files, path)?;
+            new_log(files, path)
+        }
+        made => made,
+    }
 }
 
 /// Writes what a try was given, and makes its two other logs.

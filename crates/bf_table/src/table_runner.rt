@@ -8,6 +8,7 @@ ghost use Rattle.bf_table.specs.Tables.{answer_of, answers_for as is_for, dates_
 
 use crate::table::{Table, TableEntry};
 use crate::table_index::{Firsts, Pattern, first_for, firsts_of};
+use bf_failure::{Detail, DetailedRunner};
 use bf_graph::Graph;
 use bf_moment::moment_bytes;
 use bf_plan::Plan;
@@ -216,5 +217,16 @@ impl TaskRunner for TableRunner<'_> {
             Ok(raw) => Ok(ticket.answer(raw)),
             Err(OutOfMemory) => Err((ticket, RunnerFault::OutOfMemory)),
         }
+    }
+}
+
+/// A table knows no more than the answer.
+impl DetailedRunner for TableRunner<'_> {
+    fn run_in_detail(
+        &self,
+        ticket: Ticket,
+    ) -> Result<(Done, Option<Detail>), (Ticket, RunnerFault)> {
+        let done = self.run(ticket)?;
+        Ok((done, None))
     }
 }

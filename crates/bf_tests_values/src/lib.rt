@@ -1,8 +1,10 @@
-//! Tests of what stands below graphs: values, moments, schedules, zones and data intervals.
+//! Tests of what stands below graphs: values, moments, schedules, zones, data intervals and days.
 #![tactic(auto)]
 
 #[cfg(test)]
 mod data_intervals;
+#[cfg(test)]
+mod days;
 #[cfg(test)]
 mod expansion;
 #[cfg(test)]

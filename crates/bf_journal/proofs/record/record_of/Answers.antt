@@ -20,8 +20,8 @@ returns-in-Some-clause-some c =
     let is_task : done.name.task < length dag.tasks = search rules in
     let own : IsName c.name-name.result = (search rules, search rules) in
     let is_name : IsName done.name = subst IsName name own in
-    let P : String Global → Type 0 = λ line. IsLineOf (record_of dag run done c.args.outcome.now c.args.times) (string_bytes line) in
-    let Q : String Global → Type 0 = λ line. IsRecord dag runs done c.args.outcome.now c.args.times (string_bytes line) in
+    let P : String Global → Type 0 = λ line. IsLineOf (record_of dag run done c.args.outcome.now c.args.stamp) (string_bytes line) in
+    let Q : String Global → Type 0 = λ line. IsRecord dag runs done c.args.outcome.now c.args.stamp (string_bytes line) in
     let there : (line : String Global) → P line → Q line =
     λ line told. record { run = run; is_run = is_run; is_task = is_task; is_name = is_name; told = told } in
     IfOk-weaker c.line_in.result (λ o. IfSome o P) (λ o. IfSome o Q) (some_weaker P Q there) c.line_in.ensures.some

@@ -1,11 +1,13 @@
-//! When tries start and end.
+//! What records are stamped with.
 use std::time::Clock;
 
-/// When a try started and when it ended, in milliseconds since 1970 by the machine's clock. No outcome rests on it.
+/// When a try started and when it ended, in milliseconds since 1970 by the machine's clock, and the number of the signal that ended
+/// its program, where one did and its number is known. No outcome rests on it.
 #[derive(Clone, Copy, Debug, PartialEq, Eq)]
-pub struct Times {
+pub struct Stamp {
     pub start: i64,
     pub end: i64,
+    pub signal: Option<i32>,
 }
 
 /// The milliseconds since 1970, or 0 where the clock can't be read.

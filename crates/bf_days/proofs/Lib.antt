@@ -1,0 +1,4 @@
+pub mod Keeping
+pub mod Margins
+pub mod OfRuns
+pub mod Reading

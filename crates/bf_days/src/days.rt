@@ -1,0 +1,50 @@
+//! Days.
+ghost use Rattle.std.specs.Prelude.{◌≡◌, ℤ, IfSome, IfNone};
+ghost use Rattle.bf_days.specs.Days.{SpellsDay, SpellDays};
+ghost use Rattle.bf_days.specs.declared.days.Days.{Days as DaysTerm};
+
+use bf_moment::moment_in;
+
+/// A day, in nanoseconds.
+pub(crate) const DAY: i128 = 86_400_000_000_000;
+
+/// The days from the first to the last, counted from 1970-01-01.
+#[derive(Clone, Copy, Debug, PartialEq, Eq)]
+pub struct Days {
+    pub first: i64,
+    pub last: i64,
+}
+
+/// The day that a text spells, as `2024-03-04`.
+fn day_in(text: &str) -> Option<i64>
+    ensures found { IfSome result (SpellsDay text.now) }
+    ensures none { IfNone result ((day : ℤ) → SpellsDay text.now day → ⊥) }
+{
+    if text.len() != 10 {
+        return None;
+    }
+    let midnight = moment_in(text)?;
+    Some(midnight.as_nanosecond().div_euclid(DAY) as i64)
+}
+
+impl Days {
+    /// The days that a text spells: one, as `2024-03-04`, or those from one to another, as `2024-03-04..2024-03-10`.
+    pub fn read(text: &str) -> Option<Days>
+        ensures found { IfSome result (SpellDays text.now) }
+        ensures none { IfNone result ((days : DaysTerm) → SpellDays text.now days → ⊥) }
+    {
+        match text.split_once("..") {
+            Some((first, last)) => {
+                let (first, last) = (day_in(first)?, day_in(last)?);
+                Some(Days { first, last })
+            }
+            None => {
+                let day = day_in(text)?;
+                Some(Days {
+                    first: day,
+                    last: day,
+                })
+            }
+        }
+    }
+}

@@ -1,0 +1,132 @@
+//! The data intervals that start on days.
+ghost use Rattle.std.specs.Prelude.{◌≡◌, ◌<◌, ◌≤◌, ◌++◌, ◌↔◌, ℕ, pos, length, filter, IsTrue, IfErr, IfOk, OnOk};
+ghost use Rattle.std.specs.Result.{result_map_both};
+ghost use Rattle.jiff.specs.Words.{plain_zone};
+ghost use Rattle.bf_interval.specs.Runs.{AreOfRuns, IsSaid};
+ghost use Rattle.bf_days.specs.Days.{IsDayInYears};
+ghost use Rattle.bf_days.specs.Listing.{are_on, AreIntervalsBetween, IsAnswerOn, IsKeptFault, IsAddFault};
+
+use crate::days::Days;
+use crate::shown::is_on;
+use bf_cron::CronSpec;
+use bf_interval::{Interval, IntervalFault, MOST_RUNS, intervals};
+use jiff::Timestamp;
+use jiff::tz::TimeZone;
+use std::alloc::Global;
+
+/// The last day of the year 2199, counted from 1970-01-01.
+const LAST_DAY: i64 = 84_005;
+
+/// A day, in nanoseconds.
+const DAY: u64 = 86_400_000_000_000;
+
+/// No clock is further from UTC than 25:59:59, the greatest offset that `jiff` has.
+const GREATEST_OFFSET: u64 = 93_599_000_000_000;
+
+/// The first nanosecond behind the years that runs lie in.
+const END_OF_YEARS: u64 = 7_258_118_399_000_000_001;
+
+/// A schedule in a zone, of which the data intervals are sought that start on some days.
+#[derive(Clone, Copy)]
+struct Search<'a, 'z> {
+    spec: &'a CronSpec,
+    zone: &'a TimeZone<'z>,
+    days: Days,
+}
+
+/// The moment of a nanosecond since 1970.
+fn moment(nanosecond: u64) -> Timestamp
+    requires { nanosecond < 7_258_118_399_000_000_001 }
+    ensures { result.nanosecond ≡ pos nanosecond }
+{
+    let Ok(moment) = Timestamp::from_nanosecond(i128::from(nanosecond)) else {
+        unreachable!();
+    };
+    moment
+}
+
+impl Search<'_, '_> {
+    /// Adds those of the data intervals that start on the days.
+    fn keep(self, found: &mut Vec<Interval>, listed: &[Interval]) -> Result<(), IntervalFault>
+        requires { length found.old.items ≤ 4_096 }
+        ensures ok { OnOk result (found.new.items
+            ≡ found.old.items ++ filter (are_on (plain_zone self.entry.zone.now) self.entry.days) listed.now) }
+        ensures few { OnOk result (length found.new.items ≤ 4_096) }
+        ensures err { IfErr result
+            (IsKeptFault (are_on (plain_zone self.entry.zone.now) self.entry.days) found.old.items listed.now) }
+    {
+        for interval in listed {
+            if is_on(self.zone, self.days, interval.start) {
+                if found.len() == MOST_RUNS {
+                    return Err(IntervalFault::TooManyRuns);
+                }
+                found.push(*interval)?;
+            }
+        }
+        Ok(())
+    }
+
+    /// Adds the data intervals that start on the days, from one nanosecond on and before another. Where more start between these
+    /// than can be listed at once, on the days or not, they are halved.
+    fn add(
+        self,
+        alloc: Global,
+        found: &mut Vec<Interval>,
+        from: u64,
+        to: u64,
+    ) -> Result<(), IntervalFault>
+        requires few { length found.old.items ≤ 4_096 }
+        requires some { from < to }
+        requires in_years { to ≤ 7_258_118_399_000_000_001 }
+        ensures few { OnOk result (length found.new.items ≤ 4_096) }
+        ensures ok { OnOk result ((low : ℕ) → low ≤ from
+            → AreIntervalsBetween self.entry.spec.now (plain_zone self.entry.zone.now) self.entry.days low from found.old.items
+            → AreIntervalsBetween self.entry.spec.now (plain_zone self.entry.zone.now) self.entry.days low to found.new.items) }
+        ensures err { IfErr result (λ fault. (low : ℕ) → low ≤ from
+            → AreIntervalsBetween self.entry.spec.now (plain_zone self.entry.zone.now) self.entry.days low from found.old.items
+            → IsAddFault self.entry.spec.now (plain_zone self.entry.zone.now) self.entry.days fault) }
+    {
+        let fault = match intervals(alloc, self.spec, self.zone, moment(from), moment(to - 1)) {
+            Ok(listed) => return self.keep(found, listed.as_slice()),
+            Err(fault) => fault,
+        };
+        if fault != IntervalFault::TooManyRuns {
+            return Err(fault);
+        }
+        let middle = from + (to - from) / 2;
+        self.add(alloc, found, from, middle)?;
+        self.add(alloc, found, middle, to)
+    }
+}
+
+fn is_in_years(day: i64) -> bool
+    ensures { IsTrue result ↔ IsDayInYears day }
+{
+    (0..=LAST_DAY).contains(&day)
+}
+
+/// The data intervals at whose start a clock of the zone shows one of the days, in order; none where the schedule never fires. Those
+/// that start outside the years of runs aren't among them. Refused is, in this order: a day outside the years 1970 to 2199, a first
+/// day behind the last, and more than `MOST_RUNS` data intervals. Those of a schedule that some text says are such as runs have.
+pub fn intervals_on(
+    alloc: Global,
+    spec: &CronSpec,
+    zone: &TimeZone<'_>,
+    days: Days,
+) -> Result<Vec<Interval>, IntervalFault>
+    ensures answer { IsAnswerOn spec.now (plain_zone zone.now) days (result_map_both (λ v. v.items) (λ e. e) result) }
+    ensures of_runs { IsSaid spec.now → IfOk result (λ v. AreOfRuns v.items) }
+{
+    if !is_in_years(days.first) || !is_in_years(days.last) {
+        return Err(IntervalFault::OutsideYears);
+    }
+    if days.last < days.first {
+        return Err(IntervalFault::RangeReversed);
+    }
+    let from = (days.first as u64 * DAY).saturating_sub(GREATEST_OFFSET);
+    let to = ((days.last as u64 + 1) * DAY + GREATEST_OFFSET).min(END_OF_YEARS);
+    let mut found = Vec::new(alloc);
+    let search = Search { spec, zone, days };
+    search.add(alloc, &mut found, from, to)?;
+    Ok(found)
+}

@@ -1,0 +1,7 @@
+pub mod Lists
+pub mod Plain
+pub mod Schedules
+pub mod Nearness
+pub mod Files
+pub mod PlaceLemmas
+pub mod Everywhere

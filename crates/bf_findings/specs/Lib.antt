@@ -1,0 +1,12 @@
+pub mod Places
+pub mod Forms
+pub mod Fitting
+pub mod Listed
+pub mod EachPlace
+pub mod Judging
+pub mod Shown
+pub mod Names
+pub mod Nearest
+pub mod Faults
+pub mod Texts
+pub mod Findings

@@ -1,0 +1,28 @@
+-- What stands at a place, as it is told.
+use Rattle.std.specs.Prelude.{ℕ, List, ◌++◌, length, codes, nat_lt, Bool, false, if◌then◌else◌, is_some, option_map, unwrap_or}
+use Rattle.serde_json.specs.Data.{Data, string}
+use Rattle.serde_json.specs.Find.{as_number, as_array, as_object, is_float}
+use Rattle.serde_json.specs.Written.{compact_text}
+use Rattle.bf_findings.specs.declared.place.Place.{Place}
+use Rattle.bf_findings.specs.declared.place.Place.TheVariants as place
+
+-- the text, or what stands for a long one
+abbrev pub short : List ℕ → List ℕ
+short text = if nat_lt 260 (length text) then codes "a long text" else text
+
+abbrev pub is_fraction : Data → Bool
+is_fraction d = unwrap_or (option_map is_float (as_number d)) false
+
+-- a value as JSON, or what it is
+abbrev pub shown : Data → List ℕ
+shown d =
+    if is_some (as_array d) then codes "a list"
+    else (if is_some (as_object d) then codes "an object"
+    else (if is_fraction d then codes "a number that isn't whole" else short (compact_text d)))
+
+-- what stands at a place: of what has no meaning the key, of a pool its name and its slots
+abbrev pub shown_at : Place → Data → List ℕ
+shown_at (place.OtherKey key) d = codes "unknown key " ++ compact_text (string key)
+shown_at (place.OtherTaskKey n key) d = codes "unknown key " ++ compact_text (string key)
+shown_at (place.Pool name) d = compact_text (string name) ++ codes ": " ++ shown d
+shown_at _ d = shown d

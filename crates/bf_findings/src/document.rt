@@ -1,0 +1,40 @@
+//! The document of a graph file, and what stands at its places.
+ghost use Rattle.std.specs.Prelude.{◌≡◌, option_map};
+ghost use Rattle.serde_json.specs.View.{view};
+ghost use Rattle.bf_findings.specs.Places.{task_value, item_value, value_at as value};
+
+use crate::place::Place;
+use bf_read::{GraphKey, TaskKey};
+use serde_json::Value;
+
+/// The task that stands behind n others.
+pub(crate) fn task_at<'a>(document: &'a Value, n: usize) -> Option<&'a Value>
+    ensures { option_map (λ v. view v.now) result ≡ task_value (view document.entry.now) n }
+{
+    document.get(GraphKey::Tasks.name())?.get(n)
+}
+
+/// The item that stands behind i others of the list under a task's key.
+fn item_at<'a>(document: &'a Value, n: usize, key: TaskKey, i: usize) -> Option<&'a Value>
+    ensures { option_map (λ v. view v.now) result ≡ item_value (view document.entry.now) n key i }
+{
+    task_at(document, n)?.get(key.name())?.get(i)
+}
+
+/// What stands at a place.
+pub(crate) fn value_at<'a>(document: &'a Value, place: &Place) -> Option<&'a Value>
+    ensures { option_map (λ v. view v.now) result ≡ value (view document.entry.now) place.now }
+{
+    match place {
+        Place::Top => Some(document),
+        Place::Key(key) => document.get(key.name()),
+        Place::OtherKey(key) => document.get(key.as_str()),
+        Place::Pool(name) => document.get(GraphKey::Pools.name())?.get(name.as_str()),
+        Place::Task(n) => task_at(document, *n),
+        Place::TaskKey(n, key) => task_at(document, *n)?.get(key.name()),
+        Place::OtherTaskKey(n, key) => task_at(document, *n)?.get(key.as_str()),
+        Place::Upstream(n, i) => item_at(document, *n, TaskKey::Upstream, *i),
+        Place::Word(n, i) => item_at(document, *n, TaskKey::Command, *i),
+        Place::WordKey(n, i, key) => item_at(document, *n, TaskKey::Command, *i)?.get(key.name()),
+    }
+}

@@ -1,0 +1,124 @@
+//! What is wrong at the places of a document.
+ghost use Rattle.std.specs.Prelude.{◌≡◌, option_map, IfSome, IfNone, IfOk};
+ghost use Rattle.serde_json.specs.View.{view};
+ghost use Rattle.bf_findings.specs.Faults.{asked_at as asked_for, told_at as told_as, AreFaults, IsFault, IsSuggestion, IsSuggestionFor};
+ghost use Rattle.bf_findings.specs.Forms.{form_of as form_at};
+ghost use Rattle.bf_findings.specs.Judging.{IsWrong};
+ghost use Rattle.bf_findings.specs.Places.{value_at as value};
+
+use crate::document::value_at;
+use crate::finding::Fault;
+use crate::form::{Form, form_of};
+use crate::judging::Document;
+use crate::names::{meant, names_for};
+use crate::nearest::suggested;
+use crate::place::Place;
+use crate::places::places_of;
+use crate::shown::shown_at;
+use bf_value::{OutOfMemory, Text};
+use serde_json::Value;
+use std::alloc::Global;
+
+/// How many bytes a text may have for which a name is sought: as many as an id.
+const LONGEST_NAME: usize = 250;
+
+/// What stands at a place, as it is told.
+fn told(alloc: Global, place: &Place, value: Option<&Value>) -> Result<Text, OutOfMemory>
+    ensures { IfOk result (λ t. t ≡ told_as place.now (option_map (λ v. view v.now) value.entry)) }
+{
+    match value {
+        Some(value) => shown_at(alloc, place, value),
+        None => Text::copied(alloc, "missing"),
+    }
+}
+
+/// The text at a place for which a name is sought: an unknown key, or what stands there.
+fn asked<'a>(place: &'a Place, value: Option<&'a Value>) -> Option<&'a str>
+    ensures { option_map (λ s. s.now) result
+        ≡ asked_for place.entry.now (option_map (λ v. view v.now) value.entry) }
+{
+    let text = match place {
+        Place::OtherKey(key) | Place::OtherTaskKey(_, key) => key.as_str(),
+        _ => value?.as_str()?,
+    };
+    if text.len() <= LONGEST_NAME {
+        Some(text)
+    } else {
+        None
+    }
+}
+
+/// The name that is meant by a text, or the known one that is nearest.
+fn suggestion(
+    alloc: Global,
+    document: &Value,
+    form: Form,
+    text: &str,
+) -> Result<Option<Text>, OutOfMemory>
+    ensures { IfOk result (IsSuggestion (view document.now) form text.now) }
+{
+    let lowered = text.to_ascii_lowercase(alloc)?;
+    if let Some(name) = meant(form, lowered.as_str()) {
+        return Ok(Some(Text::copied(alloc, name)?));
+    }
+    let names = names_for(alloc, document, form)?;
+    match suggested(alloc, text, names.as_slice())? {
+        Some(name) => Ok(Some(Text::copied(alloc, name)?)),
+        None => Ok(None),
+    }
+}
+
+/// The same, where a name is sought.
+fn suggestion_for(
+    alloc: Global,
+    document: &Value,
+    form: Form,
+    text: Option<&str>,
+) -> Result<Option<Text>, OutOfMemory>
+    ensures { IfOk result (IsSuggestionFor (view document.now) form (option_map (λ s. s.now) text.entry)) }
+{
+    match text {
+        Some(text) => suggestion(alloc, document, form, text),
+        None => Ok(None),
+    }
+}
+
+impl Document<'_> {
+    /// What is wrong at a place, if something is.
+    fn fault_at(self, alloc: Global, place: Place) -> Result<Option<Fault>, OutOfMemory>
+        ensures some { IfOk result (λ found. IfSome found
+            (IsFault (option_map (λ s. s.now) self.entry.zone_file) (view self.entry.value.now))) }
+        ensures place { IfOk result (λ found. IfSome found (λ fault. fault.place ≡ place)) }
+        ensures none { IfOk result (λ found. IfNone found
+            (¬ (IsWrong (option_map (λ s. s.now) self.entry.zone_file) (view self.entry.value.now) place
+            (form_at (view self.entry.value.now) place) (value (view self.entry.value.now) place)))) }
+    {
+        let form = form_of(self.value, &place);
+        let value = value_at(self.value, &place);
+        if !self.is_wrong(alloc, &place, form, value)? {
+            return Ok(None);
+        }
+        let stands = told(alloc, &place, value)?;
+        let suggestion = suggestion_for(alloc, self.value, form, asked(&place, value))?;
+        Ok(Some(Fault {
+            place,
+            form,
+            stands,
+            suggestion,
+        }))
+    }
+
+    /// What is wrong at each place of the document.
+    pub(crate) fn faults(self, alloc: Global) -> Result<Vec<Fault>, OutOfMemory>
+        ensures { IfOk result (λ v. AreFaults (option_map (λ s. s.now) self.entry.zone_file)
+            (view self.entry.value.now) v.items) }
+    {
+        let mut found = Vec::new(alloc);
+        for place in places_of(alloc, self.value)? {
+            if let Some(fault) = self.fault_at(alloc, place)? {
+                found.push(fault)?;
+            }
+        }
+        Ok(found)
+    }
+}

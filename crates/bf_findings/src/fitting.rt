@@ -1,0 +1,155 @@
+//! Whether a value is of the form that may stand at its place.
+ghost use Rattle.std.specs.Prelude.{◌≡◌, map, option_map, is_some};
+ghost use Rattle.std.specs.List.{list_any};
+ghost use Rattle.serde_json.specs.View.{view, members_view};
+ghost use Rattle.serde_json.specs.Find.{get};
+ghost use Rattle.bf_findings.specs.Places.{word_key_name, word_keys};
+ghost use Rattle.bf_findings.specs.Fitting.{tasks_in as tasks, has_id as id_is, is_task as task, is_task_before as task_before, pools_in as pools, is_pool as pool, text_fits as text_may, is_between as between, is_whole as whole, has_at_most as few, is_word_object as word_object, other_fits as other_may};
+
+use crate::form::Form;
+use crate::keys::WORD_KEYS;
+use bf_plan::{ContextVariable, TaskKind, WeightRule, is_id};
+use bf_read::{DEFAULT_POOL, GraphKey, LONGEST_WORD, MOST_TASKS, MOST_WORDS, TaskKey};
+use bf_rule::Rule;
+use serde_json::{Map, Value};
+
+/// The tasks of a document, of which there are none where no list of them is there.
+#[tactic(auto, using(crate::proofs::Lists::list_viewed))]
+pub(crate) fn tasks_in<'a>(document: &'a Value) -> &'a [Value]
+    ensures { map view result.now ≡ tasks (view document.entry.now) }
+{
+    match document
+        .get(GraphKey::Tasks.name())
+        .and_then(|tasks| tasks.as_array())
+    {
+        Some(tasks) => tasks.as_slice(),
+        None => &[],
+    }
+}
+
+fn has_id(task: &Value, id: &str) -> bool
+    ensures { result ≡ id_is id.now (view task.now) }
+{
+    match task
+        .get(TaskKey::Id.name())
+        .and_then(|value| value.as_str())
+    {
+        Some(text) => text == id,
+        None => false,
+    }
+}
+
+fn any_has_id(tasks: &[Value], id: &str) -> bool
+    ensures { result ≡ list_any (λ task. id_is id.now (view task)) tasks.now }
+{
+    tasks.iter().any(|task| has_id(task, id))
+}
+
+fn is_task(document: &Value, id: &str) -> bool
+    ensures { result ≡ task (view document.now) id.now }
+{
+    any_has_id(tasks_in(document), id)
+}
+
+/// Whether one of the first n tasks has the id.
+fn is_task_before(document: &Value, n: usize, id: &str) -> bool
+    ensures { result ≡ task_before (view document.now) n id.now }
+{
+    let tasks = tasks_in(document);
+    any_has_id(&tasks[..n.min(tasks.len())], id)
+}
+
+/// The pools of a document, where an object of them is there.
+pub(crate) fn pools_in<'a>(document: &'a Value) -> Option<&'a Map<String, Value>>
+    ensures { option_map (λ m. members_view m.now.entries) result ≡ pools (view document.entry.now) }
+{
+    document.get(GraphKey::Pools.name())?.as_object()
+}
+
+fn is_pool(document: &Value, name: &str) -> bool
+    ensures { result ≡ pool (view document.now) name.now }
+{
+    name == DEFAULT_POOL
+        || document
+            .get(GraphKey::Pools.name())
+            .and_then(|pools| pools.get(name))
+            .is_some()
+}
+
+/// Whether a text may stand where this form may. What a schedule and a zone say isn't looked at.
+pub(crate) fn text_fits(document: &Value, form: Form, text: &str) -> bool
+    ensures { result ≡ text_may (view document.now) form text.now }
+{
+    match form {
+        Form::Schedule | Form::Zone => true,
+        Form::Id => is_id(text),
+        Form::NewId(n) => is_id(text) && !is_task_before(document, n, text),
+        Form::Rule => Rule::named(text).is_some(),
+        Form::Kind => TaskKind::named(text).is_some(),
+        Form::WeightRule => WeightRule::named(text).is_some(),
+        Form::Context => ContextVariable::named(text).is_some(),
+        Form::TaskId => is_task(document, text),
+        Form::PoolName => is_pool(document, text),
+        Form::Word => text.len() <= LONGEST_WORD,
+        _ => false,
+    }
+}
+
+fn is_between(least: u32, most: u32, number: i64) -> bool
+    ensures { result ≡ between least most number }
+{
+    i64::from(least) <= number && number <= i64::from(most)
+}
+
+fn is_whole(value: &Value, least: u32, most: u32) -> bool
+    ensures { result ≡ whole least most (view value.now) }
+{
+    match value.as_i64() {
+        Some(number) => is_between(least, most, number),
+        None => false,
+    }
+}
+
+#[tactic(auto, using(crate::proofs::Lists::items_counted))]
+fn has_at_most(value: &Value, most: usize) -> bool
+    ensures { result ≡ few most (view value.now) }
+{
+    match value.as_array() {
+        Some(items) => items.len() <= most,
+        None => false,
+    }
+}
+
+fn has_word_key(value: &Value) -> bool
+    ensures { result ≡ list_any (λ key. is_some (get (word_key_name key) (view value.now))) word_keys }
+{
+    WORD_KEYS.iter().any(|key| value.get(key.name()).is_some())
+}
+
+/// Whether a value is an object with one key, which is one of a word.
+#[tactic(auto, using(crate::proofs::Lists::members_counted))]
+fn is_word_object(value: &Value) -> bool
+    ensures { result ≡ word_object (view value.now) }
+{
+    match value.as_object() {
+        Some(members) => members.len() == 1 && has_word_key(value),
+        None => false,
+    }
+}
+
+/// Whether a value that is no text may stand where this form may.
+pub(crate) fn other_fits(form: Form, value: &Value) -> bool
+    ensures { result ≡ other_may form (view value.now) }
+{
+    match form {
+        Form::Object | Form::Pools => value.is_object(),
+        Form::Whole(least, most) => is_whole(value, least, most),
+        Form::Tasks => has_at_most(value, MOST_TASKS),
+        Form::Words => has_at_most(value, MOST_WORDS),
+        Form::Upstreams => value.is_array(),
+        Form::Flag => value.is_boolean(),
+        Form::Word => is_word_object(value),
+        Form::Item => matches!(value.as_bool(), Some(true)),
+        _ => false,
+    }
+}

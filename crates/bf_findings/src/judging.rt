@@ -1,0 +1,109 @@
+//! Whether something is wrong at a place.
+ghost use Rattle.std.specs.Prelude.{◌≡◌, true, false, option_map, IfOk};
+ghost use Rattle.serde_json.specs.View.{view};
+ghost use Rattle.bf_findings.specs.Judging.{IsSchedule, IsZoneText, IsWrong, MayStand, TextMayStand, is_required as required};
+
+use crate::fitting::{other_fits, text_fits};
+use crate::form::Form;
+use crate::place::Place;
+use bf_cron::{CronFault, CronSpec};
+use bf_read::{GraphKey, TaskKey};
+use bf_value::OutOfMemory;
+use bf_zone::{Zone, ZoneFault};
+use serde_json::Value;
+use std::alloc::Global;
+
+/// The document of a graph file, with the bytes of a zone file for the zone `file`.
+#[derive(Clone, Copy)]
+pub(crate) struct Document<'a> {
+    pub(crate) value: &'a Value,
+    pub(crate) zone_file: Option<&'a [u8]>,
+}
+
+/// Whether a text says a schedule that some civil minute matches.
+fn is_schedule(alloc: Global, text: &str) -> Result<bool, OutOfMemory>
+    ensures yes { IfOk result (λ b. b ≡ true → IsSchedule text.now) }
+    ensures no { IfOk result (λ b. b ≡ false → ¬ (IsSchedule text.now)) }
+{
+    match CronSpec::read(alloc, text) {
+        Ok(schedule) => Ok(!schedule.never_fires()),
+        Err(CronFault::Bad) => Ok(false),
+        Err(CronFault::OutOfMemory) => Err(OutOfMemory),
+    }
+}
+
+/// Whether a text means a zone.
+fn is_zone(alloc: Global, text: &str, file: Option<&[u8]>) -> Result<bool, OutOfMemory>
+    ensures yes { IfOk result (λ b. b ≡ true → IsZoneText text.now (option_map (λ s. s.now) file.entry)) }
+    ensures no { IfOk result (λ b. b ≡ false → ¬ (IsZoneText text.now (option_map (λ s. s.now) file.entry))) }
+{
+    match Zone::read(alloc, text, file) {
+        Ok(zone) => {
+            let _meant = zone.as_time_zone();
+            Ok(true)
+        }
+        Err(ZoneFault::Bad) => Ok(false),
+        Err(ZoneFault::OutOfMemory) => Err(OutOfMemory),
+    }
+}
+
+impl Document<'_> {
+    /// Whether a text may stand where this form may.
+    fn text_may_stand(self, alloc: Global, form: Form, text: &str) -> Result<bool, OutOfMemory>
+        ensures yes { IfOk result (λ b. b ≡ true
+            → TextMayStand (option_map (λ s. s.now) self.entry.zone_file) (view self.entry.value.now) form text.now) }
+        ensures no { IfOk result (λ b. b ≡ false
+            → ¬ (TextMayStand (option_map (λ s. s.now) self.entry.zone_file) (view self.entry.value.now) form text.now)) }
+    {
+        match form {
+            Form::Schedule => is_schedule(alloc, text),
+            Form::Zone => is_zone(alloc, text, self.zone_file),
+            _ => Ok(text_fits(self.value, form, text)),
+        }
+    }
+
+    /// Whether a value may stand where this form may.
+    fn may_stand(self, alloc: Global, form: Form, value: &Value) -> Result<bool, OutOfMemory>
+        ensures yes { IfOk result (λ b. b ≡ true
+            → MayStand (option_map (λ s. s.now) self.entry.zone_file) (view self.entry.value.now) form (view value.now)) }
+        ensures no { IfOk result (λ b. b ≡ false
+            → ¬ (MayStand (option_map (λ s. s.now) self.entry.zone_file) (view self.entry.value.now) form (view value.now))) }
+    {
+        match value.as_str() {
+            Some(text) => self.text_may_stand(alloc, form, text),
+            None => Ok(other_fits(form, value)),
+        }
+    }
+
+    /// Whether what stands at a place may not, or nothing stands where something has to.
+    pub(crate) fn is_wrong(
+        self,
+        alloc: Global,
+        place: &Place,
+        form: Form,
+        value: Option<&Value>,
+    ) -> Result<bool, OutOfMemory>
+        ensures yes { IfOk result (λ b. b ≡ true
+            → IsWrong (option_map (λ s. s.now) self.entry.zone_file) (view self.entry.value.now) place.now form
+            (option_map (λ v. view v.now) value.entry)) }
+        ensures no { IfOk result (λ b. b ≡ false
+            → ¬ (IsWrong (option_map (λ s. s.now) self.entry.zone_file) (view self.entry.value.now) place.now form
+            (option_map (λ v. view v.now) value.entry))) }
+    {
+        match value {
+            Some(value) => Ok(!self.may_stand(alloc, form, value)?),
+            None => Ok(is_required(place)),
+        }
+    }
+}
+
+/// Whether something has to stand at a place.
+fn is_required(place: &Place) -> bool
+    ensures { result ≡ required place.now }
+{
+    matches!(
+        place,
+        Place::Key(GraphKey::DagId | GraphKey::Schedule | GraphKey::Tasks)
+            | Place::TaskKey(_, TaskKey::Id)
+    )
+}

@@ -1,0 +1,117 @@
+//! All that is wrong with a graph file.
+ghost use Rattle.std.specs.Prelude.{◌≡◌, ◌<◌, ℕ, List, length, map, Some, option_map, All, IfOk};
+ghost use Rattle.serde_json.specs.View.{view};
+ghost use Rattle.bf_read.specs.Reading.{data_in};
+ghost use Rattle.bf_findings.specs.declared.finding.Finding.TheVariants.{Fault as FaultFound};
+ghost use Rattle.bf_findings.specs.Findings.{AreFindings, IsFinding, IsRefusedFor, TellsAll};
+
+use crate::finding::{Fault, Finding};
+use crate::judging::Document;
+use crate::refusal::Refusal;
+use bf_check::{CheckFault, check};
+use bf_read::{MOST_BYTES, ReadFault, read_graph};
+use bf_value::OutOfMemory;
+use serde_json::Value;
+use std::alloc::Global;
+
+/// Why a graph file is refused, if it is.
+fn refusal(
+    alloc: Global,
+    graph: &[u8],
+    zone_file: Option<&[u8]>,
+) -> Result<Option<Refusal>, OutOfMemory>
+    ensures { IfOk result (IsRefusedFor graph.now (option_map (λ s. s.now) zone_file.entry)) }
+{
+    let draft = match read_graph(alloc, graph) {
+        Ok(draft) => draft,
+        Err(ReadFault::OutOfMemory) => return Err(OutOfMemory),
+        Err(fault) => return Ok(Some(Refusal::Read(fault))),
+    };
+    match check(alloc, draft, zone_file) {
+        Ok(_) => Ok(None),
+        Err(CheckFault::OutOfMemory) => Err(OutOfMemory),
+        Err(fault) => Ok(Some(Refusal::Check(fault))),
+    }
+}
+
+fn as_findings(alloc: Global, faults: Vec<Fault>) -> Result<Vec<Finding>, OutOfMemory>
+    ensures { IfOk result (λ v. v.items ≡ map FaultFound faults.items) }
+{
+    Ok(faults.into_iter().map(Finding::Fault).collect(alloc)?)
+}
+
+/// What is wrong at the places of a document.
+fn document_findings(
+    alloc: Global,
+    value: &Value,
+    zone_file: Option<&[u8]>,
+) -> Result<Vec<Finding>, OutOfMemory>
+    ensures each { IfOk result (λ v. (graph : List ℕ) → data_in graph ≡ Some (view value.now)
+        → All (IsFinding graph (option_map (λ s. s.now) zone_file.entry)) v.items) }
+    ensures all { IfOk result (λ v. (graph : List ℕ) → data_in graph ≡ Some (view value.now)
+        → TellsAll graph (option_map (λ s. s.now) zone_file.entry) v.items) }
+{
+    let document = Document { value, zone_file };
+    let faults = document.faults(alloc)?;
+    let found = as_findings(alloc, faults)?;
+    Ok(found)
+}
+
+/// What is wrong in the bytes of a graph file; nothing of those that are too many.
+#[tactic(auto, using(crate::proofs::Files::data_there, crate::proofs::Files::no_data_there))]
+fn found_in(
+    alloc: Global,
+    graph: &[u8],
+    zone_file: Option<&[u8]>,
+) -> Result<Vec<Finding>, OutOfMemory>
+    ensures each { IfOk result (λ v. All (IsFinding graph.now (option_map (λ s. s.now) zone_file.entry)) v.items) }
+    ensures all { IfOk result (λ v. TellsAll graph.now (option_map (λ s. s.now) zone_file.entry) v.items) }
+{
+    if graph.len() > MOST_BYTES {
+        return Ok(Vec::new(alloc));
+    }
+    match Value::from_slice(alloc, graph) {
+        Ok(value) => document_findings(alloc, &value, zone_file),
+        Err(e) if e.is_memory() => Err(OutOfMemory),
+        Err(e) => {
+            let mut found = Vec::new(alloc);
+            found.push(Finding::NotJson(e.line(), e.column()))?;
+            Ok(found)
+        }
+    }
+}
+
+/// What is found in a graph file that is refused: what is wrong at its places, or else why it is refused.
+#[tactic(auto, using(crate::proofs::PlaceLemmas::still_told))]
+fn told(
+    alloc: Global,
+    graph: &[u8],
+    zone_file: Option<&[u8]>,
+    refusal: Refusal,
+) -> Result<Vec<Finding>, OutOfMemory>
+    requires { IsRefusedFor graph.now (option_map (λ s. s.now) zone_file) (Some refusal) }
+    ensures each { IfOk result (λ v. All (IsFinding graph.now (option_map (λ s. s.now) zone_file.entry)) v.items) }
+    ensures some { IfOk result (λ v. 0 < length v.items) }
+    ensures all { IfOk result (λ v. TellsAll graph.now (option_map (λ s. s.now) zone_file.entry) v.items) }
+{
+    let mut found = found_in(alloc, graph, zone_file)?;
+    if found.is_empty() {
+        found.push(Finding::Refused(refusal))?;
+    }
+    Ok(found)
+}
+
+/// What is wrong with a graph file, all that can be told at once, from the top down: nothing exactly where it is accepted. The bytes of
+/// a zone file are looked at only where the graph's zone is `file`.
+pub fn findings(
+    alloc: Global,
+    graph: &[u8],
+    zone_file: Option<&[u8]>,
+) -> Result<Vec<Finding>, OutOfMemory>
+    ensures { IfOk result (λ v. AreFindings graph.now (option_map (λ s. s.now) zone_file.entry) v.items) }
+{
+    match refusal(alloc, graph, zone_file)? {
+        Some(refusal) => told(alloc, graph, zone_file, refusal),
+        None => Ok(Vec::new(alloc)),
+    }
+}

@@ -1,0 +1,228 @@
+//! Known names, and what Airflow calls them.
+ghost use Rattle.std.specs.Prelude.{◌≡◌, map, option_map, IfOk};
+ghost use Rattle.serde_json.specs.View.{view, members_view};
+ghost use Rattle.bf_findings.specs.Names.{graph_key_meant as graph_meant, task_key_meant as task_meant, rule_meant as rule_meant_by, schedule_meant as schedule_meant_by, context_meant as context_meant_by, meant as meant_by, id_known, ids_in as ids, named_pools as named, pool_names as names_of_pools, fixed_names as fixed, names_for as names};
+
+use crate::fitting::{pools_in, tasks_in};
+use crate::form::Form;
+use bf_plan::is_id;
+use bf_read::{DEFAULT_POOL, TaskKey};
+use bf_value::OutOfMemory;
+use serde_json::{Map, Value};
+use std::alloc::Global;
+
+/// The key of a graph file that Airflow has under this name.
+#[tactic(auto, unfolding(crate::specs::Names::graph_key_meant))]
+fn graph_key_meant(name: &str) -> Option<&'static str>
+    ensures { option_map (λ s. s.now) result ≡ graph_meant name.now }
+{
+    match name {
+        "schedule_interval" | "timetable" => Some("schedule"),
+        "timezone" => Some("zone"),
+        _ => None,
+    }
+}
+
+/// The key of a task that Airflow's operators have under this name.
+#[tactic(auto, unfolding(crate::specs::Names::task_key_meant))]
+fn task_key_meant(name: &str) -> Option<&'static str>
+    ensures { option_map (λ s. s.now) result ≡ task_meant name.now }
+{
+    match name {
+        "task_id" => Some("id"),
+        "trigger_rule" => Some("rule"),
+        "depends_on" | "upstream_task_ids" => Some("upstream"),
+        "bash_command" => Some("command"),
+        _ => None,
+    }
+}
+
+/// The trigger rule of an older name in Airflow.
+#[tactic(auto, unfolding(crate::specs::Names::rule_meant))]
+fn rule_meant(name: &str) -> Option<&'static str>
+    ensures { option_map (λ s. s.now) result ≡ rule_meant_by name.now }
+{
+    match name {
+        "none_failed_or_skipped" => Some("none_failed_min_one_success"),
+        "dummy" => Some("always"),
+        _ => None,
+    }
+}
+
+/// The preset that cron knows under this name.
+#[tactic(auto, unfolding(crate::specs::Names::schedule_meant))]
+fn schedule_meant(name: &str) -> Option<&'static str>
+    ensures { option_map (λ s. s.now) result ≡ schedule_meant_by name.now }
+{
+    match name {
+        "@midnight" => Some("@daily"),
+        "@annually" => Some("@yearly"),
+        _ => None,
+    }
+}
+
+/// The context variable of an older or shorter name in Airflow.
+#[tactic(auto, unfolding(crate::specs::Names::context_meant))]
+fn context_meant(name: &str) -> Option<&'static str>
+    ensures { option_map (λ s. s.now) result ≡ context_meant_by name.now }
+{
+    match name {
+        "execution_date" | "ts" => Some("logical_date"),
+        "next_execution_date" => Some("data_interval_end"),
+        _ => None,
+    }
+}
+
+/// What is meant by a word of Airflow's or cron's that this format has under another name.
+pub(crate) fn meant(form: Form, name: &str) -> Option<&'static str>
+    ensures { option_map (λ s. s.now) result ≡ meant_by form name.now }
+{
+    match form {
+        Form::NoGraphKey => graph_key_meant(name),
+        Form::NoTaskKey => task_key_meant(name),
+        Form::Rule => rule_meant(name),
+        Form::Schedule => schedule_meant(name),
+        Form::Context => context_meant(name),
+        _ => None,
+    }
+}
+
+const GRAPH_KEYS: [&str; 6] = [
+    "dag_id",
+    "schedule",
+    "zone",
+    "max_active_runs",
+    "pools",
+    "tasks",
+];
+
+const TASK_KEYS: [&str; 13] = [
+    "id",
+    "upstream",
+    "rule",
+    "kind",
+    "command",
+    "expand",
+    "depends_on_past",
+    "retries",
+    "retry_delay",
+    "pool",
+    "pool_slots",
+    "priority_weight",
+    "weight_rule",
+];
+
+const PRESETS: [&str; 6] = [
+    "@hourly",
+    "@daily",
+    "@weekly",
+    "@monthly",
+    "@quarterly",
+    "@yearly",
+];
+
+const RULES: [&str; 11] = [
+    "all_success",
+    "all_failed",
+    "all_skipped",
+    "all_done",
+    "one_success",
+    "one_failed",
+    "one_done",
+    "none_failed",
+    "none_failed_min_one_success",
+    "none_skipped",
+    "always",
+];
+
+const CONTEXTS: [&str; 7] = [
+    "logical_date",
+    "data_interval_start",
+    "data_interval_end",
+    "dag_id",
+    "task_id",
+    "map_index",
+    "try_number",
+];
+
+/// The names that the format itself has for a form.
+fn fixed_names(form: Form) -> &'static [&'static str]
+    ensures { map (λ s. s.now) result.now ≡ fixed form }
+{
+    match form {
+        Form::NoGraphKey => &GRAPH_KEYS,
+        Form::NoTaskKey => &TASK_KEYS,
+        Form::Schedule => &PRESETS,
+        Form::Zone => &["UTC", "file"],
+        Form::Rule => &RULES,
+        Form::Kind => &["program", "branch"],
+        Form::WeightRule => &["downstream", "upstream", "absolute"],
+        Form::Context => &CONTEXTS,
+        _ => &[],
+    }
+}
+
+/// The id of a task, where it has one.
+fn known_id<'a>(task: &'a Value) -> Option<&'a str>
+    ensures { option_map (λ s. s.now) result ≡ id_known (view task.entry.now) }
+{
+    let id = task.get(TaskKey::Id.name())?.as_str()?;
+    if is_id(id) { Some(id) } else { None }
+}
+
+/// The ids of the tasks of a document.
+fn ids_in<'a>(alloc: Global, document: &'a Value) -> Result<Vec<&'a str>, OutOfMemory>
+    ensures { IfOk result (λ v. map (λ s. s.now) v.items ≡ ids (view document.entry.now)) }
+{
+    let mut found = Vec::new(alloc);
+    for task in tasks_in(document) {
+        if let Some(id) = known_id(task) {
+            found.push(id)?;
+        }
+    }
+    Ok(found)
+}
+
+/// The names of pools that are ids.
+fn named_pools<'a>(
+    alloc: Global,
+    pools: &'a Map<String, Value>,
+) -> Result<Vec<&'a str>, OutOfMemory>
+    ensures { IfOk result (λ v. map (λ s. s.now) v.items ≡ named (members_view pools.entry.now.entries)) }
+{
+    let mut names = Vec::new(alloc);
+    for (name, _slots) in pools.iter() {
+        if is_id(name.as_str()) {
+            names.push(name.as_str())?;
+        }
+    }
+    Ok(names)
+}
+
+/// The names of the pools that tasks may name.
+fn pool_names<'a>(alloc: Global, document: &'a Value) -> Result<Vec<&'a str>, OutOfMemory>
+    ensures { IfOk result (λ v. map (λ s. s.now) v.items ≡ names_of_pools (view document.entry.now)) }
+{
+    let mut names = match pools_in(document) {
+        Some(pools) => named_pools(alloc, pools)?,
+        None => Vec::new(alloc),
+    };
+    names.push(DEFAULT_POOL)?;
+    Ok(names)
+}
+
+/// The names that may stand where a form may, or that its keys have.
+pub(crate) fn names_for<'a>(
+    alloc: Global,
+    document: &'a Value,
+    form: Form,
+) -> Result<Vec<&'a str>, OutOfMemory>
+    ensures { IfOk result (λ v. map (λ s. s.now) v.items ≡ names (view document.entry.now) form) }
+{
+    match form {
+        Form::TaskId => return ids_in(alloc, document),
+        Form::PoolName => return pool_names(alloc, document),
+        _ => {}
+    }
+    Ok(Vec::from_slice(alloc, fixed_names(form))?)
+}

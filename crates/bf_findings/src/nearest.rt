@@ -1,0 +1,73 @@
+//! The known name that is nearest to a text.
+ghost use Rattle.std.specs.Prelude.{◌≡◌, ℕ, List, [], ◌∷◌, ◌++◌, map, option_map, IfOk};
+ghost use Rattle.bf_findings.specs.Nearest.{distance_to, IsBest, IsNearestTo, is_near as near, IsSuggested};
+
+use bf_value::OutOfMemory;
+use std::alloc::Global;
+use strsim::levenshtein;
+
+/// How many edits lead from a text in lowercase to a name, in whichever case.
+fn distance(alloc: Global, text: &str, name: &str) -> Result<usize, OutOfMemory>
+    ensures { IfOk result (λ n. n ≡ distance_to text.now name.now) }
+{
+    let name = name.to_ascii_lowercase(alloc)?;
+    Ok(levenshtein(alloc, text, name.as_str())?)
+}
+
+/// A name and how far it is.
+#[derive(Clone, Copy)]
+struct Found<'a> {
+    name: &'a str,
+    distance: usize,
+}
+
+/// The nearer of the best so far and another, the former where they are as far.
+#[tactic(auto, using(crate::proofs::Nearness::still_nearest, crate::proofs::Nearness::now_nearest, crate::proofs::Nearness::first_nearest))]
+fn nearer<'a>(best: Option<Found<'a>>, other: Found<'a>) -> Found<'a>
+    ensures { (text : List ℕ) (names : List (List ℕ)) → IsBest text names best.entry
+        → other.entry.distance ≡ distance_to text other.entry.name.now
+        → IsNearestTo text (names ++ other.entry.name.now ∷ []) result.name.now result.distance }
+{
+    match best {
+        Some(best) if best.distance <= other.distance => best,
+        _ => other,
+    }
+}
+
+/// The first of the names that are nearest to a text in lowercase.
+fn nearest<'a>(
+    alloc: Global,
+    text: &str,
+    names: &[&'a str],
+) -> Result<Option<Found<'a>>, OutOfMemory>
+    ensures { IfOk result (IsBest text.now (map (λ s. s.now) names.now)) }
+{
+    let mut best = None;
+    for name in names {
+        let distance = distance(alloc, text, name)?;
+        best = Some(nearer(best, Found { name, distance }));
+    }
+    Ok(best)
+}
+
+/// Whether so many edits leave more than half of the longer text.
+fn is_near(text: &str, name: &str, distance: usize) -> bool
+    ensures { result ≡ near text.now name.now distance }
+{
+    distance < text.len().max(name.len()).div_ceil(2)
+}
+
+/// Of the names the first that is nearest to a text, where it is near.
+pub(crate) fn suggested<'a>(
+    alloc: Global,
+    text: &str,
+    names: &[&'a str],
+) -> Result<Option<&'a str>, OutOfMemory>
+    ensures { IfOk result (λ found. IsSuggested text.now (map (λ s. s.now) names.now) (option_map (λ s. s.now) found)) }
+{
+    let text = text.to_ascii_lowercase(alloc)?;
+    match nearest(alloc, text.as_str(), names)? {
+        Some(found) if is_near(text.as_str(), found.name, found.distance) => Ok(Some(found.name)),
+        _ => Ok(None),
+    }
+}

@@ -1,0 +1,178 @@
+//! The places of a document.
+ghost use Rattle.std.specs.Prelude.{◌≡◌, ◌++◌, map, OnOk, IfOk};
+ghost use Rattle.serde_json.specs.View.{view, members_view};
+ghost use Rattle.bf_findings.specs.Listed.{graph_key_places, task_key_places, other_keys, pools as pools_of, pools_if_any, other_task_keys, items_under as items_at, upstreams, word_keys_of, words, task_places, tasks, places_of as places_in};
+ghost use Rattle.bf_findings.specs.Fitting.{pools_in as pools_at};
+
+use crate::fitting::{pools_in, tasks_in};
+use crate::keys::{GRAPH_KEYS, TASK_KEYS, WORD_KEYS, is_graph_key, is_task_key};
+use crate::place::Place;
+use bf_read::TaskKey;
+use bf_value::{OutOfMemory, Text};
+use serde_json::{Map, Value};
+use std::alloc::Global;
+
+fn add_graph_keys(places: &mut Vec<Place>) -> Result<(), OutOfMemory>
+    ensures { OnOk result (places.new.items ≡ places.old.items ++ graph_key_places) }
+{
+    for key in &GRAPH_KEYS {
+        places.push(Place::Key(*key))?;
+    }
+    Ok(())
+}
+
+/// Adds the keys that graph files don't have.
+fn add_other_keys(
+    alloc: Global,
+    places: &mut Vec<Place>,
+    graph: &Map<String, Value>,
+) -> Result<(), OutOfMemory>
+    ensures { OnOk result (places.new.items ≡ places.old.items ++ other_keys (members_view graph.now.entries)) }
+{
+    for (key, _value) in graph.iter() {
+        if !is_graph_key(key.as_str()) {
+            places.push(Place::OtherKey(Text::copied(alloc, key.as_str())?))?;
+        }
+    }
+    Ok(())
+}
+
+fn add_pool_names(
+    alloc: Global,
+    places: &mut Vec<Place>,
+    pools: &Map<String, Value>,
+) -> Result<(), OutOfMemory>
+    ensures { OnOk result (places.new.items ≡ places.old.items ++ pools_of (members_view pools.now.entries)) }
+{
+    for (name, _slots) in pools.iter() {
+        places.push(Place::Pool(Text::copied(alloc, name.as_str())?))?;
+    }
+    Ok(())
+}
+
+fn add_pools(alloc: Global, places: &mut Vec<Place>, document: &Value) -> Result<(), OutOfMemory>
+    ensures { OnOk result (places.new.items
+        ≡ places.old.items ++ pools_if_any (pools_at (view document.now))) }
+{
+    match pools_in(document) {
+        Some(pools) => add_pool_names(alloc, places, pools),
+        None => Ok(()),
+    }
+}
+
+fn add_task_keys(places: &mut Vec<Place>, n: usize) -> Result<(), OutOfMemory>
+    ensures { OnOk result (places.new.items ≡ places.old.items ++ task_key_places n) }
+{
+    for key in &TASK_KEYS {
+        places.push(Place::TaskKey(n, *key))?;
+    }
+    Ok(())
+}
+
+/// Adds the keys that tasks don't have.
+fn add_other_task_keys(
+    alloc: Global,
+    places: &mut Vec<Place>,
+    n: usize,
+    task: &Map<String, Value>,
+) -> Result<(), OutOfMemory>
+    ensures { OnOk result (places.new.items ≡ places.old.items ++ other_task_keys n (members_view task.now.entries)) }
+{
+    for (key, _value) in task.iter() {
+        if !is_task_key(key.as_str()) {
+            let key = Text::copied(alloc, key.as_str())?;
+            places.push(Place::OtherTaskKey(n, key))?;
+        }
+    }
+    Ok(())
+}
+
+/// The items of the list under a key of a task, of which there are none where no list is there.
+#[tactic(auto, using(crate::proofs::Lists::list_viewed))]
+fn items_under<'a>(task: &'a Value, key: TaskKey) -> &'a [Value]
+    ensures { map view result.now ≡ items_at (view task.entry.now) key }
+{
+    match task.get(key.name()).and_then(|value| value.as_array()) {
+        Some(items) => items.as_slice(),
+        None => &[],
+    }
+}
+
+fn add_upstreams(places: &mut Vec<Place>, n: usize, items: &[Value]) -> Result<(), OutOfMemory>
+    ensures { OnOk result (places.new.items ≡ places.old.items ++ upstreams n 0 (map view items.now)) }
+{
+    for (i, _upstream) in items.iter().enumerate() {
+        places.push(Place::Upstream(n, i))?;
+    }
+    Ok(())
+}
+
+fn add_word_keys(
+    places: &mut Vec<Place>,
+    n: usize,
+    i: usize,
+    word: &Value,
+) -> Result<(), OutOfMemory>
+    ensures { OnOk result (places.new.items ≡ places.old.items ++ word_keys_of n i (view word.now)) }
+{
+    for key in &WORD_KEYS {
+        if word.get(key.name()).is_some() {
+            places.push(Place::WordKey(n, i, *key))?;
+        }
+    }
+    Ok(())
+}
+
+fn add_words(places: &mut Vec<Place>, n: usize, items: &[Value]) -> Result<(), OutOfMemory>
+    ensures { OnOk result (places.new.items ≡ places.old.items ++ words n 0 (map view items.now)) }
+{
+    for (i, word) in items.iter().enumerate() {
+        places.push(Place::Word(n, i))?;
+        add_word_keys(places, n, i, word)?;
+    }
+    Ok(())
+}
+
+/// Adds the places of the task behind n others.
+fn add_task(
+    alloc: Global,
+    places: &mut Vec<Place>,
+    n: usize,
+    task: &Value,
+) -> Result<(), OutOfMemory>
+    ensures { OnOk result (places.new.items ≡ places.old.items ++ task_places n (view task.now)) }
+{
+    places.push(Place::Task(n))?;
+    let Some(members) = task.as_object() else {
+        return Ok(());
+    };
+    add_task_keys(places, n)?;
+    add_other_task_keys(alloc, places, n, members)?;
+    add_upstreams(places, n, items_under(task, TaskKey::Upstream))?;
+    add_words(places, n, items_under(task, TaskKey::Command))
+}
+
+fn add_tasks(alloc: Global, places: &mut Vec<Place>, items: &[Value]) -> Result<(), OutOfMemory>
+    ensures { OnOk result (places.new.items ≡ places.old.items ++ tasks 0 (map view items.now)) }
+{
+    for (n, task) in items.iter().enumerate() {
+        add_task(alloc, places, n, task)?;
+    }
+    Ok(())
+}
+
+/// The places of a document, from the top down.
+pub(crate) fn places_of(alloc: Global, document: &Value) -> Result<Vec<Place>, OutOfMemory>
+    ensures { IfOk result (λ v. v.items ≡ places_in (view document.now)) }
+{
+    let mut places = Vec::new(alloc);
+    places.push(Place::Top)?;
+    let Some(members) = document.as_object() else {
+        return Ok(places);
+    };
+    add_graph_keys(&mut places)?;
+    add_other_keys(alloc, &mut places, members)?;
+    add_pools(alloc, &mut places, document)?;
+    add_tasks(alloc, &mut places, tasks_in(document))?;
+    Ok(places)
+}
