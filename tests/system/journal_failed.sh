@@ -70,6 +70,15 @@ is_same 'what is told where eight ran' 'fault: stopped after 1 failed tries' "$(
 is_same 'that the ninth is not begun' 't1 t2 t3 t4 t5 t6 t7' "$(ran)"
 is_same 'that eight are recorded' 9 "$(wc -l < stopped)"
 
+# A try that waits an hour for its moment holds nothing up.
+tasks '{"id":"a","retries":1,"retry_delay":3600,"command":["sh","-c","echo a$0 >> ran; false",{"context":"try_number"}]}'
+for workers in 1 8; do
+    : > ran
+    goes_on "waits_$workers" --workers "$workers" --stop-after 1
+    is_same "the end where a try waits an hour, by $workers" '3 fault: stopped after 1 failed tries' "$status $(< err)"
+    is_same "what ran where a try waits an hour, by $workers" a1 "$(ran)"
+done
+
 # ---- retries
 
 # The second try of an instance succeeds, or its third is skipped, or all three fail: the last alone are made again, under their numbers.

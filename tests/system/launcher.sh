@@ -60,6 +60,10 @@ done
 
 # A name without `/` is looked for in PATH, as the first word of a command is.
 PATH=$work:$PATH launches 0 run "$orders" "${days[@]}" --launcher record
+# An empty folder there is the current one.
+cd "$work"
+PATH=:$PATH launches 0 run "$orders" "${days[@]}" --launcher record
+cd - > /dev/null
 
 # A command without words starts nothing, and no launcher either. A try that failed is handed over again.
 

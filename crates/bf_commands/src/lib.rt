@@ -21,6 +21,7 @@ mod run;
 mod screen;
 mod single;
 mod stop;
+mod stopping_clock;
 mod telling;
 
 pub use check::{GraphSize, check_graph};

@@ -10,6 +10,7 @@ ghost use Rattle.bf_commands.specs.Reported.{IsEndFrom};
 use crate::crew::Crew;
 use crate::screen::Screen;
 use crate::stop::stopped_recording;
+use crate::stopping_clock::StoppingClock;
 use bf_command_fault::CommandFault;
 use bf_core::Ended;
 use bf_failure::DetailedRunner;
@@ -102,6 +103,11 @@ impl<'m, RT: Screen + Threads + Wait + Clock + Sync> Crew<'m, RT> {
             alloc: self.alloc,
             kept: keeping.kept,
             runner: &recording,
+        };
+        let clock = StoppingClock {
+            clock,
+            stops: &recording,
+            told: 0,
         };
         let ended = self.resumed(plan, runs, &kept, clock);
         let (device, stop) = recording.end();

@@ -31,7 +31,7 @@ fn is_program<R: Files>(rt: &R, path: &str) -> bool {
     }
 }
 
-/// A name without `/` is looked for in the folders of `PATH`. Where these can't be told, or memory is wanting, the system is left to look.
+/// A name without `/` is looked for in the folders of `PATH`, an empty one of which is the current folder. Where these can't be told, or memory is wanting, the system is left to look.
 impl<'a, R: Files + Env + Alloc> Launchers for Disk<'a, R> {
     ghost use Rattle.std.specs.Prelude.{None};
 
@@ -45,6 +45,7 @@ impl<'a, R: Files + Env + Alloc> Launchers for Disk<'a, R> {
             return true;
         };
         for folder in folders.split(':') {
+            let folder = if folder.is_empty() { "." } else { folder };
             let Ok(program) = format!(in self.rt.alloc(); "{folder}/{path}") else {
                 return true;
             };
