@@ -1,13 +1,12 @@
 -- Marks of what follows from the seeds.
-use Rattle.std.proofs.Common.{◌≡◌, ◌⊎◌, ◌↔◌, ◌&&◌, ◌||◌, ◌==◌, if◌then◌else◌, nat_lt, true≢false, inl, inr, ℕ, zero, suc, ◌<◌, ◌≤◌, ◌+◌, List, [], ◌∷◌, ◌++◌, length, take, Contains, Bool, true, false, Some, slice_get, slice_index_or, slice_set, refl, sym, ap, ◌∙◌, subst, arith}
+use Rattle.std.proofs.Common.{◌≡◌, ◌⊎◌, ◌↔◌, ◌&&◌, ◌||◌, ◌==◌, if◌then◌else◌, nat_lt, true≢false, inl, inr, ℕ, zero, suc, ◌<◌, ◌≤◌, ◌+◌, List, [], ◌∷◌, ◌++◌, length, take, Bool, true, false, Some, slice_get, slice_index_or, slice_set, refl, sym, ap, ◌∙◌, subst, arith}
 use Rattle.std.specs.List.{list_any}
 use Rattle.std.proofs.Math.ListN.{get_or-append}
 use Rattle.std.proofs.Math.Nat.{eq-or-lt_of_le}
 use Rattle.std.proofs.Math.Seq.{get_or-append_seam}
 use Rattle.std.proofs.lemmas.Bool.{and_parts, and_from, cases_eq, lt-ltb, ltb-true, or_cases, or_left, or_right}
 use Rattle.std.proofs.lemmas.List.{length-append, get_or-set_same, get_or-set_other, length-set, length-map}
-use Rattle.std.proofs.lemmas.List.Folds.{list_any_at, list_any_more}
-use Rattle.std.proofs.lemmas.Map.Views.{Contains-from_any}
+use Rattle.std.proofs.lemmas.List.Folds.{list_any_more}
 use Rattle.std.proofs.lemmas.Option.{slice_get-get_or, slice_get_within}
 use Rattle.bf_graph.specs.Order.{IsByRank, StandBehind}
 use Rattle.bf_graph.specs.Reach.{is_marked, row_at}
@@ -17,13 +16,12 @@ use Rattle.bf_plan.specs.Plans.{shape_of, task_of}
 use Rattle.bf_plan.specs.Sound.{IsOneOf}
 use Rattle.bf_plan.proofs.PlanLemmas.{is_upstream}
 use Rattle.bf_dependents.specs.declared.place.Place.{Place}
-use Rattle.bf_dependents.specs.Dependents.{IsDependent, AreMarks, AreDependents}
-use Rattle.bf_dependents.specs.Marks.{is_place, with_mark, follows, marks_before, AreMarksFor, ArePast, AreSeeded, IsSeedRow, WasDependent}
+use Rattle.bf_dependents.specs.Marks.{is_of, with_mark, follows, marks_before, AreMarks, AreMarksFor, ArePast, AreSeeded, AreTouched, IsSeedRow, IsTouched, WasTouched}
 
 -- so far the marks are right of the tasks before place i of the order
 pub record AreMarksTo (dag : Dag) (seeds : List Place) (k : ℕ) (order : List ℕ) (i : ℕ) (marks : List Bool) : Type 0 where
   pub len : length marks ≡ length dag.tasks
-  pub right : (j t : ℕ) → j < i → slice_get order j ≡ Some t → (is_marked marks t ≡ true) ↔ IsDependent dag seeds k t
+  pub right : (j t : ℕ) → j < i → slice_get order j ≡ Some t → (is_marked marks t ≡ true) ↔ IsTouched dag seeds k t
 
 -- whatever seeds these rows are of, so far the marks are right
 abbrev pub AreMarksForTo : Dag → List Bool → List Bool → List ℕ → ℕ → List Bool → Type 0
@@ -34,45 +32,39 @@ same-or-before j n l = let low : j ≤ n = omega (arith, l) in eq-or-lt_of_le lo
 
 -- ---- what marks a task
 
-place-same : (p q : Place) → is_place p q ≡ true → p ≡ q
-place-same p q e =
-    let both : _ = and_parts (q.run == p.run) (q.task == p.task) e in
-    let run : p.run ≡ q.run = grind (arith, both.0) in
-    let task : p.task ≡ q.task = grind (arith, both.1) in
-    λ i. record { run = run i; task = task i }
+pub of-parts : (k t : ℕ) (p : Place) → is_of k t p ≡ true → (k ≡ p.run) × (t ≡ p.task)
+of-parts k t p e =
+    let both : _ = and_parts (p.run == k) (p.task == t) e in
+    let run : k ≡ p.run = grind (arith, both.0) in
+    let task : t ≡ p.task = grind (arith, both.1) in
+    (run, task)
 
-place-itself : (p : Place) → is_place p p ≡ true
-place-itself p = and_from (p.run == p.run) (p.task == p.task) (grind arith) (grind arith)
-
-seed-found : (seeds : List Place) (p : Place) → Contains seeds p → list_any (is_place p) seeds ≡ true
-seed-found seeds p c = list_any_at (is_place p) seeds c.0 p c.1 (ap (is_place p) c.2 ∙ place-itself p)
+pub of-itself : (k t : ℕ) (p : Place) → k ≡ p.run → t ≡ p.task → is_of k t p ≡ true
+of-itself k t p e f = and_from (p.run == k) (p.task == t) (grind (arith, e)) (grind (arith, f))
 
 -- ---- one seed more
 
-abbrev at : ℕ → ℕ → Place
-at k t = record { run = k; task = t }
-
 module _ (seeds : List Place) (i runs tasks : ℕ) (rows : List (List Bool)) (p : Place) (l : i < length seeds) (here : p ≡ slice_index_or seeds i p) (are : AreSeeded (take i seeds) runs tasks rows) where
-  one-more : (k t : ℕ) → list_any (is_place (at k t)) (take (i + 1) seeds) ≡ (list_any (is_place (at k t)) (take i seeds) || is_place (at k t) p)
-  one-more k t = list_any_more (is_place (at k t)) seeds i p l ∙ ap (λ q. list_any (is_place (at k t)) (take i seeds) || is_place (at k t) q) (sym here)
+  one-more : (k t : ℕ) → list_any (is_of k t) (take (i + 1) seeds) ≡ (list_any (is_of k t) (take i seeds) || is_of k t p)
+  one-more k t = list_any_more (is_of k t) seeds i p l ∙ ap (λ q. list_any (is_of k t) (take i seeds) || is_of k t q) (sym here)
 
   -- where the seed is another, the answer stays
-  other : (k t : ℕ) (mark : Bool) → mark ≡ list_any (is_place (at k t)) (take i seeds) → is_place (at k t) p ≡ false → mark ≡ list_any (is_place (at k t)) (take (i + 1) seeds)
-  other k t mark e f = e ∙ stays (list_any (is_place (at k t)) (take i seeds)) ∙ ap (λ b. list_any (is_place (at k t)) (take i seeds) || b) (sym f) ∙ sym (one-more k t)
+  other : (k t : ℕ) (mark : Bool) → mark ≡ list_any (is_of k t) (take i seeds) → is_of k t p ≡ false → mark ≡ list_any (is_of k t) (take (i + 1) seeds)
+  other k t mark e f = e ∙ stays (list_any (is_of k t) (take i seeds)) ∙ ap (λ b. list_any (is_of k t) (take i seeds) || b) (sym f) ∙ sym (one-more k t)
     where
       stays : (b : Bool) → b ≡ (b || false)
       stays true = refl
       stays false = refl
 
-  apart : (k t : ℕ) → (k ≡ p.run → t ≡ p.task → ⊥) → is_place (at k t) p ≡ false
-  apart k t differs = go (is_place (at k t) p) refl
+  apart : (k t : ℕ) → (k ≡ p.run → t ≡ p.task → ⊥) → is_of k t p ≡ false
+  apart k t differs = go (is_of k t p) refl
     where
-      go : (b : Bool) → is_place (at k t) p ≡ b → b ≡ false
-      go true e = let same : at k t ≡ p = place-same (at k t) p e in absurd (differs (ap (λ (q : Place). q.run) same) (ap (λ (q : Place). q.task) same))
+      go : (b : Bool) → is_of k t p ≡ b → b ≡ false
+      go true e = let same : _ = of-parts k t p e in absurd (differs same.0 same.1)
       go false e = refl
 
-  found : (k t : ℕ) → k ≡ p.run → t ≡ p.task → list_any (is_place (at k t)) (take (i + 1) seeds) ≡ true
-  found k t e f = one-more k t ∙ or_right (list_any (is_place (at k t)) (take i seeds)) (is_place (at k t) p) (ap (is_place (at k t)) (λ j. record { run = sym e j; task = sym f j }) ∙ place-itself (at k t))
+  found : (k t : ℕ) → k ≡ p.run → t ≡ p.task → list_any (is_of k t) (take (i + 1) seeds) ≡ true
+  found k t e f = one-more k t ∙ or_right (list_any (is_of k t) (take i seeds)) (is_of k t p) (of-itself k t p e f)
 
   abbrev is_there : Bool
   is_there = nat_lt p.run (length rows) && nat_lt p.task (length (row_at rows p.run))
@@ -117,11 +109,11 @@ module _ (seeds : List Place) (i runs tasks : ℕ) (rows : List (List Bool)) (p 
       go-each k h (inl r) = ap (λ n. length (row_at (slice_set rows p.run row) n)) r ∙ ap length now ∙ length-set (row_at rows p.run) p.task true ∙ are.each p.run (rw (← r) h)
       go-each k h (inr differs) = ap length (kept k differs) ∙ are.each k h
 
-      go-right : (k : ℕ) → k < runs → (t : ℕ) → t < tasks → (k ≡ p.run) ⊎ (k ≡ p.run → ⊥) → is_marked (row_at (slice_set rows p.run row) k) t ≡ list_any (is_place (at k t)) (take (i + 1) seeds)
+      go-right : (k : ℕ) → k < runs → (t : ℕ) → t < tasks → (k ≡ p.run) ⊎ (k ≡ p.run → ⊥) → is_marked (row_at (slice_set rows p.run row) k) t ≡ list_any (is_of k t) (take (i + 1) seeds)
       go-right k h t low (inr differs) = other k t _ (ap (λ r. is_marked r t) (kept k differs) ∙ are.right k h t low) (apart k t (λ r s. differs r))
       go-right k h t low (inl r) = ap (λ n. is_marked (row_at (slice_set rows p.run row) n) t) r ∙ ap (λ m. is_marked m t) now ∙ in_row (cases_eq t p.task)
         where
-          in_row : (t ≡ p.task) ⊎ (t ≡ p.task → ⊥) → is_marked row t ≡ list_any (is_place (at k t)) (take (i + 1) seeds)
+          in_row : (t ≡ p.task) ⊎ (t ≡ p.task → ⊥) → is_marked row t ≡ list_any (is_of k t) (take (i + 1) seeds)
           in_row (inl s) = ap (is_marked row) s ∙ get_or-set_same (row_at rows p.run) p.task true false (ltb-true p.task (length (row_at rows p.run)) both.1) ∙ sym (found k t r s)
           in_row (inr differs) = other k t _ (get_or-set_other (row_at rows p.run) p.task t true false differs ∙ ap (λ n. is_marked (row_at rows n) t) (sym r) ∙ are.right k h t low) (apart k t (λ r s. differs s))
 
@@ -132,49 +124,49 @@ module _ (seeds : List Place) (i runs tasks : ℕ) (rows : List (List Bool)) (p 
       go true e = marked-more e
       go false e = unmarked-still e
 
-one-marked : (marks : List Bool) (us : List ℕ) → list_any (is_marked marks) us ≡ true → (u : ℕ) × IsOneOf us u × (is_marked marks u ≡ true)
+pub one-marked : (marks : List Bool) (us : List ℕ) → list_any (is_marked marks) us ≡ true → (u : ℕ) × IsOneOf us u × (is_marked marks u ≡ true)
 one-marked marks [] e = cc
 one-marked marks (u ∷ us) e = elim (or_cases (is_marked marks u) (list_any (is_marked marks) us) e) [
   | inl h ↦ (u, inl refl, h)
   | inr h ↦ let rest : _ = one-marked marks us h in (rest.0, inr rest.1, rest.2)
 ]
 
-marked-one : (marks : List Bool) (us : List ℕ) (u : ℕ) → IsOneOf us u → is_marked marks u ≡ true → list_any (is_marked marks) us ≡ true
+pub marked-one : (marks : List Bool) (us : List ℕ) (u : ℕ) → IsOneOf us u → is_marked marks u ≡ true → list_any (is_marked marks) us ≡ true
 marked-one marks [] u one h = absurd one
 marked-one marks (v ∷ us) u (inl e) h = or_left (is_marked marks v) _ (ap (is_marked marks) (sym e) ∙ h)
 marked-one marks (v ∷ us) u (inr one) h = or_right (is_marked marks v) _ (marked-one marks us u one h)
 
 module _ (dag : Dag) (seeds : List Place) (k : ℕ) (seeded before : List Bool) (row : IsSeedRow seeds (length dag.tasks) k seeded) (past : ArePast dag seeds k before) (t : ℕ) (there : t < length dag.tasks) (marks : List Bool)
-    (ups : (u : ℕ) → IsOneOf (task_of dag t).upstreams u → (is_marked marks u ≡ true) ↔ IsDependent dag seeds k u) where
-  followed : follows dag t seeded before marks ≡ true → IsDependent dag seeds k t
+    (ups : (u : ℕ) → IsOneOf (task_of dag t).upstreams u → (is_marked marks u ≡ true) ↔ IsTouched dag seeds k u) where
+  followed : follows dag t seeded before marks ≡ true → IsTouched dag seeds k t
   followed e = elim (or_cases (is_marked seeded t) _ e) [
-    | inl h ↦ IsDependent.Seed (Contains-from_any place-same (record { run = k; task = t }) seeds (sym (row t there) ∙ h))
+    | inl h ↦ IsTouched.Seed (sym (row t there) ∙ h)
     | inr h ↦ elim (or_cases ((task_of dag t).depends_on_past && is_marked before t) _ h) [
       | inl g ↦ let both : _ = and_parts (task_of dag t).depends_on_past (is_marked before t) g in next k ((past t there).0 both.1) both.0
-      | inr g ↦ let one : _ = one-marked marks (task_of dag t).upstreams g in IsDependent.Downstream one.1 ((ups one.0 one.1).0 one.2)
+      | inr g ↦ let one : _ = one-marked marks (task_of dag t).upstreams g in IsTouched.Downstream one.1 ((ups one.0 one.1).0 one.2)
     ]
   ]
     where
-      next : (j : ℕ) → WasDependent dag seeds j t → (task_of dag t).depends_on_past ≡ true → IsDependent dag seeds j t
+      next : (j : ℕ) → WasTouched dag seeds j t → (task_of dag t).depends_on_past ≡ true → IsTouched dag seeds j t
       next zero w d = absurd w
-      next (suc j) w d = IsDependent.NextRun d w
+      next (suc j) w d = IsTouched.NextRun d w
 
-  past-of : (j : ℕ) → k ≡ suc j → IsDependent dag seeds j t → WasDependent dag seeds k t
-  past-of j e d = subst (λ (n : ℕ). WasDependent dag seeds n t) (sym e) d
+  past-of : (j : ℕ) → k ≡ suc j → IsTouched dag seeds j t → WasTouched dag seeds k t
+  past-of j e d = subst (λ (n : ℕ). WasTouched dag seeds n t) (sym e) d
 
   -- why a task follows from the seeds
-  following : (n s : ℕ) → n ≡ k → s ≡ t → IsDependent dag seeds n s → follows dag t seeded before marks ≡ true
-  following n s e f (IsDependent.Seed c) =
-      or_left _ _ (row t there ∙ seed-found seeds (record { run = k; task = t }) (subst (Contains seeds) (λ i. record { run = e i; task = f i }) c))
-  following n s e f (IsDependent.Downstream {u = u} h d) =
+  following : (n s : ℕ) → n ≡ k → s ≡ t → IsTouched dag seeds n s → follows dag t seeded before marks ≡ true
+  following n s e f (IsTouched.Seed c) =
+      or_left _ _ (row t there ∙ (ap (λ (m : ℕ). list_any (is_of m t) seeds) (sym e) ∙ (ap (λ (s : ℕ). list_any (is_of n s) seeds) (sym f) ∙ c)))
+  following n s e f (IsTouched.Downstream {u = u} h d) =
       let one : IsOneOf (task_of dag t).upstreams u = subst (λ (s : ℕ). IsOneOf (task_of dag s).upstreams u) f h in
       or_right (is_marked seeded t) _ (or_right ((task_of dag t).depends_on_past && is_marked before t) _
-      (marked-one marks (task_of dag t).upstreams u one ((ups u one).1 (subst (λ (n : ℕ). IsDependent dag seeds n u) e d))))
-  following (suc n) s e f (IsDependent.NextRun h d) =
+      (marked-one marks (task_of dag t).upstreams u one ((ups u one).1 (subst (λ (n : ℕ). IsTouched dag seeds n u) e d))))
+  following (suc n) s e f (IsTouched.NextRun h d) =
       or_right (is_marked seeded t) _ (or_left ((task_of dag t).depends_on_past && is_marked before t) _
-      (and_from _ _ (ap (λ s. (task_of dag s).depends_on_past) (sym f) ∙ h) ((past t there).1 (past-of n (sym e) (subst (IsDependent dag seeds n) f d)))))
+      (and_from _ _ (ap (λ s. (task_of dag s).depends_on_past) (sym f) ∙ h) ((past t there).1 (past-of n (sym e) (subst (IsTouched dag seeds n) f d)))))
 
-  pub follows-right : (follows dag t seeded before marks ≡ true) ↔ IsDependent dag seeds k t
+  pub follows-right : (follows dag t seeded before marks ≡ true) ↔ IsTouched dag seeds k t
   follows-right = (followed, following k t refl refl)
 
 -- ---- in order
@@ -203,20 +195,20 @@ module _ (dag : Dag) (order : List ℕ) (ranked : IsByRank (shape_of dag).upstre
         here : slice_get order i ≡ Some t
         here = slice_get-get_or order i 0 l
 
-        ups : (u : ℕ) → IsOneOf (task_of dag t).upstreams u → (is_marked marks u ≡ true) ↔ IsDependent dag seeds k u
+        ups : (u : ℕ) → IsOneOf (task_of dag t).upstreams u → (is_marked marks u ≡ true) ↔ IsTouched dag seeds k u
         ups u one = let place : _ = behind i t u here (is_upstream dag t u one) in at.right place.0 u place.1 place.2
 
-        marked : (is_marked (slice_set marks t mark) t ≡ true) ↔ IsDependent dag seeds k t
+        marked : (is_marked (slice_set marks t mark) t ≡ true) ↔ IsTouched dag seeds k t
         marked =
             let now : is_marked (slice_set marks t mark) t ≡ follows dag t seeded before marks = get_or-set_same marks t mark false (rw at.len (task-within i l)) ∙ is in
             let right : _ = follows-right dag seeds k seeded before row past t (task-within i l) marks ups in
             (λ e. right.0 (sym now ∙ e), λ d. now ∙ right.1 d)
 
-        go : (j s : ℕ) → slice_get order j ≡ Some s → (j ≡ i) ⊎ (j < i) → (is_marked (slice_set marks t mark) s ≡ true) ↔ IsDependent dag seeds k s
+        go : (j s : ℕ) → slice_get order j ≡ Some s → (j ≡ i) ⊎ (j < i) → (is_marked (slice_set marks t mark) s ≡ true) ↔ IsTouched dag seeds k s
         go j s e (inl same) =
             let both : Some s ≡ Some t = sym e ∙ (ap (slice_get order) same ∙ here) in
             let task : s ≡ t = cc in
-            subst (λ (s : ℕ). (is_marked (slice_set marks t mark) s ≡ true) ↔ IsDependent dag seeds k s) (sym task) marked
+            subst (λ (s : ℕ). (is_marked (slice_set marks t mark) s ≡ true) ↔ IsTouched dag seeds k s) (sym task) marked
         go j s e (inr low) =
             let apart : s ≡ t → ⊥ = λ same. let at_one : j ≡ i = ranked.once j i t (e ∙ ap Some same) here in omega (arith, at_one, low) in
             let kept : is_marked (slice_set marks t mark) s ≡ is_marked marks s = get_or-set_other marks t s mark false apart in
@@ -234,15 +226,15 @@ module _ (dag : Dag) (order : List ℕ) (ranked : IsByRank (shape_of dag).upstre
 
 -- ---- run by run
 
-pub past-of-runs : (dag : Dag) (seeds : List Place) (k : ℕ) (rows : List (List Bool)) → AreDependents dag seeds k rows → ArePast dag seeds k (marks_before rows k)
+pub past-of-runs : (dag : Dag) (seeds : List Place) (k : ℕ) (rows : List (List Bool)) → AreTouched dag seeds k rows → ArePast dag seeds k (marks_before rows k)
 past-of-runs dag seeds zero rows are t l = (λ e. cc, λ d. absurd d)
 past-of-runs dag seeds (suc k) rows are t l = (are.each k (omega arith)).right t l
 
-pub no-runs : (dag : Dag) (seeds : List Place) → AreDependents dag seeds 0 []
+pub no-runs : (dag : Dag) (seeds : List Place) → AreTouched dag seeds 0 []
 no-runs dag seeds = record { len = refl; each = λ k l. absurd (omega (arith, l)) }
 
-pub one-run-more : (dag : Dag) (seeds : List Place) (k : ℕ) (rows : List (List Bool)) (marks : List Bool) → AreDependents dag seeds k rows → AreMarks dag seeds k marks →
-    AreDependents dag seeds (k + 1) (rows ++ marks ∷ [])
+pub one-run-more : (dag : Dag) (seeds : List Place) (k : ℕ) (rows : List (List Bool)) (marks : List Bool) → AreTouched dag seeds k rows → AreMarks dag seeds k marks →
+    AreTouched dag seeds (k + 1) (rows ++ marks ∷ [])
 one-run-more dag seeds k rows marks are is = record {
   len = omega (arith, are.len, length-append rows (marks ∷ []));
   each = λ j l. go j (same-or-before j k l);
@@ -257,7 +249,7 @@ one-run-more dag seeds k rows marks are is = record {
 
 -- one run more, by the row of its seeds
 pub one-row-more : (dag : Dag) (seeds : List Place) (runs k : ℕ) (seeded rows : List (List Bool)) (marks : List Bool) → AreSeeded seeds runs (length dag.tasks) seeded → k < runs →
-    AreDependents dag seeds k rows → AreMarksFor dag (row_at seeded k) (marks_before rows k) marks → AreDependents dag seeds (k + 1) (rows ++ marks ∷ [])
+    AreTouched dag seeds k rows → AreMarksFor dag (row_at seeded k) (marks_before rows k) marks → AreTouched dag seeds (k + 1) (rows ++ marks ∷ [])
 one-row-more dag seeds runs k seeded rows marks are l so_far made =
     one-run-more dag seeds k rows marks so_far (made seeds k (are.right k l) (past-of-runs dag seeds k rows so_far))
 

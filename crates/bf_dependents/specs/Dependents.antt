@@ -1,28 +1,47 @@
 -- What follows from cleared tasks.
-use Rattle.std.specs.Prelude.{◌≡◌, ◌<◌, ◌↔◌, ℕ, suc, Bool, true, List, length, Contains}
+use Rattle.std.specs.Prelude.{◌≡◌, ◌<◌, ◌↔◌, ◌&&◌, ◌||◌, ℕ, suc, ℤ, Bool, true, List, [], length, Contains, Option, Some, None}
+use Rattle.std.specs.BTreeMap.{is_at}
+use Rattle.std.specs.List.{list_any}
 use Rattle.bf_value.specs.declared.name.JobName.{JobName}
 use Rattle.bf_graph.specs.Reach.{is_marked, row_at}
 use Rattle.bf_plan.specs.declared.plan.Dag.{Dag}
 use Rattle.bf_plan.specs.Plans.{task_of}
 use Rattle.bf_plan.specs.Sound.{IsOneOf}
 use Rattle.bf_dependents.specs.declared.place.Place.{Place}
+use Rattle.bf_dependents.specs.Marks.{follows, marks_before}
+use Rattle.bf_dependents.specs.Places.{place_cmp}
 
--- the least set of tasks in runs that has the seeds, the direct downstreams of each, and a task that depends on its past behind its previous run
-pub data IsDependent (dag : Dag) (seeds : List Place) : ℕ → ℕ → Type 0 where
-  Seed : {k t : ℕ} → Contains seeds (record { run = k; task = t }) → IsDependent dag seeds k t
-  Downstream : {k t u : ℕ} → IsOneOf (task_of dag t).upstreams u → IsDependent dag seeds k u → IsDependent dag seeds k t
-  NextRun : {k t : ℕ} → (task_of dag t).depends_on_past ≡ true → IsDependent dag seeds k t → IsDependent dag seeds (suc k) t
+-- the instance i of the task t in the run k follows: the least set of instances that has each of a seed without an index, the one of a seed with an index, and behind each member all of its task's direct downstreams, and, where its task depends on its past, all of that task in the next run
+pub data IsDependent (dag : Dag) (seeds : List Place) : ℕ → ℕ → ℤ → Type 0 where
+  Seed : {k t : ℕ} {i : ℤ} → Contains seeds (record { run = k; task = t; index = None }) → IsDependent dag seeds k t i
+  SeedAt : {k t : ℕ} {i : ℤ} → Contains seeds (record { run = k; task = t; index = Some i }) → IsDependent dag seeds k t i
+  Downstream : {k t u : ℕ} {i j : ℤ} → IsOneOf (task_of dag t).upstreams u → IsDependent dag seeds k u j → IsDependent dag seeds k t i
+  NextRun : {k t : ℕ} {i j : ℤ} → (task_of dag t).depends_on_past ≡ true → IsDependent dag seeds k t j → IsDependent dag seeds (suc k) t i
 
--- the try is of a task in a run that isn't cleared
+-- the try is of an instance that isn't cleared
 abbrev pub IsBeside : Dag → List Place → JobName → Type 0
-IsBeside dag seeds n = ¬ (IsDependent dag seeds n.run n.task)
+IsBeside dag seeds n = ¬ (IsDependent dag seeds n.run n.task n.index)
 
--- the marks say which tasks of the run k follow from the seeds
-pub record AreMarks (dag : Dag) (seeds : List Place) (k : ℕ) (marks : List Bool) : Type 0 where
-  pub len : length marks ≡ length dag.tasks
-  pub right : (t : ℕ) → t < length dag.tasks → (is_marked marks t ≡ true) ↔ IsDependent dag seeds k t
+-- ---- as it is looked up
 
--- so many runs have their marks
-pub record AreDependents (dag : Dag) (seeds : List Place) (runs : ℕ) (rows : List (List Bool)) : Type 0 where
-  pub len : length rows ≡ runs
-  pub each : (k : ℕ) → k < runs → AreMarks dag seeds k (row_at rows k)
+-- what contracts see of what follows: for each run marks on the tasks of which an instance follows, and the seeds
+pub record Following : Type 0 where
+  pub touched : List (List Bool)
+  pub seeds : List Place
+
+abbrev pub has_seed : List Place → ℕ → ℕ → Option ℤ → Bool
+has_seed seeds k t index = list_any (is_at (place_cmp (record { run = k; task = t; index = index }))) seeds
+
+-- the instance is one of a seed, or a direct upstream is marked, or the past of a task that depends on it
+abbrev pub is_led_to : Dag → Following → ℕ → ℕ → ℤ → Bool
+is_led_to dag all k t i =
+    has_seed all.seeds k t None || (has_seed all.seeds k t (Some i) || follows dag t [] (marks_before all.touched k) (row_at all.touched k))
+
+-- the instance i of the task t in the run k follows
+abbrev pub has : Dag → Following → ℕ → ℕ → ℤ → Bool
+has dag all k t i = is_marked (row_at all.touched k) t && is_led_to dag all k t i
+
+-- of so many runs it is known which instances follow
+pub record AreDependents (dag : Dag) (seeds : List Place) (runs : ℕ) (all : Following) : Type 0 where
+  pub len : length all.touched ≡ runs
+  pub right : (k t : ℕ) (i : ℤ) → k < runs → t < length dag.tasks → (has dag all k t i ≡ true) ↔ IsDependent dag seeds k t i

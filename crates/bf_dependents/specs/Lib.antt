@@ -1,4 +1,6 @@
-pub mod Dependents
+pub mod Places
 pub mod Marks
+pub mod Dependents
+pub mod Seeded
 pub mod Faults
 pub mod Seeds

@@ -4,13 +4,14 @@ use Rattle.std.specs.List.{list_any}
 use Rattle.bf_graph.specs.Reach.{is_marked, row_at}
 use Rattle.bf_plan.specs.declared.plan.Dag.{Dag}
 use Rattle.bf_plan.specs.Plans.{task_of}
+use Rattle.bf_plan.specs.Sound.{IsOneOf}
 use Rattle.bf_dependents.specs.declared.place.Place.{Place}
-use Rattle.bf_dependents.specs.Dependents.{IsDependent, AreMarks}
 
 -- ---- seeds
 
-abbrev pub is_place : Place → Place → Bool
-is_place p q = (q.run == p.run) && (q.task == p.task)
+-- the place is of the task t in the run k
+abbrev pub is_of : ℕ → ℕ → Place → Bool
+is_of k t p = (p.run == k) && (p.task == t)
 
 -- so many rows for so many tasks, without a mark
 pub record AreUnmarked (runs tasks : ℕ) (rows : List (List Bool)) : Type 0 where
@@ -27,7 +28,7 @@ with_mark rows p =
 
 -- of the tasks just the seeds in the run k are marked
 abbrev pub IsSeedRow : List Place → ℕ → ℕ → List Bool → Type 0
-IsSeedRow seeds tasks k row = (t : ℕ) → t < tasks → is_marked row t ≡ list_any (is_place (record { run = k; task = t })) seeds
+IsSeedRow seeds tasks k row = (t : ℕ) → t < tasks → is_marked row t ≡ list_any (is_of k t) seeds
 
 -- so many rows for so many tasks, in which just the seeds are marked
 pub record AreSeeded (seeds : List Place) (runs tasks : ℕ) (rows : List (List Bool)) : Type 0 where
@@ -47,13 +48,29 @@ abbrev pub marks_before : List (List Bool) → ℕ → List Bool
 marks_before rows zero = []
 marks_before rows (suc k) = row_at rows k
 
--- which tasks of the run before k follow from the seeds
-abbrev pub WasDependent : Dag → List Place → ℕ → ℕ → Type 0
-WasDependent dag seeds zero t = ⊥
-WasDependent dag seeds (suc k) t = IsDependent dag seeds k t
+-- an instance of the task t in the run k follows from the seeds
+pub data IsTouched (dag : Dag) (seeds : List Place) : ℕ → ℕ → Type 0 where
+  Seed : {k t : ℕ} → list_any (is_of k t) seeds ≡ true → IsTouched dag seeds k t
+  Downstream : {k t u : ℕ} → IsOneOf (task_of dag t).upstreams u → IsTouched dag seeds k u → IsTouched dag seeds k t
+  NextRun : {k t : ℕ} → (task_of dag t).depends_on_past ≡ true → IsTouched dag seeds k t → IsTouched dag seeds (suc k) t
+
+-- the marks say of which tasks of the run k an instance follows
+pub record AreMarks (dag : Dag) (seeds : List Place) (k : ℕ) (marks : List Bool) : Type 0 where
+  pub len : length marks ≡ length dag.tasks
+  pub right : (t : ℕ) → t < length dag.tasks → (is_marked marks t ≡ true) ↔ IsTouched dag seeds k t
+
+-- so many runs have their marks
+pub record AreTouched (dag : Dag) (seeds : List Place) (runs : ℕ) (rows : List (List Bool)) : Type 0 where
+  pub len : length rows ≡ runs
+  pub each : (k : ℕ) → k < runs → AreMarks dag seeds k (row_at rows k)
+
+-- of which tasks of the run before k an instance follows
+abbrev pub WasTouched : Dag → List Place → ℕ → ℕ → Type 0
+WasTouched dag seeds zero t = ⊥
+WasTouched dag seeds (suc k) t = IsTouched dag seeds k t
 
 abbrev pub ArePast : Dag → List Place → ℕ → List Bool → Type 0
-ArePast dag seeds k before = (t : ℕ) → t < length dag.tasks → (is_marked before t ≡ true) ↔ WasDependent dag seeds k t
+ArePast dag seeds k before = (t : ℕ) → t < length dag.tasks → (is_marked before t ≡ true) ↔ WasTouched dag seeds k t
 
 -- whatever seeds these rows are of, the marks are right
 abbrev pub AreMarksFor : Dag → List Bool → List Bool → List Bool → Type 0

@@ -25,9 +25,9 @@ abbrev pub is_unknown_run : List Interval → Seed → Bool
 is_unknown_run intervals seed = is_none (run_number intervals seed)
 
 abbrev pub place_of : Dag → List Interval → Seed → Option Place
-place_of dag intervals seed = option_and_then (λ t. option_map (λ k. record { run = k; task = t }) (run_number intervals seed)) (task_number dag seed)
+place_of dag intervals seed = option_and_then (λ t. option_map (λ k. record { run = k; task = t; index = seed.index }) (run_number intervals seed)) (task_number dag seed)
 
--- the tasks in runs that the seeds name
+-- the tasks in runs, or instances of them, that the seeds name
 abbrev pub places_of : Dag → List Interval → List Seed → List Place
 places_of dag intervals seeds = filter_map (place_of dag intervals) seeds
 

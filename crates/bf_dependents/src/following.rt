@@ -4,10 +4,9 @@ ghost use Rattle.std.specs.List.{list_any};
 ghost use Rattle.bf_graph.specs.Order.{IsByRank, StandBehind};
 ghost use Rattle.bf_graph.specs.Reach.{is_marked as marked};
 ghost use Rattle.bf_plan.specs.Plans.{shape_of};
-ghost use Rattle.bf_dependents.specs.Dependents.{AreDependents};
-ghost use Rattle.bf_dependents.specs.Marks.{follows as follows_by, marks_before as before_in, AreMarksFor};
+ghost use Rattle.bf_dependents.specs.Marks.{follows as follows_by, AreMarksFor, AreTouched};
 
-use crate::marks::{is_marked, seed_rows};
+use crate::marks::{is_marked, marks_before, seed_rows};
 use crate::place::Place;
 use bf_plan::{Dag, Plan};
 use bf_value::{OutOfMemory, Sequence};
@@ -20,7 +19,13 @@ fn some_is_marked(marks: &[bool], tasks: &[u32]) -> bool
 }
 
 /// Whether a task is a seed, or depends on a past that is marked, or has an upstream that is marked.
-fn follows(dag: &Dag, task: u32, seeded: &[bool], before: &[bool], marks: &[bool]) -> bool
+pub(crate) fn follows(
+    dag: &Dag,
+    task: u32,
+    seeded: &[bool],
+    before: &[bool],
+    marks: &[bool],
+) -> bool
     requires { task < length dag.now.tasks }
     ensures { result ≡ follows_by dag.now task seeded.now before.now marks.now }
 {
@@ -51,28 +56,14 @@ fn marks_of(
     Ok(Sequence::from_vec(marks))
 }
 
-/// The marks of the run before a run.
-fn marks_before(rows: &[Sequence<bool>], run: u32) -> &[bool]
-    ensures { result.now ≡ before_in rows.now run }
-{
-    if run == 0 {
-        return &[];
-    }
-    match rows.get(run as usize - 1) {
-        Some(marks) => marks.as_slice(),
-        None => &[],
-    }
-}
-
-/// For each of so many runs which tasks follow from the seeds. Takes time for each run over the tasks and edges, and once
-/// over the seeds.
-pub fn dependents(
+/// For each of so many runs the marks of the tasks of which an instance follows.
+pub(crate) fn touched_in(
     alloc: Global,
     plan: &Plan,
     seeds: &[Place],
     runs: u32,
 ) -> Result<Sequence<Sequence<bool>>, OutOfMemory>
-    ensures { IfOk result (AreDependents plan.now.dag seeds.now runs) }
+    ensures { IfOk result (AreTouched plan.now.dag seeds.now runs) }
 {
     let order = plan.graph().by_rank(alloc)?;
     let seeded = seed_rows(alloc, seeds, runs, plan.dag().tasks.len())?;

@@ -1,17 +1,25 @@
-//! What holds of all that is cleared. The function does nothing: its contract is the law, over the definitions alone.
-ghost use Rattle.std.specs.Prelude.{◌≡◌, ℕ, suc, Bool, true, List, Contains};
+//! What holds of all that is cleared. These functions do nothing: their contracts are the laws, over the definitions alone.
+ghost use Rattle.std.specs.Prelude.{◌≡◌, ℕ, suc, ℤ, Bool, true, List, Contains, None, Some};
 ghost use Rattle.bf_plan.specs.declared.plan.Dag.{Dag as DagTerm};
 ghost use Rattle.bf_plan.specs.Plans.{task_of};
 ghost use Rattle.bf_plan.specs.Sound.{IsOneOf};
 ghost use Rattle.bf_dependents.specs.declared.place.Place.{Place};
 ghost use Rattle.bf_dependents.specs.Dependents.{IsDependent};
 
-/// What follows from the seeds is in each set that has the seeds, the direct downstreams of each member, and a member's task
-/// in the next run where that depends on its past.
+/// What follows from the seeds is in each set that has each instance of a seed without an index, the instance of a seed with one,
+/// and, behind each member, all instances of its task's direct downstreams, and, where its task depends on its past, all of that
+/// task in the next run.
 pub fn dependents_are_least()
-    ensures { (dag : DagTerm) (seeds : List Place) (has : ℕ → ℕ → Bool) →
-        ((k t : ℕ) → Contains seeds (record { run = k; task = t }) → has k t ≡ true) →
-        ((k t u : ℕ) → IsOneOf (task_of dag t).upstreams u → has k u ≡ true → has k t ≡ true) →
-        ((k t : ℕ) → (task_of dag t).depends_on_past ≡ true → has k t ≡ true → has (suc k) t ≡ true) →
-        (k t : ℕ) → IsDependent dag seeds k t → has k t ≡ true }
+    ensures { (dag : DagTerm) (seeds : List Place) (has : ℕ → ℕ → ℤ → Bool) →
+        ((k t : ℕ) (i : ℤ) → Contains seeds (record { run = k; task = t; index = None }) → has k t i ≡ true) →
+        ((k t : ℕ) (i : ℤ) → Contains seeds (record { run = k; task = t; index = Some i }) → has k t i ≡ true) →
+        ((k t u : ℕ) (i j : ℤ) → IsOneOf (task_of dag t).upstreams u → has k u j ≡ true → has k t i ≡ true) →
+        ((k t : ℕ) (i j : ℤ) → (task_of dag t).depends_on_past ≡ true → has k t j ≡ true → has (suc k) t i ≡ true) →
+        (k t : ℕ) (i : ℤ) → IsDependent dag seeds k t i → has k t i ≡ true }
+{}
+
+/// From seeds without an index whole tasks follow: each instance of a task in a run, or none.
+pub fn seeds_without_indexes_take_tasks()
+    ensures { (dag : DagTerm) (seeds : List Place) → ((p : Place) → Contains seeds p → p.index ≡ None) →
+        (k t : ℕ) (i j : ℤ) → IsDependent dag seeds k t i → IsDependent dag seeds k t j }
 {}

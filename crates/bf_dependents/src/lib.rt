@@ -1,16 +1,17 @@
-//! What is cleared: tasks in runs, named by ids and logical dates, and all that follows from them (Airflow's "Clear",
-//! downstream and future).
+//! What is cleared: tasks in runs, or single instances of them, named by ids, logical dates and map indexes, and all that follows
+//! from them (Airflow's "Clear", downstream and future).
 #![tactic(auto)]
 
 mod fault;
 mod following;
+mod found;
 mod laws;
 mod marks;
 mod place;
 mod seeds;
 
 pub use fault::ClearFault;
-pub use following::dependents;
-pub use laws::dependents_are_least;
+pub use found::{Followers, dependents};
+pub use laws::{dependents_are_least, seeds_without_indexes_take_tasks};
 pub use place::Place;
 pub use seeds::{Seed, places_of, refuse_seeds};

@@ -1,7 +1,7 @@
 //! Marks of tasks, a row for each run.
 ghost use Rattle.std.specs.Prelude.{◌≡◌, IfOk};
-ghost use Rattle.bf_graph.specs.Reach.{is_marked as marked};
-ghost use Rattle.bf_dependents.specs.Marks.{with_mark, AreSeeded, AreUnmarked};
+ghost use Rattle.bf_graph.specs.Reach.{is_marked as marked, row_at};
+ghost use Rattle.bf_dependents.specs.Marks.{marks_before as before_in, with_mark, AreSeeded, AreUnmarked};
 
 use crate::place::Place;
 use bf_value::{OutOfMemory, Sequence};
@@ -14,6 +14,28 @@ pub(crate) fn is_marked(marks: &[bool], task: u32) -> bool
     match marks.get(task as usize) {
         Some(mark) => *mark,
         None => false,
+    }
+}
+
+/// The marks of the run before a run.
+pub(crate) fn marks_before(rows: &[Sequence<bool>], run: u32) -> &[bool]
+    ensures { result.now ≡ before_in rows.now run }
+{
+    if run == 0 {
+        return &[];
+    }
+    match rows.get(run as usize - 1) {
+        Some(marks) => marks.as_slice(),
+        None => &[],
+    }
+}
+
+pub(crate) fn marks_at(rows: &[Sequence<bool>], run: u32) -> &[bool]
+    ensures { result.now ≡ row_at rows.now run }
+{
+    match rows.get(run as usize) {
+        Some(marks) => marks.as_slice(),
+        None => &[],
     }
 }
 

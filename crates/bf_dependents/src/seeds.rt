@@ -11,11 +11,13 @@ use bf_value::{OutOfMemory, Text};
 use jiff::Timestamp;
 use std::alloc::Global;
 
-/// A task, by its id, in the run of a logical date.
+/// A task, by its id, in the run of a logical date, or one instance of it.
 #[derive(Debug, Drop)]
 pub struct Seed {
     pub task: Text,
     pub run: Timestamp,
+    /// The map index of the instance, -1 of a task that isn't expanded. Where there is none, it is each instance.
+    pub index: Option<i32>,
 }
 
 fn task_of(plan: &Plan, seed: &Seed) -> Option<u32>
@@ -75,10 +77,14 @@ fn place_of(plan: &Plan, intervals: &[Interval], seed: &Seed) -> Option<Place>
 {
     let task = task_of(plan, seed)?;
     let run = run_of(intervals, seed)? as u32;
-    Some(Place { run, task })
+    Some(Place {
+        run,
+        task,
+        index: seed.index,
+    })
 }
 
-/// The tasks in runs that seeds name.
+/// The tasks in runs, or instances of them, that seeds name.
 pub fn places_of(
     alloc: Global,
     plan: &Plan,
