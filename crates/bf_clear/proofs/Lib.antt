@@ -1,4 +1,5 @@
 pub mod Told
+pub mod Instances
 pub mod Rests
 pub mod Lookups
 pub mod Replies

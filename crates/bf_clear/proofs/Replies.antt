@@ -4,8 +4,9 @@ use Rattle.bf_try.specs.declared.answers.Raw.{Raw}
 use Rattle.bf_core.specs.Terms.{Dag, Entry, Given, JobName, Ledger, Outcome, fits}
 use Rattle.bf_report.specs.declared.report.InstanceReport.{InstanceReport}
 use Rattle.bf_kept.specs.Kept.{IsAnsweredBy}
+use Rattle.bf_dependents.specs.Dependents.{has}
 use Rattle.bf_clear.specs.Entries.{entry_by, entry_of_try, found_at, given_by, outcome_of_try, told, worked_out}
-use Rattle.bf_clear.specs.Keeping.{Clearance, fit_outcome, fitting, is_cleared, kept_in, kept_of, IsAnswerOf, IsRawFor}
+use Rattle.bf_clear.specs.Keeping.{Clearance, fit_outcome, fitting, kept_in, kept_of, IsAnswerOf, IsRawFor}
 
 -- what is kept is looked up in one way or the other
 answers-same : (kept other : Ledger) (n : JobName) (given : Given) (o : Option Raw) → kept n ≡ other n → IsAnsweredBy other n given o → IsAnsweredBy kept n given o
@@ -45,12 +46,12 @@ raw-answers dag told x n given o same is =
 -- ---- by the report
 
 pub answers-here : (c : Clearance) (n : JobName) (given : Given) (x : InstanceReport) (o : Option Raw) →
-    nat_lt n.task (length c.dag.tasks) ≡ true → is_cleared c.marks n.run n.task ≡ false → found_at c.report n.run n.task n.index ≡ Some x →
+    nat_lt n.task (length c.dag.tasks) ≡ true → has c.dag c.cleared n.run n.task n.index ≡ false → found_at c.report n.run n.task n.index ≡ Some x →
     IsAnswerOf c.dag (given_by c.report.version (worked_out c.dag c.report n.run n.task n.index) x) x n given o → IsAnsweredBy (kept_in c) n given o
 unfolding told
 answers-here c n given x o there beside found is =
     answers-same (kept_in c) (λ m. fitting c.dag n.task (entry_of_try x.result n.attempt (given_by c.report.version (worked_out c.dag c.report n.run n.task n.index) x))) n given o
-    (ap (λ b. kept_of (b && not (is_cleared c.marks n.run n.task)) c.dag n.task (told c.dag c.report n)) there
+    (ap (λ b. kept_of (b && not (has c.dag c.cleared n.run n.task n.index)) c.dag n.task (told c.dag c.report n)) there
     ∙ (ap (λ b. kept_of (not b) c.dag n.task (told c.dag c.report n)) beside
     ∙ ap (λ m. fitting c.dag n.task (entry_by c.report.version (worked_out c.dag c.report n.run n.task n.index) m n.attempt)) found)) is
 
@@ -63,5 +64,5 @@ pub answers-none : (c : Clearance) (n : JobName) (given : Given) → found_at c.
 unfolding told
 answers-none c n given none =
     none-kept (kept_in c) n given
-    (ap (λ m. kept_of (nat_lt n.task (length c.dag.tasks) && not (is_cleared c.marks n.run n.task)) c.dag n.task (entry_by c.report.version (worked_out c.dag c.report n.run n.task n.index) m n.attempt)) none
-    ∙ fitting-none (nat_lt n.task (length c.dag.tasks) && not (is_cleared c.marks n.run n.task)) c.dag n.task)
+    (ap (λ m. kept_of (nat_lt n.task (length c.dag.tasks) && not (has c.dag c.cleared n.run n.task n.index)) c.dag n.task (entry_by c.report.version (worked_out c.dag c.report n.run n.task n.index) m n.attempt)) none
+    ∙ fitting-none (nat_lt n.task (length c.dag.tasks) && not (has c.dag c.cleared n.run n.task n.index)) c.dag n.task)

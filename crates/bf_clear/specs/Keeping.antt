@@ -1,5 +1,5 @@
--- What is kept of a report where tasks are cleared.
-use Rattle.std.specs.Prelude.{◌≡◌, ◌↔◌, ℕ, nat_lt, ◌&&◌, not, if◌then◌else◌, Bool, true, List, length, Option, Some, None, option_and_then, slice_get, unwrap_or}
+-- What is kept of a report where instances are cleared.
+use Rattle.std.specs.Prelude.{◌≡◌, ◌↔◌, ℕ, nat_lt, ◌&&◌, not, if◌then◌else◌, Bool, true, List, length, Option, Some, None}
 use Rattle.bf_value.specs.declared.name.JobName.{JobName}
 use Rattle.bf_plan.specs.declared.plan.Dag.{Dag}
 use Rattle.bf_xcom.specs.declared.values.Given.{Given}
@@ -12,7 +12,7 @@ use Rattle.bf_report.specs.declared.report.InstanceReport.{InstanceReport}
 use Rattle.bf_report.specs.declared.report.Report.{Report}
 use Rattle.bf_kept.specs.Kept.{IsAnsweredBy}
 use Rattle.bf_dependents.specs.declared.place.Place.{Place}
-use Rattle.bf_dependents.specs.Dependents.{IsBeside}
+use Rattle.bf_dependents.specs.Dependents.{has, Following, IsBeside}
 use Rattle.bf_clear.specs.Entries.{entry_of_try, told}
 
 -- an entry is kept exactly where the report tells of it, it isn't cleared, and its outcome fits
@@ -21,15 +21,11 @@ AreKept dag seeds report kept = (name : JobName) (entry : Entry) → (kept name 
 
 -- ---- as it is looked up
 
--- what contracts see of a report where tasks are cleared: the tasks, for each run marks on those that are cleared, and the report
+-- what contracts see of a report where instances are cleared: the tasks, what is cleared, and the report
 pub record Clearance : Type 0 where
   pub dag : Dag
-  pub marks : List (List Bool)
+  pub cleared : Following
   pub report : Report
-
--- the task in the run is cleared, or there is no such
-abbrev pub is_cleared : List (List Bool) → ℕ → ℕ → Bool
-is_cleared rows run task = unwrap_or (option_and_then (λ row. slice_get row task) (slice_get rows run)) true
 
 abbrev pub fitting : Dag → ℕ → Option Entry → Option Entry
 fitting dag task None = None
@@ -40,7 +36,7 @@ kept_of beside dag task entry = if beside then fitting dag task entry else None
 
 -- what is kept: the entries of the report but for what is cleared and what doesn't fit
 abbrev pub kept_in : Clearance → Look
-kept_in clearance name = kept_of (nat_lt name.task (length clearance.dag.tasks) && not (is_cleared clearance.marks name.run name.task)) clearance.dag name.task (told clearance.dag clearance.report name)
+kept_in clearance name = kept_of (nat_lt name.task (length clearance.dag.tasks) && not (has clearance.dag clearance.cleared name.run name.task name.index)) clearance.dag name.task (told clearance.dag clearance.report name)
 
 -- ---- answers
 

@@ -13,9 +13,9 @@ use bf_plan::Plan;
 use bf_report::Report;
 use std::alloc::Global;
 
-/// What is kept of the report of a backfill where these tasks in runs are cleared, with their downstreams, and where a cleared
-/// task depends on its past, with the next run's: all that the report tells of and that isn't cleared, but for outcomes that the
-/// plan doesn't allow. Without seeds nothing is cleared.
+/// What is kept of the report of a backfill where these tasks in runs, or single instances of them, are cleared, with their
+/// downstreams, and where a cleared task depends on its past, with the next run's: all that the report tells of and that isn't
+/// cleared, but for outcomes that the plan doesn't allow. Without seeds nothing is cleared.
 ///
 /// Refused is, in this order, a seed whose task is unknown, one whose run is, and a report that isn't one of the plan over these
 /// runs.
@@ -37,6 +37,6 @@ pub fn clear<'a>(
         return Err(ClearFault::ReportMismatch);
     }
     let places = places_of(alloc, plan, intervals, seeds)?;
-    let marks = dependents(alloc, plan, places.as_slice(), intervals.len() as u32)?;
-    Ok(Cleared::new(plan, report, marks))
+    let cleared = dependents(alloc, plan, places.as_slice(), intervals.len() as u32)?;
+    Ok(Cleared::new(plan, report, cleared))
 }

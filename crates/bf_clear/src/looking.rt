@@ -1,10 +1,9 @@
 //! Looking things up by run and task.
-ghost use Rattle.std.specs.Prelude.{◌≡◌, option_and_then, option_copied, slice_get};
+ghost use Rattle.std.specs.Prelude.{◌≡◌, option_copied};
 ghost use Rattle.bf_clear.specs.Entries.{found_at, instance_at as instance_by, report_at};
-ghost use Rattle.bf_clear.specs.Keeping.{is_cleared as cleared_in};
 
 use bf_report::{InstanceReport, Report, TaskReport};
-use bf_value::{JobName, Sequence};
+use bf_value::JobName;
 
 /// The instance of a map index.
 fn instance_of(task: &TaskReport, index: i32) -> Option<&InstanceReport>
@@ -34,24 +33,5 @@ pub(crate) fn instance_at(report: &Report, name: JobName) -> Option<&InstanceRep
     match task_at(report, name.run, name.task) {
         Some(task) => instance_of(task, name.index),
         None => None,
-    }
-}
-
-fn mark_at(marks: &[Sequence<bool>], run: u32, task: u32) -> Option<&bool>
-    ensures { option_copied result ≡ option_and_then (λ row. slice_get row task) (slice_get marks.now run) }
-{
-    match marks.get(run as usize) {
-        Some(marks) => marks.get(task as usize),
-        None => None,
-    }
-}
-
-/// Whether a task in a run is cleared, or isn't there.
-pub(crate) fn is_cleared(marks: &[Sequence<bool>], run: u32, task: u32) -> bool
-    ensures { result ≡ cleared_in marks.now run task }
-{
-    match mark_at(marks, run, task) {
-        Some(mark) => *mark,
-        None => true,
     }
 }

@@ -16,6 +16,6 @@ returns-clause-kept c =
     let report = c.args.report.now in
     let places = places_of dag intervals c.args.seeds.now in
     let is : is_report_of dag intervals report ≡ true = ap (λ d. is_report_of d intervals report) (sym c.dag.ensures.dag) ∙ (sym c.is_report_of.ensures ∙ c.if-not-is_report_of.false) in
-    let are : AreDependents dag places (length intervals) c.in_ok-marks.marks = subst (λ (s : List Place). AreDependents dag s (length intervals) c.in_ok-marks.marks) (c.as_slice.ensures.value ∙ c.in_ok-places.ensures) c.in_ok-marks.ensures in
-    let kept : AreKept dag places report (kept_in c.new.result) = subst (λ (k : Clearance). AreKept dag places report (kept_in k)) (sym c.new.ensures) (kept-told dag places (length intervals) c.in_ok-marks.marks report are (matches-within dag intervals report is)) in
+    let are : AreDependents dag places (length intervals) c.in_ok-cleared.cleared = subst (λ (s : List Place). AreDependents dag s (length intervals) c.in_ok-cleared.cleared) (c.as_slice.ensures.value ∙ c.in_ok-places.ensures) c.in_ok-cleared.ensures in
+    let kept : AreKept dag places report (kept_in c.new.result) = subst (λ (k : Clearance). AreKept dag places report (kept_in k)) (sym c.new.ensures) (kept-told dag places (length intervals) c.in_ok-cleared.cleared report are (matches-within dag intervals report is)) in
     subst (λ (given : List Interval). AreKept dag (places_of dag given c.args.seeds.now) report (kept_in c.new.result)) c.intervals-intervals.ensures.intervals kept
