@@ -1,3 +1,4 @@
 pub mod Least
 pub mod RightMarks
 pub mod Lookups
+pub mod Neighbours

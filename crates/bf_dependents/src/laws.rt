@@ -1,8 +1,8 @@
 //! What holds of all that is cleared. These functions do nothing: their contracts are the laws, over the definitions alone.
-ghost use Rattle.std.specs.Prelude.{◌≡◌, ℕ, suc, ℤ, Bool, true, List, Contains, None, Some};
+ghost use Rattle.std.specs.Prelude.{◌≡◌, ◌↔◌, ◌∷◌, [], ℕ, suc, ℤ, Bool, true, List, Contains, None, Some};
 ghost use Rattle.bf_plan.specs.declared.plan.Dag.{Dag as DagTerm};
 ghost use Rattle.bf_plan.specs.Plans.{task_of};
-ghost use Rattle.bf_plan.specs.Sound.{IsOneOf};
+ghost use Rattle.bf_plan.specs.Sound.{IsOneOf, IsSound};
 ghost use Rattle.bf_dependents.specs.declared.place.Place.{Place};
 ghost use Rattle.bf_dependents.specs.Dependents.{IsDependent};
 
@@ -22,4 +22,11 @@ pub fn dependents_are_least()
 pub fn seeds_without_indexes_take_tasks()
     ensures { (dag : DagTerm) (seeds : List Place) → ((p : Place) → Contains seeds p → p.index ≡ None) →
         (k t : ℕ) (i j : ℤ) → IsDependent dag seeds k t i → IsDependent dag seeds k t j }
+{}
+
+/// From a seed with an index follows what follows from its task in that run, less the other instances of the task.
+pub fn a_seed_with_an_index_leaves_its_neighbours()
+    ensures { (dag : DagTerm) → IsSound dag → (k t : ℕ) (n : ℤ) (m s : ℕ) (i : ℤ) →
+        IsDependent dag (record { run = k; task = t; index = Some n } ∷ []) m s i
+        ↔ (IsDependent dag (record { run = k; task = t; index = None } ∷ []) m s i × (m ≡ k → s ≡ t → i ≡ n)) }
 {}

@@ -12,6 +12,9 @@ mod seeds;
 
 pub use fault::ClearFault;
 pub use found::{Followers, dependents};
-pub use laws::{dependents_are_least, seeds_without_indexes_take_tasks};
+pub use laws::{
+    a_seed_with_an_index_leaves_its_neighbours, dependents_are_least,
+    seeds_without_indexes_take_tasks,
+};
 pub use place::Place;
 pub use seeds::{Seed, places_of, refuse_seeds};
