@@ -1,5 +1,5 @@
 -- What is told of failed tries.
-use Rattle.std.specs.Prelude.{◌≡◌, ℕ, List, [], ◌++◌, codes, Option, None, Some, IfSome, decimal}
+use Rattle.std.specs.Prelude.{◌≡◌, ℕ, List, [], ◌++◌, codes, Option, None, Some, IfSome}
 use Rattle.bf_value.specs.declared.name.JobName.{JobName}
 use Rattle.bf_plan.specs.declared.plan.Dag.{Dag}
 use Rattle.bf_interval.specs.declared.interval.Interval.{Interval}
@@ -11,7 +11,7 @@ use Rattle.bf_failure.specs.declared.detail.Detail.{Detail}
 use Rattle.bf_failure.specs.declared.failure.Failure.{Failure}
 use Rattle.bf_failure.specs.declared.failure.Failure.TheVariants.{Status, Signal, NotStarted}
 use Rattle.bf_failure.specs.Failures.{detailed, failure_of, failure_text}
-use Rattle.bf_failure.specs.Tried.{IsContextOf, index_text, log_of, run_text}
+use Rattle.bf_failure.specs.Tried.{IsContextOf, log_of, try_text}
 
 -- the log that tells more: standard error of how a program ended, standard output of what it printed
 abbrev pub ending_of : Failure → List ℕ
@@ -27,8 +27,7 @@ see_text (Some folder) try failure = codes ", see " ++ log_of folder try (ending
 -- as `failed: load 2024-02-14T00:00:00Z index 2 try 1: exit status 3, see PATH`, and a line feed
 abbrev pub failed_line : Option (List ℕ) → JobContext → Failure → List ℕ
 failed_line logs try failure =
-    codes "failed: " ++ (try.task_id.now ++ (codes " " ++ (run_text try ++ (index_text (codes " index ") try.map_index []
-    ++ (codes " try " ++ (decimal try.try_number ++ (codes ": " ++ (failure_text failure ++ (see_text logs try failure ++ codes "\n")))))))))
+    codes "failed: " ++ (try_text try ++ (codes ": " ++ (failure_text failure ++ (see_text logs try failure ++ codes "\n"))))
 
 -- the line of a failed try, as it may be answered
 pub record IsToldLine (may_answer : JobName → Given → Raw → Type 0) (dag : Dag) (intervals : List Interval) (logs : Option (List ℕ)) (line : List ℕ) : Type 0 where

@@ -33,6 +33,11 @@ abbrev pub index_text : List ℕ → ℤ → List ℕ → List ℕ
 index_text before (pos index) behind = before ++ (decimal index ++ behind)
 index_text before (negsuc n) behind = []
 
+-- the name of the try, as `load 2024-02-14T00:00:00Z index 2 try 1`
+abbrev pub try_text : JobContext → List ℕ
+try_text try =
+    try.task_id.now ++ (codes " " ++ (run_text try ++ (index_text (codes " index ") try.map_index [] ++ (codes " try " ++ decimal try.try_number))))
+
 -- FOLDER/dag=ID/run=MOMENT/task=ID/try=N with this ending, or index=I,try=N of an instance of an expanded task
 abbrev pub log_of : List ℕ → JobContext → List ℕ → List ℕ
 log_of folder try ending =

@@ -23,7 +23,7 @@ pub use detail::{Detail, DetailedRunner};
 pub use failure::Failure;
 pub use finding::find_failure;
 pub use laws::{failed_tries_have_failures, failures_are_causes};
-pub use line::failed_line;
+pub use line::{failed_line, try_text};
 pub use log::log_path;
 pub use teller::Teller;
 pub use telling::Telling;

@@ -1,6 +1,7 @@
 //! The line of a failed try.
 ghost use Rattle.std.specs.Prelude.{◌≡◌, IfOk, option_map, string_bytes};
 ghost use Rattle.bf_failure.specs.Told.{ending_of, failed_line as line_of, see_text as text_of_see};
+ghost use Rattle.bf_failure.specs.Tried.{try_text as text_of_try};
 
 use crate::failure::Failure;
 use crate::log::{index_text, log_path};
@@ -34,8 +35,21 @@ fn see_text(
     Ok(format!(in alloc; ", see {path}")?)
 }
 
+/// The name of a try, as `load 2024-02-14T00:00:00Z index 2 try 1`: the index of an instance of an expanded task.
+pub fn try_text(alloc: Global, context: &JobContext<'_>) -> Result<String, OutOfMemory>
+    ensures { IfOk result (λ text. string_bytes text ≡ text_of_try context.now) }
+{
+    let (task, run, attempt) = (
+        context.task_id,
+        context.data_interval_start,
+        context.try_number,
+    );
+    let index = index_text(alloc, " index ", context.map_index, "")?;
+    Ok(format!(in alloc; "{task} {run}{index} try {attempt}")?)
+}
+
 /// The line that is told of a failed try, as `failed: load 2024-02-14T00:00:00Z index 2 try 1: exit status 3, see PATH` with its
-/// line feed: the index of an instance of an expanded task, and the path below the folder of logs, where there is one.
+/// line feed: the path below the folder of logs, where there is one.
 pub fn failed_line(
     alloc: Global,
     logs: Option<&str>,
@@ -45,12 +59,7 @@ pub fn failed_line(
     ensures { IfOk result (λ line.
         string_bytes line ≡ line_of (option_map (λ l. l.now) logs.entry) context.now failure.now) }
 {
-    let (task, run, attempt) = (
-        context.task_id,
-        context.data_interval_start,
-        context.try_number,
-    );
-    let index = index_text(alloc, " index ", context.map_index, "")?;
+    let name = try_text(alloc, context)?;
     let see = see_text(alloc, logs, context, failure)?;
-    Ok(format!(in alloc; "failed: {task} {run}{index} try {attempt}: {failure}{see}\n")?)
+    Ok(format!(in alloc; "failed: {name}: {failure}{see}\n")?)
 }
