@@ -1,0 +1,34 @@
+//! The tries that run.
+ghost use Rattle.std.specs.Prelude.{◌≡◌, ◌++◌, ◌∷◌, [], OnErr, OnOk, filter};
+ghost use Rattle.bf_progress.specs.Due.{is_other};
+
+use bf_value::{JobName, OutOfMemory};
+use std::time::Duration;
+
+/// A try that runs, and when it began by the monotonic clock.
+#[derive(Clone, Copy, Debug, Drop)]
+pub(crate) struct Begun {
+    pub(crate) name: JobName,
+    pub(crate) at: Duration,
+}
+
+/// A try has begun.
+pub(crate) fn begin(running: &mut Vec<Begun>, begun: Begun) -> Result<(), OutOfMemory>
+    ensures ok { OnOk result (running.new.items ≡ running.old.items ++ begun ∷ []) }
+    ensures err { OnErr result (running.new.items ≡ running.old.items) }
+{
+    running.reserve(1)?;
+    running.push_reserved(begun);
+    Ok(())
+}
+
+/// A try has ended.
+pub(crate) fn end(running: &mut Vec<Begun>, name: JobName)
+    ensures { running.new.items ≡ filter (is_other name) running.old.items }
+{
+    running.retain(
+        |begun: &Begun| -> bool
+            ensures { result ≡ is_other name begun.now }
+        { begun.name != name },
+    );
+}

@@ -1,0 +1,126 @@
+//! What is known of a backfill while it runs.
+ghost use Rattle.std.specs.Prelude.{◌≡◌, [], OnErr, OnOk, false};
+ghost use Rattle.bf_progress.specs.Due.{IsNoted, IsRunningAfter, due_of, is_line_due as line_due, is_minute_over as minute_over, running_after, shown_of};
+
+use crate::begun::{Begun, begin, end};
+use crate::counts::Counts;
+use crate::due::{Due, seconds_between};
+use bf_core::{Core, Event};
+use bf_value::OutOfMemory;
+use std::alloc::Global;
+use std::time::Duration;
+
+/// After so many seconds without an event, and as many more each time, the try that runs longest is told.
+const MINUTE: u64 = 60;
+
+/// How far a backfill is, what runs, and what of that was told. Moments are the monotonic clock's.
+#[derive(Drop)]
+pub(crate) struct Board {
+    pub(crate) counts: Counts,
+    /// In the order in which they began.
+    pub(crate) running: Vec<Begun>,
+    /// Whether an event has come since the counts were shown.
+    pub(crate) has_changed: bool,
+    /// When the counts were shown last, or the backfill began.
+    pub(crate) shown: Duration,
+    /// When an event came last, or the backfill began.
+    pub(crate) changed: Duration,
+    /// For how many minutes since then it was told what runs longest.
+    pub(crate) minutes: u64,
+}
+
+impl Board {
+    /// Before the first event of a backfill that begins now.
+    pub(crate) fn of(alloc: Global, counts: Counts, now: Duration) -> Board
+        ensures running { result.running.items ≡ [] }
+        ensures moments { (result.shown ≡ now) × (result.changed ≡ now) × (result.minutes ≡ 0) }
+        ensures shown { (result.counts ≡ counts) × (result.has_changed ≡ false) }
+    {
+        Board {
+            counts,
+            running: Vec::new(alloc),
+            has_changed: false,
+            shown: now,
+            changed: now,
+            minutes: 0,
+        }
+    }
+
+    /// Notes which try runs, or runs no more. Where memory is wanting for one that begins, it isn't noted.
+    fn note_try(&mut self, event: &Event, now: Duration) -> Result<(), OutOfMemory>
+        ensures ok { OnOk result (self.new.running.items ≡ running_after event.now now self.old.running.items) }
+        ensures err { OnErr result (self.new.running.items ≡ self.old.running.items) }
+        ensures same { self.new ≡ record self.old { running = self.new.running } }
+    {
+        match event {
+            Event::Begin(name) => begin(
+                &mut self.running,
+                Begun {
+                    name: *name,
+                    at: now,
+                },
+            ),
+            Event::End(name, _) => {
+                end(&mut self.running, *name);
+                Ok(())
+            }
+            _ => Ok(()),
+        }
+    }
+
+    /// An event has come to the backfill, and so many tries run now. That its clock goes on is none that is told.
+    pub(crate) fn note(&mut self, event: &Event, core: &Core<'_>, running: u32, now: Duration)
+        ensures running { IsRunningAfter event.now now self.old.running.items self.new.running.items }
+        ensures noted { IsNoted event.now running now self.old self.new }
+    {
+        if let Event::Tick { .. } = event {
+            return;
+        }
+        self.counts.note(event, core);
+        self.counts.running = running;
+        let _ = self.note_try(event, now);
+        self.has_changed = true;
+        self.changed = now;
+        self.minutes = 0;
+    }
+
+    /// Whether no event has come for a minute more than was told.
+    fn is_minute_over(&self, now: Duration) -> bool
+        ensures { result ≡ minute_over self.now now }
+    {
+        self.minutes < seconds_between(self.changed, now) / MINUTE
+    }
+
+    /// Whether the counts are to be shown: a second after they were, where they have changed, or where they are kept on a
+    /// terminal, on which other lines may have taken their place.
+    fn is_line_due(&self, now: Duration, keeps_line: bool) -> bool
+        ensures { result ≡ line_due self.now now keeps_line }
+    {
+        (self.has_changed || keeps_line) && 0 < seconds_between(self.shown, now)
+    }
+
+    /// What is to be told now.
+    pub(crate) fn due(&self, now: Duration, keeps_line: bool) -> Due
+        ensures { result ≡ due_of self.now now keeps_line }
+    {
+        match self.running.first() {
+            Some(begun) if self.is_minute_over(now) => Due::Longest(*begun),
+            _ if self.is_line_due(now, keeps_line) => Due::Counts,
+            _ => Due::Nothing,
+        }
+    }
+
+    /// Notes that what is due now is told.
+    pub(crate) fn show(&mut self, due: Due, now: Duration)
+        ensures { self.new ≡ shown_of self.old due now }
+    {
+        match due {
+            Due::Nothing => {}
+            Due::Counts => {
+                self.has_changed = false;
+                self.shown = now;
+            }
+            Due::Longest(_) => self.minutes = seconds_between(self.changed, now) / MINUTE,
+        }
+    }
+}

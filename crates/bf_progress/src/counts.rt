@@ -1,0 +1,98 @@
+//! How far a backfill is.
+
+use bf_core::{Cell, Core, Event, Phase};
+use bf_try::Outcome;
+use bf_value::JobName;
+use std::fmt;
+
+/// How far a backfill is.
+#[derive(Clone, Copy, Debug, Drop)]
+pub(crate) struct Counts {
+    /// Of so many runs so many were opened, and so many of these closed.
+    pub(crate) runs: u64,
+    pub(crate) opened: u64,
+    pub(crate) closed: u64,
+    /// Of so many tasks, in all runs together, so many are settled.
+    pub(crate) tasks: u64,
+    pub(crate) settled: u64,
+    /// So many tries run, and so many wait.
+    pub(crate) running: u32,
+    pub(crate) waiting: u64,
+    /// So many instances failed, with no try left.
+    pub(crate) failed: u64,
+}
+
+/// As `runs 12/90 (4 open)  tasks 431/1800  running 8  waiting 3  failed 2`.
+impl fmt::Display for Counts {
+    ghost use Rattle.std.specs.Prelude.{Some};
+    ghost use Rattle.bf_progress.specs.Lines.{counts_text};
+
+    ghost output = { λ counts. Some (counts_text counts) };
+
+    fn fmt<W: fmt::Write>(&self, f: &mut fmt::Formatter<W>) -> fmt::Result {
+        let open = self.opened.saturating_sub(self.closed);
+        write!(f, "runs {}/{} ({open} open)", self.closed, self.runs)?;
+        write!(f, "  tasks {}/{}", self.settled, self.tasks)?;
+        write!(f, "  running {}", self.running)?;
+        write!(f, "  waiting {}  failed {}", self.waiting, self.failed)
+    }
+}
+
+impl Counts {
+    /// Before the first event of so many runs, each of so many tasks.
+    pub(crate) fn of(runs: usize, tasks: usize) -> Counts {
+        let (runs, tasks) = (runs as u64, tasks as u64);
+        Counts {
+            runs,
+            opened: 0,
+            closed: 0,
+            tasks: runs.saturating_mul(tasks),
+            settled: 0,
+            running: 0,
+            waiting: 0,
+            failed: 0,
+        }
+    }
+
+    /// A task was decided.
+    fn decide(&mut self, core: &Core<'_>, run: u32, task: u32) {
+        if let Some(Cell::Ran(instances)) = core.cell(run, task) {
+            self.waiting = self.waiting.saturating_add(instances.len() as u64);
+        }
+        self.settle(core, run, task);
+    }
+
+    /// A try has ended.
+    fn end(&mut self, core: &Core<'_>, name: JobName) {
+        match core.instance(name) {
+            Some(instance) => match instance.phase {
+                Phase::Waiting => self.waiting = self.waiting.saturating_add(1),
+                Phase::Finished(Outcome::Failed) => self.failed = self.failed.saturating_add(1),
+                _ => {}
+            },
+            None => {}
+        }
+        self.settle(core, name.run, name.task);
+    }
+
+    /// Counts a task that an event has settled.
+    fn settle(&mut self, core: &Core<'_>, run: u32, task: u32) {
+        if core.is_settled(run, task) {
+            self.settled = self.settled.saturating_add(1);
+        }
+    }
+
+    /// An event has come to the backfill.
+    pub(crate) fn note(&mut self, event: &Event, core: &Core<'_>) {
+        match event {
+            Event::Open => self.opened = self.opened.saturating_add(1),
+            Event::Close { .. } => self.closed = self.closed.saturating_add(1),
+            Event::Settle { run, task } | Event::Expand { run, task } => {
+                self.decide(core, *run, *task);
+            }
+            Event::Begin(_) => self.waiting = self.waiting.saturating_sub(1),
+            Event::End(name, _) => self.end(core, *name),
+            Event::Tick { .. } => {}
+        }
+    }
+}

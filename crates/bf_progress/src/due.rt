@@ -1,0 +1,23 @@
+//! What is to be told at a moment.
+ghost use Rattle.std.specs.Prelude.{◌≡◌};
+ghost use Rattle.bf_progress.specs.Due.{seconds_between as between};
+
+use crate::begun::Begun;
+use std::time::Duration;
+
+/// What is to be told.
+#[derive(Clone, Copy, Debug, Drop)]
+pub(crate) enum Due {
+    Nothing,
+    /// How far the backfill is.
+    Counts,
+    /// That this try runs, and has begun before every other that does.
+    Longest(Begun),
+}
+
+/// The whole seconds from one moment to another, and none where that lies before it.
+pub(crate) fn seconds_between(from: Duration, to: Duration) -> u64
+    ensures { result ≡ between from to }
+{
+    to.saturating_sub(from).as_secs()
+}

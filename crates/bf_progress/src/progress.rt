@@ -1,0 +1,128 @@
+//! What tells how far a backfill is.
+
+use crate::begun::Begun;
+use crate::board::Board;
+use crate::counts::Counts;
+use crate::due::{Due, seconds_between};
+use crate::longest::longest_line;
+use crate::screen::{Screen, tell};
+use bf_core::{Core, Event};
+use bf_failure::context_of;
+use bf_interval::Runs;
+use bf_plan::Plan;
+use std::alloc::Global;
+use std::sync::atomic::{AtomicBool, Ordering};
+use std::sync::{Mutex, Wait};
+use std::thread::Parker;
+use std::time::{Clock, Duration};
+
+/// The time between two looks at what is to be told, in seconds.
+const PAUSE: u64 = 1;
+
+/// How far a backfill is, as its thread notes it and another tells it.
+#[derive(Drop)]
+pub struct Progress<'a, RT> {
+    rt: &'a RT,
+    alloc: Global,
+    plan: &'a Plan,
+    runs: &'a Runs,
+    board: Mutex<Board>,
+    has_ended: AtomicBool,
+    /// Is rung when the backfill has ended.
+    bell: Parker,
+}
+
+impl<'a, RT: Screen + Wait + Clock> Progress<'a, RT> {
+    /// Before the first event of these runs of a plan.
+    pub fn of(rt: &'a RT, alloc: Global, plan: &'a Plan, runs: &'a Runs) -> Progress<'a, RT> {
+        let counts = Counts::of(runs.count(), plan.dag().tasks.len());
+        let now = rt.monotonic().unwrap_or(Duration::ZERO);
+        Progress {
+            rt,
+            alloc,
+            plan,
+            runs,
+            board: Mutex::new(Board::of(alloc, counts, now)),
+            has_ended: AtomicBool::new(false),
+            bell: Parker::new(),
+        }
+    }
+
+    /// The present moment of the monotonic clock.
+    fn now(&self) -> Duration {
+        self.rt.monotonic().unwrap_or(Duration::ZERO)
+    }
+
+    /// Notes that an event has come to the backfill, and that so many tries run now.
+    pub fn note(&self, event: &Event, core: &Core<'_>, running: u32) {
+        let now = self.now();
+        let mut board = self.board.lock(self.rt);
+        board.note(event, core, running, now);
+    }
+
+    /// Tells once a second what is due, until the backfill has ended.
+    pub fn keep_up(&self) {
+        for _ in self.rt.forever() {
+            self.bell.park_timeout(self.rt, Duration::from_secs(PAUSE));
+            if self.has_ended.load(Ordering::SeqCst) {
+                return;
+            }
+            self.tell_due();
+        }
+    }
+
+    /// The backfill has ended, or was stopped: nothing more is due.
+    pub fn end(&self) {
+        self.has_ended.store(true, Ordering::SeqCst);
+        self.bell.unpark();
+    }
+
+    /// Shows a last time how far the backfill is, on a line of its own.
+    pub fn show_last(&self) {
+        let counts = self.counts();
+        self.show(&counts, "\n");
+    }
+
+    fn counts(&self) -> Counts {
+        let board = self.board.lock(self.rt);
+        board.counts
+    }
+
+    /// What is due at this moment, which is noted as told, and how far the backfill is.
+    fn taken(&self, now: Duration, keeps_line: bool) -> (Due, Counts) {
+        let mut board = self.board.lock(self.rt);
+        let due = board.due(now, keeps_line);
+        board.show(due, now);
+        (due, board.counts)
+    }
+
+    /// Tells what is due. No lock is held while it is written.
+    fn tell_due(&self) {
+        let now = self.now();
+        let keeps_line = self.rt.is_terminal();
+        match self.taken(now, keeps_line) {
+            (Due::Nothing, _) => {}
+            (Due::Counts, counts) => self.show(&counts, if keeps_line { "" } else { "\n" }),
+            (Due::Longest(begun), _) => self.tell_longest(&begun, now),
+        }
+    }
+
+    /// Shows how far the backfill is, over the line before where the screen is a terminal. Where memory is wanting, nothing
+    /// is shown.
+    fn show(&self, counts: &Counts, end: &str) {
+        if let Ok(line) = format!(in self.alloc; "{counts}{end}") {
+            tell(self.rt, self.alloc, line.as_str());
+        }
+    }
+
+    /// Tells for how long a try has run. One of a task or a run that isn't there has no line.
+    fn tell_longest(&self, begun: &Begun, now: Duration) {
+        let Some(context) = context_of(self.plan, self.runs, begun.name) else {
+            return;
+        };
+        let seconds = seconds_between(begun.at, now);
+        if let Ok(line) = longest_line(self.alloc, seconds, &context) {
+            tell(self.rt, self.alloc, line.as_str());
+        }
+    }
+}

@@ -1,0 +1,47 @@
+//! Where progress is shown.
+ghost use Rattle.std.specs.Prelude.{◌≡◌, IfOk, string_bytes};
+ghost use Rattle.bf_progress.specs.Lines.{line_on as text_on};
+
+use bf_device::{Output, send};
+use bf_value::OutOfMemory;
+use std::alloc::Global;
+use std::io::IsTerminal;
+
+/// Shows how far a backfill is, beside what it prints.
+pub trait Screen {
+    /// Whether a line can be written over.
+    fn is_terminal(&self) -> bool;
+
+    /// Shows a text by one write. Where that fails, nothing is left to say so on.
+    fn show(&self, text: &str);
+}
+
+/// Standard error.
+impl Screen for HostRuntime {
+    fn is_terminal(&self) -> bool {
+        self.stderr().is_terminal()
+    }
+
+    fn show(&self, text: &str) {
+        let _ = send(&mut Output::new(self.stderr()), text.as_bytes());
+    }
+}
+
+/// What shows a line: on a terminal first what takes away the line of progress that may stand there.
+fn line_on(alloc: Global, is_terminal: bool, line: &str) -> Result<String, OutOfMemory>
+    ensures { IfOk result (λ text. string_bytes text ≡ text_on is_terminal line.now) }
+{
+    if is_terminal {
+        Ok(format!(in alloc; "\r\u{1b}[K{line}")?)
+    } else {
+        Ok(String::from_str(alloc, line)?)
+    }
+}
+
+/// Tells a line by one write, on a terminal in the place of the line of progress that may stand there. Where memory is wanting for
+/// it, nothing is told.
+pub fn tell<RT: Screen>(rt: &RT, alloc: Global, line: &str) {
+    if let Ok(text) = line_on(alloc, rt.is_terminal(), line) {
+        rt.show(text.as_str());
+    }
+}
