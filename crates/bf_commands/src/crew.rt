@@ -5,37 +5,45 @@ ghost use Rattle.bf_kept.specs.Kept.{AreFit, MayGiveUpAnew};
 ghost use Rattle.bf_commands.specs.OverTable.{is_alone as alone_by};
 ghost use Rattle.bf_commands.specs.Reported.{IsEndFrom};
 
-use crate::progress::Progress;
-use crate::screen::Screen;
+use crate::progress::Noting;
 use crate::stop::Stopping;
 use bf_core::{BackfillFault, Ended};
-use bf_exec::{Watch, resume};
+use bf_exec::{Observer, Silent, Watch, resume};
 use bf_interval::Runs;
 use bf_kept::{Keeping, KeptTries};
 use bf_moment::Moment;
 use bf_plan::Plan;
 use bf_process::{Launching, LogFaults};
+use bf_progress::{Progress, Screen};
 use bf_try::TaskRunner;
 use bf_workers::Workers;
 use std::alloc::Global;
 use std::sync::Wait;
-use std::thread::Threads;
+use std::thread;
+use std::thread::{Scope, Threads};
 use std::time::Clock;
 
-/// A machine that tries run on, with its memory, how many of them may run at once, whether progress is told, whether tries that fail
-/// are, and how programs are launched.
+/// What is told beside the report, while programs run, without each being asked for: progress, and which tries fail.
+#[derive(Clone, Copy, Debug, Drop)]
+pub struct Tells {
+    pub progress: bool,
+    pub failures: bool,
+}
+
+/// A machine that tries run on, with its memory, how many of them may run at once, whether progress is asked for, what is told
+/// beside, and how programs are launched.
 #[derive(Drop)]
 pub struct Crew<'m, RT> {
     pub rt: &'m RT,
     pub alloc: Global,
     pub workers: Workers,
     pub progress: bool,
-    pub tells_failures: bool,
+    pub tells: Tells,
     pub launching: Launching<'m>,
 }
 
 impl<'m, RT> Crew<'m, RT> {
-    /// The crew that is asked for, which tells of no try that fails, and launches each program by itself and without logs.
+    /// The crew that is asked for, which tells nothing beside, and launches each program by itself and without logs.
     pub fn of(rt: &'m RT, alloc: Global, workers: Workers, progress: bool) -> Crew<'m, RT>
         ensures machine { result.rt ≡ rt.entry }
         ensures workers { result.workers ≡ workers }
@@ -46,7 +54,10 @@ impl<'m, RT> Crew<'m, RT> {
             alloc,
             workers,
             progress,
-            tells_failures: false,
+            tells: Tells {
+                progress: false,
+                failures: false,
+            },
             launching: Launching {
                 launcher: None,
                 logs: None,
@@ -55,8 +66,8 @@ impl<'m, RT> Crew<'m, RT> {
         }
     }
 
-    /// The same crew, which launches programs so, and tells of tries that fail where that is asked for.
-    pub fn launching(self, launching: Launching<'m>, tells_failures: bool) -> Crew<'m, RT>
+    /// The same crew, which launches programs so, and tells this beside.
+    pub fn launching(self, launching: Launching<'m>, tells: Tells) -> Crew<'m, RT>
         ensures machine { result.rt ≡ self.entry.rt }
         ensures workers { result.workers ≡ self.entry.workers }
         ensures progress { result.progress ≡ self.entry.progress }
@@ -67,7 +78,7 @@ impl<'m, RT> Crew<'m, RT> {
             alloc: self.alloc,
             workers: self.workers,
             progress: self.progress,
-            tells_failures,
+            tells,
             launching,
         }
     }
@@ -86,7 +97,7 @@ impl<'m, RT> Crew<'m, RT> {
             alloc: self.alloc,
             workers: self.workers,
             progress: self.progress,
-            tells_failures: self.tells_failures,
+            tells: self.tells,
             launching: Launching {
                 launcher: self.launching.launcher,
                 logs: self.launching.logs,
@@ -129,17 +140,70 @@ impl<'m, RT> Crew<'m, RT> {
 }
 
 impl<'m, RT: Screen + Threads + Wait + Clock + Sync> Crew<'m, RT> {
-    /// Who tells the progress of so many runs of a plan, where it is told.
-    fn observer(&self, plan: &Plan, runs: usize) -> Option<Progress<'m, RT>> {
-        if self.progress {
-            Some(Progress::of(self.rt, self.alloc, plan, runs))
-        } else {
-            None
+    /// The end of a backfill by the workers, which goes on from tries that are kept, and whose events this observer is shown.
+    fn observed<'p, K, R, C, O>(
+        &self,
+        plan: &'p Plan,
+        runs: &Runs,
+        keeping: &Keeping<'_, K, R>,
+        clock: C,
+        observer: O,
+    ) -> Result<Ended<'p>, BackfillFault>
+    where
+        K: KeptTries + Sync,
+        R: TaskRunner + Sync,
+        C: bf_lane::Clock + Drop,
+        O: Observer + Drop,
+        requires { AreFit plan.now.dag (K.kept keeping.now.kept.now) }
+        ensures end { IfOk result (IsEndFrom (K.kept keeping.now.kept.now) (R.may_answer keeping.now.runner.now)
+            plan.entry.now.dag plan.entry.now.limits (length runs.now) self.now.workers) }
+        ensures err { IfErr result (MayFail
+            (MayGiveUpAnew (K.kept keeping.now.kept.now) (R.may_give_up keeping.now.runner.now))) }
+    {
+        let mut watch = Watch { clock, observer };
+        resume(
+            self.rt,
+            self.alloc,
+            plan,
+            runs,
+            self.workers,
+            keeping,
+            &mut watch,
+        )
+    }
+
+    /// The same, beside a thread that tells its progress. Where that can't be started, only the last line is told.
+    fn told<'s, 'p, E, K, R, C>(
+        &self,
+        scope: &Scope<'s, E>,
+        progress: &'s Progress<'_, RT>,
+        plan: &'p Plan,
+        runs: &Runs,
+        keeping: &Keeping<'_, K, R>,
+        clock: C,
+    ) -> Result<Ended<'p>, BackfillFault>
+    where
+        K: KeptTries + Sync,
+        R: TaskRunner + Sync,
+        C: bf_lane::Clock + Drop,
+        requires { AreFit plan.now.dag (K.kept keeping.now.kept.now) }
+        ensures end { IfOk result (IsEndFrom (K.kept keeping.now.kept.now) (R.may_answer keeping.now.runner.now)
+            plan.entry.now.dag plan.entry.now.limits (length runs.now) self.now.workers) }
+        ensures err { IfErr result (MayFail
+            (MayGiveUpAnew (K.kept keeping.now.kept.now) (R.may_give_up keeping.now.runner.now))) }
+    {
+        let teller = scope.spawn(move || progress.keep_up());
+        let ended = self.observed(plan, runs, keeping, clock, Noting { progress });
+        progress.end();
+        if let Ok(teller) = teller {
+            teller.join(self.rt);
         }
+        progress.show_last();
+        ended
     }
 
     /// The end of a backfill by the workers, which goes on from tries that are kept. Its progress is told where that is asked
-    /// for.
+    /// for, and where it is told without being asked.
     pub(crate) fn resumed<'p, K: KeptTries + Sync, R: TaskRunner + Sync, C: bf_lane::Clock + Drop>(
         &self,
         plan: &'p Plan,
@@ -153,20 +217,21 @@ impl<'m, RT: Screen + Threads + Wait + Clock + Sync> Crew<'m, RT> {
         ensures err { IfErr result (MayFail
             (MayGiveUpAnew (K.kept keeping.now.kept.now) (R.may_give_up keeping.now.runner.now))) }
     {
-        let observer = self.observer(plan, runs.count());
-        let mut watch = Watch { clock, observer };
-        let ended = resume(
-            self.rt,
-            self.alloc,
-            plan,
-            runs,
-            self.workers,
-            keeping,
-            &mut watch,
-        );
-        if let Some(progress) = &watch.observer {
-            progress.end();
+        if !self.progress && !self.tells.progress {
+            return self.observed(plan, runs, keeping, clock, Silent);
         }
-        ended
+        let progress = Progress::of(self.rt, self.alloc, plan, runs);
+        let lent = &progress;
+        thread::scope(
+            thread::scope_env(),
+            self.rt,
+            |scope| -> Result<Ended<'_>, BackfillFault>
+                requires { AreFit plan.now.dag (K.kept keeping.now.kept.now) }
+                ensures end { IfOk result (IsEndFrom (K.kept keeping.entry.now.kept.now) (R.may_answer keeping.entry.now.runner.now)
+                    plan.entry.now.dag plan.entry.now.limits (length runs.entry.now) self.entry.now.workers) }
+                ensures err { IfErr result (MayFail
+                    (MayGiveUpAnew (K.kept keeping.entry.now.kept.now) (R.may_give_up keeping.entry.now.runner.now))) }
+            { self.told(scope, lent, plan, runs, keeping, clock) },
+        )
     }
 }

@@ -6,13 +6,13 @@ ghost use Rattle.bf_journal.specs.Heads.{head_text};
 ghost use Rattle.bf_journal.specs.Left.{IsLeftPart, IsMadeWhole};
 ghost use Rattle.bf_commands.specs.Journaled.{HasTries, IsFaultOfJournal};
 
-use crate::screen::Screen;
 use crate::telling::tell_of;
 use bf_command_fault::{CommandFault, StopFault};
 use bf_interval::Runs;
 use bf_journal::{Cuttable, head_of, is_made_whole, read_journal};
 use bf_moment::Moment;
 use bf_plan::Plan;
+use bf_progress::Screen;
 use bf_try::Ledger;
 use bf_value::Text;
 use std::alloc::Global;

@@ -3,26 +3,25 @@ ghost use Rattle.std.specs.Prelude.{◌≡◌};
 ghost use Rattle.bf_process.specs.Words.{launching_of};
 
 use crate::crew::Crew;
-use crate::screen::Screen;
 use bf_failure::{Teller, Telling};
 use bf_interval::Runs;
 use bf_plan::Plan;
 use bf_process::{LogFaults, ProcessRunner, Starter};
+use bf_progress::{Screen, tell};
+use std::alloc::Global;
 
-/// Shows lines on a screen, on a terminal in the place of the line of progress that stands there.
+/// Tells lines on a screen.
 #[derive(Drop)]
 pub(crate) struct Shower<'m, RT> {
     rt: &'m RT,
+    alloc: Global,
 }
 
 impl<'m, RT: Screen> Teller for Shower<'m, RT> {
     ghost may_tell = { λ _ _. Unit {0} };
 
     fn tell(&self, line: &str) {
-        if self.rt.is_terminal() {
-            self.rt.show("\r\u{1b}[K");
-        }
-        self.rt.show(line);
+        tell(self.rt, self.alloc, line);
     }
 }
 
@@ -44,8 +43,11 @@ pub(crate) fn programs_of<'a, RT: Starter + Screen>(
     } }
 {
     let runner = ProcessRunner::new(crew.rt, crew.alloc, plan, runs, crew.launching);
-    let teller = if crew.tells_failures {
-        Some(Shower { rt: crew.rt })
+    let teller = if crew.tells.failures {
+        Some(Shower {
+            rt: crew.rt,
+            alloc: crew.alloc,
+        })
     } else {
         None
     };

@@ -8,7 +8,6 @@ ghost use Rattle.bf_commands.specs.OverTable.{IsUnsent};
 ghost use Rattle.bf_commands.specs.Reported.{IsEndFrom};
 
 use crate::crew::Crew;
-use crate::screen::Screen;
 use crate::stop::stopped_recording;
 use crate::stopping_clock::StoppingClock;
 use bf_command_fault::CommandFault;
@@ -19,6 +18,7 @@ use bf_journal::{Durable, Journaled, Recorder, Recording, Stop};
 use bf_kept::{Keeping, KeptTries};
 use bf_plan::Plan;
 use bf_process::LogFaults;
+use bf_progress::Screen;
 use std::alloc::Global;
 use std::marker::Brand;
 use std::sync::Wait;

@@ -1,7 +1,7 @@
 //! What is told of a journal, beside the report.
 
-use crate::screen::Screen;
 use bf_journal::Found;
+use bf_progress::Screen;
 use std::alloc::{AllocError, Global};
 
 /// How many whole lines stand behind the head.
