@@ -1,7 +1,7 @@
 -- The lines that are told of progress.
 use Rattle.std.specs.Prelude.{ℕ, ◌-◌, Bool, true, false, List, [], ◌∷◌, ◌++◌, codes, decimal}
 use Rattle.bf_words.specs.declared.context.JobContext.{JobContext}
-use Rattle.bf_failure.specs.Tried.{index_text, run_text}
+use Rattle.bf_failure.specs.Tried.{try_text}
 use Rattle.bf_progress.specs.declared.counts.Counts.{Counts}
 
 -- as `runs 12/90 (4 open)  tasks 431/1800  running 8  waiting 3  failed 2`
@@ -10,11 +10,6 @@ counts_text c =
     codes "runs " ++ (decimal c.closed ++ (codes "/" ++ (decimal c.runs ++ (codes " (" ++ (decimal (c.opened - c.closed) ++ (codes " open)"
     ++ (codes "  tasks " ++ (decimal c.settled ++ (codes "/" ++ (decimal c.tasks ++ (codes "  running " ++ (decimal c.running
     ++ (codes "  waiting " ++ (decimal c.waiting ++ (codes "  failed " ++ decimal c.failed)))))))))))))))
-
--- as `crawl 2024-01-01T05:00:00Z index 2 try 1`
-abbrev pub try_text : JobContext → List ℕ
-try_text try =
-    try.task_id.now ++ (codes " " ++ (run_text try ++ (index_text (codes " index ") try.map_index [] ++ (codes " try " ++ decimal try.try_number))))
 
 -- as `running for 3600 s: crawl 2024-01-01T05:00:00Z index 2 try 1`, and a line feed
 abbrev pub longest_line : ℕ → JobContext → List ℕ
