@@ -17,7 +17,7 @@ use crate::input::{GraphFiles, graph_files, moment_of, named_table_bytes, range_
 use crate::journaled::clear_recorded;
 use crate::journals::Journals;
 use crate::launchers::{Launchers, look_at};
-use crate::launching::{launching_asked, path_named, tells_failures};
+use crate::launching::{launching_asked, path_named, tells_of};
 use crate::source::Source;
 use bf_command_fault::{CommandFault, Status};
 use bf_command_line::{ClearAsked, GraphAsked, JournalAsked, SeedAsked};
@@ -234,7 +234,8 @@ where
     )?;
     let prepared = prepared_in(alloc, asked.graph, asked.table, range, files)?;
     let (launcher, logs) = (asked.launcher, asked.logs);
-    let tells = tells_failures(rt, asked.quiet, asked.progress, &logs);
+    let by_programs = prepared.answers.is_none();
+    let tells = tells_of(rt, by_programs, asked.quiet, asked.progress, &logs);
     let crew = Crew::of(rt, alloc, asked.workers, asked.progress).launching(
         launching_asked(&launcher, &logs),
         tells,

@@ -1,9 +1,9 @@
 //! How the programs of tries are launched, and whether tries that fail are told.
-ghost use Rattle.std.specs.Prelude.{◌≡◌, option_map, string_bytes};
+ghost use Rattle.std.specs.Prelude.{◌≡◌, false, option_map, string_bytes, true};
 ghost use Rattle.bf_process.specs.Words.{launching_of};
 ghost use Rattle.bf_program.specs.Commands.{launching_asked as asked};
 
-use bf_commands::Screen;
+use bf_commands::{Screen, Tells};
 use bf_process::Launching;
 
 /// The path that is named, where one is.
@@ -27,12 +27,22 @@ pub(crate) fn launching_asked<'a>(
     }
 }
 
-/// Whether tries that fail are told: where progress is told, where logs are kept, and on a terminal; but not where all is to be quiet.
-pub(crate) fn tells_failures<RT: Screen>(
+/// What is told without being asked for, where programs make the tries: progress on a terminal; which tries fail there, where
+/// progress is asked for, and where logs are kept; and nothing where all is to be quiet.
+pub(crate) fn tells_of<RT: Screen>(
     rt: &RT,
+    by_programs: bool,
     quiet: bool,
     progress: bool,
     logs: &Option<String>,
-) -> bool {
-    !quiet && (progress || logs.is_some() || rt.is_terminal())
+) -> Tells
+    ensures quiet { quiet ≡ true → (result.progress ≡ false) × (result.failures ≡ false) }
+    ensures table { by_programs ≡ false → (result.progress ≡ false) × (result.failures ≡ false) }
+{
+    let is_terminal = rt.is_terminal();
+    let tells = by_programs && !quiet;
+    Tells {
+        progress: tells && is_terminal,
+        failures: tells && (is_terminal || progress || logs.is_some()),
+    }
 }

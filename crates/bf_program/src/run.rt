@@ -10,7 +10,7 @@ use crate::input::{graph_files, range_of};
 use crate::journaled::run_reported;
 use crate::journals::Journals;
 use crate::launchers::{Launchers, look_at};
-use crate::launching::{launching_asked, path_named, tells_failures};
+use crate::launching::{launching_asked, path_named, tells_of};
 use crate::source::Source;
 use bf_command_fault::{CommandFault, Status};
 use bf_command_line::RunAsked;
@@ -50,7 +50,7 @@ where
     look_at(journals, alloc, path_named(&asked.launcher))?;
     let files = graph_files(alloc, asked.graph, files)?;
     let (launcher, logs) = (asked.launcher, asked.logs);
-    let tells = tells_failures(rt, asked.quiet, asked.progress, &logs);
+    let tells = tells_of(rt, true, asked.quiet, asked.progress, &logs);
     let crew = Crew::of(rt, alloc, asked.workers, asked.progress).launching(
         launching_asked(&launcher, &logs),
         tells,
