@@ -6,3 +6,4 @@ pub mod Replies
 pub mod Within
 pub mod Own
 pub mod Sharing
+pub mod Failures

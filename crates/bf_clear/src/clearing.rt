@@ -1,11 +1,13 @@
 //! Clearing.
-ghost use Rattle.std.specs.Prelude.{◌≡◌, None, IfOk, IfErr};
+ghost use Rattle.std.specs.Prelude.{◌≡◌, [], None, IfOk, IfErr};
 ghost use Rattle.bf_kept.specs.Kept.{AreFit};
 ghost use Rattle.bf_dependents.specs.Seeds.{places_of as places_in};
+ghost use Rattle.bf_clear.specs.Failing.{AreKeptOfFailed};
 ghost use Rattle.bf_clear.specs.Keeping.{kept_in, AreKept};
 ghost use Rattle.bf_clear.specs.Matching.{clear_fault, refusal};
 
 use crate::cleared::Cleared;
+use crate::failing::failed_places;
 use crate::matching::is_report_of;
 use bf_dependents::{ClearFault, Seed, dependents, places_of, refuse_seeds};
 use bf_interval::Runs;
@@ -37,6 +39,28 @@ pub fn clear<'a>(
         return Err(ClearFault::ReportMismatch);
     }
     let places = places_of(alloc, plan, intervals, seeds)?;
+    let cleared = dependents(alloc, plan, places.as_slice(), intervals.len() as u32)?;
+    Ok(Cleared::new(plan, report, cleared))
+}
+
+/// The same where each instance that failed is cleared: where none did, all that the report tells of is kept. Refused is a report
+/// that isn't one of the plan over these runs.
+pub fn clear_failed<'a>(
+    alloc: Global,
+    plan: &'a Plan,
+    runs: &Runs,
+    report: &'a Report,
+) -> Result<Cleared<'a>, ClearFault>
+    ensures ok { IfOk result (λ cleared. clear_fault plan.entry.now.dag runs.now report.entry.now [] ≡ None) }
+    ensures kept { IfOk result (λ cleared. AreKeptOfFailed plan.entry.now.dag runs.now report.entry.now (kept_in cleared)) }
+    ensures fit { IfOk result (λ cleared. AreFit plan.entry.now.dag (kept_in cleared)) }
+    ensures err { IfErr result (λ fault. clear_fault plan.entry.now.dag runs.now report.entry.now [] ≡ refusal fault) }
+{
+    let intervals = runs.intervals();
+    if !is_report_of(plan.dag(), intervals, report) {
+        return Err(ClearFault::ReportMismatch);
+    }
+    let places = failed_places(alloc, plan, runs, report)?;
     let cleared = dependents(alloc, plan, places.as_slice(), intervals.len() as u32)?;
     Ok(Cleared::new(plan, report, cleared))
 }

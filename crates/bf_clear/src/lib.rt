@@ -8,6 +8,7 @@
 
 mod cleared;
 mod clearing;
+mod failing;
 mod laws;
 mod looking;
 mod matching;
@@ -16,5 +17,6 @@ mod working;
 
 pub use bf_dependents::{ClearFault, Seed};
 pub use cleared::Cleared;
-pub use clearing::clear;
+pub use clearing::{clear, clear_failed};
+pub use failing::failed_places;
 pub use laws::{own_reports_match, reports_tell_ledgers, resumed_backfills_keep_the_rest};

@@ -1,0 +1,114 @@
+-- The places that are listed are those of the instances that failed.
+use Rattle.std.proofs.Common.{◌≡◌, ◌⊎◌, inl, inr, ℕ, zero, suc, ◌<◌, ◌≤◌, ◌+◌, ℤ, pos, negsuc, ◌<ℤ◌, if◌then◌else◌, Bool, true, false, List, [], ◌∷◌, ◌++◌, length, Contains, Option, None, Some, refl, sym, ap, ◌∙◌, subst, append_assoc, add-one, arith}
+use Rattle.std.specs.Option.{option_and_then}
+use Rattle.std.proofs.Math.Nat.{eq-or-lt_of_le}
+use Rattle.std.proofs.lemmas.Int.{ints}
+use Rattle.std.proofs.lemmas.List.Elements.{Contains-append_cases, Contains-append_left, Contains-append_right}
+use Rattle.std.proofs.lemmas.Option.{slice_get_within}
+use Rattle.bf_interval.specs.declared.interval.Interval.{Interval}
+use Rattle.bf_core.specs.Terms.{Dag, Outcome}
+use Rattle.bf_try.specs.Tries.{is_failed}
+use Rattle.bf_report.specs.declared.report.InstanceReport.{InstanceReport}
+use Rattle.bf_report.specs.declared.report.TaskReport.{TaskReport}
+use Rattle.bf_report.specs.declared.report.Report.{Report}
+use Rattle.bf_dependents.specs.declared.place.Place.{Place}
+use Rattle.bf_clear.specs.Entries.{found_at, instance_at, report_at}
+use Rattle.bf_clear.specs.Failing.{count_at, count_of, failed_at, failed_of_run, failed_of_task, failed_place, up_to, AreFailed, HasFailed, IsOfFailed}
+
+-- ---- listed so far
+
+pub up_to-more : (f : ℕ → List Place) (before : List Place) (n : ℕ) → (before ++ up_to f n) ++ f n ≡ before ++ up_to f (n + 1)
+up_to-more f before n = append_assoc before (up_to f n) (f n) ∙ ap (λ m. before ++ up_to f m) (sym (add-one n))
+
+in-up_to : (f : ℕ → List Place) (n : ℕ) (p : Place) → Contains (up_to f n) p → (i : ℕ) × (i < n) × Contains (f i) p
+in-up_to f zero p c = absurd (omega (arith, c.1))
+in-up_to f (suc n) p c = elim (Contains-append_cases (up_to f n) (f n) p c) [
+  | inl d ↦ let rest : _ = in-up_to f n p d in (rest.0, omega (arith, rest.1), rest.2)
+  | inr d ↦ (n, omega arith, d)
+]
+
+same-or-below : (i n : ℕ) → i < suc n → (i ≡ n) ⊎ (i < n)
+same-or-below i n l = let low : i ≤ n = omega (arith, l) in eq-or-lt_of_le low
+
+up_to-has : (f : ℕ → List Place) (n i : ℕ) (p : Place) → i < n → Contains (f i) p → Contains (up_to f n) p
+up_to-has f zero i p l c = absurd (omega (arith, l))
+up_to-has f (suc n) i p l c = elim (same-or-below i n l) [
+  | inl e ↦ Contains-append_right (up_to f n) (f n) p (subst (λ (m : ℕ). Contains (f m) p) e c)
+  | inr m ↦ Contains-append_left (up_to f n) (f n) p (up_to-has f n i p m c)
+]
+
+-- ---- one instance
+
+abbrev at : ℕ → ℕ → ℤ → Place
+at k t i = record { run = k; task = t; index = Some i }
+
+failed-is : (o : Outcome) → is_failed o ≡ true → o ≡ Outcome.Failed
+failed-is (Outcome.Success v) e = cc
+failed-is Outcome.Failed e = refl
+failed-is Outcome.Skipped e = cc
+
+one-failed : (p q : Place) (o : Option InstanceReport) → Contains (failed_place p o) q → (q ≡ p) × ((x : InstanceReport) × (o ≡ Some x) × (x.result.outcome ≡ Outcome.Failed))
+one-failed p q None c = absurd (omega (arith, c.1))
+one-failed p q (Some x) c = go (is_failed x.result.outcome) refl c
+  where
+    go : (b : Bool) → is_failed x.result.outcome ≡ b → Contains (if b then p ∷ [] else []) q → (q ≡ p) × ((y : InstanceReport) × (Some x ≡ Some y) × (y.result.outcome ≡ Outcome.Failed))
+    go true e (zero, l, same) = (sym same, (x, refl, failed-is x.result.outcome e))
+    go true e (suc k, l, same) = absurd (omega (arith, l))
+    go false e (k, l, same) = absurd (omega (arith, l))
+
+failed-one : (p : Place) (o : Option InstanceReport) (x : InstanceReport) → o ≡ Some x → x.result.outcome ≡ Outcome.Failed → Contains (failed_place p o) p
+failed-one p o x is failed =
+    subst (λ (o : Option InstanceReport). Contains (failed_place p o) p) (sym is)
+    (subst (λ (b : Bool). Contains (if b then p ∷ [] else []) p) (sym (ap is_failed failed)) (0, omega arith, refl))
+
+-- ---- a task
+
+count-over : (o : Option TaskReport) (j : ℕ) (x : InstanceReport) → option_and_then (λ task. instance_at task (pos j)) o ≡ Some x → j < 2_147_483_648 → j < count_of o
+count-over None j x e l = cc
+count-over (Some TaskReport.NoStatus) j x e l = cc
+count-over (Some TaskReport.Skipped) j x e l = cc
+count-over (Some TaskReport.UpstreamFailed) j x e l = cc
+count-over (Some (TaskReport.Ran y)) j x e l = cc
+count-over (Some (TaskReport.Mapped ys)) j x e l = let low : j < length ys = slice_get_within ys j x e in omega (arith, low, l)
+
+none-below : (o : Option TaskReport) (n : ℕ) (x : InstanceReport) → option_and_then (λ task. instance_at task (negsuc (suc n))) o ≡ Some x → ⊥
+none-below None n x e = cc
+none-below (Some TaskReport.NoStatus) n x e = cc
+none-below (Some TaskReport.Skipped) n x e = cc
+none-below (Some TaskReport.UpstreamFailed) n x e = cc
+none-below (Some (TaskReport.Ran y)) n x e = cc
+none-below (Some (TaskReport.Mapped ys)) n x e = cc
+
+module _ (report : Report) where
+  of-place : (k t : ℕ) (i : ℤ) (p : Place) → Contains (failed_at report k t i) p → IsOfFailed report p
+  of-place k t i p c =
+      let is : _ = one-failed (at k t i) p (found_at report k t i) c in
+      subst (IsOfFailed report) (sym is.0) (i, refl, is.1)
+
+  of-task : (k t : ℕ) (p : Place) → Contains (failed_of_task report k t) p → IsOfFailed report p
+  of-task k t p c = elim (Contains-append_cases (failed_at report k t (negsuc 0)) _ p c) [
+    | inl d ↦ of-place k t (negsuc 0) p d
+    | inr d ↦ let one : _ = in-up_to (λ i. failed_at report k t (pos i)) (count_at report k t) p d in of-place k t (pos one.0) p one.2
+  ]
+
+  task-has : (k t : ℕ) (i : ℤ) → i <ℤ pos 2_147_483_648 → HasFailed report k t i → Contains (failed_of_task report k t) (at k t i)
+  task-has k t (pos j) l (x, found, failed) =
+      let small : j < 2_147_483_648 = omega (arith, ints, l) in
+      Contains-append_right (failed_at report k t (negsuc 0)) _ (at k t (pos j))
+      (up_to-has (λ i. failed_at report k t (pos i)) (count_at report k t) j (at k t (pos j)) (count-over (report_at report k t) j x found small)
+      (failed-one (at k t (pos j)) (found_at report k t (pos j)) x found failed))
+  task-has k t (negsuc zero) l (x, found, failed) =
+      Contains-append_left (failed_at report k t (negsuc 0)) _ (at k t (negsuc 0)) (failed-one (at k t (negsuc 0)) (found_at report k t (negsuc 0)) x found failed)
+  task-has k t (negsuc (suc n)) l (x, found, failed) = absurd (none-below (report_at report k t) n x found)
+
+pub listed-failed : (dag : Dag) (intervals : List Interval) (report : Report) (runs tasks : ℕ) (places : List Place) → places ≡ up_to (failed_of_run report tasks) runs →
+    runs ≡ length intervals → tasks ≡ length dag.tasks → AreFailed dag intervals report places
+listed-failed dag intervals report runs tasks places are all_runs all_tasks = subst (AreFailed dag intervals report) (sym are) (record {
+  each = λ p c.
+      let run : _ = in-up_to (failed_of_run report tasks) runs p c in
+      let task : _ = in-up_to (failed_of_task report run.0) tasks p run.2 in
+      of-task report run.0 task.0 p task.2;
+  all = λ k t i l m low failed.
+      up_to-has (failed_of_run report tasks) runs k (at k t i) (omega (arith, l, all_runs))
+      (up_to-has (failed_of_task report k) tasks t (at k t i) (omega (arith, m, all_tasks)) (task-has report k t i low failed));
+})

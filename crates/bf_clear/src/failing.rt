@@ -1,0 +1,127 @@
+//! Which instances failed.
+ghost use Rattle.std.specs.Prelude.{◌≡◌, ◌≤◌, ◌++◌, IfOk, OnOk};
+ghost use Rattle.bf_try.specs.Tries.{is_failed};
+ghost use Rattle.bf_clear.specs.Failing.{count_at, failed_at, failed_of_run, failed_of_task as of_task, up_to, AreFailed};
+
+use crate::looking::{instance_at, task_at};
+use bf_dependents::Place;
+use bf_interval::Runs;
+use bf_plan::Plan;
+use bf_report::{InstanceReport, Report, TaskReport};
+use bf_value::{JobName, OutOfMemory};
+use bf_xcom::Outcome;
+use std::alloc::Global;
+
+/// How many instances of a task a map index can name.
+const MOST_INSTANCES: usize = 2_147_483_648;
+
+fn has_failed(alloc: Global, instance: &InstanceReport) -> Result<bool, OutOfMemory>
+    ensures { IfOk result (λ failed. failed ≡ is_failed instance.now.result.outcome) }
+{
+    let ended = instance.result(alloc)?;
+    Ok(matches!(&ended.outcome, Outcome::Failed))
+}
+
+fn first_try(run: u32, task: u32, index: i32) -> JobName
+    ensures { result ≡ record { run = run; task = task; index = index; attempt = 1 } }
+{
+    JobName {
+        run,
+        task,
+        index,
+        attempt: 1,
+    }
+}
+
+/// Adds an instance, where the report tells of it and it failed.
+fn add_failed(
+    alloc: Global,
+    report: &Report,
+    name: JobName,
+    found: &mut Vec<Place>,
+) -> Result<(), OutOfMemory>
+    ensures { OnOk result (found.new.items ≡ found.old.items ++ failed_at report.now name.run name.task name.index) }
+{
+    let Some(instance) = instance_at(report, name) else {
+        return Ok(());
+    };
+    if has_failed(alloc, instance)? {
+        let index = Some(name.index);
+        found.push(Place {
+            run: name.run,
+            task: name.task,
+            index,
+        })?;
+    }
+    Ok(())
+}
+
+fn instances_at(report: &Report, run: u32, task: u32) -> usize
+    ensures count { result ≡ count_at report.now run task }
+    ensures few { result ≤ 2_147_483_648 }
+{
+    match task_at(report, run, task) {
+        Some(TaskReport::Mapped(instances)) => instances.len().min(MOST_INSTANCES),
+        _ => 0,
+    }
+}
+
+fn add_of_task(
+    alloc: Global,
+    report: &Report,
+    run: u32,
+    task: u32,
+    found: &mut Vec<Place>,
+) -> Result<(), OutOfMemory>
+    ensures { OnOk result (found.new.items ≡ found.old.items ++ of_task report.now run task) }
+{
+    add_failed(alloc, report, first_try(run, task, -1), found)?;
+    for place in 0..instances_at(report, run, task) {
+        add_failed(alloc, report, first_try(run, task, place as i32), found)?;
+    }
+    Ok(())
+}
+
+fn add_of_run(
+    alloc: Global,
+    report: &Report,
+    run: u32,
+    tasks: u32,
+    found: &mut Vec<Place>,
+) -> Result<(), OutOfMemory>
+    ensures { OnOk result (found.new.items ≡ found.old.items ++ failed_of_run report.now tasks run) }
+{
+    for task in 0..tasks {
+        add_of_task(alloc, report, run, task, found)?;
+    }
+    Ok(())
+}
+
+fn failed_in(
+    alloc: Global,
+    report: &Report,
+    runs: u32,
+    tasks: u32,
+) -> Result<Vec<Place>, OutOfMemory>
+    ensures { IfOk result (λ places. places.items ≡ up_to (failed_of_run report.now tasks) runs) }
+{
+    let mut found = Vec::new(alloc);
+    for run in 0..runs {
+        add_of_run(alloc, report, run, tasks, &mut found)?;
+    }
+    Ok(found)
+}
+
+/// The instances that failed, of the tasks of a plan in these runs, in order. Takes time over the report.
+pub fn failed_places(
+    alloc: Global,
+    plan: &Plan,
+    runs: &Runs,
+    report: &Report,
+) -> Result<Vec<Place>, OutOfMemory>
+    ensures { IfOk result (λ places. AreFailed plan.now.dag runs.now report.now places.items) }
+{
+    let tasks = plan.dag().tasks.len() as u32;
+    let runs = runs.intervals().len() as u32;
+    failed_in(alloc, report, runs, tasks)
+}
