@@ -170,9 +170,9 @@ Means text t = (n : ℤ) × (Spells text n × (t.nanosecond ≡ nearest n))
 abbrev pub MeansRange : RangeAsked → MomentRange → Type 0
 MeansRange asked range = Means (string_bytes asked.from) range.from × Means (string_bytes asked.to) range.to
 
--- the texts mean this task in the run of this logical date
+-- the texts mean this task in the run of this logical date, with all its instances
 abbrev pub MeansSeed : SeedAsked → Seed → Type 0
-MeansSeed asked seed = (seed.task ≡ string_bytes asked.task) × Means (string_bytes asked.run) seed.run
+MeansSeed asked seed = (seed.task ≡ string_bytes asked.task) × Means (string_bytes asked.run) seed.run × (seed.index ≡ None)
 
 -- no moment is spelled so
 abbrev pub IsNoMoment : List ℕ → Type 0

@@ -40,6 +40,7 @@ fn seed_of(asked: SeedAsked) -> Result<Seed, CommandFault>
     Ok(Seed {
         task: Text::new(asked.task),
         run,
+        index: None,
     })
 }
 

@@ -1,0 +1,91 @@
+-- Lines of a seeds file, and what they say.
+use Rattle.std.specs.Prelude.{◌≡◌, ◌⊎◌, ℕ, ◌<◌, ◌==◌, nat_lt, ℤ, pos, negsuc, Bool, true, false, List, [], ◌∷◌, ◌++◌, length, codes, decimal, Option, Some, None}
+use Rattle.std.specs.List.{after_first, before_first, position_or_len}
+use Rattle.jiff.specs.declared.timestamp.Timestamp.{Timestamp}
+use Rattle.bf_interval.specs.declared.interval.Interval.{Interval}
+use Rattle.bf_moment.specs.Moment.{Spells, nearest}
+use Rattle.bf_plan.specs.declared.plan.Dag.{Dag}
+use Rattle.bf_dependents.specs.declared.seeds.Seed.{Seed}
+use Rattle.bf_dependents.specs.Faults as clearing
+use Rattle.bf_dependents.specs.Seeds.{seed_fault}
+use Rattle.bf_seeds.specs.declared.fault.SeedsFault.{SeedsFault}
+use Rattle.bf_seeds.specs.declared.fault.SeedsFault.TheVariants.{BadSeed, Unknown, OutOfMemory}
+
+-- the number of the refusal, which want of memory doesn't have
+abbrev pub fault_number : SeedsFault → Option ℕ
+fault_number (BadSeed line) = Some 45
+fault_number (Unknown fault) = clearing.fault_number fault
+fault_number OutOfMemory = None
+
+-- ---- a line
+
+abbrev pub is_space : ℕ → Bool
+is_space byte = byte == 32
+
+abbrev pub parts : Bool → List ℕ → Option (List ℕ × List ℕ)
+parts true text = Some (before_first is_space text, after_first is_space text)
+parts false text = None
+
+-- what stands before the first space, and what behind it
+abbrev pub cut : List ℕ → Option (List ℕ × List ℕ)
+cut text = parts (nat_lt (position_or_len is_space text) (length text)) text
+
+-- the text means this moment
+abbrev pub Means : List ℕ → Timestamp → Type 0
+Means text t = (n : ℤ) × (Spells text n × (t.nanosecond ≡ nearest n))
+
+-- a map index, as reports show it: a number, or -1
+abbrev pub SpellsIndex : List ℕ → ℤ → Type 0
+SpellsIndex text index = ((text ≡ codes "-1") × (index ≡ negsuc 0)) ⊎ ((n : ℕ) × (n < 2_147_483_648) × (text ≡ decimal n) × (index ≡ pos n))
+
+-- a task, or a task and a map index behind a space
+abbrev pub SpellsTask : List ℕ → Option (List ℕ × List ℕ) → List ℕ → Option ℤ → Type 0
+SpellsTask text None task index = (task ≡ text) × (0 < length text) × (index ≡ None)
+SpellsTask text (Some (first, rest)) task index = (task ≡ first) × (0 < length first) × ((i : ℤ) × (index ≡ Some i) × SpellsIndex rest i)
+
+abbrev pub SpellsParts : Option (List ℕ × List ℕ) → Seed → Type 0
+SpellsParts None seed = ⊥
+SpellsParts (Some (run, rest)) seed = Means run seed.run × SpellsTask rest (cut rest) seed.task seed.index
+
+-- the line is a moment and a task, and maybe a map index, with one space between them
+abbrev pub SpellsSeed : List ℕ → Seed → Type 0
+SpellsSeed line seed = SpellsParts (cut line) seed
+
+-- ---- lines of a plan and its runs
+
+-- the line is of this seed, whose task and run are known
+abbrev pub IsSeedOf : Dag → List Interval → List ℕ → Seed → Type 0
+IsSeedOf dag intervals line seed = SpellsSeed line seed × (seed_fault dag intervals (seed ∷ []) ≡ None)
+
+-- line by line
+abbrev pub AreSeeds : Dag → List Interval → List (List ℕ) → List Seed → Type 0
+AreSeeds dag intervals [] [] = Unit {0}
+AreSeeds dag intervals (line ∷ lines) (seed ∷ seeds) = IsSeedOf dag intervals line seed × AreSeeds dag intervals lines seeds
+AreSeeds dag intervals _ _ = ⊥
+
+-- why a seed is refused: its task is unknown, and else its run
+abbrev pub IsFaultOfSeed : Dag → List Interval → Seed → SeedsFault → Type 0
+IsFaultOfSeed dag intervals seed (BadSeed line) = ⊥
+IsFaultOfSeed dag intervals seed (Unknown fault) = seed_fault dag intervals (seed ∷ []) ≡ Some fault
+IsFaultOfSeed dag intervals seed OutOfMemory = Unit {0}
+
+-- why a line is refused: it is of no seed, and else its seed is
+abbrev pub IsFaultOfLine : Dag → List Interval → List ℕ → SeedsFault → Type 0
+IsFaultOfLine dag intervals line (BadSeed bad) = (bad ≡ line) × ((seed : Seed) → SpellsSeed line seed → ⊥)
+IsFaultOfLine dag intervals line (Unknown fault) = (seed : Seed) × SpellsSeed line seed × (seed_fault dag intervals (seed ∷ []) ≡ Some fault)
+IsFaultOfLine dag intervals line OutOfMemory = Unit {0}
+
+-- the first of the lines that isn't of a seed that is known
+pub record IsEarliest (dag : Dag) (intervals : List Interval) (lines : List (List ℕ)) (fault : SeedsFault) : Type 0 where
+  pub before : List (List ℕ)
+  pub line : List ℕ
+  pub behind : List (List ℕ)
+  pub parts : lines ≡ before ++ line ∷ behind
+  pub seeds : List Seed
+  pub known : AreSeeds dag intervals before seeds
+  pub is_fault : IsFaultOfLine dag intervals line fault
+
+-- why the lines are refused
+abbrev pub IsFirstFault : Dag → List Interval → List (List ℕ) → SeedsFault → Type 0
+IsFirstFault dag intervals lines OutOfMemory = Unit {0}
+IsFirstFault dag intervals lines fault = IsEarliest dag intervals lines fault

@@ -1,0 +1,39 @@
+//! Why no seeds are read.
+ghost use Rattle.std.specs.Prelude.{◌≡◌};
+ghost use Rattle.bf_seeds.specs.Seeds.{fault_number};
+
+use bf_dependents::ClearFault;
+use bf_value::{OutOfMemory, Text};
+
+/// Why no seeds are read: the earliest line that is refused, and why.
+#[derive(Debug, Drop)]
+pub enum SeedsFault {
+    /// A line of another form, which is this one.
+    BadSeed(Text),
+    /// A line with a task or a run that is unknown.
+    Unknown(ClearFault),
+    OutOfMemory,
+}
+
+impl SeedsFault {
+    /// The number of the refusal, which want of memory doesn't have.
+    pub fn number(&self) -> Option<u32>
+        ensures { result ≡ fault_number self.now }
+    {
+        match self {
+            SeedsFault::BadSeed(_) => Some(45),
+            SeedsFault::Unknown(fault) => fault.number(),
+            SeedsFault::OutOfMemory => None,
+        }
+    }
+}
+
+impl From<OutOfMemory> for SeedsFault {
+    ghost use Rattle.bf_seeds.specs.declared.fault.SeedsFault.TheVariants.{OutOfMemory as NoMemory};
+
+    ghost from_gives = { λ _ e. e ≡ NoMemory };
+
+    fn from(_e: OutOfMemory) -> SeedsFault {
+        SeedsFault::OutOfMemory
+    }
+}

@@ -1,0 +1,112 @@
+//! Seeds files.
+ghost use Rattle.std.specs.Prelude.{◌≡◌, ◌⊎◌, ◌∷◌, ◌++◌, [], map, None, IfOk, IfErr, OnOk};
+ghost use Rattle.std.specs.Str.Lines.{lines};
+ghost use Rattle.bf_dependents.specs.Seeds.{seed_fault};
+ghost use Rattle.bf_seeds.specs.declared.fault.SeedsFault.TheVariants as fault;
+ghost use Rattle.bf_seeds.specs.Seeds.{AreSeeds, IsFaultOfLine, IsFaultOfSeed, IsFirstFault, IsSeedOf};
+
+use crate::fault::SeedsFault;
+use crate::line::words_in;
+use bf_dependents::{Seed, refuse_seeds};
+use bf_interval::Interval;
+use bf_plan::Plan;
+use bf_value::{OutOfMemory, Text};
+use std::alloc::{AllocError, Global};
+use std::slice;
+
+/// How many bytes a seeds file may have.
+pub const LONGEST_FILE: usize = 8_388_608;
+
+fn lines_of(alloc: Global, text: &str) -> Result<Vec<&str>, AllocError>
+    ensures { IfOk result (λ found. map (λ line. line.now) found.items ≡ lines text.now) }
+{
+    text.lines().collect(alloc)
+}
+
+fn bad_seed(alloc: Global, line: &str) -> SeedsFault
+    ensures { (result ≡ fault.BadSeed line.now) ⊎ (result ≡ fault.OutOfMemory) }
+{
+    match Text::copied(alloc, line) {
+        Ok(line) => SeedsFault::BadSeed(line),
+        Err(_) => SeedsFault::OutOfMemory,
+    }
+}
+
+/// Refuses a seed whose task or run is unknown.
+fn refuse_unknown(plan: &Plan, intervals: &[Interval], seed: &Seed) -> Result<(), SeedsFault>
+    ensures ok { OnOk result (seed_fault plan.now.dag intervals.now (seed.now ∷ []) ≡ None) }
+    ensures err { IfErr result (IsFaultOfSeed plan.now.dag intervals.now seed.now) }
+{
+    match refuse_seeds(plan, intervals, slice::from_ref(seed)) {
+        Ok(()) => Ok(()),
+        Err(fault) => Err(SeedsFault::Unknown(fault)),
+    }
+}
+
+/// The seed of a line.
+fn seed_at(
+    alloc: Global,
+    plan: &Plan,
+    intervals: &[Interval],
+    line: &str,
+) -> Result<Seed, SeedsFault>
+    ensures ok { IfOk result (IsSeedOf plan.now.dag intervals.now line.now) }
+    ensures err { IfErr result (IsFaultOfLine plan.now.dag intervals.now line.now) }
+{
+    let Some(words) = words_in(line) else {
+        return Err(bad_seed(alloc, line));
+    };
+    let task = Text::copied(alloc, words.task)?;
+    let seed = Seed {
+        task,
+        run: words.run,
+        index: words.index,
+    };
+    match refuse_unknown(plan, intervals, &seed) {
+        Ok(()) => Ok(seed),
+        Err(fault) => Err(fault),
+    }
+}
+
+fn add(seeds: &mut Vec<Seed>, seed: Seed) -> Result<(), OutOfMemory>
+    ensures { OnOk result (seeds.new.items ≡ seeds.old.items ++ seed ∷ []) }
+{
+    seeds.push(seed)?;
+    Ok(())
+}
+
+fn seeds_of(
+    alloc: Global,
+    plan: &Plan,
+    intervals: &[Interval],
+    lines: &[&str],
+) -> Result<Vec<Seed>, SeedsFault>
+    ensures ok { IfOk result (λ seeds. AreSeeds plan.now.dag intervals.now (map (λ line. line.now) lines.now) seeds.items) }
+    ensures err { IfErr result (IsFirstFault plan.now.dag intervals.now (map (λ line. line.now) lines.now)) }
+{
+    let mut seeds = Vec::new(alloc);
+    for line in lines {
+        match seed_at(alloc, plan, intervals, line) {
+            Ok(seed) => add(&mut seeds, seed)?,
+            Err(fault) => return Err(fault),
+        }
+    }
+    Ok(seeds)
+}
+
+/// The seeds of a file, line by line. Refused is the earliest line that is of another form, or else has a task that is unknown, or
+/// else a run.
+pub fn seeds_in(
+    alloc: Global,
+    plan: &Plan,
+    intervals: &[Interval],
+    text: &str,
+) -> Result<Vec<Seed>, SeedsFault>
+    ensures ok { IfOk result (λ seeds. AreSeeds plan.now.dag intervals.now (lines text.now) seeds.items) }
+    ensures err { IfErr result (IsFirstFault plan.now.dag intervals.now (lines text.now)) }
+{
+    match lines_of(alloc, text) {
+        Ok(lines) => seeds_of(alloc, plan, intervals, lines.as_slice()),
+        Err(_) => Err(SeedsFault::OutOfMemory),
+    }
+}
