@@ -1,6 +1,7 @@
 -- Lines of a seeds file, and what they say.
-use Rattle.std.specs.Prelude.{◌≡◌, ◌⊎◌, ℕ, ◌<◌, ◌==◌, nat_lt, ℤ, pos, negsuc, Bool, true, false, List, [], ◌∷◌, ◌++◌, length, codes, decimal, Option, Some, None}
-use Rattle.std.specs.List.{after_first, before_first, position_or_len}
+use Rattle.std.specs.Prelude.{◌≡◌, ◌⊎◌, ℕ, ◌<◌, ◌==◌, nat_lt, ℤ, pos, negsuc, Bool, true, false, not, List, [], ◌∷◌, ◌++◌, length, codes, decimal, Option, Some, None}
+use Rattle.std.specs.List.{after_first, before_first, filter, position_or_len}
+use Rattle.std.specs.Str.Lines.{lines}
 use Rattle.jiff.specs.declared.timestamp.Timestamp.{Timestamp}
 use Rattle.bf_interval.specs.declared.interval.Interval.{Interval}
 use Rattle.bf_moment.specs.Moment.{Spells, nearest}
@@ -50,6 +51,13 @@ SpellsParts (Some (run, rest)) seed = Means run seed.run × SpellsTask rest (cut
 -- the line is a moment and a task, and maybe a map index, with one space between them
 abbrev pub SpellsSeed : List ℕ → Seed → Type 0
 SpellsSeed line seed = SpellsParts (cut line) seed
+
+abbrev pub is_filled : List ℕ → Bool
+is_filled line = not (length line == 0)
+
+-- the lines of a text, but for empty ones
+abbrev pub lines_in : List ℕ → List (List ℕ)
+lines_in text = filter is_filled (lines text)
 
 -- ---- lines of a plan and its runs
 

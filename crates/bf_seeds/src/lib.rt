@@ -2,7 +2,7 @@
 //!
 //! The fields of a line are separated by one space each: a moment, as `bf_moment` reads it, the id of a task, and maybe a map index,
 //! which is -1 of a task that isn't expanded. The last line may lack its line feed, and a carriage return before a line feed is no
-//! part of a line. Nothing is passed over: an empty line is one of another form, and refused, as `sha256sum --check --strict` does.
+//! part of a line. Empty lines are passed over, as by `sha256sum --check` and `tsort`; a line of spaces isn't empty.
 //!
 //! `seeds_in` reads the lines, and refuses the earliest that is of another form, or else names a task or a run that is unknown.
 #![tactic(auto)]

@@ -1,9 +1,8 @@
 //! Seeds files.
 ghost use Rattle.std.specs.Prelude.{◌≡◌, ◌⊎◌, ◌∷◌, ◌++◌, [], map, None, IfOk, IfErr, OnOk};
-ghost use Rattle.std.specs.Str.Lines.{lines};
 ghost use Rattle.bf_dependents.specs.Seeds.{seed_fault};
 ghost use Rattle.bf_seeds.specs.declared.fault.SeedsFault.TheVariants as fault;
-ghost use Rattle.bf_seeds.specs.Seeds.{AreSeeds, IsFaultOfLine, IsFaultOfSeed, IsFirstFault, IsSeedOf};
+ghost use Rattle.bf_seeds.specs.Seeds.{AreSeeds, IsFaultOfLine, IsFaultOfSeed, IsFirstFault, IsSeedOf, lines_in};
 
 use crate::fault::SeedsFault;
 use crate::line::words_in;
@@ -17,10 +16,11 @@ use std::slice;
 /// How many bytes a seeds file may have.
 pub const LONGEST_FILE: usize = 8_388_608;
 
+/// The lines that aren't empty.
 fn lines_of(alloc: Global, text: &str) -> Result<Vec<&str>, AllocError>
-    ensures { IfOk result (λ found. map (λ line. line.now) found.items ≡ lines text.now) }
+    ensures { IfOk result (λ found. map (λ line. line.now) found.items ≡ lines_in text.now) }
 {
-    text.lines().collect(alloc)
+    text.lines().filter(|line| !line.is_empty()).collect(alloc)
 }
 
 fn bad_seed(alloc: Global, line: &str) -> SeedsFault
@@ -94,7 +94,7 @@ fn seeds_of(
     Ok(seeds)
 }
 
-/// The seeds of a file, line by line. Refused is the earliest line that is of another form, or else has a task that is unknown, or
+/// The seeds of a file, line by line, but for empty lines. Refused is the earliest line that is of another form, or else has a task that is unknown, or
 /// else a run.
 pub fn seeds_in(
     alloc: Global,
@@ -102,8 +102,8 @@ pub fn seeds_in(
     intervals: &[Interval],
     text: &str,
 ) -> Result<Vec<Seed>, SeedsFault>
-    ensures ok { IfOk result (λ seeds. AreSeeds plan.now.dag intervals.now (lines text.now) seeds.items) }
-    ensures err { IfErr result (IsFirstFault plan.now.dag intervals.now (lines text.now)) }
+    ensures ok { IfOk result (λ seeds. AreSeeds plan.now.dag intervals.now (lines_in text.now) seeds.items) }
+    ensures err { IfErr result (IsFirstFault plan.now.dag intervals.now (lines_in text.now)) }
 {
     match lines_of(alloc, text) {
         Ok(lines) => seeds_of(alloc, plan, intervals, lines.as_slice()),
