@@ -3,7 +3,8 @@
    of these is refused, from 1 on, or 0 for none, and CALL_COUNT the file that gets the count. Where KILLED is `before` or `after`, the call
    isn't refused: the program is killed before it, or behind it, but never behind a call for memory, a read or a look at the clock. Where
    SLOWLY_STARTED is a number, what the program starts waits so many seconds before it becomes another program; where STARTS_LATE is one, the
-   program waits so many milliseconds before it starts another. */
+   program waits so many milliseconds before it starts another. Where CLOCK_RATE is a number, the program's monotonic clock runs so many
+   times as fast, from the first look at it on. */
 #define _GNU_SOURCE
 #include <dlfcn.h>
 #include <errno.h>
@@ -178,9 +179,20 @@ int statx(int folder, const char *path, int flags, unsigned mask, struct statx *
 
 int clock_gettime(clockid_t clock, struct timespec *to) {
     static int (*real)(clockid_t, struct timespec *);
+    static long long first;
+    const char *rate = getenv("CLOCK_RATE");
+    long long none = 0, now;
+    int status;
     if (!real) real = dlsym(RTLD_NEXT, "clock_gettime");
     if (is_refused("clock")) { errno = EINVAL; return -1; }
-    return real(clock, to);
+    status = real(clock, to);
+    if (status != 0 || clock != CLOCK_MONOTONIC || !rate || !is_program()) return status;
+    now = to->tv_sec * 1000000000LL + to->tv_nsec;
+    __atomic_compare_exchange_n(&first, &none, now, 0, __ATOMIC_SEQ_CST, __ATOMIC_SEQ_CST);
+    now = first + (now - first) * atoll(rate);
+    to->tv_sec = now / 1000000000LL;
+    to->tv_nsec = now % 1000000000LL;
+    return status;
 }
 
 int posix_spawn(pid_t *child, const char *path, const posix_spawn_file_actions_t *actions, const posix_spawnattr_t *attributes,
