@@ -4,3 +4,4 @@ pub mod Dependents
 pub mod Seeded
 pub mod Faults
 pub mod Seeds
+pub mod Listing

@@ -2,6 +2,7 @@
 ghost use Rattle.std.specs.Prelude.{◌≡◌, ◌<◌, length, None, IfOk};
 ghost use Rattle.bf_graph.specs.Reach.{is_marked as marked, row_at};
 ghost use Rattle.bf_dependents.specs.Dependents.{has as has_in, has_seed as seed_in, is_led_to as led_to, AreDependents};
+ghost use Rattle.bf_dependents.specs.Listing.{is_whole as whole_in};
 ghost use Rattle.bf_dependents.specs.Seeded.{HoldSeeds};
 
 use crate::following::{follows, touched_in};
@@ -55,7 +56,13 @@ impl Followers {
         Ok(Followers { touched, seeds })
     }
 
-    fn is_touched(&self, run: u32, task: u32) -> bool
+    pub(crate) fn seeds(&self) -> &BTreeSet<Place>
+        ensures { result.now.keys ≡ self.now.seeds }
+    {
+        &self.seeds
+    }
+
+    pub(crate) fn is_touched(&self, run: u32, task: u32) -> bool
         ensures { result ≡ marked (row_at self.now.touched run) task }
     {
         is_marked(marks_at(self.touched.as_slice(), run), task)
@@ -65,6 +72,16 @@ impl Followers {
         ensures { result ≡ seed_in self.now.seeds run task index }
     {
         self.seeds.contains(&Place { run, task, index })
+    }
+
+    /// Whether each instance of a task follows, where some does.
+    pub(crate) fn is_whole(&self, dag: &Dag, run: u32, task: u32) -> bool
+        requires { task < length dag.now.tasks }
+        ensures { result ≡ whole_in dag.now self.now run task }
+    {
+        let rows = self.touched.as_slice();
+        self.has_seed(run, task, None)
+            || follows(dag, task, &[], marks_before(rows, run), marks_at(rows, run))
     }
 
     fn is_led_to(&self, dag: &Dag, run: u32, task: u32, index: i32) -> bool

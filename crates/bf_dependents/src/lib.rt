@@ -6,6 +6,7 @@ mod fault;
 mod following;
 mod found;
 mod laws;
+mod listing;
 mod marks;
 mod place;
 mod seeds;
