@@ -1,5 +1,5 @@
 -- What follows, task by task.
-use Rattle.std.specs.Prelude.{ℕ, zero, suc, ◌||◌, if◌then◌else◌, Bool, List, [], ◌∷◌, ◌++◌, length, filter, None}
+use Rattle.std.specs.Prelude.{ℕ, zero, suc, ℤ, ◌||◌, ◌⊎◌, if◌then◌else◌, Bool, List, [], ◌∷◌, ◌++◌, length, filter, Contains, None, Some}
 use Rattle.bf_graph.specs.Reach.{is_marked, row_at}
 use Rattle.bf_plan.specs.declared.plan.Dag.{Dag}
 use Rattle.bf_dependents.specs.declared.place.Place.{Place}
@@ -28,3 +28,7 @@ places_of_run dag all tasks k = up_to (places_at dag all k) tasks
 -- what follows in so many runs, by run and task
 abbrev pub places_in : Dag → Following → ℕ → List Place
 places_in dag all runs = up_to (places_of_run dag all (length dag.tasks)) runs
+
+-- the instance is listed, or all of its task
+abbrev pub IsListed : List Place → ℕ → ℕ → ℤ → Type 0
+IsListed places k t i = Contains places (record { run = k; task = t; index = None }) ⊎ Contains places (record { run = k; task = t; index = Some i })

@@ -1,10 +1,11 @@
 //! What holds of all that is cleared. These functions do nothing: their contracts are the laws, over the definitions alone.
-ghost use Rattle.std.specs.Prelude.{◌≡◌, ◌↔◌, ◌∷◌, [], ℕ, suc, ℤ, Bool, true, List, Contains, None, Some};
+ghost use Rattle.std.specs.Prelude.{◌≡◌, ◌<◌, ◌↔◌, ◌∷◌, [], length, ℕ, suc, ℤ, Bool, true, List, Contains, None, Some};
 ghost use Rattle.bf_plan.specs.declared.plan.Dag.{Dag as DagTerm};
 ghost use Rattle.bf_plan.specs.Plans.{task_of};
 ghost use Rattle.bf_plan.specs.Sound.{IsOneOf, IsSound};
 ghost use Rattle.bf_dependents.specs.declared.place.Place.{Place};
-ghost use Rattle.bf_dependents.specs.Dependents.{IsDependent};
+ghost use Rattle.bf_dependents.specs.Dependents.{AreDependents, Following, IsDependent};
+ghost use Rattle.bf_dependents.specs.Listing.{places_in, IsListed};
 
 /// What follows from the seeds is in each set that has each instance of a seed without an index, the instance of a seed with one,
 /// and, behind each member, all instances of its task's direct downstreams, and, where its task depends on its past, all of that
@@ -29,4 +30,11 @@ pub fn a_seed_with_an_index_leaves_its_neighbours()
     ensures { (dag : DagTerm) → IsSound dag → (k t : ℕ) (n : ℤ) (m s : ℕ) (i : ℤ) →
         IsDependent dag (record { run = k; task = t; index = Some n } ∷ []) m s i
         ↔ (IsDependent dag (record { run = k; task = t; index = None } ∷ []) m s i × (m ≡ k → s ≡ t → i ≡ n)) }
+{}
+
+/// What is listed of what follows is just that: each instance of a task that is listed without an index, and each that is listed.
+pub fn places_are_what_follows()
+    ensures { (dag : DagTerm) (seeds : List Place) (runs : ℕ) (all : Following) → AreDependents dag seeds runs all →
+        (k t : ℕ) (i : ℤ) → k < runs → t < length dag.tasks →
+        IsListed (places_in dag all runs) k t i ↔ IsDependent dag seeds k t i }
 {}

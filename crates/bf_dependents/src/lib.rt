@@ -14,7 +14,7 @@ mod seeds;
 pub use fault::ClearFault;
 pub use found::{Followers, dependents};
 pub use laws::{
-    a_seed_with_an_index_leaves_its_neighbours, dependents_are_least,
+    a_seed_with_an_index_leaves_its_neighbours, dependents_are_least, places_are_what_follows,
     seeds_without_indexes_take_tasks,
 };
 pub use place::Place;
