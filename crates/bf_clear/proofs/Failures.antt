@@ -1,7 +1,6 @@
 -- The places that are listed are those of the instances that failed.
-use Rattle.std.proofs.Common.{◌≡◌, ◌⊎◌, inl, inr, ℕ, zero, suc, ◌<◌, ◌≤◌, ◌+◌, ℤ, pos, negsuc, ◌<ℤ◌, if◌then◌else◌, Bool, true, false, List, [], ◌∷◌, ◌++◌, length, Contains, Option, None, Some, refl, sym, ap, ◌∙◌, subst, append_assoc, add-one, arith}
+use Rattle.std.proofs.Common.{◌≡◌, inl, inr, ℕ, zero, suc, ◌<◌, ℤ, pos, negsuc, ◌<ℤ◌, if◌then◌else◌, Bool, true, false, List, [], ◌∷◌, length, Contains, Option, None, Some, refl, sym, ap, subst, arith}
 use Rattle.std.specs.Option.{option_and_then}
-use Rattle.std.proofs.Math.Nat.{eq-or-lt_of_le}
 use Rattle.std.proofs.lemmas.Int.{ints}
 use Rattle.std.proofs.lemmas.List.Elements.{Contains-append_cases, Contains-append_left, Contains-append_right}
 use Rattle.std.proofs.lemmas.Option.{slice_get_within}
@@ -12,30 +11,10 @@ use Rattle.bf_report.specs.declared.report.InstanceReport.{InstanceReport}
 use Rattle.bf_report.specs.declared.report.TaskReport.{TaskReport}
 use Rattle.bf_report.specs.declared.report.Report.{Report}
 use Rattle.bf_dependents.specs.declared.place.Place.{Place}
+use Rattle.bf_dependents.specs.Listing.{up_to}
+use Rattle.bf_dependents.proofs.Listed.{in-up_to, up_to-has}
 use Rattle.bf_clear.specs.Entries.{found_at, instance_at, report_at}
-use Rattle.bf_clear.specs.Failing.{count_at, count_of, failed_at, failed_of_run, failed_of_task, failed_place, up_to, AreFailed, HasFailed, IsOfFailed}
-
--- ---- listed so far
-
-pub up_to-more : (f : ℕ → List Place) (before : List Place) (n : ℕ) → (before ++ up_to f n) ++ f n ≡ before ++ up_to f (n + 1)
-up_to-more f before n = append_assoc before (up_to f n) (f n) ∙ ap (λ m. before ++ up_to f m) (sym (add-one n))
-
-in-up_to : (f : ℕ → List Place) (n : ℕ) (p : Place) → Contains (up_to f n) p → (i : ℕ) × (i < n) × Contains (f i) p
-in-up_to f zero p c = absurd (omega (arith, c.1))
-in-up_to f (suc n) p c = elim (Contains-append_cases (up_to f n) (f n) p c) [
-  | inl d ↦ let rest : _ = in-up_to f n p d in (rest.0, omega (arith, rest.1), rest.2)
-  | inr d ↦ (n, omega arith, d)
-]
-
-same-or-below : (i n : ℕ) → i < suc n → (i ≡ n) ⊎ (i < n)
-same-or-below i n l = let low : i ≤ n = omega (arith, l) in eq-or-lt_of_le low
-
-up_to-has : (f : ℕ → List Place) (n i : ℕ) (p : Place) → i < n → Contains (f i) p → Contains (up_to f n) p
-up_to-has f zero i p l c = absurd (omega (arith, l))
-up_to-has f (suc n) i p l c = elim (same-or-below i n l) [
-  | inl e ↦ Contains-append_right (up_to f n) (f n) p (subst (λ (m : ℕ). Contains (f m) p) e c)
-  | inr m ↦ Contains-append_left (up_to f n) (f n) p (up_to-has f n i p m c)
-]
+use Rattle.bf_clear.specs.Failing.{count_at, count_of, failed_at, failed_of_run, failed_of_task, failed_place, AreFailed, HasFailed, IsOfFailed}
 
 -- ---- one instance
 

@@ -1,5 +1,5 @@
 -- Which instances failed.
-use Rattle.std.specs.Prelude.{◌≡◌, ℕ, zero, suc, ◌<◌, ℤ, pos, negsuc, ◌<ℤ◌, min, if◌then◌else◌, List, [], ◌∷◌, ◌++◌, length, Contains, Option, Some, None}
+use Rattle.std.specs.Prelude.{◌≡◌, ℕ, ◌<◌, ℤ, pos, negsuc, ◌<ℤ◌, min, if◌then◌else◌, List, [], ◌∷◌, ◌++◌, length, Contains, Option, Some, None}
 use Rattle.bf_interval.specs.declared.interval.Interval.{Interval}
 use Rattle.bf_plan.specs.declared.plan.Dag.{Dag}
 use Rattle.bf_xcom.specs.declared.values.Outcome.{Outcome}
@@ -8,6 +8,7 @@ use Rattle.bf_report.specs.declared.report.InstanceReport.{InstanceReport}
 use Rattle.bf_report.specs.declared.report.TaskReport.{TaskReport}
 use Rattle.bf_report.specs.declared.report.Report.{Report}
 use Rattle.bf_dependents.specs.declared.place.Place.{Place}
+use Rattle.bf_dependents.specs.Listing.{up_to}
 use Rattle.bf_clear.specs.Entries.{found_at, report_at}
 use Rattle.bf_clear.specs.Keeping.{AreKept}
 use Rattle.bf_try.specs.Tries.{Look}
@@ -37,11 +38,6 @@ failed_place p (Some x) = if is_failed x.result.outcome then p ∷ [] else []
 
 abbrev pub failed_at : Report → ℕ → ℕ → ℤ → List Place
 failed_at report k t i = failed_place (record { run = k; task = t; index = Some i }) (found_at report k t i)
-
--- those of the numbers below n
-abbrev pub up_to : (ℕ → List Place) → ℕ → List Place
-up_to f zero = []
-up_to f (suc n) = up_to f n ++ f n
 
 abbrev pub count_of : Option TaskReport → ℕ
 count_of (Some (TaskReport.Mapped instances)) = min (length instances) 2_147_483_648

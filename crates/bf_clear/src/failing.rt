@@ -1,7 +1,8 @@
 //! Which instances failed.
 ghost use Rattle.std.specs.Prelude.{◌≡◌, ◌≤◌, ◌++◌, IfOk, OnOk};
 ghost use Rattle.bf_try.specs.Tries.{is_failed};
-ghost use Rattle.bf_clear.specs.Failing.{count_at, failed_at, failed_of_run, failed_of_task as of_task, up_to, AreFailed};
+ghost use Rattle.bf_dependents.specs.Listing.{up_to};
+ghost use Rattle.bf_clear.specs.Failing.{count_at, failed_at, failed_of_run, failed_of_task as of_task, AreFailed};
 
 use crate::looking::{instance_at, task_at};
 use bf_dependents::Place;

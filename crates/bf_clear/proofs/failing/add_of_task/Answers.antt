@@ -2,8 +2,9 @@ use Rattle.std.proofs.Common.{◌≡◌, ◌++◌, ◌∙◌, ℕ, ◌<◌, List
 use Rattle.std.proofs.lemmas.Int.{to_z_pos}
 use Rattle.bf_core.specs.Terms.{JobName}
 use Rattle.bf_dependents.specs.declared.place.Place.{Place}
-use Rattle.bf_clear.specs.Failing.{failed_at, up_to}
-use Rattle.bf_clear.proofs.Failures.{up_to-more}
+use Rattle.bf_dependents.specs.Listing.{up_to}
+use Rattle.bf_clear.specs.Failing.{failed_at}
+use Rattle.bf_dependents.proofs.Listed.{up_to-more}
 use Rattle.bf_clear.proofs.failing.add_of_task.Goals as goal
 
 pub loop-place-preserved : goal.loop-place-preserved
