@@ -45,6 +45,7 @@ Arguments:
 
 Options:
       --zone-file <PATH>  The zone file that the graph's zone `file` means, as of the tz database
+      --explain           Tells on standard error all that is wrong with a graph that is refused, at most 100 findings
   -h, --help              Print help
 
 Example:
@@ -53,7 +54,7 @@ HELP
 answers 0 list --help <<'HELP'
 Lists the data intervals of the graph's schedule that start in a range
 
-Usage: backfill list [OPTIONS] --from <T> --to <T> <GRAPH>
+Usage: backfill list [OPTIONS] <GRAPH>
 
 Arguments:
   <GRAPH>  The task graph, a JSON file
@@ -62,15 +63,18 @@ Options:
       --zone-file <PATH>  The zone file that the graph's zone `file` means, as of the tz database
       --from <T>          The first moment at which an interval may start, in UTC, as 2024-01-31 or 2024-01-31T06:00:00Z
       --to <T>            The last moment at which an interval may start, in UTC, as 2024-01-31 or 2024-01-31T06:00:00Z
+      --on <DAYS>         In place of both, the days on which an interval starts by the graph's zone, as 2024-01-31 or 2024-01-01..2024-01-31
+      --some              Refuses a range in which no interval starts
   -h, --help              Print help
 
-Example:
+Examples:
   backfill list --from 2024-03-30 --to 2024-04-01 examples/clock_change/graph.json
+  backfill list --on 2024-03-30..2024-04-01 examples/clock_change/graph.json
 HELP
 answers 0 run --help <<'HELP'
 Runs the graph for each data interval that starts in a range, with the programs of its tasks
 
-Usage: backfill run [OPTIONS] --from <T> --to <T> <GRAPH>
+Usage: backfill run [OPTIONS] <GRAPH>
 
 Arguments:
   <GRAPH>  The task graph, a JSON file
@@ -79,6 +83,8 @@ Options:
       --zone-file <PATH>  The zone file that the graph's zone `file` means, as of the tz database
       --from <T>          The first moment at which an interval may start, in UTC, as 2024-01-31 or 2024-01-31T06:00:00Z
       --to <T>            The last moment at which an interval may start, in UTC, as 2024-01-31 or 2024-01-31T06:00:00Z
+      --on <DAYS>         In place of both, the days on which an interval starts by the graph's zone, as 2024-01-31 or 2024-01-01..2024-01-31
+      --some              Refuses a range in which no interval starts
       --workers <N>       How many tries may run at once, 1 to 64; 1 where this isn't given
       --progress          Tells on standard error how far the runs are, at most once a second
       --out <PATH>        Writes the report to this file, whole or not at all, in place of standard output
@@ -98,7 +104,7 @@ HELP
 answers 0 clear --help <<'HELP'
 Runs a task of a run again, with all that follows from it, and keeps the rest of a report
 
-Usage: backfill clear [OPTIONS] --task <ID> --run <T> --from <T> --to <T> <GRAPH> <REPORT>
+Usage: backfill clear [OPTIONS] --task <ID> --run <T> <GRAPH> <REPORT>
 
 Arguments:
   <GRAPH>   The task graph, a JSON file
@@ -111,6 +117,8 @@ Options:
       --table <PATH>      The answers of the tasks' tries, a JSON file, in place of their programs
       --from <T>          The first moment at which an interval may start, in UTC, as 2024-01-31 or 2024-01-31T06:00:00Z
       --to <T>            The last moment at which an interval may start, in UTC, as 2024-01-31 or 2024-01-31T06:00:00Z
+      --on <DAYS>         In place of both, the days on which an interval starts by the graph's zone, as 2024-01-31 or 2024-01-01..2024-01-31
+      --some              Refuses a range in which no interval starts
       --workers <N>       How many tries may run at once, 1 to 64; 1 where this isn't given
       --progress          Tells on standard error how far the runs are, at most once a second
       --out <PATH>        Writes the report to this file, whole or not at all, in place of standard output
@@ -190,9 +198,9 @@ while IFS= read -r row; do
 done <<'ROWS'
 check => error: the following required arguments were not provided:|  <GRAPH>|
 check g h => error: unexpected argument 'h' found|
-list g => error: the following required arguments were not provided:|  --from <T>|  --to <T>|
+list g => error: the following required arguments were not provided:|  --from <T> and --to <T>, or --on <DAYS>|
 check g --zone-file => error: a value is required for '--zone-file <PATH>' but none was supplied|
-clear => error: the following required arguments were not provided:|  --task <ID>|  --run <T>|  --from <T>|  --to <T>|  <GRAPH>|  <REPORT>|
+clear => error: the following required arguments were not provided:|  --task <ID>|  --run <T>|  <GRAPH>|  <REPORT>|
 run g --from 2024-01-01 --to 2024-01-01 --launcher => error: a value is required for '--launcher <PATH>' but none was supplied|
 single g t --at 2024-01-01 --launcher on => error: unexpected argument '--launcher' found|
 run g --from 2024-01-01 --to 2024-01-01 --logs => error: a value is required for '--logs <FOLDER>' but none was supplied|
@@ -210,7 +218,20 @@ schema graph table => error: unexpected argument 'table' found|
 completions => error: the following required arguments were not provided:|  <SHELL>|
 completions ksh => error: invalid value for '<SHELL>'|  [possible values: bash, zsh, fish]|
 resume => error: unrecognized subcommand 'resume'|
-run g --from 2024-01-01 => error: the following required arguments were not provided:|  --to <T>|
+run g --from 2024-01-01 => error: the following required arguments were not provided:|  --from <T> and --to <T>, or --on <DAYS>|
+dry g t --to 2024-01-01 --some => error: the following required arguments were not provided:|  --from <T> and --to <T>, or --on <DAYS>|
+clear g r --task a --run 2024-01-01 => error: the following required arguments were not provided:|  --from <T> and --to <T>, or --on <DAYS>|
+run g --retry-failed => error: the following required arguments were not provided:|  --from <T> and --to <T>, or --on <DAYS>|
+list g --on 2024-01-01 --from 2024-01-01 => error: the argument '--on <DAYS>' cannot be used with '--from <T>' or '--to <T>'|
+dry g t --on 2024-01-01 --to 2024-01-01 => error: the argument '--on <DAYS>' cannot be used with '--from <T>' or '--to <T>'|
+run g --on 2024-01-01 --from 2024-01-01 --to 2024-01-01 => error: the argument '--on <DAYS>' cannot be used with '--from <T>' or '--to <T>'|
+clear g r --task a --run 2024-01-01 --on 2024-01-01 --to 2024-01-01 => error: the argument '--on <DAYS>' cannot be used with '--from <T>' or '--to <T>'|
+run g --on 2024-01-01 --retry-failed => error: the following required arguments were not provided:|  --journal <PATH>|
+list g --on => error: a value is required for '--on <DAYS>' but none was supplied|
+list g --on 2024-01-01 --on 2024-01-02 => error: the argument '--on <DAYS>' cannot be used multiple times|
+single g t --at 2024-01-01 --on 2024-01-01 => error: unexpected argument '--on' found|
+check g --some => error: unexpected argument '--some' found|
+list g --on 2024-01-01 --explain => error: unexpected argument '--explain' found|
 --at 2024-01-01 => error: unexpected argument '--at' found|
 single => error: the following required arguments were not provided:|  --at <T>|  <GRAPH>|  <TABLE>|
 single g t => error: the following required arguments were not provided:|  --at <T>|
@@ -233,6 +254,7 @@ done
 
 echo '{"dag_id":"d","schedule":"@daily","tasks":[{"id":"a"}]}' > one
 echo '{"dag_id":"d","schedule":"@daily","zone":"file","tasks":[{"id":"a"}]}' > zoned
+echo '{"dag_id":"d","schedule":"@yearly","tasks":[]}' > yearly
 echo '{' > broken
 echo '{}' > shapeless
 echo '{"dag_id":"d","schedule":"@daily","tasks":[{"id":"b","kind":"branch"},{"id":"t","kind":"branch","upstream":["b"],"expand":"b"}]}' > misused
@@ -265,6 +287,13 @@ single broken bad_table --at 2024-02-30 => 2 refused 28 bad moment
 list none --from 2024-02-30 --to 2024-01-01 => 2 refused 28 bad moment
 run none --from 2024-01-01 --to 2024-02-30 => 2 refused 28 bad moment
 clear none none --task a --run 2024-02-30 --from 2024-01-01 --to 2024-01-01 => 2 refused 28 bad moment
+list none --on 2024-02-30 => 2 refused 28 bad moment
+list none --on 2024-01-01T06:00:00Z => 2 refused 28 bad moment
+dry none none --on 2024-01-01.. => 2 refused 28 bad moment
+run none --on 2024-01-01..2024-02-30 => 2 refused 28 bad moment
+run none --on 2024-01-01...2024-01-02 => 2 refused 28 bad moment
+clear none none --task a --run 2024-01-01 --on today => 2 refused 28 bad moment
+clear none none --task a --run 2024-02-30 --on 2024-01-01 => 2 refused 28 bad moment
 # Then the files are read: the graph, the zone file, and the table.
 check none => 3 fault: cannot read none
 single none none --at 2024-01-01 => 3 fault: cannot read none
@@ -287,6 +316,20 @@ list one --from 2200-01-01 --to 2024-01-01 => 2 refused 25 outside years
 list one --from 2024-01-02 --to 2024-01-01 => 2 refused 26 range reversed
 dry one table --from 2024-01-02 --to 2024-01-01 => 2 refused 26 range reversed
 run one --from 2024-01-02 --to 2024-01-01 => 2 refused 26 range reversed
+dry one bad_table --on 2024-01-02..2024-01-01 --some => 2 refused 19 bad table: 1
+list one --on 1969-12-31..2024-01-01 => 2 refused 25 outside years
+list one --on 2200-01-01..2024-01-01 => 2 refused 25 outside years
+dry one table --on 2024-01-02..2024-01-01 => 2 refused 26 range reversed
+run one --on 2024-01-02..2024-01-01 --some => 2 refused 26 range reversed
+# Of a range without runs, where there have to be some.
+list one --from 2024-01-01T00:00:01Z --to 2024-01-01T23:59:59Z --some => 2 refused 29 no runs
+dry one table --from 2024-01-01T00:00:01Z --to 2024-01-01T23:59:59Z --some => 2 refused 29 no runs
+dry one bad_table --from 2024-01-01T00:00:01Z --to 2024-01-01T23:59:59Z --some => 2 refused 19 bad table: 1
+run one --from 2024-01-01T00:00:01Z --to 2024-01-01T23:59:59Z --some => 2 refused 29 no runs
+run one --from 2024-01-01T00:00:01Z --to 2024-01-01T23:59:59Z --some --journal none/journal => 2 refused 29 no runs
+clear one none --task q --run 2024-01-01 --from 2024-01-01T00:00:01Z --to 2024-01-01T23:59:59Z --some => 2 refused 29 no runs
+list yearly --on 2024-01-02..2024-12-31 --some => 2 refused 29 no runs
+list yearly --on 2024-01-01..2024-12-31 --some => 0 2024-01-01T00:00:00Z 2025-01-01T00:00:00Z
 clear one none --task q --run 2024-01-01 --from 2024-01-02 --to 2024-01-01 --table table => 2 refused 26 range reversed
 # The report of clear comes last, and then the seed.
 clear one none --task q --run 2024-01-01 --from 2024-01-01 --to 2024-01-01 => 3 fault: cannot read none
@@ -304,5 +347,55 @@ single /dev/zero /dev/null --at 2024-01-01 => 2 refused 5 limit passed: bytes
 single /no/gräph.json /dev/null --at 2024-01-01 => 3 fault: cannot read /no/gräph.json
 single /dev/null /dev --at 2024-01-01 => 3 fault: cannot read /dev
 ROWS
+
+# All that is wrong with a graph is told behind the refusal, and nothing else changes by it.
+
+# The graph file, checked so, ends in this status with the lines on standard input on standard error.
+is_explained() {
+    local status=$1
+    shift
+    : > "$work/wanted_out"
+    cat > "$work/wanted_err"
+    ends "$status" check --explain "$@"
+}
+printf '{"dag_id":' > cut
+is_explained 2 cut <<'LINES'
+refused 1 not json
+bytes: not JSON: line 1, column 10
+LINES
+cat > wrong <<'JSON'
+{"dag_id":"d","schedule_interval":"@daily","tasks":[
+  {"id":"Extract"},
+  {"id":"b","upstream":["EXTRACT","ectract","x"],"TRIGGER_RULE":"all_done","retries":"3"},
+  {"id":"b"}]}
+JSON
+is_explained 2 wrong <<'LINES'
+refused 2 shape: top
+schedule: missing: has to be five fields of cron that some day matches, or @hourly, @daily, @weekly, @monthly, @quarterly or @yearly
+top: unknown key "schedule_interval": did you mean "schedule"?
+tasks[1].retries: "3": has to be a whole number from 0 to 100
+tasks[1]: unknown key "TRIGGER_RULE": did you mean "rule"?
+tasks[1].upstream[0]: "EXTRACT": did you mean "Extract"?
+tasks[1].upstream[1]: "ectract": did you mean "Extract"?
+tasks[1].upstream[2]: "x": has to be the id of a task
+tasks[2].id: "b": has to be an id of 1 to 250 letters, digits, dashes, dots and underscores that no task before has
+LINES
+tells 2 'refused 2 shape: top' check wrong
+is_explained 2 cycle <<'LINES'
+refused 7 cycle: a
+cycle: a: each comes after the one before it, and the first after the last
+LINES
+is_explained 3 none <<< 'fault: cannot read none'
+answers 0 check --explain one <<< 'ok 1 tasks, 0 edges'
+# Of many faults a hundred are told, and soon.
+{
+    printf '{"dag_id":"d","schedule":"@daily","tasks":[{"id":"a","upstream":["x0"'
+    printf ',"x%d"' {1..999}
+    printf ']}]}'
+} > many
+{
+    echo 'refused 6 unknown upstream: a'
+    printf 'tasks[0].upstream[%d]: "x%d": has to be the id of a task\n' $(for ((n = 0; n < 100; n++)); do echo "$n $n"; done)
+} | is_explained 2 many
 
 sum

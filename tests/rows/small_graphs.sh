@@ -480,6 +480,52 @@ lists 1970-01-01 1970-12-31 <<< '1970-01-01T00:00:00Z 1971-01-01T00:00:00Z'
 scheduled @weekly
 lists 2024-01-01 2024-01-06 < /dev/null
 
+# Days: intervals that start on them by the graph's zone, where its clock goes on and back too.
+
+# The data intervals of the graph that was written, on these days, are those on standard input.
+lists_on() {
+    answers 0 list "$graph" --on "$1"
+}
+
+scheduled '0 6 * * *'
+lists 2024-01-01 2024-01-01 < /dev/null
+lists_on 2024-01-01 <<< '2024-01-01T06:00:00Z 2024-01-02T06:00:00Z'
+while IFS='|' read -r schedule zone days intervals; do
+    scheduled "$schedule" "$zone"
+    lists_on "$days" < <(tr ',' '\n' <<< "$intervals")
+done <<'ROWS'
+30 2 * * *|CET-1CEST,M3.5.0,M10.5.0/3|2024-03-31|2024-03-31T01:30:00Z 2024-04-01T00:30:00Z
+@daily|CET-1CEST,M3.5.0,M10.5.0/3|2024-03-31|2024-03-30T23:00:00Z 2024-03-31T22:00:00Z
+@daily|CET-1CEST,M3.5.0,M10.5.0/3|2024-03-30..2024-04-01|2024-03-29T23:00:00Z 2024-03-30T23:00:00Z,2024-03-30T23:00:00Z 2024-03-31T22:00:00Z,2024-03-31T22:00:00Z 2024-04-01T22:00:00Z
+@daily|CET-1CEST,M3.5.0,M10.5.0/3|2024-10-27..2024-10-27|2024-10-26T22:00:00Z 2024-10-27T23:00:00Z
+@daily|CET-1CEST,M3.5.0,M10.5.0/3|1970-01-01..1970-01-02|1970-01-01T23:00:00Z 1970-01-02T23:00:00Z
+@daily|AEST-10AEDT,M10.1.0,M4.1.0/3|2024-10-06|2024-10-05T14:00:00Z 2024-10-06T13:00:00Z
+0 23 * * *|-08:00|2024-01-01|2024-01-02T07:00:00Z 2024-01-03T07:00:00Z
+@daily|-23:59|2024-01-01|2024-01-01T23:59:00Z 2024-01-02T23:59:00Z
+@daily|UTC|2199-12-31|2199-12-31T00:00:00Z 2200-01-01T00:00:00Z
+ROWS
+# Of the day on which the clock goes on an hour is missing.
+scheduled '0 * * * *' "$europe"
+for ((second = 1711839600; second < 1711922400; second += 3600)); do
+    TZ=UTC0 printf '%(%FT%TZ)T %(%FT%TZ)T\n' "$second" "$((second + 3600))"
+done > "$work/hours"
+lists_on 2024-03-31 < "$work/hours"
+scheduled @weekly
+lists_on 2024-01-01..2024-01-06 < /dev/null
+answers 0 dry "$graph" "$table" --on 2024-01-01..2024-01-06 <<'LINES'
+@backfill 2 d
+@end 0
+LINES
+tells 2 'refused 29 no runs' list "$graph" --on 2024-01-01..2024-01-06 --some
+
+# Each command takes them.
+tasks '{"id":"a"}'
+echo '[]' > "$table"
+answers 0 dry "$graph" "$table" --on 2024-01-01 --some < <(one_day success <<< 'a -1 success 1 -')
+answers 0 run "$graph" --on 2024-01-01 --some < <(one_day success <<< 'a -1 success 1 -')
+one_day success <<< 'a -1 success 1 -' > "$work/report"
+answers 0 clear "$graph" "$work/report" --task a --run 2024-01-01 --on 2024-01-01 --some < <(one_day success <<< 'a -1 success 1 -')
+
 # Moments and ranges.
 
 scheduled '* * * * *'
@@ -487,6 +533,7 @@ lists 2024-01-01 2024-01-03T20:15:00Z < <(minutes)
 tells 2 'refused 27 too many runs' list "$graph" --from 2024-01-01 --to 2024-01-03T20:16:00Z
 tells 2 'refused 26 range reversed' list "$graph" --from 2024-01-02 --to 2024-01-01
 tells 2 'refused 25 outside years' list "$graph" --from 1969-12-31 --to 2024-01-01
+tells 2 'refused 27 too many runs' list "$graph" --on 2024-01-01..2024-01-03
 tells 2 'refused 25 outside years' single "$graph" "$table" --at 2200-01-01
 tells 2 'refused 26 range reversed' dry "$graph" "$table" --from 2024-01-02 --to 2024-01-01
 tells 2 'refused 28 bad moment' single "$graph" "$table" --at 2024-02-30

@@ -3,7 +3,7 @@
 
 use bf_command_fault::Status;
 use bf_device::Output;
-use bf_program::{Disk, answer};
+use bf_program::{Disk, answer, explain};
 use std::process::ExitCode;
 use std::{env, io};
 
@@ -32,6 +32,10 @@ fn main(rt: HostRuntime) -> ExitCode {
         &mut out,
         &mut err,
     );
+    if status == Status::Refused.code() {
+        // What is wrong is told already, and where more can't be, nothing is left to say so on.
+        let _ = explain(rt.alloc(), &words, &mut files, &mut err);
+    }
     ExitCode::from(status)
 }
 

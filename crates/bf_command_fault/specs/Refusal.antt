@@ -9,7 +9,6 @@ use Rattle.bf_check.specs.declared.fault.CheckFault.TheVariants as check
 use Rattle.bf_check.specs.Refusals as graph
 use Rattle.bf_interval.specs.declared.fault.IntervalFault.{IntervalFault}
 use Rattle.bf_interval.specs.declared.fault.IntervalFault.TheVariants as interval
-use Rattle.bf_interval.specs.Intervals as range
 use Rattle.bf_table.specs.declared.table.TableFault.{TableFault}
 use Rattle.bf_table.specs.declared.table.TableFault.TheVariants as table
 use Rattle.bf_table.specs.Tables as answers
@@ -28,8 +27,10 @@ use Rattle.bf_device.specs.declared.sending.WriteFault.{WriteFault}
 use Rattle.bf_device.specs.Device.{sent}
 use Rattle.bf_command_fault.specs.declared.fault.CommandFault.{CommandFault}
 use Rattle.bf_command_fault.specs.declared.fault.CommandFault.TheVariants.{Read, Check, Table, Range, Report, Journal, Clear, JournalInUse, BadMoment, OutOfMemory, CannotRead, CannotWriteFile, CannotWrite, CannotLaunch, Stopped}
+use Rattle.bf_command_fault.specs.declared.range.RangeFault.TheVariants.{Unlisted}
 use Rattle.bf_command_fault.specs.declared.stop.StopFault.{StopFault}
 use Rattle.bf_command_fault.specs.declared.status.Status.{Status}
+use Rattle.bf_command_fault.specs.Ranges.{range_number, range_words}
 
 -- ---- numbers and words
 
@@ -38,7 +39,7 @@ abbrev pub number_of : CommandFault → Option ℕ
 number_of (Read fault) = graph_file.fault_number fault
 number_of (Check fault) = graph.check_number fault
 number_of (Table fault) = answers.fault_number fault
-number_of (Range fault) = range.fault_number fault
+number_of (Range fault) = range_number fault
 number_of (Report fault) = reading.fault_number fault
 number_of (Journal fault) = journaling.fault_number fault
 number_of (Clear fault) = clearing.fault_number fault
@@ -63,7 +64,7 @@ abbrev pub words_of : CommandFault → List ℕ
 words_of (Read fault) = graph_file.fault_text fault
 words_of (Check fault) = graph.fault_text fault
 words_of (Table fault) = answers.fault_text fault
-words_of (Range fault) = range.fault_text fault
+words_of (Range fault) = range_words fault
 words_of (Report fault) = reading.fault_text fault
 words_of (Journal fault) = journaling.fault_text fault
 words_of (Clear fault) = clearing.fault_text fault
@@ -109,7 +110,7 @@ of_table fault = Table fault
 
 abbrev pub of_range : IntervalFault → CommandFault
 of_range interval.OutOfMemory = OutOfMemory
-of_range fault = Range fault
+of_range fault = Range (Unlisted fault)
 
 abbrev pub of_report : ReportFault → CommandFault
 of_report report.OutOfMemory = OutOfMemory

@@ -2,6 +2,7 @@
 ghost use Rattle.std.specs.Prelude.{◌≡◌, IfOk, string_bytes};
 ghost use Rattle.bf_command_fault.specs.Refusal.{line_of, number_of, status_of};
 
+use crate::range::RangeFault;
 use crate::status::Status;
 use crate::stop::StopFault;
 use bf_check::CheckFault;
@@ -26,8 +27,8 @@ pub enum CommandFault {
     Check(CheckFault),
     /// The table of answers has one.
     Table(TableFault),
-    /// No runs are made in the range, or none at the moment.
-    Range(IntervalFault),
+    /// There are no runs in the range, or none at the moment.
+    Range(RangeFault),
     /// The report to go on from is none.
     Report(ReportFault),
     /// The journal to go on from is none of this backfill.
@@ -193,7 +194,7 @@ impl From<IntervalFault> for CommandFault {
     fn from(fault: IntervalFault) -> CommandFault {
         match fault {
             IntervalFault::OutOfMemory => CommandFault::OutOfMemory,
-            fault => CommandFault::Range(fault),
+            fault => CommandFault::Range(RangeFault::Unlisted(fault)),
         }
     }
 }

@@ -2,9 +2,11 @@
 #![tactic(auto)]
 
 mod fault;
+mod range;
 mod status;
 mod stop;
 
 pub use fault::CommandFault;
+pub use range::RangeFault;
 pub use status::Status;
 pub use stop::StopFault;

@@ -14,16 +14,31 @@ use Rattle.bf_command_line.specs.declared.forms.RangeAsked.{RangeAsked}
 use Rattle.bf_command_line.specs.declared.forms.SeedAsked.{SeedAsked}
 use Rattle.bf_command_line.specs.declared.forms.Shell.{Shell}
 use Rattle.bf_command_line.specs.declared.forms.Shell.TheVariants.{Bash, Fish, Zsh}
+use Rattle.bf_command_line.specs.declared.forms.StartsAsked.{StartsAsked}
+use Rattle.bf_command_line.specs.declared.forms.StartsAsked.TheVariants.{Between, On}
 
 -- the paths of a graph file and of a zone file
 abbrev pub IsGraphBy : List Row → GraphAsked → Type 0
 IsGraphBy rows g = (first_of (codes "graph") rows ≡ Some (string_bytes g.graph))
     × (first_of (codes "zone_file") rows ≡ option_map string_bytes g.zone_file)
 
--- the first and the last moment of a range
+-- the text says yes
+abbrev pub says_true : Option Text → Bool
+says_true None = false
+says_true (Some text) = bytes_eq text (codes "true")
+
+-- where data intervals start: the first and the last moment of a range, or days
+abbrev pub IsStartsBy : List Row → StartsAsked → Type 0
+IsStartsBy rows (Between from to) = (first_of (codes "on") rows ≡ None)
+    × (first_of (codes "from") rows ≡ Some (string_bytes from))
+    × (first_of (codes "to") rows ≡ Some (string_bytes to))
+IsStartsBy rows (On days) = (first_of (codes "on") rows ≡ Some (string_bytes days))
+    × (first_of (codes "from") rows ≡ None)
+    × (first_of (codes "to") rows ≡ None)
+
+-- so it is told, and whether there have to be some
 abbrev pub IsRangeBy : List Row → RangeAsked → Type 0
-IsRangeBy rows r = (first_of (codes "from") rows ≡ Some (string_bytes r.from))
-    × (first_of (codes "to") rows ≡ Some (string_bytes r.to))
+IsRangeBy rows r = IsStartsBy rows r.starts × (r.some ≡ says_true (first_of (codes "some") rows))
 
 -- the task, and the logical date of its run
 abbrev pub IsSeedBy : List Row → SeedAsked → Type 0
@@ -38,11 +53,6 @@ IsNumberOr1 (Some text) n = ParsesUnsigned {E = Unit {0}} 32 10 text (Ok n)
 -- how many workers there are
 abbrev pub IsWorkersBy : List Row → ℕ → Type 0
 IsWorkersBy rows n = IsNumberOr1 (first_of (codes "workers") rows) n
-
--- the text says yes
-abbrev pub says_true : Option Text → Bool
-says_true None = false
-says_true (Some text) = bytes_eq text (codes "true")
 
 -- whether progress is told
 abbrev pub IsProgressBy : List Row → Bool → Type 0
@@ -99,7 +109,9 @@ IsShellBy rows shell = first_of (codes "shell") rows ≡ Some (shell_word shell)
 -- the subcommand's name, and the value of each of its arguments
 abbrev pub IsAskedBy : Option (Text × List Row) → Asked → Type 0
 IsAskedBy None a = ⊥
-IsAskedBy (Some (name, rows)) (Check g) = (name ≡ codes "check") × IsGraphBy rows g
+IsAskedBy (Some (name, rows)) (Check c) = (name ≡ codes "check")
+    × IsGraphBy rows c.graph
+    × (c.explain ≡ says_true (first_of (codes "explain") rows))
 IsAskedBy (Some (name, rows)) (Intervals l) = (name ≡ codes "list")
     × IsGraphBy rows l.graph
     × IsRangeBy rows l.range

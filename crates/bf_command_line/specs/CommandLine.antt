@@ -51,11 +51,23 @@ at_rule = required_option_rule (codes "at")
 
 -- `--from T`
 abbrev pub from_rule : Rule
-from_rule = required_option_rule (codes "from")
+from_rule = option_rule (codes "from") (codes "from")
 
 -- `--to T`
 abbrev pub to_rule : Rule
-to_rule = required_option_rule (codes "to")
+to_rule = option_rule (codes "to") (codes "to")
+
+-- `--on DAYS`
+abbrev pub on_rule : Rule
+on_rule = option_rule (codes "on") (codes "on")
+
+-- `--some`, a flag
+abbrev pub some_rule : Rule
+some_rule = record (new_rule (codes "some")) { long = Some (codes "some"); action = Some SetTrue }
+
+-- `--explain`, a flag
+abbrev pub explain_rule : Rule
+explain_rule = record (new_rule (codes "explain")) { long = Some (codes "explain"); action = Some SetTrue }
 
 -- `--workers N`, a number from 1 to 64
 abbrev pub workers_rule : Rule
@@ -105,32 +117,36 @@ shell_rule = positional_rule (codes "shell")
 abbrev pub over_graph_app : Text → App
 over_graph_app name = with_rule (with_rule (new_app name) graph_rule) zone_file_rule
 
--- a command with `--from T --to T [--workers N] [--progress] [--out PATH]` behind its other arguments
+-- a command with `[--from T] [--to T] [--on DAYS] [--some]`, where its data intervals start, behind its other arguments
+abbrev pub dated_app : App → App
+dated_app app = with_rule (with_rule (with_rule (with_rule app from_rule) to_rule) on_rule) some_rule
+
+-- and with `[--workers N] [--progress] [--out PATH]` behind those
 abbrev pub ranged_app : App → App
-ranged_app app = with_rule (with_rule (with_rule (with_rule (with_rule app from_rule) to_rule) workers_rule) progress_rule) out_rule
+ranged_app app = with_rule (with_rule (with_rule (dated_app app) workers_rule) progress_rule) out_rule
 
 -- a command that starts programs, with `[--launcher PATH] [--logs FOLDER] [--journal PATH] [--stop-after N] [--retry-failed]
 -- [--quiet]` behind its other arguments
 abbrev pub programs_app : App → App
 programs_app app = with_rule (with_rule (with_rule (with_rule (with_rule (with_rule app launcher_rule) logs_rule) journal_rule) stop_after_rule) retry_failed_rule) quiet_rule
 
--- `check GRAPH [--zone-file PATH]`
+-- `check GRAPH [--explain] [--zone-file PATH]`
 abbrev pub check_app : App
-check_app = over_graph_app (codes "check")
+check_app = with_rule (over_graph_app (codes "check")) explain_rule
 
--- `list GRAPH --from T --to T [--zone-file PATH]`
+-- `list GRAPH RANGE [--zone-file PATH]`
 abbrev pub list_app : App
-list_app = with_rule (with_rule (over_graph_app (codes "list")) from_rule) to_rule
+list_app = dated_app (over_graph_app (codes "list"))
 
 -- `single GRAPH TABLE --at T [--out PATH] [--zone-file PATH]`
 abbrev pub single_app : App
 single_app = with_rule (with_rule (with_rule (over_graph_app (codes "single")) table_rule) at_rule) out_rule
 
--- `dry GRAPH TABLE --from T --to T [--workers N] [--progress] [--out PATH] [--zone-file PATH]`
+-- `dry GRAPH TABLE RANGE [--workers N] [--progress] [--out PATH] [--zone-file PATH]`
 abbrev pub dry_app : App
 dry_app = ranged_app (with_rule (over_graph_app (codes "dry")) table_rule)
 
--- `run GRAPH --from T --to T [--workers N] [--progress] [--out PATH] [--launcher PATH] [--logs FOLDER] [--journal PATH ..] [--quiet] [--zone-file PATH]`
+-- `run GRAPH RANGE [--workers N] [--progress] [--out PATH] [--launcher PATH] [--logs FOLDER] [--journal PATH ..] [--quiet] [--zone-file PATH]`
 abbrev pub run_app : App
 run_app = programs_app (ranged_app (over_graph_app (codes "run")))
 
@@ -138,7 +154,7 @@ run_app = programs_app (ranged_app (over_graph_app (codes "run")))
 abbrev pub clearing_app : App
 clearing_app = with_rule (with_rule (with_rule (with_rule (over_graph_app (codes "clear")) report_rule) task_rule) run_rule) optional_table_rule
 
--- `clear GRAPH REPORT --from T --to T --task ID --run T [--table PATH] [--workers N] [--progress] [--out PATH] [--launcher PATH] [--logs FOLDER] [--journal PATH ..] [--quiet] [--zone-file PATH]`
+-- `clear GRAPH REPORT RANGE --task ID --run T [--table PATH] [--workers N] [--progress] [--out PATH] [--launcher PATH] [--logs FOLDER] [--journal PATH ..] [--quiet] [--zone-file PATH]`
 abbrev pub clear_app : App
 clear_app = programs_app (ranged_app clearing_app)
 

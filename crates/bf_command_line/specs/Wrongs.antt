@@ -3,7 +3,7 @@ use Rattle.std.specs.Prelude.{◌&&◌, ◌||◌, not, List, [], ◌∷◌, Opti
 use Rattle.std.specs.List.{list_any}
 use Rattle.clap.specs.Kinds.{or_else}
 use Rattle.clap.specs.Words.{Kinds, Row, Text, fault_of, first_of, subcommand_of}
-use Rattle.clap.specs.declared.error.kind.ErrorKind.TheVariants.{InvalidValue, MissingRequiredArgument}
+use Rattle.clap.specs.declared.error.kind.ErrorKind.TheVariants.{ArgumentConflict, InvalidValue, MissingRequiredArgument}
 use Rattle.bf_command_line.specs.Asked.{format_word, says_true, shell_word}
 use Rattle.bf_command_line.specs.CommandLine.{backfill_app}
 use Rattle.bf_command_line.specs.declared.forms.Format.TheVariants.{Graph, Table}
@@ -20,18 +20,33 @@ abbrev pub value_wrongs : List Text → Option Text → Kinds
 value_wrongs words None = []
 value_wrongs words (Some value) = if list_any (bytes_eq value) words then [] else InvalidValue ∷ []
 
+-- `--from` and `--to` stand both, or `--on` in their place
+abbrev pub starts_wrongs : Option Text → Option Text → Option Text → Kinds
+starts_wrongs None (Some from) (Some to) = []
+starts_wrongs (Some days) None None = []
+starts_wrongs None from to = MissingRequiredArgument ∷ []
+starts_wrongs (Some days) from to = ArgumentConflict ∷ []
+
+abbrev pub range_wrongs : List Row → Kinds
+range_wrongs rows = starts_wrongs (first_of (codes "on") rows) (first_of (codes "from") rows) (first_of (codes "to") rows)
+
 -- `--stop-after` and `--retry-failed` stand beside a journal alone
 abbrev pub journal_wrongs : List Row → Kinds
 journal_wrongs rows =
     if not (is_some (first_of (codes "journal") rows)) && (is_some (first_of (codes "stop_after") rows) || says_true (first_of (codes "retry_failed") rows))
     then MissingRequiredArgument ∷ [] else []
 
+-- the range comes before the journal
+abbrev pub programs_wrongs : List Row → Kinds
+programs_wrongs rows = or_else (range_wrongs rows) (journal_wrongs rows)
+
 -- of the subcommand's arguments, those that `clap` doesn't look at
 abbrev pub found_wrongs : Option (Text × List Row) → Kinds
 found_wrongs None = []
 found_wrongs (Some (name, rows)) = if bytes_eq name (codes "schema") then value_wrongs format_words (first_of (codes "format") rows)
     else (if bytes_eq name (codes "completions") then value_wrongs shell_words (first_of (codes "shell") rows)
-    else (if bytes_eq name (codes "run") || bytes_eq name (codes "clear") then journal_wrongs rows else []))
+    else (if bytes_eq name (codes "run") || bytes_eq name (codes "clear") then programs_wrongs rows
+    else (if bytes_eq name (codes "list") || bytes_eq name (codes "dry") then range_wrongs rows else [])))
 
 -- what `clap` finds, and else a value that isn't possible
 abbrev pub wrongs_of : List Text → Kinds

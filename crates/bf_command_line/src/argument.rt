@@ -1,7 +1,7 @@
 //! Arguments of commands, as `clap` reads them.
 ghost use Rattle.std.specs.Prelude.{◌≡◌};
 ghost use Rattle.clap.specs.Words.{rule_of};
-ghost use Rattle.bf_command_line.specs.CommandLine.{from_rule, graph_rule, journal_rule, launcher_rule, logs_rule, option_rule, out_rule, positional_rule, progress_rule, quiet_rule, required_option_rule, retry_failed_rule, stop_after_rule, table_rule, to_rule, workers_rule, zone_file_rule};
+ghost use Rattle.bf_command_line.specs.CommandLine.{explain_rule, from_rule, graph_rule, journal_rule, launcher_rule, logs_rule, on_rule, option_rule, out_rule, positional_rule, progress_rule, quiet_rule, required_option_rule, retry_failed_rule, some_rule, stop_after_rule, table_rule, to_rule, workers_rule, zone_file_rule};
 
 use bf_workers::MOST_WORKERS;
 use clap::{Arg, ArgAction, value_parser};
@@ -64,6 +64,17 @@ pub(crate) fn zone_file<'a>(alloc: Global) -> Arg<'a>
     )
 }
 
+pub(crate) fn explain<'a>(alloc: Global) -> Arg<'a>
+    ensures { rule_of result ≡ explain_rule }
+{
+    Arg::new(alloc, "explain")
+        .long("explain")
+        .help(
+            "Tells on standard error all that is wrong with a graph that is refused, at most 100 findings",
+        )
+        .action(ArgAction::SetTrue)
+}
+
 pub(crate) fn table<'a>(alloc: Global) -> Arg<'a>
     ensures { rule_of result ≡ table_rule }
 {
@@ -78,8 +89,9 @@ pub(crate) fn table<'a>(alloc: Global) -> Arg<'a>
 pub(crate) fn from<'a>(alloc: Global) -> Arg<'a>
     ensures { rule_of result ≡ from_rule }
 {
-    required_option(
+    option(
         alloc,
+        "from",
         "from",
         "T",
         "The first moment at which an interval may start, in UTC, as 2024-01-31 or 2024-01-31T06:00:00Z",
@@ -89,12 +101,34 @@ pub(crate) fn from<'a>(alloc: Global) -> Arg<'a>
 pub(crate) fn to<'a>(alloc: Global) -> Arg<'a>
     ensures { rule_of result ≡ to_rule }
 {
-    required_option(
+    option(
         alloc,
+        "to",
         "to",
         "T",
         "The last moment at which an interval may start, in UTC, as 2024-01-31 or 2024-01-31T06:00:00Z",
     )
+}
+
+pub(crate) fn on<'a>(alloc: Global) -> Arg<'a>
+    ensures { rule_of result ≡ on_rule }
+{
+    option(
+        alloc,
+        "on",
+        "on",
+        "DAYS",
+        "In place of both, the days on which an interval starts by the graph's zone, as 2024-01-31 or 2024-01-01..2024-01-31",
+    )
+}
+
+pub(crate) fn some<'a>(alloc: Global) -> Arg<'a>
+    ensures { rule_of result ≡ some_rule }
+{
+    Arg::new(alloc, "some")
+        .long("some")
+        .help("Refuses a range in which no interval starts")
+        .action(ArgAction::SetTrue)
 }
 
 pub(crate) fn workers<'a>(alloc: Global) -> Arg<'a>

@@ -1,12 +1,12 @@
 //! The command line as `clap` reads it.
 ghost use Rattle.std.specs.Prelude.{◌≡◌, IfOk};
 ghost use Rattle.clap.specs.Words.{App, app_of};
-ghost use Rattle.bf_command_line.specs.CommandLine.{answered_app, backfill_app, bare_app, check_app, clear_app, completions_app, dry_app, list_app, ranged_app, run_app, schema_app, single_app, over_graph_app, programs_app};
+ghost use Rattle.bf_command_line.specs.CommandLine.{answered_app, backfill_app, bare_app, check_app, clear_app, completions_app, dated_app, dry_app, list_app, ranged_app, run_app, schema_app, single_app, over_graph_app, programs_app};
 ghost use Rattle.bf_command_line.specs.Drafts.{IsDraftOf};
 
 use crate::argument::{
-    from, graph, journal, launcher, logs, option, out, positional, progress, quiet,
-    required_option, retry_failed, stop_after, table, to, workers, zone_file,
+    explain, from, graph, journal, launcher, logs, on, option, out, positional, progress, quiet,
+    required_option, retry_failed, some, stop_after, table, to, workers, zone_file,
 };
 use crate::draft::Draft;
 use clap::Command;
@@ -18,8 +18,9 @@ const VERSION: &str = "0.2.0";
 const CHECK_EXAMPLE: &str = "Example:\n\
     \x20 backfill check examples/every_key/graph.json";
 
-const LIST_EXAMPLE: &str = "Example:\n\
-    \x20 backfill list --from 2024-03-30 --to 2024-04-01 examples/clock_change/graph.json";
+const LIST_EXAMPLES: &str = "Examples:\n\
+    \x20 backfill list --from 2024-03-30 --to 2024-04-01 examples/clock_change/graph.json\n\
+    \x20 backfill list --on 2024-03-30..2024-04-01 examples/clock_change/graph.json";
 
 const SINGLE_EXAMPLE: &str = "Example:\n\
     \x20 backfill single --at 2024-01-01 examples/skip/graph.json examples/skip/table.json";
@@ -64,13 +65,22 @@ fn over_graph<'a>(alloc: Global, name: &'a str, about: &'a str, examples: &'a st
         .arg(zone_file(alloc))
 }
 
-/// A command that goes over the data intervals of a range, with these arguments before its range.
-fn ranged<'a>(alloc: Global, command: Draft<'a>) -> Draft<'a>
-    ensures { (app : App) → IsDraftOf app command.entry → IsDraftOf (ranged_app app) result }
+/// A command over data intervals, with these arguments before those that say where they start.
+fn dated<'a>(alloc: Global, command: Draft<'a>) -> Draft<'a>
+    ensures { (app : App) → IsDraftOf app command.entry → IsDraftOf (dated_app app) result }
 {
     command
         .arg(from(alloc))
         .arg(to(alloc))
+        .arg(on(alloc))
+        .arg(some(alloc))
+}
+
+/// A command that goes over the data intervals of a range, with these arguments before its range.
+fn ranged<'a>(alloc: Global, command: Draft<'a>) -> Draft<'a>
+    ensures { (app : App) → IsDraftOf app command.entry → IsDraftOf (ranged_app app) result }
+{
+    dated(alloc, command)
         .arg(workers(alloc))
         .arg(progress(alloc))
         .arg(out(alloc))
@@ -85,19 +95,19 @@ fn check<'a>(alloc: Global) -> Draft<'a>
         "Checks the graph, and tells how many tasks and edges it has",
         CHECK_EXAMPLE,
     )
+    .arg(explain(alloc))
 }
 
-fn list<'a>(alloc: Global) -> Draft<'a>
+pub(crate) fn list<'a>(alloc: Global) -> Draft<'a>
     ensures { IsDraftOf list_app result }
 {
-    over_graph(
+    let command = over_graph(
         alloc,
         "list",
         "Lists the data intervals of the graph's schedule that start in a range",
-        LIST_EXAMPLE,
-    )
-    .arg(from(alloc))
-    .arg(to(alloc))
+        LIST_EXAMPLES,
+    );
+    dated(alloc, command)
 }
 
 fn single<'a>(alloc: Global) -> Draft<'a>
@@ -119,7 +129,7 @@ fn single<'a>(alloc: Global) -> Draft<'a>
     .arg(out(alloc))
 }
 
-fn dry<'a>(alloc: Global) -> Draft<'a>
+pub(crate) fn dry<'a>(alloc: Global) -> Draft<'a>
     ensures { IsDraftOf dry_app result }
 {
     let command = over_graph(

@@ -9,14 +9,30 @@ pub struct GraphAsked {
     pub zone_file: Option<String>,
 }
 
-/// `--from T --to T`: the first and the last moment at which a data interval may start.
+/// `check GRAPH [--explain]`: a graph, and whether all that is wrong with it is told.
 #[derive(Drop)]
-pub struct RangeAsked {
-    pub from: String,
-    pub to: String,
+pub struct CheckAsked {
+    pub graph: GraphAsked,
+    pub explain: bool,
 }
 
-/// `list GRAPH --from T --to T`: the data intervals of a range.
+/// Where data intervals start.
+#[derive(Drop)]
+pub enum StartsAsked {
+    /// `--from T --to T`: the first and the last moment at which one may.
+    Between { from: String, to: String },
+    /// `--on DAYS`: the days on which they do.
+    On(String),
+}
+
+/// `(--from T --to T | --on DAYS) [--some]`: where data intervals start, and whether there have to be some.
+#[derive(Drop)]
+pub struct RangeAsked {
+    pub starts: StartsAsked,
+    pub some: bool,
+}
+
+/// `list GRAPH RANGE`: the data intervals of a range.
 #[derive(Drop)]
 pub struct ListAsked {
     pub graph: GraphAsked,
@@ -31,8 +47,7 @@ pub struct SingleAsked {
     pub at: String,
 }
 
-/// `dry GRAPH TABLE --from T --to T [--workers N] [--progress]`: a run for each data interval of a range, its tasks
-/// answered from a table.
+/// `dry GRAPH TABLE RANGE [--workers N] [--progress]`: a run for each data interval of a range, its tasks answered from a table.
 #[derive(Drop)]
 pub struct DryAsked {
     pub graph: GraphAsked,
@@ -51,8 +66,8 @@ pub struct JournalAsked {
     pub retry_failed: bool,
 }
 
-/// `run GRAPH --from T --to T [--workers N] [--progress] [--launcher PATH] [--logs FOLDER] [--journal PATH ..] [--quiet]`: a run for
-/// each data interval of a range, with the programs of its tasks. Where a launcher is named, the words of their commands are handed
+/// `run GRAPH RANGE [--workers N] [--progress] [--launcher PATH] [--logs FOLDER] [--journal PATH ..] [--quiet]`: a run for each
+/// data interval of a range, with the programs of its tasks. Where a launcher is named, the words of their commands are handed
 /// to it; where a folder of logs is, it keeps what they write and are given. Progress is told where that is asked for, and nothing
 /// is to be quiet.
 #[derive(Drop)]
@@ -74,8 +89,8 @@ pub struct SeedAsked {
     pub run: String,
 }
 
-/// `clear GRAPH REPORT --from T --to T --task ID --run T [--table PATH] [--workers N] [--progress] [--launcher PATH]
-/// [--logs FOLDER] [--journal PATH ..] [--quiet]`: a backfill that goes on from its report, where a task in a run and all that
+/// `clear GRAPH REPORT RANGE --task ID --run T [--table PATH] [--workers N] [--progress] [--launcher PATH] [--logs FOLDER]
+/// [--journal PATH ..] [--quiet]`: a backfill that goes on from its report, where a task in a run and all that
 /// follows from it is cleared. Tries are answered from a table where one is named, else by the programs of the tasks, as `run`
 /// starts them.
 #[derive(Drop)]
@@ -111,8 +126,8 @@ pub enum Shell {
 /// A subcommand with its paths and options.
 #[derive(Drop)]
 pub enum Asked {
-    /// `check GRAPH`: whether a graph file has a fault.
-    Check(GraphAsked),
+    /// Whether a graph file has a fault.
+    Check(CheckAsked),
     List(ListAsked),
     Single(SingleAsked),
     Dry(DryAsked),

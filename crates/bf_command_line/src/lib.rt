@@ -9,7 +9,7 @@ mod reading;
 mod refusal;
 
 pub use forms::{
-    Asked, ClearAsked, CommandLine, DryAsked, Format, GraphAsked, JournalAsked, ListAsked,
-    RangeAsked, RunAsked, SeedAsked, Shell, SingleAsked,
+    Asked, CheckAsked, ClearAsked, CommandLine, DryAsked, Format, GraphAsked, JournalAsked,
+    ListAsked, RangeAsked, RunAsked, SeedAsked, Shell, SingleAsked, StartsAsked,
 };
 pub use reading::asked;

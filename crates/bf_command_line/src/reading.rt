@@ -2,15 +2,15 @@
 ghost use Rattle.std.specs.Prelude.{◌≡◌, IfOk, map, option_map, string_bytes, Some, codes};
 ghost use Rattle.clap.specs.Words.{fault_of, FailsBy, subcommand_of, first_of, found_of, rows_of, subcommand_rows_of};
 ghost use Rattle.bf_command_line.specs.CommandLine.{backfill_app};
-ghost use Rattle.bf_command_line.specs.Wrongs.{format_words, found_wrongs, journal_wrongs, shell_words, value_wrongs, wrongs_of};
-ghost use Rattle.bf_command_line.specs.Asked.{IsAskedBy, IsFormatBy, IsGraphBy, IsJournalBy, IsLineBy, IsNumberIfGiven, IsRangeBy, IsSeedBy, IsShellBy, IsWorkersBy, says_true};
+ghost use Rattle.bf_command_line.specs.Wrongs.{format_words, found_wrongs, journal_wrongs, programs_wrongs, range_wrongs, shell_words, value_wrongs, wrongs_of};
+ghost use Rattle.bf_command_line.specs.Asked.{IsAskedBy, IsFormatBy, IsGraphBy, IsJournalBy, IsLineBy, IsNumberIfGiven, IsRangeBy, IsSeedBy, IsShellBy, IsStartsBy, IsWorkersBy, says_true};
 
 use crate::command::backfill;
 use crate::forms::{
-    Asked, ClearAsked, CommandLine, DryAsked, Format, GraphAsked, JournalAsked, ListAsked,
-    RangeAsked, RunAsked, SeedAsked, Shell, SingleAsked,
+    Asked, CheckAsked, ClearAsked, CommandLine, DryAsked, Format, GraphAsked, JournalAsked,
+    ListAsked, RangeAsked, RunAsked, SeedAsked, Shell, SingleAsked, StartsAsked,
 };
-use crate::refusal::{no_format, no_journal, no_shell};
+use crate::refusal::{no_format, no_journal, no_range, no_shell, two_ranges};
 use bf_workers::Workers;
 use clap::{ArgMatches, Error};
 use std::alloc::{AllocError, Global};
@@ -60,11 +60,13 @@ fn named_asked(alloc: Global, name: &str, matches: &ArgMatches<'_>) -> Result<As
         "completions" => Ok(Asked::Completions(shell_asked(alloc, matches)?)),
         "run" => Ok(Asked::Run(programs_asked(alloc, name, matches)?)),
         "clear" => clear_asked(alloc, name, matches),
+        "list" => list_asked(alloc, name, matches),
+        "dry" => dry_asked(alloc, name, matches),
         _ => Ok(over_graph_asked(alloc, name, matches)?),
     }
 }
 
-/// The same, of those over a graph that need start no program.
+/// The same, of those over a graph that have no range.
 fn over_graph_asked(
     alloc: Global,
     name: &str,
@@ -74,9 +76,7 @@ fn over_graph_asked(
 {
     match name {
         "check" => check_asked(alloc, matches),
-        "list" => list_asked(alloc, matches),
         "single" => single_asked(alloc, matches),
-        "dry" => dry_asked(alloc, matches),
         _ => Err(AllocError),
     }
 }
@@ -90,13 +90,29 @@ fn graph_asked(alloc: Global, matches: &ArgMatches<'_>) -> Result<GraphAsked, Al
     })
 }
 
-fn range_asked(alloc: Global, matches: &ArgMatches<'_>) -> Result<RangeAsked, AllocError>
-    ensures { IfOk result (IsRangeBy (rows_of (found_of matches.now))) }
+/// Where the data intervals of a command of this name start.
+fn starts_asked(alloc: Global, name: &str, matches: &ArgMatches<'_>) -> Result<StartsAsked, Error>
+    ensures ok { IfOk result (IsStartsBy (rows_of (found_of matches.now))) }
+    ensures err { FailsBy (range_wrongs (rows_of (found_of matches.now))) result }
 {
-    Ok(RangeAsked {
-        from: required(alloc, matches, "from")?,
-        to: required(alloc, matches, "to")?,
-    })
+    let days = optional(alloc, matches, "on")?;
+    let from = optional(alloc, matches, "from")?;
+    let to = optional(alloc, matches, "to")?;
+    match (days, from, to) {
+        (None, Some(from), Some(to)) => Ok(StartsAsked::Between { from, to }),
+        (Some(days), None, None) => Ok(StartsAsked::On(days)),
+        (None, _, _) => Err(no_range(alloc, name)?),
+        (Some(_), _, _) => Err(two_ranges(alloc, name)?),
+    }
+}
+
+fn range_asked(alloc: Global, name: &str, matches: &ArgMatches<'_>) -> Result<RangeAsked, Error>
+    ensures ok { IfOk result (IsRangeBy (rows_of (found_of matches.now))) }
+    ensures err { FailsBy (range_wrongs (rows_of (found_of matches.now))) result }
+{
+    let starts = starts_asked(alloc, name, matches)?;
+    let some = is_told(matches, "some");
+    Ok(RangeAsked { starts, some })
 }
 
 fn seed_asked(alloc: Global, matches: &ArgMatches<'_>) -> Result<SeedAsked, AllocError>
@@ -135,16 +151,19 @@ fn is_told(matches: &ArgMatches<'_>, id: &str) -> bool
 fn check_asked(alloc: Global, matches: &ArgMatches<'_>) -> Result<Asked, AllocError>
     ensures { IfOk result (IsAskedBy (Some (codes "check", rows_of (found_of matches.now)))) }
 {
-    Ok(Asked::Check(graph_asked(alloc, matches)?))
+    Ok(Asked::Check(CheckAsked {
+        graph: graph_asked(alloc, matches)?,
+        explain: is_told(matches, "explain"),
+    }))
 }
 
-fn list_asked(alloc: Global, matches: &ArgMatches<'_>) -> Result<Asked, AllocError>
-    ensures { IfOk result (IsAskedBy (Some (codes "list", rows_of (found_of matches.now)))) }
+fn list_asked(alloc: Global, name: &str, matches: &ArgMatches<'_>) -> Result<Asked, Error>
+    ensures ok { IfOk result (IsAskedBy (Some (codes "list", rows_of (found_of matches.now)))) }
+    ensures err { FailsBy (range_wrongs (rows_of (found_of matches.now))) result }
 {
-    Ok(Asked::List(ListAsked {
-        graph: graph_asked(alloc, matches)?,
-        range: range_asked(alloc, matches)?,
-    }))
+    let range = range_asked(alloc, name, matches)?;
+    let graph = graph_asked(alloc, matches)?;
+    Ok(Asked::List(ListAsked { graph, range }))
 }
 
 fn single_asked(alloc: Global, matches: &ArgMatches<'_>) -> Result<Asked, AllocError>
@@ -157,14 +176,16 @@ fn single_asked(alloc: Global, matches: &ArgMatches<'_>) -> Result<Asked, AllocE
     }))
 }
 
-fn dry_asked(alloc: Global, matches: &ArgMatches<'_>) -> Result<Asked, AllocError>
-    ensures { IfOk result (IsAskedBy (Some (codes "dry", rows_of (found_of matches.now)))) }
+fn dry_asked(alloc: Global, name: &str, matches: &ArgMatches<'_>) -> Result<Asked, Error>
+    ensures ok { IfOk result (IsAskedBy (Some (codes "dry", rows_of (found_of matches.now)))) }
+    ensures err { FailsBy (range_wrongs (rows_of (found_of matches.now))) result }
 {
+    let range = range_asked(alloc, name, matches)?;
     let workers = workers_asked(matches)?;
     Ok(Asked::Dry(DryAsked {
         graph: graph_asked(alloc, matches)?,
         table: required(alloc, matches, "table")?,
-        range: range_asked(alloc, matches)?,
+        range,
         workers,
         progress: is_told(matches, "progress"),
     }))
@@ -208,13 +229,14 @@ fn journal_asked(
 /// What a command of this name that starts programs asks for, in the form that `run` has.
 fn programs_asked(alloc: Global, name: &str, matches: &ArgMatches<'_>) -> Result<RunAsked, Error>
     ensures ok { IfOk result (λ r. IsAskedBy (Some (codes "run", rows_of (found_of matches.now))) (Asked.Run r)) }
-    ensures err { FailsBy (journal_wrongs (rows_of (found_of matches.now))) result }
+    ensures err { FailsBy (programs_wrongs (rows_of (found_of matches.now))) result }
 {
+    let range = range_asked(alloc, name, matches)?;
     let workers = workers_asked(matches)?;
     let journal = journal_asked(alloc, name, matches)?;
     Ok(RunAsked {
         graph: graph_asked(alloc, matches)?,
-        range: range_asked(alloc, matches)?,
+        range,
         workers,
         progress: is_told(matches, "progress") && !is_told(matches, "quiet"),
         quiet: is_told(matches, "quiet"),
@@ -226,7 +248,7 @@ fn programs_asked(alloc: Global, name: &str, matches: &ArgMatches<'_>) -> Result
 
 fn clear_asked(alloc: Global, name: &str, matches: &ArgMatches<'_>) -> Result<Asked, Error>
     ensures ok { IfOk result (IsAskedBy (Some (codes "clear", rows_of (found_of matches.now)))) }
-    ensures err { FailsBy (journal_wrongs (rows_of (found_of matches.now))) result }
+    ensures err { FailsBy (programs_wrongs (rows_of (found_of matches.now))) result }
 {
     let run = programs_asked(alloc, name, matches)?;
     let report = required(alloc, matches, "report")?;

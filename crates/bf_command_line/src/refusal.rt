@@ -2,7 +2,7 @@
 ghost use Rattle.std.specs.Prelude.{◌≡◌, IfOk};
 ghost use Rattle.clap.specs.Words.{kind_of};
 
-use crate::command::{clear, completions, run, schema};
+use crate::command::{clear, completions, dry, list, run, schema};
 use crate::draft::Draft;
 use clap::Error;
 use clap::error::ErrorKind;
@@ -14,6 +14,12 @@ const NO_FORMAT: &str = "invalid value for '<FORMAT>'\n\
 const NO_JOURNAL: &str = "the following required arguments were not provided:\n\
     \x20 --journal <PATH>";
 
+const NO_RANGE: &str = "the following required arguments were not provided:\n\
+    \x20 --from <T> and --to <T>, or --on <DAYS>";
+
+const TWO_RANGES: &str =
+    "the argument '--on <DAYS>' cannot be used with '--from <T>' or '--to <T>'";
+
 const NO_SHELL: &str = "invalid value for '<SHELL>'\n\
     \x20 [possible values: bash, zsh, fish]";
 
@@ -24,16 +30,42 @@ fn refusal(command: Draft<'_>, name: &str, kind: ErrorKind, text: &str) -> Resul
     command.command?.bin_name(name)?.error(kind, text)
 }
 
+/// What is said of words that the command of this name doesn't take, which goes over a range.
+fn ranged_refusal(
+    alloc: Global,
+    name: &str,
+    kind: ErrorKind,
+    text: &str,
+) -> Result<Error, AllocError>
+    ensures { IfOk result (λ e. kind_of e ≡ kind) }
+{
+    match name {
+        "list" => refusal(list(alloc), "backfill list", kind, text),
+        "dry" => refusal(dry(alloc), "backfill dry", kind, text),
+        "run" => refusal(run(alloc), "backfill run", kind, text),
+        _ => refusal(clear(alloc), "backfill clear", kind, text),
+    }
+}
+
+/// What is said where it isn't told where data intervals start.
+pub(crate) fn no_range(alloc: Global, name: &str) -> Result<Error, AllocError>
+    ensures { IfOk result (λ e. kind_of e ≡ ErrorKind.MissingRequiredArgument) }
+{
+    ranged_refusal(alloc, name, ErrorKind::MissingRequiredArgument, NO_RANGE)
+}
+
+/// What is said where that is told twice.
+pub(crate) fn two_ranges(alloc: Global, name: &str) -> Result<Error, AllocError>
+    ensures { IfOk result (λ e. kind_of e ≡ ErrorKind.ArgumentConflict) }
+{
+    ranged_refusal(alloc, name, ErrorKind::ArgumentConflict, TWO_RANGES)
+}
+
 /// What is said of `--stop-after` and `--retry-failed` without a journal.
 pub(crate) fn no_journal(alloc: Global, name: &str) -> Result<Error, AllocError>
     ensures { IfOk result (λ e. kind_of e ≡ ErrorKind.MissingRequiredArgument) }
 {
-    let kind = ErrorKind::MissingRequiredArgument;
-    if name == "run" {
-        refusal(run(alloc), "backfill run", kind, NO_JOURNAL)
-    } else {
-        refusal(clear(alloc), "backfill clear", kind, NO_JOURNAL)
-    }
+    ranged_refusal(alloc, name, ErrorKind::MissingRequiredArgument, NO_JOURNAL)
 }
 
 /// What is said of a word that is no format.

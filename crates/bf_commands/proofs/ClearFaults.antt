@@ -12,6 +12,7 @@ use Rattle.bf_kept.specs.Kept.{MayGiveUpAnew}
 use Rattle.bf_report.specs.declared.report.Report.{Report}
 use Rattle.bf_dependents.specs.declared.seeds.Seed.{Seed}
 use Rattle.bf_command_fault.specs.declared.fault.CommandFault.{CommandFault}
+use Rattle.bf_commands.specs.declared.range.RunRange.{RunRange}
 use Rattle.bf_commands.specs.Cleared.{AreAnswersIn, IsFaultAgain, IsFaultBefore, IsFaultOfNamed, IsKeptOf, IsPrepared, IsStopOrWantingFrom}
 use Rattle.bf_commands.specs.Graphs.{IsPlanOf}
 use Rattle.bf_commands.specs.Lists.{HasListing, IsRangeFault}
@@ -20,16 +21,16 @@ use Rattle.bf_commands.proofs.Faults.{range_cases, stop_cases, table_cases, work
 
 -- ---- the faults of parts are those of what comes before the report
 
-module _ (graph : List ℕ) (file table : Option (List ℕ)) (from to : ℤ) where
-  pub table_before : (plan : Checked) → IsPlanOf graph file plan → (fault : CommandFault) → IsFaultOfNamed table fault → IsFaultBefore graph file table from to fault
+module _ (graph : List ℕ) (file table : Option (List ℕ)) (range : RunRange) where
+  pub table_before : (plan : Checked) → IsPlanOf graph file plan → (fault : CommandFault) → IsFaultOfNamed table fault → IsFaultBefore graph file table range fault
   table_before plan said fault (bytes, named, is) =
-      table_cases (IsFaultBefore graph file table from to) bytes (λ f says. (said.draft, said.graph_is, ap (option_map table_of) named ∙ ap Some says)) tt fault is
+      table_cases (IsFaultBefore graph file table range) bytes (λ f says. (said.draft, said.graph_is, ap (option_map table_of) named ∙ ap Some says)) tt fault is
 
-  pub range_before : (answers : Option (List TableEntry)) → AreAnswersIn table answers → (fault : CommandFault) → IsRangeFault graph file from to fault → IsFaultBefore graph file table from to fault
-  range_before answers says = range_cases (IsFaultBefore graph file table from to) graph file from to (λ fault is. (answers, says, is)) tt
+  pub range_before : (answers : Option (List TableEntry)) → AreAnswersIn table answers → (fault : CommandFault) → IsRangeFault graph file range fault → IsFaultBefore graph file table range fault
+  range_before answers says = range_cases (IsFaultBefore graph file table range) graph file range (λ fault is. (answers, says, is)) tt
 
-  pub prepared : (plan : Checked) → IsPlanOf graph file plan → (answers : Option (List TableEntry)) → AreAnswersIn table answers → (found : List Interval) → HasListing graph file from to (Ok found)
-      → (clocks : List ℤ) → AreClocksOf graph file found clocks → IsPrepared graph file table from to plan.dag found clocks answers
+  pub prepared : (plan : Checked) → IsPlanOf graph file plan → (answers : Option (List TableEntry)) → AreAnswersIn table answers → (found : List Interval) → HasListing graph file range (Ok found)
+      → (clocks : List ℤ) → AreClocksOf graph file found clocks → IsPrepared graph file table range plan.dag found clocks answers
   prepared plan said answers says found listing clocks are = record { draft = said.draft; graph_is = said.graph_is; dag_is = said.dag; table_says = says; listing = listing; clocks_are = are }
 
 -- ---- the faults of what comes after it

@@ -31,7 +31,10 @@ use Rattle.bf_device.specs.declared.sending.WriteFault.{WriteFault}
 use Rattle.bf_command_fault.specs.Refusal.{Leaves, of_cause, of_check, of_range, of_read, of_write}
 use Rattle.bf_command_fault.specs.declared.fault.CommandFault.{CommandFault}
 use Rattle.bf_command_fault.specs.declared.fault.CommandFault.TheVariants.{Table, Range, OutOfMemory, CannotWrite, Stopped}
+use Rattle.bf_command_fault.specs.declared.range.RangeFault.{RangeFault}
+use Rattle.bf_command_fault.specs.declared.range.RangeFault.TheVariants.{Unlisted}
 use Rattle.bf_command_fault.specs.declared.stop.StopFault.{StopFault}
+use Rattle.bf_commands.specs.declared.range.RunRange.{RunRange}
 use Rattle.bf_commands.specs.Cleared.{IsStopOrWantingAnew, IsStopOrWantingFrom}
 use Rattle.bf_commands.specs.DatedRuns.{IsFaultOfDry, IsReportIn}
 use Rattle.bf_commands.specs.Graphs.{IsFaultIn, IsFileOf, IsPlanOf}
@@ -52,15 +55,15 @@ reported_at {plan = plan} {entries = entries} {at = at} {runs = runs} is says ye
     let over : IsReportOver plan.dag entries runs text success = from_nothing text success from in
     record { draft = is.draft; entries = entries; graph_is = is.graph_is; table_says = says; in_years = years; reported = rw (is.dag, same) at over }
 
-module _ {graph : List ℕ} {file : Option (List ℕ)} {plan : Checked} {from to : ℤ} {found : List Interval} (is : IsPlanOf graph file plan) (listing : HasListing graph file from to (Ok found)) where
+module _ {graph : List ℕ} {file : Option (List ℕ)} {plan : Checked} {range : RunRange} {found : List Interval} (is : IsPlanOf graph file plan) (listing : HasListing graph file range (Ok found)) where
   pub reported_in : {table : List ℕ} {entries : List TableEntry} → table_of table ≡ Ok entries → (text : List ℕ) (success : Bool)
-      → IsReportFrom nothing (AnswersByTable plan.dag entries found) plan.dag found text success → IsReportIn graph file table from to text success
+      → IsReportFrom nothing (AnswersByTable plan.dag entries found) plan.dag found text success → IsReportIn graph file table range text success
   reported_in {entries = entries} says text success from =
       let over : IsReportOver plan.dag entries found text success = from_nothing text success from in
       record { draft = is.draft; entries = entries; found = found; graph_is = is.graph_is; table_says = says; listing = listing; reported = rw is.dag at over }
 
   pub reported_by : {launching : LaunchingOf} {may_hear : Hearing} {clocks : List ℤ} → AreClocksOf graph file found clocks → (text : List ℕ) (success : Bool)
-      → IsReportFrom nothing (MayAnswer (launched_by launching may_hear clocks) plan.dag found) plan.dag found text success → IsRunReport launching may_hear graph file from to text success
+      → IsReportFrom nothing (MayAnswer (launched_by launching may_hear clocks) plan.dag found) plan.dag found text success → IsRunReport launching may_hear graph file range text success
   reported_by {launching = launching} {may_hear = may_hear} {clocks = clocks} are text success from =
       let by : IsReportBy (MayAnswer (launched_by launching may_hear clocks) plan.dag found) plan.dag found text success = from_nothing text success from in
       record { draft = is.draft; found = found; graph_is = is.graph_is; listing = listing; clocks = clocks; clocks_are = are; reported = rw is.dag at by }
@@ -75,9 +78,9 @@ pub check_fault : (graph : List ℕ) (file : Option (List ℕ)) (draft : Draft) 
 check_fault graph file draft says check.OutOfMemory is = tt
 check_fault graph file draft says _ is = (draft, says, is)
 
-pub range_fault : (graph : List ℕ) (file : Option (List ℕ)) (from to : ℤ) (fault : IntervalFault) → HasListing graph file from to (Err fault) → IsRangeFault graph file from to (of_range fault)
-range_fault graph file from to interval.OutOfMemory is = tt
-range_fault graph file from to _ is = is
+pub range_fault : (graph : List ℕ) (file : Option (List ℕ)) (range : RunRange) (fault : IntervalFault) → HasListing graph file range (Err (Unlisted fault)) → IsRangeFault graph file range (of_range fault)
+range_fault graph file range interval.OutOfMemory is = tt
+range_fault graph file range _ is = is
 
 wanting_by : (c : Cause) (n : ℕ) → IsWanting (of_cause c n)
 wanting_by cause.Io n = tt
@@ -113,17 +116,17 @@ module _ (P : CommandFault → Type 0) where
   table_cases table said memory _ is = absurd is
 
   -- a range has a fault, or memory is wanting
-  pub range_cases : (graph : List ℕ) (file : Option (List ℕ)) (from to : ℤ) → ((fault : IntervalFault) → HasListing graph file from to (Err fault) → P (Range fault)) → P OutOfMemory
-      → (fault : CommandFault) → IsRangeFault graph file from to fault → P fault
-  range_cases graph file from to listed memory (Range fault) is = listed fault is
-  range_cases graph file from to listed memory OutOfMemory is = memory
-  range_cases graph file from to listed memory _ is = absurd is
+  pub range_cases : (graph : List ℕ) (file : Option (List ℕ)) (range : RunRange) → ((fault : RangeFault) → HasListing graph file range (Err fault) → P (Range fault)) → P OutOfMemory
+      → (fault : CommandFault) → IsRangeFault graph file range fault → P fault
+  range_cases graph file range listed memory (Range fault) is = listed fault is
+  range_cases graph file range listed memory OutOfMemory is = memory
+  range_cases graph file range listed memory _ is = absurd is
 
 -- ---- the faults of parts are those of commands
 
-module _ (graph : List ℕ) (file : Option (List ℕ)) (from to : ℤ) where
-  pub list_wanting : (fault : CommandFault) → IsWanting fault → IsFaultOfList graph file from to fault
-  list_wanting = wanting_cases (IsFaultOfList graph file from to) tt (λ n. tt)
+module _ (graph : List ℕ) (file : Option (List ℕ)) (range : RunRange) where
+  pub list_wanting : (fault : CommandFault) → IsWanting fault → IsFaultOfList graph file range fault
+  list_wanting = wanting_cases (IsFaultOfList graph file range) tt (λ n. tt)
 
 module _ (graph : List ℕ) (file : Option (List ℕ)) (table : List ℕ) (at : Timestamp) where
   pub single_table : (plan : Checked) → IsPlanOf graph file plan → (fault : CommandFault) → IsTableFault table fault → IsFaultOfSingle graph file table at fault
@@ -139,28 +142,28 @@ module _ (graph : List ℕ) (file : Option (List ℕ)) (table : List ℕ) (at : 
   pub single_wanting_in : (alone : Bool) → alone ≡ true → (r : Result Bool CommandFault) → IfErr r (IsWantingWorkers alone) → IfErr r (IsFaultOfSingle graph file table at)
   single_wanting_in alone is r = IfErr-weaker r _ _ (workers_cases (IsFaultOfSingle graph file table at) alone (λ started. (let bad : true ≡ false = sym is ∙ started in cc)) tt (λ n. tt))
 
-module _ (graph : List ℕ) (file : Option (List ℕ)) (table : List ℕ) (from to : ℤ) where
-  pub dry_table : (alone : Bool) (plan : Checked) → IsPlanOf graph file plan → (fault : CommandFault) → IsTableFault table fault → IsFaultOfDry alone graph file table from to fault
-  dry_table alone plan said = table_cases (IsFaultOfDry alone graph file table from to) table (λ fault is. (said.draft, said.graph_is, is)) tt
+module _ (graph : List ℕ) (file : Option (List ℕ)) (table : List ℕ) (range : RunRange) where
+  pub dry_table : (alone : Bool) (plan : Checked) → IsPlanOf graph file plan → (fault : CommandFault) → IsTableFault table fault → IsFaultOfDry alone graph file table range fault
+  dry_table alone plan said = table_cases (IsFaultOfDry alone graph file table range) table (λ fault is. (said.draft, said.graph_is, is)) tt
 
-  pub dry_range : (alone : Bool) (entries : List TableEntry) → table_of table ≡ Ok entries → (fault : CommandFault) → IsRangeFault graph file from to fault → IsFaultOfDry alone graph file table from to fault
-  dry_range alone entries says = range_cases (IsFaultOfDry alone graph file table from to) graph file from to (λ fault is. (record { entries = entries; says = says }, is)) tt
+  pub dry_range : (alone : Bool) (entries : List TableEntry) → table_of table ≡ Ok entries → (fault : CommandFault) → IsRangeFault graph file range fault → IsFaultOfDry alone graph file table range fault
+  dry_range alone entries says = range_cases (IsFaultOfDry alone graph file table range) graph file range (λ fault is. (record { entries = entries; says = says }, is)) tt
 
-  pub dry_stop_in : (alone : Bool) (entries : List TableEntry) → table_of table ≡ Ok entries → (found : List Interval) → HasListing graph file from to (Ok found) → (r : Result Bool CommandFault)
-      → IfErr r (IsWantingWorkers alone) → IfErr r (IsFaultOfDry alone graph file table from to)
+  pub dry_stop_in : (alone : Bool) (entries : List TableEntry) → table_of table ≡ Ok entries → (found : List Interval) → HasListing graph file range (Ok found) → (r : Result Bool CommandFault)
+      → IfErr r (IsWantingWorkers alone) → IfErr r (IsFaultOfDry alone graph file table range)
   dry_stop_in alone entries says found listing r =
-      IfErr-weaker r _ _ (workers_cases (IsFaultOfDry alone graph file table from to) alone (λ started. (found, record { entries = entries; says = says }, listing, refl, started)) tt (λ n. tt))
+      IfErr-weaker r _ _ (workers_cases (IsFaultOfDry alone graph file table range) alone (λ started. (found, record { entries = entries; says = says }, listing, refl, started)) tt (λ n. tt))
 
-module _ (launching : LaunchingOf) (may_lose : Losing) (graph : List ℕ) (file : Option (List ℕ)) (from to : ℤ) where
-  stops_running : (plan : Checked) → IsPlanOf graph file plan → (found : List Interval) → HasListing graph file from to (Ok found) → (clocks : List ℤ) → AreClocksOf graph file found clocks → (stop : StopFault)
-      → IsStop (with_clocks launching clocks) may_lose plan.dag found stop → StopsRunning launching may_lose graph file from to stop
+module _ (launching : LaunchingOf) (may_lose : Losing) (graph : List ℕ) (file : Option (List ℕ)) (range : RunRange) where
+  stops_running : (plan : Checked) → IsPlanOf graph file plan → (found : List Interval) → HasListing graph file range (Ok found) → (clocks : List ℤ) → AreClocksOf graph file found clocks → (stop : StopFault)
+      → IsStop (with_clocks launching clocks) may_lose plan.dag found stop → StopsRunning launching may_lose graph file range stop
   stops_running plan said found listing clocks are stop is =
       record { draft = said.draft; found = found; graph_is = said.graph_is; listing = listing; clocks = clocks; clocks_are = are; stops = subst (λ (d : Dag). IsStop (with_clocks launching clocks) may_lose d found stop) said.dag is }
 
-  pub run_stop_in : (plan : Checked) → IsPlanOf graph file plan → (found : List Interval) → HasListing graph file from to (Ok found) → (clocks : List ℤ) → AreClocksOf graph file found clocks → (r : Result Bool CommandFault)
-      → IfErr r (IsStopOrWantingAnew nothing (with_clocks launching clocks) may_lose plan.dag found) → IfErr r (IsFaultOfRun launching may_lose graph file from to)
+  pub run_stop_in : (plan : Checked) → IsPlanOf graph file plan → (found : List Interval) → HasListing graph file range (Ok found) → (clocks : List ℤ) → AreClocksOf graph file found clocks → (r : Result Bool CommandFault)
+      → IfErr r (IsStopOrWantingAnew nothing (with_clocks launching clocks) may_lose plan.dag found) → IfErr r (IsFaultOfRun launching may_lose graph file range)
   run_stop_in plan said found listing clocks are r =
-      IfErr-weaker r _ _ (stop_cases (IsFaultOfRun launching may_lose graph file from to) (MayGiveUpAnew nothing (MayGiveUpLaunched (with_clocks launching clocks) may_lose plan.dag found)) launching.logs plan.dag found
+      IfErr-weaker r _ _ (stop_cases (IsFaultOfRun launching may_lose graph file range) (MayGiveUpAnew nothing (MayGiveUpLaunched (with_clocks launching clocks) may_lose plan.dag found)) launching.logs plan.dag found
       (λ stop is. stops_running plan said found listing clocks are stop
       (stop_weaker {Q = MayGiveUpLaunched (with_clocks launching clocks) may_lose plan.dag found} (λ n g may. may.1) launching.logs plan.dag found stop is)) tt (λ n. tt))
 
@@ -184,8 +187,8 @@ module _ (Halted : Type 0) (IsDue : List ℕ → Type 0) (before : Option (List 
   pub table_leaves : (table : List ℕ) (fault : CommandFault) → IsTableFault table fault → Leaves Halted IsDue before before fault
   table_leaves table = unwritten_leaves (IsTableFault table) (λ n is. is)
 
-  pub range_leaves : (graph : List ℕ) (file : Option (List ℕ)) (from to : ℤ) (fault : CommandFault) → IsRangeFault graph file from to fault → Leaves Halted IsDue before before fault
-  range_leaves graph file from to = unwritten_leaves (IsRangeFault graph file from to) (λ n is. is)
+  pub range_leaves : (graph : List ℕ) (file : Option (List ℕ)) (range : RunRange) (fault : CommandFault) → IsRangeFault graph file range fault → Leaves Halted IsDue before before fault
+  range_leaves graph file range = unwritten_leaves (IsRangeFault graph file range) (λ n is. is)
 
   pub no_run_leaves : (fault : IntervalFault) → Leaves Halted IsDue before before (of_range fault)
   no_run_leaves interval.OutOfMemory = refl

@@ -2,12 +2,13 @@ pub mod Over
 pub mod ByPrograms
 pub mod FromKept
 pub mod Recording
-pub mod Starts
+pub mod RunAt
 pub mod Shown
 pub mod Crashes
 pub mod Kept
 pub mod Sharing
 pub mod Results
+pub mod SameClocks
 pub mod Faults
 pub mod ClearFaults
 pub mod OneList

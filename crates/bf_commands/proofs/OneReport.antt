@@ -22,6 +22,7 @@ use Rattle.bf_core.proofs.Confluence.{tries-same}
 use Rattle.bf_report.specs.declared.report.Report.{Report}
 use Rattle.bf_report.specs.Report.{report_text}
 use Rattle.bf_report.proofs.DatedFacts.{dated-once}
+use Rattle.bf_commands.specs.declared.range.RunRange.{RunRange}
 use Rattle.bf_commands.specs.DatedRuns.{IsReportIn}
 use Rattle.bf_commands.specs.Graphs.{IsGraph}
 use Rattle.bf_commands.specs.OneRun.{IsReportAt}
@@ -66,12 +67,12 @@ one_dag graph file one two a b =
 one_table : (table : List ℕ) (one two : List TableEntry) → table_of table ≡ Ok one → table_of table ≡ Ok two → one ≡ two
 one_table table one two a b = let said : Ok one ≡ Ok two = sym a ∙ b in cc
 
-pub one_dry_report : (graph : List ℕ) (file : Option (List ℕ)) (table : List ℕ) (from to : ℤ) (text others : List ℕ) (success other : Bool)
-    → IsReportIn graph file table from to text success → IsReportIn graph file table from to others other → (text ≡ others) × (success ≡ other)
-one_dry_report graph file table from to text others success other a b =
+pub one_dry_report : (graph : List ℕ) (file : Option (List ℕ)) (table : List ℕ) (range : RunRange) (text others : List ℕ) (success other : Bool)
+    → IsReportIn graph file table range text success → IsReportIn graph file table range others other → (text ≡ others) × (success ≡ other)
+one_dry_report graph file table range text others success other a b =
     let dags = one_dag graph file b.draft a.draft b.graph_is a.graph_is in
     let entries = one_table table b.entries a.entries b.table_says a.table_says in
-    let found = one_list graph file from to b.found a.found b.listing a.listing in
+    let found = one_list graph file range b.found a.found b.listing a.listing in
     one_report (dag_of a.draft) a.graph_is.sound a.entries a.found text others success other a.reported
     (subst (λ (p : Dag × List TableEntry × List Interval). IsReportOver p.0 p.1 p.2 others other) (λ i. (dags i, entries i, found i)) b.reported)
 

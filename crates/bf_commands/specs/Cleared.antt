@@ -23,6 +23,7 @@ use Rattle.bf_clear.specs.Matching.{clear_fault}
 use Rattle.bf_command_fault.specs.declared.fault.CommandFault.{CommandFault}
 use Rattle.bf_command_fault.specs.declared.fault.CommandFault.TheVariants.{Clear as NotCleared, Range, Stopped, Table}
 use Rattle.bf_command_fault.specs.declared.stop.StopFault.{StopFault}
+use Rattle.bf_commands.specs.declared.range.RunRange.{RunRange}
 use Rattle.bf_commands.specs.Graphs.{IsFaultIn, IsGraph}
 use Rattle.bf_commands.specs.Lists.{HasListing}
 use Rattle.bf_commands.specs.OverTable.{AnswersByTable, IsTableFault, IsWanting, IsWantingWorkers}
@@ -56,14 +57,14 @@ AreAnswersIn table answers = option_map table_of table ≡ option_map Ok answers
 
 -- the bytes say a graph, which has no fault, a table where there is one, and a report of the graph's runs in the range; and the
 -- text is the report of the backfill that goes on from it where the seed is cleared
-pub record IsClearReport (launching : LaunchingOf) (may_hear : Hearing) (graph : List ℕ) (file table : Option (List ℕ)) (report : List ℕ) (from to : ℤ) (seed : Seed) (text : List ℕ) (success : Bool) : Type 0 where
+pub record IsClearReport (launching : LaunchingOf) (may_hear : Hearing) (graph : List ℕ) (file table : Option (List ℕ)) (report : List ℕ) (range : RunRange) (seed : Seed) (text : List ℕ) (success : Bool) : Type 0 where
   pub draft : Draft
   pub answers : Option (List TableEntry)
   pub found : List Interval
   pub was : Report
   pub graph_is : IsGraph graph file draft
   pub table_says : AreAnswersIn table answers
-  pub listing : HasListing graph file from to (Ok found)
+  pub listing : HasListing graph file range (Ok found)
   pub report_says : IsReadAs report was
   pub clocks : List ℤ
   pub clocks_are : AreClocksOf graph file found clocks
@@ -73,31 +74,31 @@ pub record IsClearReport (launching : LaunchingOf) (may_hear : Hearing) (graph :
 
 -- what the bytes of a graph and of a table come to over a range: a graph's tasks, its runs, what clocks show at their moments, and the
 -- answers where there is a table
-pub record IsPrepared (graph : List ℕ) (file table : Option (List ℕ)) (from to : ℤ) (dag : Dag) (found : List Interval) (clocks : List ℤ) (answers : Option (List TableEntry)) : Type 0 where
+pub record IsPrepared (graph : List ℕ) (file table : Option (List ℕ)) (range : RunRange) (dag : Dag) (found : List Interval) (clocks : List ℤ) (answers : Option (List TableEntry)) : Type 0 where
   pub draft : Draft
   pub graph_is : IsGraph graph file draft
   pub dag_is : dag ≡ dag_of draft
   pub table_says : AreAnswersIn table answers
-  pub listing : HasListing graph file from to (Ok found)
+  pub listing : HasListing graph file range (Ok found)
   pub clocks_are : AreClocksOf graph file found clocks
 
 -- the graph, the table and the range have no fault
-pub record IsReady (graph : List ℕ) (file table : Option (List ℕ)) (from to : ℤ) : Type 0 where
+pub record IsReady (graph : List ℕ) (file table : Option (List ℕ)) (range : RunRange) : Type 0 where
   pub dag : Dag
   pub found : List Interval
   pub clocks : List ℤ
   pub answers : Option (List TableEntry)
-  pub prepared : IsPrepared graph file table from to dag found clocks answers
+  pub prepared : IsPrepared graph file table range dag found clocks answers
 
 -- the fault is the first: those of the graph go before those of the table, where there is one, and those of the range come last
-abbrev pub IsFaultBefore : List ℕ → Option (List ℕ) → Option (List ℕ) → ℤ → ℤ → CommandFault → Type 0
-IsFaultBefore graph file table from to (Table fault) = (draft : Draft) × IsGraph graph file draft × (option_map table_of table ≡ Some (Err fault))
-IsFaultBefore graph file table from to (Range fault) = (answers : Option (List TableEntry)) × AreAnswersIn table answers × HasListing graph file from to (Err fault)
-IsFaultBefore graph file table from to fault = IsFaultIn graph file fault
+abbrev pub IsFaultBefore : List ℕ → Option (List ℕ) → Option (List ℕ) → RunRange → CommandFault → Type 0
+IsFaultBefore graph file table range (Table fault) = (draft : Draft) × IsGraph graph file draft × (option_map table_of table ≡ Some (Err fault))
+IsFaultBefore graph file table range (Range fault) = (answers : Option (List TableEntry)) × AreAnswersIn table answers × HasListing graph file range (Err fault)
+IsFaultBefore graph file table range fault = IsFaultIn graph file fault
 
 -- they have none, the bytes say a report, and the seed isn't cleared in it for this
-pub record IsUnclearable (graph : List ℕ) (file table : Option (List ℕ)) (report : List ℕ) (from to : ℤ) (seed : Seed) (fault : ClearFault) : Type 0 where
-  pub ready : IsReady graph file table from to
+pub record IsUnclearable (graph : List ℕ) (file table : Option (List ℕ)) (report : List ℕ) (range : RunRange) (seed : Seed) (fault : ClearFault) : Type 0 where
+  pub ready : IsReady graph file table range
   pub was : Report
   pub report_says : IsReadAs report was
   pub fault_is : clear_fault ready.dag ready.found was (seed ∷ []) ≡ Some fault
@@ -115,8 +116,8 @@ IsFaultAgain alone launching may_lose answers dag intervals was seed (Stopped st
 IsFaultAgain alone launching may_lose answers dag intervals was seed fault = IsWanting fault
 
 -- they have none, the bytes say a report, the seed is cleared in it, and the backfill that goes on from it stops
-pub record StopsClearing (alone : Bool) (launching : LaunchingOf) (may_lose : Losing) (graph : List ℕ) (file table : Option (List ℕ)) (report : List ℕ) (from to : ℤ) (seed : Seed) (stop : StopFault) : Type 0 where
-  pub ready : IsReady graph file table from to
+pub record StopsClearing (alone : Bool) (launching : LaunchingOf) (may_lose : Losing) (graph : List ℕ) (file table : Option (List ℕ)) (report : List ℕ) (range : RunRange) (seed : Seed) (stop : StopFault) : Type 0 where
+  pub ready : IsReady graph file table range
   pub was : Report
   pub report_says : IsReadAs report was
   pub kept : Look

@@ -25,6 +25,7 @@ use Rattle.bf_command_fault.specs.declared.fault.CommandFault.{CommandFault}
 use Rattle.bf_command_fault.specs.declared.fault.CommandFault.TheVariants.{Clear as NotCleared, Journal as BadJournal, OutOfMemory, Stopped}
 use Rattle.bf_command_fault.specs.declared.stop.StopFault.{StopFault}
 use Rattle.bf_clear.specs.Matching.{clear_fault}
+use Rattle.bf_commands.specs.declared.range.RunRange.{RunRange}
 use Rattle.bf_commands.specs.Cleared.{AreAnswersIn, IsKeptOf, IsReadAs, IsReady, MayAnswerBy}
 use Rattle.bf_commands.specs.Graphs.{IsGraph}
 use Rattle.bf_commands.specs.Lists.{HasListing}
@@ -60,11 +61,11 @@ pub record IsReportSince (before : Look) (retry : Bool) (held : List ℕ) (clear
 
 -- the bytes say a graph, which has no fault, and the text is the report of its runs in the range, with the programs of its tasks,
 -- that goes on from a journal of these bytes
-pub record IsJournaledReport (launching : LaunchingOf) (may_hear : Hearing) (graph : List ℕ) (file : Option (List ℕ)) (retry : Bool) (held : List ℕ) (from to : ℤ) (text : List ℕ) (success : Bool) : Type 0 where
+pub record IsJournaledReport (launching : LaunchingOf) (may_hear : Hearing) (graph : List ℕ) (file : Option (List ℕ)) (retry : Bool) (held : List ℕ) (range : RunRange) (text : List ℕ) (success : Bool) : Type 0 where
   pub draft : Draft
   pub found : List Interval
   pub graph_is : IsGraph graph file draft
-  pub listing : HasListing graph file from to (Ok found)
+  pub listing : HasListing graph file range (Ok found)
   pub clocks : List ℤ
   pub clocks_are : AreClocksOf graph file found clocks
   pub reported : IsReportSince nothing retry held [] (MayAnswer (launched_by launching may_hear clocks) (dag_of draft) found) (dag_of draft) found text success
@@ -79,14 +80,14 @@ pub record IsJournaledAfter (may_hear : HearingTries) (answers : Option (List Ta
 
 -- the bytes say a graph, which has no fault, a table where there is one, and a report of the graph's runs in the range; and the text
 -- is the report of the backfill that goes on from a journal of these bytes, and else from that report where the seed is cleared
-pub record IsJournaledClearReport (launching : LaunchingOf) (may_hear : Hearing) (graph : List ℕ) (file table : Option (List ℕ)) (report : List ℕ) (retry : Bool) (held : List ℕ) (from to : ℤ) (seed : Seed) (text : List ℕ) (success : Bool) : Type 0 where
+pub record IsJournaledClearReport (launching : LaunchingOf) (may_hear : Hearing) (graph : List ℕ) (file table : Option (List ℕ)) (report : List ℕ) (retry : Bool) (held : List ℕ) (range : RunRange) (seed : Seed) (text : List ℕ) (success : Bool) : Type 0 where
   pub draft : Draft
   pub answers : Option (List TableEntry)
   pub found : List Interval
   pub was : Report
   pub graph_is : IsGraph graph file draft
   pub table_says : AreAnswersIn table answers
-  pub listing : HasListing graph file from to (Ok found)
+  pub listing : HasListing graph file range (Ok found)
   pub report_says : IsReadAs report was
   pub clocks : List ℤ
   pub clocks_are : AreClocksOf graph file found clocks
@@ -114,24 +115,24 @@ IsFaultSince most before retry held cleared logs dag intervals fault = IsWanting
 
 -- the bytes say a graph, which has no fault, its runs lie in the range, and the backfill that goes on from a journal of these bytes has
 -- this fault
-pub record GoesWrong (most : Option ℕ) (logs : Option (List ℕ)) (graph : List ℕ) (file : Option (List ℕ)) (retry : Bool) (held : List ℕ) (from to : ℤ) (fault : CommandFault) : Type 0 where
+pub record GoesWrong (most : Option ℕ) (logs : Option (List ℕ)) (graph : List ℕ) (file : Option (List ℕ)) (retry : Bool) (held : List ℕ) (range : RunRange) (fault : CommandFault) : Type 0 where
   pub draft : Draft
   pub found : List Interval
   pub graph_is : IsGraph graph file draft
-  pub listing : HasListing graph file from to (Ok found)
+  pub listing : HasListing graph file range (Ok found)
   pub fault_is : IsFaultSince most nothing retry held [] logs (dag_of draft) found fault
 
 -- the graph, the table and the range have no fault, the bytes say a report, and the seed is cleared in it
-pub record IsClearable (graph : List ℕ) (file table : Option (List ℕ)) (report : List ℕ) (from to : ℤ) (seed : Seed) : Type 0 where
-  pub ready : IsReady graph file table from to
+pub record IsClearable (graph : List ℕ) (file table : Option (List ℕ)) (report : List ℕ) (range : RunRange) (seed : Seed) : Type 0 where
+  pub ready : IsReady graph file table range
   pub was : Report
   pub report_says : IsReadAs report was
   pub kept : Look
   pub kept_is : IsKeptOf ready.dag ready.found was seed kept
 
 -- so it is, and the backfill that goes on from a journal of these bytes, and else from that report, has this fault
-pub record GoesWrongClearing (most : Option ℕ) (logs : Option (List ℕ)) (graph : List ℕ) (file table : Option (List ℕ)) (report : List ℕ) (retry : Bool) (held : List ℕ) (from to : ℤ) (seed : Seed) (fault : CommandFault) : Type 0 where
-  pub clearable : IsClearable graph file table report from to seed
+pub record GoesWrongClearing (most : Option ℕ) (logs : Option (List ℕ)) (graph : List ℕ) (file table : Option (List ℕ)) (report : List ℕ) (retry : Bool) (held : List ℕ) (range : RunRange) (seed : Seed) (fault : CommandFault) : Type 0 where
+  pub clearable : IsClearable graph file table report range seed
   pub cleared : Heading
   pub tells : TellsOf seed cleared
   pub fault_is : IsFaultSince most clearable.kept retry held cleared logs clearable.ready.dag clearable.ready.found fault

@@ -3,6 +3,7 @@ pub mod OverTable
 pub mod OneRun
 pub mod DatedRuns
 pub mod Graphs
+pub mod Ranges
 pub mod Lists
 pub mod Programs
 pub mod Cleared

@@ -10,6 +10,7 @@ use Rattle.bf_table.specs.declared.table.TableEntry.{TableEntry}
 use Rattle.bf_table.specs.Tables.{table_of}
 use Rattle.bf_command_fault.specs.declared.fault.CommandFault.{CommandFault}
 use Rattle.bf_command_fault.specs.declared.fault.CommandFault.TheVariants.{Table, Range, CannotWrite}
+use Rattle.bf_command_fault.specs.declared.range.RangeFault.TheVariants.{Unlisted}
 use Rattle.bf_commands.specs.Graphs.{IsGraph, IsFaultIn}
 use Rattle.bf_commands.specs.OverTable.{IsReportOver, IsTable}
 
@@ -25,6 +26,6 @@ pub record IsReportAt (graph : List ℕ) (file : Option (List ℕ)) (table : Lis
 -- the fault is the first: those of the graph go before those of the table, and the moment comes last; or memory or the device is wanting
 abbrev pub IsFaultOfSingle : List ℕ → Option (List ℕ) → List ℕ → Timestamp → CommandFault → Type 0
 IsFaultOfSingle graph file table at (Table fault) = (draft : Draft) × IsGraph graph file draft × (table_of table ≡ Err fault)
-IsFaultOfSingle graph file table at (Range fault) = (draft : Draft) × IsGraph graph file draft × IsTable table × (fault ≡ IntervalFault.OutsideYears) × ¬ (IsInYears at.nanosecond)
+IsFaultOfSingle graph file table at (Range fault) = (draft : Draft) × IsGraph graph file draft × IsTable table × (fault ≡ Unlisted IntervalFault.OutsideYears) × ¬ (IsInYears at.nanosecond)
 IsFaultOfSingle graph file table at (CannotWrite n) = Unit {0}
 IsFaultOfSingle graph file table at fault = IsFaultIn graph file fault

@@ -18,6 +18,7 @@ use Rattle.bf_process.specs.Words.{Launched, LaunchingOf, MayAnswer, MayGiveUp, 
 use Rattle.bf_command_fault.specs.declared.fault.CommandFault.{CommandFault}
 use Rattle.bf_command_fault.specs.declared.fault.CommandFault.TheVariants.{OutOfMemory, Range, CannotWrite, Stopped}
 use Rattle.bf_command_fault.specs.declared.stop.StopFault.{StopFault}
+use Rattle.bf_commands.specs.declared.range.RunRange.{RunRange}
 use Rattle.bf_commands.specs.declared.plan.DatedPlan.{DatedPlan}
 use Rattle.bf_commands.specs.Graphs.{IsGraph, IsFaultIn}
 use Rattle.bf_commands.specs.Lists.{HasListing}
@@ -61,11 +62,11 @@ abbrev pub launched_in : DatedPlan → LaunchingOf → Hearing → HearingTries
 launched_in dated launching may_hear = launched_by launching may_hear (clocks_in dated)
 
 -- the bytes say a graph, which has no fault, and the text is the report of its runs in the range, with the programs of its tasks
-pub record IsRunReport (launching : LaunchingOf) (may_hear : Hearing) (graph : List ℕ) (file : Option (List ℕ)) (from to : ℤ) (text : List ℕ) (success : Bool) : Type 0 where
+pub record IsRunReport (launching : LaunchingOf) (may_hear : Hearing) (graph : List ℕ) (file : Option (List ℕ)) (range : RunRange) (text : List ℕ) (success : Bool) : Type 0 where
   pub draft : Draft
   pub found : List Interval
   pub graph_is : IsGraph graph file draft
-  pub listing : HasListing graph file from to (Ok found)
+  pub listing : HasListing graph file range (Ok found)
   pub clocks : List ℤ
   pub clocks_are : AreClocksOf graph file found clocks
   pub reported : IsReportBy (MayAnswer (launched_by launching may_hear clocks) (dag_of draft) found) (dag_of draft) found text success
@@ -101,21 +102,21 @@ abbrev pub IsStop : LaunchingOf → Losing → Dag → List Interval → StopFau
 IsStop launching may_lose dag intervals stop = IsStopOf (MayGiveUpLaunched launching may_lose dag intervals) launching.logs dag intervals stop
 
 -- the bytes say a graph, which has no fault, and the backfill of its runs in the range stops
-pub record StopsRunning (launching : LaunchingOf) (may_lose : Losing) (graph : List ℕ) (file : Option (List ℕ)) (from to : ℤ) (stop : StopFault) : Type 0 where
+pub record StopsRunning (launching : LaunchingOf) (may_lose : Losing) (graph : List ℕ) (file : Option (List ℕ)) (range : RunRange) (stop : StopFault) : Type 0 where
   pub draft : Draft
   pub found : List Interval
   pub graph_is : IsGraph graph file draft
-  pub listing : HasListing graph file from to (Ok found)
+  pub listing : HasListing graph file range (Ok found)
   pub clocks : List ℤ
   pub clocks_are : AreClocksOf graph file found clocks
   pub stops : IsStop (with_clocks launching clocks) may_lose (dag_of draft) found stop
 
 -- the fault is the first: those of the graph go before those of the range; then the backfill stops; or memory or the device is wanting
-abbrev pub IsFaultOfRun : LaunchingOf → Losing → List ℕ → Option (List ℕ) → ℤ → ℤ → CommandFault → Type 0
-IsFaultOfRun launching may_lose graph file from to (Range fault) = HasListing graph file from to (Err fault)
-IsFaultOfRun launching may_lose graph file from to (CannotWrite n) = Unit {0}
-IsFaultOfRun launching may_lose graph file from to (Stopped stop) = StopsRunning launching may_lose graph file from to stop
-IsFaultOfRun launching may_lose graph file from to fault = IsFaultIn graph file fault
+abbrev pub IsFaultOfRun : LaunchingOf → Losing → List ℕ → Option (List ℕ) → RunRange → CommandFault → Type 0
+IsFaultOfRun launching may_lose graph file range (Range fault) = HasListing graph file range (Err fault)
+IsFaultOfRun launching may_lose graph file range (CannotWrite n) = Unit {0}
+IsFaultOfRun launching may_lose graph file range (Stopped stop) = StopsRunning launching may_lose graph file range stop
+IsFaultOfRun launching may_lose graph file range fault = IsFaultIn graph file fault
 
 -- ---- for private clauses
 

@@ -18,7 +18,7 @@ use crate::heading::heading_of;
 use crate::journal::Journal;
 use crate::journaled::{Backfill, Recorded, record_backfill};
 use crate::plan::{DatedPlan, table_in, timed_plan_in};
-use crate::range::MomentRange;
+use crate::range::RunRange;
 use bf_clear::{Cleared, clear};
 use bf_command_fault::CommandFault;
 use bf_dependents::Seed;
@@ -62,12 +62,12 @@ pub fn prepare(
     graph: &[u8],
     zone_file: Option<&[u8]>,
     table: Option<&[u8]>,
-    range: MomentRange,
+    range: RunRange,
 ) -> Result<Prepared, CommandFault>
     ensures ok { IfOk result (λ p. IsPrepared graph.now (option_map (λ s. s.now) zone_file.entry) (option_map (λ s. s.now) table.entry)
-        range.from.nanosecond range.to.nanosecond p.dated.plan.dag p.dated.runs (clocks_in p.dated) p.answers) }
+        range p.dated.plan.dag p.dated.runs (clocks_in p.dated) p.answers) }
     ensures fault { IfErr result (IsFaultBefore graph.now (option_map (λ s. s.now) zone_file.entry) (option_map (λ s. s.now) table.entry)
-        range.from.nanosecond range.to.nanosecond) }
+        range) }
 {
     let timed = timed_plan_in(alloc, graph, zone_file)?;
     let answers = answers_in(alloc, table)?;

@@ -11,6 +11,7 @@ ghost use Rattle.bf_table.specs.declared.table.TableEntry.{TableEntry as TableEn
 ghost use Rattle.bf_journal.specs.Heads.{head_text};
 ghost use Rattle.bf_journal.specs.Left.{IsLeftByCrashes};
 ghost use Rattle.bf_commands.specs.DatedRuns.{IsReportIn};
+ghost use Rattle.bf_commands.specs.declared.range.RunRange.{RunRange as RunRangeTerm};
 ghost use Rattle.bf_commands.specs.Journaled.{Heading, IsReportSince};
 ghost use Rattle.bf_commands.specs.Lists.{HasListing};
 ghost use Rattle.bf_commands.specs.OneRun.{IsReportAt};
@@ -21,8 +22,8 @@ use bf_try::TaskRunner;
 
 /// A graph file, a zone file and a range have one listing.
 pub fn one_list()
-    ensures { (graph : List ℕ) (file : Option (List ℕ)) (from to : ℤ) (xs ys : List IntervalTerm)
-        → HasListing graph file from to (Ok xs) → HasListing graph file from to (Ok ys) → xs ≡ ys }
+    ensures { (graph : List ℕ) (file : Option (List ℕ)) (range : RunRangeTerm) (xs ys : List IntervalTerm)
+        → HasListing graph file range (Ok xs) → HasListing graph file range (Ok ys) → xs ≡ ys }
 {}
 
 /// A plan, a table and data intervals have one report, whatever the order in which the tries ran.
@@ -35,8 +36,8 @@ pub fn one_report()
 /// The bytes of a graph file, of a zone file and of a table, and a range, have one report. So what `dry` prints rests on them
 /// alone, and not on how many workers there are.
 pub fn one_dry_report()
-    ensures { (graph : List ℕ) (file : Option (List ℕ)) (table : List ℕ) (from to : ℤ) (one two : List ℕ) (success other : Bool)
-        → IsReportIn graph file table from to one success → IsReportIn graph file table from to two other
+    ensures { (graph : List ℕ) (file : Option (List ℕ)) (table : List ℕ) (range : RunRangeTerm) (one two : List ℕ) (success other : Bool)
+        → IsReportIn graph file table range one success → IsReportIn graph file table range two other
         → (one ≡ two) × (success ≡ other) }
 {}
 

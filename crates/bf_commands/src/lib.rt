@@ -33,6 +33,6 @@ pub use journaled::Recorded;
 pub use laws::{crashes_change_no_report, one_dry_report, one_list, one_report, one_single_report};
 pub use list::run_list;
 pub use plan::{DatedPlan, dated_plan_in};
-pub use range::MomentRange;
+pub use range::{MomentRange, RunRange, Starts};
 pub use run::{record_programs, run_programs};
 pub use single::run_single;

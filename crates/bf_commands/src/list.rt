@@ -5,7 +5,7 @@ ghost use Rattle.bf_command_fault.specs.Refusal.{Leaves, Sends};
 ghost use Rattle.bf_commands.specs.Lists.{IsFaultOfList, IsListIn, IsSince1970, interval_line, intervals_text};
 
 use crate::plan::dated_plan_in;
-use crate::range::MomentRange;
+use crate::range::RunRange;
 use bf_command_fault::CommandFault;
 use bf_device::{Write, send};
 use bf_interval::Interval;
@@ -39,15 +39,15 @@ pub fn run_list<W: Write>(
     alloc: Global,
     graph: &[u8],
     zone_file: Option<&[u8]>,
-    range: MomentRange,
+    range: RunRange,
     out: &mut W,
 ) -> Result<(), CommandFault>
-    ensures ok { OnOk result (Sends (IsListIn graph.now (option_map (λ s. s.now) zone_file.entry) range.from.nanosecond range.to.nanosecond)
+    ensures ok { OnOk result (Sends (IsListIn graph.now (option_map (λ s. s.now) zone_file.entry) range)
         (W.written out.old) (W.written out.new)) }
-    ensures fault { IfErr result (IsFaultOfList graph.now (option_map (λ s. s.now) zone_file.entry) range.from.nanosecond range.to.nanosecond) }
+    ensures fault { IfErr result (IsFaultOfList graph.now (option_map (λ s. s.now) zone_file.entry) range) }
     ensures left { IfErr result (Leaves (HasHalted (W.failures out.old) (W.failures out.new)
         (W.interruptions out.old) (W.interruptions out.new))
-        (IsListIn graph.now (option_map (λ s. s.now) zone_file.entry) range.from.nanosecond range.to.nanosecond)
+        (IsListIn graph.now (option_map (λ s. s.now) zone_file.entry) range)
         (W.written out.old) (W.written out.new)) }
 {
     let runs = dated_plan_in(alloc, graph, zone_file, range)?.runs;

@@ -1,16 +1,20 @@
 //! The plans of graph files, and the tables that answer their tries.
 ghost use Rattle.std.specs.Prelude.{◌≡◌, ℕ, List, Option, map, option_map, IfOk, IfErr, Ok};
+ghost use Rattle.jiff.specs.Types.{TimeZone as TimeZoneTerm};
+ghost use Rattle.bf_zone.specs.Zones.{IsZoneOf};
 ghost use Rattle.bf_interval.specs.Runs.{IsSaid};
 ghost use Rattle.bf_table.specs.Tables.{table_of};
 ghost use Rattle.bf_commands.specs.Graphs.{IsFileOf, IsFaultIn, IsPlanOf, IsTimed};
 ghost use Rattle.bf_commands.specs.Lists.{HasListing, IsDatedFault, IsRangeFault};
 ghost use Rattle.bf_commands.specs.OverTable.{IsTableFault};
 ghost use Rattle.bf_commands.specs.Programs.{AreClocksOf, clocks_in};
+ghost use Rattle.bf_commands.specs.Ranges.{IsStartsAnswer};
 
-use crate::range::MomentRange;
+use crate::range::{MomentRange, RunRange, Starts};
 use bf_check::{Zone, check};
-use bf_command_fault::CommandFault;
-use bf_interval::Runs;
+use bf_command_fault::{CommandFault, RangeFault};
+use bf_days::intervals_on;
+use bf_interval::{IntervalFault, Runs};
 use bf_moment::Moment;
 use bf_plan::Plan;
 use bf_process::clocks_of;
@@ -27,16 +31,35 @@ pub(crate) struct TimedPlan {
 }
 
 impl TimedPlan {
-    /// A run for each data interval of the plan's schedule that starts in the range.
-    pub(crate) fn runs(&self, alloc: Global, range: MomentRange) -> Result<Runs, CommandFault>
+    /// A run for each data interval of the plan's schedule that starts there.
+    fn listed(&self, alloc: Global, starts: Starts) -> Result<Runs, IntervalFault>
         requires { IsSaid self.now.plan.schedule }
-        ensures ok { IfOk result (λ runs. (graph : List ℕ) (file : Option (List ℕ)) → IsTimed graph file self.now.plan.schedule self.now.zone
-            → HasListing graph file range.from.nanosecond range.to.nanosecond (Ok runs)) }
-        ensures fault { IfErr result (λ f. (graph : List ℕ) (file : Option (List ℕ)) → IsTimed graph file self.now.plan.schedule self.now.zone
-            → IsRangeFault graph file range.from.nanosecond range.to.nanosecond f) }
+        ensures { (zone : TimeZoneTerm) × IsZoneOf self.now.zone zone × IsStartsAnswer self.now.plan.schedule zone starts result }
     {
         let zone = self.zone.as_time_zone();
-        let runs = Runs::in_range(alloc, self.plan.schedule(), &zone, range.from, range.to)?;
+        match starts {
+            Starts::Between(MomentRange { from, to }) => {
+                Runs::in_range(alloc, self.plan.schedule(), &zone, from, to)
+            }
+            Starts::On(days) => {
+                let intervals = intervals_on(alloc, self.plan.schedule(), &zone, days)?;
+                Ok(Runs::of(intervals))
+            }
+        }
+    }
+
+    /// A run for each data interval of the plan's schedule that starts in the range.
+    pub(crate) fn runs(&self, alloc: Global, range: RunRange) -> Result<Runs, CommandFault>
+        requires { IsSaid self.now.plan.schedule }
+        ensures ok { IfOk result (λ runs. (graph : List ℕ) (file : Option (List ℕ)) → IsTimed graph file self.now.plan.schedule self.now.zone
+            → HasListing graph file range (Ok runs)) }
+        ensures fault { IfErr result (λ f. (graph : List ℕ) (file : Option (List ℕ)) → IsTimed graph file self.now.plan.schedule self.now.zone
+            → IsRangeFault graph file range f) }
+    {
+        let runs = self.listed(alloc, range.starts)?;
+        if range.some && runs.count() == 0 {
+            return Err(CommandFault::Range(RangeFault::NoRuns));
+        }
         Ok(runs)
     }
 
@@ -50,15 +73,15 @@ impl TimedPlan {
     }
 
     /// With a run for each data interval of the plan's schedule that starts in the range.
-    pub(crate) fn dated(self, alloc: Global, range: MomentRange) -> Result<DatedPlan, CommandFault>
+    pub(crate) fn dated(self, alloc: Global, range: RunRange) -> Result<DatedPlan, CommandFault>
         requires { IsSaid self.plan.schedule }
         ensures plan { IfOk result (λ dated. dated.plan ≡ self.plan) }
         ensures listing { IfOk result (λ dated. (graph : List ℕ) (file : Option (List ℕ)) → IsTimed graph file self.plan.schedule self.zone
-            → HasListing graph file range.from.nanosecond range.to.nanosecond (Ok dated.runs)) }
+            → HasListing graph file range (Ok dated.runs)) }
         ensures clocks { IfOk result (λ dated. (graph : List ℕ) (file : Option (List ℕ)) → IsTimed graph file self.plan.schedule self.zone
             → AreClocksOf graph file dated.runs (clocks_in dated)) }
         ensures fault { IfErr result (λ f. (graph : List ℕ) (file : Option (List ℕ)) → IsTimed graph file self.plan.schedule self.zone
-            → IsRangeFault graph file range.from.nanosecond range.to.nanosecond f) }
+            → IsRangeFault graph file range f) }
     {
         let runs = self.runs(alloc, range)?;
         let clocks = self.clocks(alloc, &runs)?;
@@ -117,14 +140,14 @@ pub fn dated_plan_in(
     alloc: Global,
     graph: &[u8],
     zone_file: Option<&[u8]>,
-    range: MomentRange,
+    range: RunRange,
 ) -> Result<DatedPlan, CommandFault>
     ensures plan { IfOk result (λ dated. IsPlanOf graph.now (option_map (λ s. s.now) zone_file.entry) dated.plan) }
     ensures listing { IfOk result (λ dated. HasListing graph.now (option_map (λ s. s.now) zone_file.entry)
-        range.from.nanosecond range.to.nanosecond (Ok dated.runs)) }
+        range (Ok dated.runs)) }
     ensures clocks { IfOk result (λ dated. AreClocksOf graph.now (option_map (λ s. s.now) zone_file.entry)
         dated.runs (clocks_in dated)) }
-    ensures fault { IfErr result (IsDatedFault graph.now (option_map (λ s. s.now) zone_file.entry) range.from.nanosecond range.to.nanosecond) }
+    ensures fault { IfErr result (IsDatedFault graph.now (option_map (λ s. s.now) zone_file.entry) range) }
 {
     let timed = timed_plan_in(alloc, graph, zone_file)?;
     timed.dated(alloc, range)

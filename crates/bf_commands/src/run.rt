@@ -14,7 +14,7 @@ use crate::crew::Crew;
 use crate::journal::Journal;
 use crate::journaled::{Backfill, Recorded, record_backfill};
 use crate::plan::{DatedPlan, dated_plan_in};
-use crate::range::MomentRange;
+use crate::range::RunRange;
 use bf_command_fault::CommandFault;
 use bf_device::Write;
 use bf_journal::Cuttable;
@@ -32,17 +32,17 @@ pub fn run_programs<RT: Starter + Screen + Threads + Wait + Clock + Sync, W: Wri
     crew: &Crew<'_, RT>,
     graph: &[u8],
     zone_file: Option<&[u8]>,
-    range: MomentRange,
+    range: RunRange,
     out: &mut W,
 ) -> Result<bool, CommandFault>
     ensures ok { IfOk result (λ success. Sends (λ text.
-        IsRunReport (launching_of crew.now.launching) (RT.may_hear crew.now.rt.now) graph.now (option_map (λ s. s.now) zone_file.entry) range.from.nanosecond range.to.nanosecond text success)
+        IsRunReport (launching_of crew.now.launching) (RT.may_hear crew.now.rt.now) graph.now (option_map (λ s. s.now) zone_file.entry) range text success)
         (W.written out.old) (W.written out.new)) }
-    ensures fault { IfErr result (IsFaultOfRun (launching_of crew.now.launching) (RT.may_lose crew.now.rt.now) graph.now (option_map (λ s. s.now) zone_file.entry) range.from.nanosecond range.to.nanosecond) }
+    ensures fault { IfErr result (IsFaultOfRun (launching_of crew.now.launching) (RT.may_lose crew.now.rt.now) graph.now (option_map (λ s. s.now) zone_file.entry) range) }
     ensures left { IfErr result (Leaves (HasHalted (W.failures out.old) (W.failures out.new)
         (W.interruptions out.old) (W.interruptions out.new))
         (λ text. (success : Bool)
-        × IsRunReport (launching_of crew.now.launching) (RT.may_hear crew.now.rt.now) graph.now (option_map (λ s. s.now) zone_file.entry) range.from.nanosecond range.to.nanosecond text success)
+        × IsRunReport (launching_of crew.now.launching) (RT.may_hear crew.now.rt.now) graph.now (option_map (λ s. s.now) zone_file.entry) range text success)
         (W.written out.old) (W.written out.new)) }
 {
     let dated = dated_plan_in(crew.alloc, graph, zone_file, range)?;

@@ -8,8 +8,10 @@
 #![tactic(auto)]
 
 mod days;
+mod laws;
 mod listing;
 mod shown;
 
 pub use days::Days;
+pub use laws::one_listing;
 pub use listing::intervals_on;

@@ -1,7 +1,7 @@
 -- Places, added one after another.
-use Rattle.std.proofs.Common.{◌≡◌, ◌⊎◌, ℕ, zero, suc, ◌+◌, ◌<◌, Option, Some, List, [], ◌∷◌, ◌++◌, length, get_or, drop, drop-cons, add-one, map, Result, Ok, Err, OnOk, refl, sym, subst, ap, ◌∙◌, append_assoc, arith, inl, inr}
+use Rattle.std.proofs.Common.{◌≡◌, ◌⊎◌, ℕ, zero, suc, ◌+◌, ◌<◌, ◌≤◌, Option, Some, List, [], ◌∷◌, ◌++◌, length, get_or, drop, drop-cons, add-one, map, Result, Ok, Err, OnOk, refl, sym, subst, ap, ◌∙◌, append_assoc, arith, inl, inr}
 use Rattle.std.specs.List.{All, Contains}
-use Rattle.std.proofs.lemmas.List.{map-append}
+use Rattle.std.proofs.lemmas.List.{length-append, length-map, map-append}
 use Rattle.std.proofs.lemmas.List.Elements.{All-map, All-weaker, Contains-append_left, Contains-append_right, Contains-push}
 use Rattle.serde_json.specs.Data.{Data}
 use Rattle.bf_read.specs.Reading.{data_in}
@@ -70,7 +70,7 @@ told_among (f ∷ fs) p h = elim (cons_cases f.place (map (λ (g : Fault). g.pla
 pub still_told : (graph : List ℕ) (file : Option (List ℕ)) (found now more : List Finding) → now ≡ found ++ more → TellsAll graph file found → TellsAll graph file now
 still_told graph file found now more e tells =
     let P : List Finding → Type 0 = λ fs. TellsAll graph file fs in
-    subst P (sym e) (λ d place short is among wrong. let told = tells d place short is among wrong in (told.0, Contains-append_left found more (finding.Fault told.0) told.1, told.2))
+    subst P (sym e) (λ d place fewer short is among wrong. let told = tells d place (omega (arith, fewer, length-append found more)) short is among wrong in (told.0, Contains-append_left found more (finding.Fault told.0) told.1, told.2))
 
 some_one : {X : Type 0} {x y : X} → Some x ≡ Some y → x ≡ y
 some_one e = cc
@@ -79,11 +79,15 @@ some_one e = cc
 pub file_told : (graph : List ℕ) (file : Option (List ℕ)) (d : Data) (faults : List Fault) (found : List Finding) → data_in graph ≡ Some d → AreFaults file d faults → found ≡ map finding.Fault faults → TellsAll graph file found
 file_told graph file d faults found says are e =
     let P : List Finding → Type 0 = λ fs. TellsAll graph file fs in
-    subst P (sym e) (λ other place short is among wrong.
+    subst P (sym e) (λ other place fewer short is among wrong.
     let same : other ≡ d = some_one (sym is ∙ says) in
     let Q : Data → Type 0 = λ x. Contains (places_of x) place in
     let R : Data → Type 0 = λ x. IsWrong file x place (form_of x place) (value_at x place) in
-    told_among faults place (are.all place (subst Q same among) (subst R same wrong)))
+    told_among faults place (are.all (omega (arith, fewer, length-map faults finding.Fault)) place (subst Q same among) (subst R same wrong)))
+
+-- a hundred faults at most are as many findings
+pub file_few : (faults : List Fault) (found : List Finding) → length faults ≤ 100 → found ≡ map finding.Fault faults → length found ≤ 100
+file_few faults found few e = omega (arith, few, ap length e, length-map faults finding.Fault)
 
 -- and all of it is so
 pub file_each : (graph : List ℕ) (file : Option (List ℕ)) (d : Data) (faults : List Fault) (found : List Finding) → data_in graph ≡ Some d → AreFaults file d faults → found ≡ map finding.Fault faults → All (IsFinding graph file) found

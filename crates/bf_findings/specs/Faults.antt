@@ -1,5 +1,5 @@
 -- What is wrong at a place of a document, as it is told.
-use Rattle.std.specs.Prelude.{◌≡◌, ℕ, List, length, map, All, Contains, nat_le, codes, if◌then◌else◌, Option, Some, None, option_and_then}
+use Rattle.std.specs.Prelude.{◌≡◌, ◌<◌, ◌≤◌, ℕ, List, length, map, All, Contains, nat_le, codes, if◌then◌else◌, Option, Some, None, option_and_then}
 use Rattle.serde_json.specs.Data.{Data}
 use Rattle.serde_json.specs.Find.{as_str}
 use Rattle.bf_findings.specs.declared.place.Place.{Place}
@@ -48,8 +48,9 @@ pub record IsFault (file : Option (List ℕ)) (d : Data) (fault : Fault) : Type 
   pub stands_is : fault.stands ≡ told_at fault.place (value_at d fault.place)
   pub suggestion_is : IsSuggestionFor d fault.form (asked_at fault.place (value_at d fault.place)) fault.suggestion
 
--- what is wrong at the places of the document: all of it
+-- what is wrong at the places of the document: all of it, or a hundred faults
 pub record AreFaults (file : Option (List ℕ)) (d : Data) (faults : List Fault) : Type 0 where
+  pub few : length faults ≤ 100
   pub each : All (IsFault file d) faults
-  pub all : (place : Place) → Contains (places_of d) place → IsWrong file d place (form_of d place) (value_at d place)
+  pub all : length faults < 100 → (place : Place) → Contains (places_of d) place → IsWrong file d place (form_of d place) (value_at d place)
       → Contains (map (λ fault. fault.place) faults) place

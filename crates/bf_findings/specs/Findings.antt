@@ -45,16 +45,18 @@ IsFinding graph file (Refused refusal) = IsRefusal graph file refusal
 abbrev pub IsTold : List Finding → Place → Type 0
 IsTold found place = (fault : PlaceFault) × Contains found (Fault fault) × (fault.place ≡ place)
 
--- each place at which something is wrong is told, where the file isn't too long
+-- each place at which something is wrong is told, where the file isn't too long, and less than a hundred are told
 abbrev pub TellsAll : List ℕ → Option (List ℕ) → List Finding → Type 0
-TellsAll graph file found = (d : Data) (place : Place) → length graph ≤ most_bytes → data_in graph ≡ Some d
+TellsAll graph file found = (d : Data) (place : Place) → length found < 100 → length graph ≤ most_bytes → data_in graph ≡ Some d
     → Contains (places_of d) place → IsWrong file d place (form_of d place) (value_at d place) → IsTold found place
 
--- what is told of a file that is refused: something, all of it so, and all that is wrong at its places
+-- what is told of a file that is refused: something, at most a hundred findings, all of them so, and where they are fewer all that
+-- is wrong at its places
 pub record AreTold (graph : List ℕ) (file : Option (List ℕ)) (found : List Finding) : Type 0 where
   pub refusal : Refusal
   pub refused : IsRefusal graph file refusal
   pub some : 0 < length found
+  pub few : length found ≤ 100
   pub each : All (IsFinding graph file) found
   pub all : TellsAll graph file found
 

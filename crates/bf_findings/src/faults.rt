@@ -19,6 +19,9 @@ use bf_value::{OutOfMemory, Text};
 use serde_json::Value;
 use std::alloc::Global;
 
+/// How many faults are told: each may have a suggestion, which is sought among all names of the file.
+const MOST_FAULTS: usize = 100;
+
 /// How many bytes a text may have for which a name is sought: as many as an id.
 const LONGEST_NAME: usize = 250;
 
@@ -108,13 +111,16 @@ impl Document<'_> {
         }))
     }
 
-    /// What is wrong at each place of the document.
+    /// What is wrong at each place of the document, up to the hundredth fault.
     pub(crate) fn faults(self, alloc: Global) -> Result<Vec<Fault>, OutOfMemory>
         ensures { IfOk result (λ v. AreFaults (option_map (λ s. s.now) self.entry.zone_file)
             (view self.entry.value.now) v.items) }
     {
         let mut found = Vec::new(alloc);
         for place in places_of(alloc, self.value)? {
+            if found.len() == MOST_FAULTS {
+                return Ok(found);
+            }
             if let Some(fault) = self.fault_at(alloc, place)? {
                 found.push(fault)?;
             }

@@ -1,5 +1,5 @@
 //! All that is wrong with a graph file.
-ghost use Rattle.std.specs.Prelude.{◌≡◌, ◌<◌, ℕ, List, length, map, Some, option_map, All, IfOk};
+ghost use Rattle.std.specs.Prelude.{◌≡◌, ◌<◌, ◌≤◌, ℕ, List, length, map, Some, option_map, All, IfOk};
 ghost use Rattle.serde_json.specs.View.{view};
 ghost use Rattle.bf_read.specs.Reading.{data_in};
 ghost use Rattle.bf_findings.specs.declared.finding.Finding.TheVariants.{Fault as FaultFound};
@@ -48,6 +48,7 @@ fn document_findings(
 ) -> Result<Vec<Finding>, OutOfMemory>
     ensures each { IfOk result (λ v. (graph : List ℕ) → data_in graph ≡ Some (view value.now)
         → All (IsFinding graph (option_map (λ s. s.now) zone_file.entry)) v.items) }
+    ensures few { IfOk result (λ v. length v.items ≤ 100) }
     ensures all { IfOk result (λ v. (graph : List ℕ) → data_in graph ≡ Some (view value.now)
         → TellsAll graph (option_map (λ s. s.now) zone_file.entry) v.items) }
 {
@@ -65,6 +66,7 @@ fn found_in(
     zone_file: Option<&[u8]>,
 ) -> Result<Vec<Finding>, OutOfMemory>
     ensures each { IfOk result (λ v. All (IsFinding graph.now (option_map (λ s. s.now) zone_file.entry)) v.items) }
+    ensures few { IfOk result (λ v. length v.items ≤ 100) }
     ensures all { IfOk result (λ v. TellsAll graph.now (option_map (λ s. s.now) zone_file.entry) v.items) }
 {
     if graph.len() > MOST_BYTES {
@@ -92,6 +94,7 @@ fn told(
     requires { IsRefusedFor graph.now (option_map (λ s. s.now) zone_file) (Some refusal) }
     ensures each { IfOk result (λ v. All (IsFinding graph.now (option_map (λ s. s.now) zone_file.entry)) v.items) }
     ensures some { IfOk result (λ v. 0 < length v.items) }
+    ensures few { IfOk result (λ v. length v.items ≤ 100) }
     ensures all { IfOk result (λ v. TellsAll graph.now (option_map (λ s. s.now) zone_file.entry) v.items) }
 {
     let mut found = found_in(alloc, graph, zone_file)?;
@@ -101,7 +104,8 @@ fn told(
     Ok(found)
 }
 
-/// What is wrong with a graph file, all that can be told at once, from the top down: nothing exactly where it is accepted. The bytes of
+/// What is wrong with a graph file, all that can be told at once, from the top down, up to the hundredth fault: nothing exactly where it
+/// is accepted. The bytes of
 /// a zone file are looked at only where the graph's zone is `file`.
 pub fn findings(
     alloc: Global,

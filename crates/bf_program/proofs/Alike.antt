@@ -6,12 +6,13 @@ use Rattle.bf_check.specs.declared.fault.CheckFault.{CheckFault}
 use Rattle.bf_check.specs.declared.fault.CheckFault.TheVariants as check
 use Rattle.bf_check.specs.Refusals.{IsAccepted, IsFaultOf}
 use Rattle.bf_check.specs.Schedules.{IsScheduled}
-use Rattle.bf_interval.specs.declared.fault.IntervalFault.{IntervalFault}
 use Rattle.bf_interval.specs.declared.interval.Interval.{Interval}
 use Rattle.bf_table.specs.Tables.{table_of}
 use Rattle.bf_command_fault.specs.declared.fault.CommandFault.{CommandFault}
 use Rattle.bf_command_fault.specs.declared.fault.CommandFault.TheVariants.{Read, Check, Table, Range, CannotWrite, Stopped}
+use Rattle.bf_command_fault.specs.declared.range.RangeFault.{RangeFault}
 use Rattle.bf_commands.specs.declared.check.GraphSize.{GraphSize}
+use Rattle.bf_commands.specs.declared.range.RunRange.{RunRange}
 use Rattle.bf_commands.specs.DatedRuns.{IsFaultOfDry, IsReportIn}
 use Rattle.bf_commands.specs.Graphs.{IsFaultIn, IsFileOf, IsGraph, IsSizeOf}
 use Rattle.bf_commands.specs.Journaled.{IsJournaledReport}
@@ -48,8 +49,8 @@ module _ (read held : List ℕ) (one two : Option (List ℕ)) (alike : AreAlike 
   pub size_of : (size : GraphSize) → IsSizeOf read one size → IsSizeOf held two size
   size_of size is = record { draft = is.draft; graph_is = graph_of is.draft is.graph_is; size_is = is.size_is }
 
-  pub listing_of : (from to : ℤ) (answer : Result (List Interval) IntervalFault) → HasListing read one from to answer → HasListing held two from to answer
-  listing_of from to answer is = record {
+  pub listing_of : (range : RunRange) (answer : Result (List Interval) RangeFault) → HasListing read one range answer → HasListing held two range answer
+  listing_of range answer is = record {
     draft = is.draft;
     graph_is = graph_of is.draft is.graph_is;
     schedule = is.schedule;
@@ -59,52 +60,52 @@ module _ (read held : List ℕ) (one two : Option (List ℕ)) (alike : AreAlike 
     answers = is.answers;
   }
 
-  pub list_of : (from to : ℤ) (text : List ℕ) → IsListIn read one from to text → IsListIn held two from to text
-  list_of from to text is = record { found = is.found; listing = listing_of from to _ is.listing; text_is = is.text_is }
+  pub list_of : (range : RunRange) (text : List ℕ) → IsListIn read one range text → IsListIn held two range text
+  list_of range text is = record { found = is.found; listing = listing_of range _ is.listing; text_is = is.text_is }
 
-  pub list_fault : (from to : ℤ) (fault : CommandFault) → IsFaultOfList read one from to fault → IsFaultOfList held two from to fault
-  list_fault from to (Range fault) is = listing_of from to _ is
-  list_fault from to (CannotWrite n) is = tt
-  list_fault from to fault is = fault_in fault is
+  pub list_fault : (range : RunRange) (fault : CommandFault) → IsFaultOfList read one range fault → IsFaultOfList held two range fault
+  list_fault range (Range fault) is = listing_of range _ is
+  list_fault range (CannotWrite n) is = tt
+  list_fault range fault is = fault_in fault is
 
   pub clocks_alike : (found : List Interval) (clocks : List ℤ) → AreClocksOf read one found clocks → AreClocksOf held two found clocks
   clocks_alike found clocks are = record { draft = are.draft; graph_is = graph_of are.draft are.graph_is; zone = are.zone; zone_is = alike.means.to _ are.zone are.zone_is; clocks_are = are.clocks_are }
 
-  pub run_report : (launching : LaunchingOf) (may_hear : Hearing) (from to : ℤ) (text : List ℕ) (success : Bool) → IsRunReport launching may_hear read one from to text success
-      → IsRunReport launching may_hear held two from to text success
-  run_report launching may_hear from to text success is = record {
+  pub run_report : (launching : LaunchingOf) (may_hear : Hearing) (range : RunRange) (text : List ℕ) (success : Bool) → IsRunReport launching may_hear read one range text success
+      → IsRunReport launching may_hear held two range text success
+  run_report launching may_hear range text success is = record {
     draft = is.draft;
     found = is.found;
     graph_is = graph_of is.draft is.graph_is;
-    listing = listing_of from to _ is.listing;
+    listing = listing_of range _ is.listing;
     clocks = is.clocks;
     clocks_are = clocks_alike is.found is.clocks is.clocks_are;
     reported = is.reported;
   }
 
-  pub journaled_report : (launching : LaunchingOf) (may_hear : Hearing) (retry : Bool) (bytes : List ℕ) (from to : ℤ) (text : List ℕ) (success : Bool) → IsJournaledReport launching may_hear read one retry bytes from to text success
-      → IsJournaledReport launching may_hear held two retry bytes from to text success
-  journaled_report launching may_hear retry bytes from to text success is = record {
+  pub journaled_report : (launching : LaunchingOf) (may_hear : Hearing) (retry : Bool) (bytes : List ℕ) (range : RunRange) (text : List ℕ) (success : Bool) → IsJournaledReport launching may_hear read one retry bytes range text success
+      → IsJournaledReport launching may_hear held two retry bytes range text success
+  journaled_report launching may_hear retry bytes range text success is = record {
     draft = is.draft;
     found = is.found;
     graph_is = graph_of is.draft is.graph_is;
-    listing = listing_of from to _ is.listing;
+    listing = listing_of range _ is.listing;
     clocks = is.clocks;
     clocks_are = clocks_alike is.found is.clocks is.clocks_are;
     reported = is.reported;
   }
 
-  pub run_fault : (launching : LaunchingOf) (may_lose : Losing) (from to : ℤ) (fault : CommandFault) → IsFaultOfRun launching may_lose read one from to fault → IsFaultOfRun launching may_lose held two from to fault
-  run_fault launching may_lose from to (Stopped stop) is = record {
+  pub run_fault : (launching : LaunchingOf) (may_lose : Losing) (range : RunRange) (fault : CommandFault) → IsFaultOfRun launching may_lose read one range fault → IsFaultOfRun launching may_lose held two range fault
+  run_fault launching may_lose range (Stopped stop) is = record {
     draft = is.draft;
     found = is.found;
     graph_is = graph_of is.draft is.graph_is;
-    listing = listing_of from to _ is.listing;
+    listing = listing_of range _ is.listing;
     clocks = is.clocks;
     clocks_are = clocks_alike is.found is.clocks is.clocks_are;
     stops = is.stops;
   }
-  run_fault launching may_lose from to fault is = list_fault from to fault is
+  run_fault launching may_lose range fault is = list_fault range fault is
 
   module _ (table other : List ℕ) (same : table_of table ≡ table_of other) where
     a_table : IsTable table → IsTable other
@@ -120,14 +121,14 @@ module _ (read held : List ℕ) (one two : Option (List ℕ)) (alike : AreAlike 
       reported = is.reported;
     }
 
-    pub report_in : (from to : ℤ) (text : List ℕ) (success : Bool) → IsReportIn read one table from to text success → IsReportIn held two other from to text success
-    report_in from to text success is = record {
+    pub report_in : (range : RunRange) (text : List ℕ) (success : Bool) → IsReportIn read one table range text success → IsReportIn held two other range text success
+    report_in range text success is = record {
       draft = is.draft;
       entries = is.entries;
       found = is.found;
       graph_is = graph_of is.draft is.graph_is;
       table_says = sym same ∙ is.table_says;
-      listing = listing_of from to _ is.listing;
+      listing = listing_of range _ is.listing;
       reported = is.reported;
     }
 
@@ -137,9 +138,9 @@ module _ (read held : List ℕ) (one two : Option (List ℕ)) (alike : AreAlike 
     single_fault at (CannotWrite n) is = tt
     single_fault at fault is = fault_in fault is
 
-    pub dry_fault : (alone : Bool) (from to : ℤ) (fault : CommandFault) → IsFaultOfDry alone read one table from to fault → IsFaultOfDry alone held two other from to fault
-    dry_fault alone from to (Table fault) is = (is.0, graph_of is.0 is.1, sym same ∙ is.2)
-    dry_fault alone from to (Range fault) is = (a_table is.0, listing_of from to _ is.1)
-    dry_fault alone from to (CannotWrite n) is = tt
-    dry_fault alone from to (Stopped stop) is = (is.0, a_table is.1, listing_of from to _ is.2, is.3, is.4)
-    dry_fault alone from to fault is = fault_in fault is
+    pub dry_fault : (alone : Bool) (range : RunRange) (fault : CommandFault) → IsFaultOfDry alone read one table range fault → IsFaultOfDry alone held two other range fault
+    dry_fault alone range (Table fault) is = (is.0, graph_of is.0 is.1, sym same ∙ is.2)
+    dry_fault alone range (Range fault) is = (a_table is.0, listing_of range _ is.1)
+    dry_fault alone range (CannotWrite n) is = tt
+    dry_fault alone range (Stopped stop) is = (is.0, a_table is.1, listing_of range _ is.2, is.3, is.4)
+    dry_fault alone range fault is = fault_in fault is

@@ -18,7 +18,7 @@ use Rattle.bf_command_fault.specs.Status.{of_runs}
 use Rattle.bf_command_fault.specs.declared.fault.CommandFault.{CommandFault}
 use Rattle.bf_command_fault.specs.declared.fault.CommandFault.TheVariants.{Read, Check, Table, Range, Report, Journal, Clear, JournalInUse, BadMoment, OutOfMemory, CannotLaunch, CannotRead, CannotWriteFile, CannotWrite, Stopped}
 use Rattle.bf_command_fault.specs.declared.stop.StopFault.{StopFault}
-use Rattle.bf_commands.specs.declared.range.MomentRange.{MomentRange}
+use Rattle.bf_commands.specs.declared.range.RunRange.{RunRange}
 use Rattle.bf_commands.specs.Cleared.{IsFaultAgain, IsFaultBefore, IsKeptOf, IsPrepared, IsReadAs, IsReady, IsReportAfter}
 use Rattle.bf_commands.specs.Journaled.{GoesWrongClearing, Heading, IsClearable, IsFaultOfSeed, IsFaultSince, IsJournaledAfter, TellsOf}
 use Rattle.bf_commands.specs.OverTable.{is_alone}
@@ -37,7 +37,7 @@ pub report_leaves : (Halted : Type 0) (IsDue : List ℕ → Type 0) (before : Op
 report_leaves Halted IsDue before path file fault is = unwritten_leaves Halted IsDue before (IsReportFault path file) (λ n written. written) fault is
 
 -- nothing went out before the report is read
-pub preparing_leaves : (Halted : Type 0) (IsDue : List ℕ → Type 0) (before : Option (List ℕ)) (files : Files) (asked : GraphAsked) (path : Option (List ℕ)) (range : MomentRange) (fault : CommandFault)
+pub preparing_leaves : (Halted : Type 0) (IsDue : List ℕ → Type 0) (before : Option (List ℕ)) (files : Files) (asked : GraphAsked) (path : Option (List ℕ)) (range : RunRange) (fault : CommandFault)
     → IsPreparingFault files asked path range fault → Leaves Halted IsDue before before fault
 preparing_leaves Halted IsDue before files asked path range fault is =
     unwritten_leaves Halted IsDue before (IsPreparingFault files asked path range) (λ n written. elim written [ inl reading ↦ reading | inr said ↦ said.1.holds ]) fault is
@@ -49,25 +49,25 @@ pub held_stays : (before after : Files) (path held : Option (List ℕ)) → ((p 
 held_stays before after (Some p) (Some bytes) stays is = stays p ∙ is
 held_stays before after path held stays is = is
 
-module _ (read held : List ℕ) (one two : Option (List ℕ)) (alike : AreAlike read held one two) (table other : Option (List ℕ)) (same : option_map table_of table ≡ option_map table_of other) (from to : ℤ) where
-  before_alike : (fault : CommandFault) → IsFaultBefore read one table from to fault → IsFaultBefore held two other from to fault
+module _ (read held : List ℕ) (one two : Option (List ℕ)) (alike : AreAlike read held one two) (table other : Option (List ℕ)) (same : option_map table_of table ≡ option_map table_of other) (range : RunRange) where
+  before_alike : (fault : CommandFault) → IsFaultBefore read one table range fault → IsFaultBefore held two other range fault
   before_alike (Table fault) is = (is.0, graph_of read held one two alike is.0 is.1, sym same ∙ is.2)
-  before_alike (Range fault) is = (is.0, sym same ∙ is.1, listing_of read held one two alike from to _ is.2)
+  before_alike (Range fault) is = (is.0, sym same ∙ is.1, listing_of read held one two alike range _ is.2)
   before_alike fault is = fault_in read held one two alike fault is
 
-  prepared_alike : (dag : Dag) (found : List Interval) (clocks : List ℤ) (answers : Option (List TableEntry)) → IsPrepared read one table from to dag found clocks answers → IsPrepared held two other from to dag found clocks answers
+  prepared_alike : (dag : Dag) (found : List Interval) (clocks : List ℤ) (answers : Option (List TableEntry)) → IsPrepared read one table range dag found clocks answers → IsPrepared held two other range dag found clocks answers
   prepared_alike dag found clocks answers is = record {
     draft = is.draft;
     graph_is = graph_of read held one two alike is.draft is.graph_is;
     dag_is = is.dag_is;
     table_says = sym same ∙ is.table_says;
-    listing = listing_of read held one two alike from to _ is.listing;
+    listing = listing_of read held one two alike range _ is.listing;
     clocks_are = clocks_alike read held one two alike found clocks is.clocks_are;
   }
 
 -- ---- the launcher
 
-pub clear_unlaunched : (may_lose : Losing) (files : Files) (machine : Machine) (asked : ClearAsked) (range : MomentRange) → MeansRange asked.range range → (seed : Seed) → MeansSeed asked.seed seed → (fault : CommandFault)
+pub clear_unlaunched : (may_lose : Losing) (files : Files) (machine : Machine) (asked : ClearAsked) (range : RunRange) → MeansRange asked.range range → (seed : Seed) → MeansSeed asked.seed seed → (fault : CommandFault)
     → IsFaultOfLauncher machine.startable (launcher_used asked.table asked.launcher) fault → IsClearFault may_lose files machine asked fault
 clear_unlaunched may_lose files machine asked range means seed means_seed (CannotLaunch path) is = is
 clear_unlaunched may_lose files machine asked range means seed means_seed OutOfMemory is = (range, means, seed, means_seed, go asked.journal)
@@ -79,7 +79,7 @@ clear_unlaunched may_lose files machine asked range means seed means_seed fault 
 
 -- ---- the files
 
-module _ (may_lose : Losing) (files : Files) (machine : Machine) (asked : ClearAsked) (range : MomentRange) (means : MeansRange asked.range range) (seed : Seed) (means_seed : MeansSeed asked.seed seed)
+module _ (may_lose : Losing) (files : Files) (machine : Machine) (asked : ClearAsked) (range : RunRange) (means : MeansRange asked.range range) (seed : Seed) (means_seed : MeansSeed asked.seed seed)
     (launchable : IsLaunchable machine.startable (launcher_used asked.table asked.launcher)) where
   -- a fault that comes before a journal is opened is the same where one is named
   before_journal : (fault : CommandFault) → ((journal : JournalAsked) → IsFaultOfClear may_lose files asked range seed fault → IsRecordedClearFault may_lose files machine.journals asked journal range seed fault) → IsFaultOfClear may_lose files asked range seed fault
@@ -94,14 +94,14 @@ module _ (may_lose : Losing) (files : Files) (machine : Machine) (asked : ClearA
   clear_reading fault is =
       reading_cases files (clear_paths asked.graph (table_named asked)) (IsClearFault may_lose files machine asked) (range, means, seed, means_seed, before_journal OutOfMemory (λ j is. is) tt) (λ path unread. (range, means, seed, means_seed, before_journal (CannotRead path) (λ j is. inl is) (inl unread))) fault is
 
-  before_held : (fault : CommandFault) → IsOfBytes files asked.graph (table_named asked) (λ graph zone table. IsFaultBefore graph zone table range.from.nanosecond range.to.nanosecond fault)
-      → OfFilesAndNamedTable files asked.graph (table_named asked) (λ graph held other. IsFaultBefore graph held other range.from.nanosecond range.to.nanosecond fault)
+  before_held : (fault : CommandFault) → IsOfBytes files asked.graph (table_named asked) (λ graph zone table. IsFaultBefore graph zone table range fault)
+      → OfFilesAndNamedTable files asked.graph (table_named asked) (λ graph held other. IsFaultBefore graph held other range fault)
   before_held fault said graph held other are holds =
       let same = said.alike graph held other are holds in
-      before_alike said.graph graph said.zone held same.0 said.table other same.1 range.from.nanosecond range.to.nanosecond fault said.holds
+      before_alike said.graph graph said.zone held same.0 said.table other same.1 range fault said.holds
 
   clear_before : (fault : CommandFault) → AreReadable files (clear_paths asked.graph (table_named asked))
-      → IsOfBytes files asked.graph (table_named asked) (λ graph zone table. IsFaultBefore graph zone table range.from.nanosecond range.to.nanosecond fault) → IsClearFault may_lose files machine asked fault
+      → IsOfBytes files asked.graph (table_named asked) (λ graph zone table. IsFaultBefore graph zone table range fault) → IsClearFault may_lose files machine asked fault
   clear_before (Read fault) readable said = (range, means, seed, means_seed, before_journal (Read fault) (λ j is. is) (readable, before_held (Read fault) said))
   clear_before (Check fault) readable said = (range, means, seed, means_seed, before_journal (Check fault) (λ j is. is) (readable, before_held (Check fault) said))
   clear_before (Table fault) readable said = (range, means, seed, means_seed, before_journal (Table fault) (λ j is. is) (readable, before_held (Table fault) said))
@@ -115,13 +115,13 @@ module _ (may_lose : Losing) (files : Files) (machine : Machine) (asked : ClearA
   clear_preparing fault (inr (readable, said)) = clear_before fault readable said
 
   module _ (dag : Dag) (found : List Interval) (clocks : List ℤ) (answers : Option (List TableEntry)) (readable : AreReadable files (clear_paths asked.graph (table_named asked)))
-      (said : IsOfBytes files asked.graph (table_named asked) (λ graph zone table. IsPrepared graph zone table range.from.nanosecond range.to.nanosecond dag found clocks answers)) where
-    prepared_held : OfFilesAndNamedTable files asked.graph (table_named asked) (λ graph held other. IsPrepared graph held other range.from.nanosecond range.to.nanosecond dag found clocks answers)
+      (said : IsOfBytes files asked.graph (table_named asked) (λ graph zone table. IsPrepared graph zone table range dag found clocks answers)) where
+    prepared_held : OfFilesAndNamedTable files asked.graph (table_named asked) (λ graph held other. IsPrepared graph held other range dag found clocks answers)
     prepared_held graph held other are holds =
         let same = said.alike graph held other are holds in
-        prepared_alike said.graph graph said.zone held same.0 said.table other same.1 range.from.nanosecond range.to.nanosecond dag found clocks answers said.holds
+        prepared_alike said.graph graph said.zone held same.0 said.table other same.1 range dag found clocks answers said.holds
 
-    abbrev ready : OfFilesAndNamedTable files asked.graph (table_named asked) (λ graph held other. IsReady graph held other range.from.nanosecond range.to.nanosecond)
+    abbrev ready : OfFilesAndNamedTable files asked.graph (table_named asked) (λ graph held other. IsReady graph held other range)
     ready graph held other are holds = record { dag = dag; found = found; clocks = clocks; answers = answers; prepared = prepared_held graph held other are holds }
 
     clear_report : (fault : CommandFault) → IsReportFault (string_bytes asked.report) (files (string_bytes asked.report)) fault → IsClearFault may_lose files machine asked fault
@@ -198,12 +198,12 @@ module _ (may_lose : Losing) (files : Files) (machine : Machine) (asked : ClearA
       -- ---- where one is
 
       module _ (journal : JournalAsked) (named : asked.journal ≡ Some journal) where
-        abbrev clearable : (kept : Look) → IsKeptOf dag found was seed kept → OfClearFiles files asked (λ graph zone table report. IsClearable graph zone table report range.from.nanosecond range.to.nanosecond seed)
+        abbrev clearable : (kept : Look) → IsKeptOf dag found was seed kept → OfClearFiles files asked (λ graph zone table report. IsClearable graph zone table report range seed)
         clearable kept is graph held other are holds reported told = record { ready = ready graph held other are holds; was = was; report_says = says reported told; kept = kept; kept_is = is }
 
         goes_wrong : (fault : CommandFault) (kept : Look) (is : IsKeptOf dag found was seed kept) (cleared : Heading) → TellsOf seed cleared
             → OfJournal machine.journals journal (λ bytes. IsFaultSince journal.stop_after kept journal.retry_failed bytes cleared (option_map string_bytes asked.logs) dag found fault)
-            → OfClearFiles files asked (λ graph zone table report. OfJournal machine.journals journal (λ bytes. GoesWrongClearing journal.stop_after (option_map string_bytes asked.logs) graph zone table report journal.retry_failed bytes range.from.nanosecond range.to.nanosecond seed fault))
+            → OfClearFiles files asked (λ graph zone table report. OfJournal machine.journals journal (λ bytes. GoesWrongClearing journal.stop_after (option_map string_bytes asked.logs) graph zone table report journal.retry_failed bytes range seed fault))
         goes_wrong fault kept is cleared tells wrong graph held other are holds reported told bytes are_held =
             record { clearable = clearable kept is graph held other are holds reported told; cleared = cleared; tells = tells; fault_is = wrong bytes are_held }
 

@@ -22,7 +22,7 @@ use Rattle.bf_command_fault.specs.declared.status.Status.{Status}
 use Rattle.bf_command_fault.specs.Refusal.{of_cause, of_write}
 use Rattle.bf_command_fault.specs.Status.{of_runs}
 use Rattle.bf_commands.specs.declared.check.GraphSize.{GraphSize}
-use Rattle.bf_commands.specs.declared.range.MomentRange.{MomentRange}
+use Rattle.bf_commands.specs.declared.range.RunRange.{RunRange}
 use Rattle.bf_commands.specs.DatedRuns.{IsFaultOfDry, IsReportIn}
 use Rattle.bf_commands.specs.OverTable.{is_alone}
 use Rattle.bf_commands.specs.Graphs.{IsFaultIn, IsGraph, IsSizeOf}
@@ -89,22 +89,22 @@ module _ {files : Files} {asked : GraphAsked} {read : List ℕ} {zone : Option (
 
 -- ---- `list`
 
-module _ {files : Files} (asked : ListAsked) (range : MomentRange) (means : MeansRange asked.range range) {read : List ℕ} {zone : Option (List ℕ)} (bytes : AreGraphBytes files asked.graph read zone) where
-  pub list_answer : (text : List ℕ) → IsListIn read zone range.from.nanosecond range.to.nanosecond text → IsListAnswer files asked text Status.Success
+module _ {files : Files} (asked : ListAsked) (range : RunRange) (means : MeansRange asked.range range) {read : List ℕ} {zone : Option (List ℕ)} (bytes : AreGraphBytes files asked.graph read zone) where
+  pub list_answer : (text : List ℕ) → IsListIn read zone range text → IsListAnswer files asked text Status.Success
   list_answer text is = record {
     success = refl;
     range = range;
     means = means;
     readable = bytes.readable;
-    text_is = λ graph held are. list_of read graph zone held (bytes.alike graph held are) range.from.nanosecond range.to.nanosecond text is;
+    text_is = λ graph held are. list_of read graph zone held (bytes.alike graph held are) range text is;
   }
 
-  pub list_files : (fault : CommandFault) → IsFaultOfList read zone range.from.nanosecond range.to.nanosecond fault → IsListFault files asked fault
+  pub list_files : (fault : CommandFault) → IsFaultOfList read zone range fault → IsListFault files asked fault
   list_files BadMoment is = absurd is
   list_files OutOfMemory is = (range, means, tt)
   list_files (CannotRead path) is = absurd is
   list_files (CannotWriteFile path) is = absurd is
-  list_files fault is = (range, means, (bytes.readable, λ graph held are. list_fault read graph zone held (bytes.alike graph held are) range.from.nanosecond range.to.nanosecond fault is))
+  list_files fault is = (range, means, (bytes.readable, λ graph held are. list_fault read graph zone held (bytes.alike graph held are) range fault is))
 
 -- ---- `single`
 
@@ -129,29 +129,29 @@ module _ {files : Files} (asked : SingleAsked) (at : Timestamp) (means : Means (
 
 -- ---- `dry`
 
-module _ {files : Files} (asked : DryAsked) (range : MomentRange) (means : MeansRange asked.range range) {read table : List ℕ} {zone : Option (List ℕ)}
+module _ {files : Files} (asked : DryAsked) (range : RunRange) (means : MeansRange asked.range range) {read table : List ℕ} {zone : Option (List ℕ)}
     (bytes : AreBytesWithTable files asked.graph (string_bytes asked.table) read table zone) where
-  pub dry_answer : (text : List ℕ) (success : Bool) → IsReportIn read zone table range.from.nanosecond range.to.nanosecond text success → IsDryAnswer files asked text (of_runs success)
+  pub dry_answer : (text : List ℕ) (success : Bool) → IsReportIn read zone table range text success → IsDryAnswer files asked text (of_runs success)
   dry_answer text success is = record {
     range = range;
     means = means;
     succeeded = success;
     status_is = refl;
     readable = bytes.readable;
-    text_is = λ graph other held are holds. (let same = bytes.alike graph other held are holds in report_in read graph zone held same.0 table other same.1 range.from.nanosecond range.to.nanosecond text success is);
+    text_is = λ graph other held are holds. (let same = bytes.alike graph other held are holds in report_in read graph zone held same.0 table other same.1 range text success is);
   }
 
-  pub dry_files : (fault : CommandFault) → IsFaultOfDry (is_alone asked.workers asked.progress) read zone table range.from.nanosecond range.to.nanosecond fault → IsDryFault files asked fault
+  pub dry_files : (fault : CommandFault) → IsFaultOfDry (is_alone asked.workers asked.progress) read zone table range fault → IsDryFault files asked fault
   dry_files BadMoment is = absurd is
   dry_files OutOfMemory is = (range, means, tt)
   dry_files (CannotRead path) is = absurd is
   dry_files (CannotWriteFile path) is = absurd is
-  dry_files fault is = (range, means, (bytes.readable, λ graph other held are holds. (let same = bytes.alike graph other held are holds in dry_fault read graph zone held same.0 table other same.1 (is_alone asked.workers asked.progress) range.from.nanosecond range.to.nanosecond fault is)))
+  dry_files fault is = (range, means, (bytes.readable, λ graph other held are holds. (let same = bytes.alike graph other held are holds in dry_fault read graph zone held same.0 table other same.1 (is_alone asked.workers asked.progress) range fault is)))
 
 -- ---- `run`
 
 -- memory is wanting, or a file can't be read, whether a journal is named or not
-module _ (may_lose : Losing) (files : Files) (machine : Machine) (asked : RunAsked) (range : MomentRange) (means : MeansRange asked.range range) where
+module _ (may_lose : Losing) (files : Files) (machine : Machine) (asked : RunAsked) (range : RunRange) (means : MeansRange asked.range range) where
   pub run_memory : IsRunFault may_lose files machine asked OutOfMemory
   run_memory = (range, means, go asked.journal)
     where
@@ -172,10 +172,10 @@ module _ (may_lose : Losing) (files : Files) (machine : Machine) (asked : RunAsk
       go None = unread
       go (Some journal) = inl unread
 
-module _ {files : Files} (machine : Machine) (asked : RunAsked) (range : MomentRange) (means : MeansRange asked.range range) (launchable : IsLaunchable machine.startable (option_map string_bytes asked.launcher)) {read : List ℕ} {zone : Option (List ℕ)} (bytes : AreGraphBytes files asked.graph read zone) where
+module _ {files : Files} (machine : Machine) (asked : RunAsked) (range : RunRange) (means : MeansRange asked.range range) (launchable : IsLaunchable machine.startable (option_map string_bytes asked.launcher)) {read : List ℕ} {zone : Option (List ℕ)} (bytes : AreGraphBytes files asked.graph read zone) where
   -- where no journal is named
   module _ (none : asked.journal ≡ None) where
-    run_answer : (may_hear : Hearing) (text : List ℕ) (success : Bool) → IsRunReport (launching_asked asked.launcher asked.logs) may_hear read zone range.from.nanosecond range.to.nanosecond text success
+    run_answer : (may_hear : Hearing) (text : List ℕ) (success : Bool) → IsRunReport (launching_asked asked.launcher asked.logs) may_hear read zone range text success
         → IsRunAnswer may_hear files machine asked text (of_runs success)
     run_answer may_hear text success is = record {
       range = range;
@@ -185,20 +185,20 @@ module _ {files : Files} (machine : Machine) (asked : RunAsked) (range : MomentR
       launchable = launchable;
       readable = bytes.readable;
       text_is = λ graph held are. subst (λ (o : Option JournalAsked). IsRunReportBy (launching_asked asked.launcher asked.logs) may_hear machine.journals o range graph held text success) (sym none)
-          (run_report read graph zone held (bytes.alike graph held are) (launching_asked asked.launcher asked.logs) may_hear range.from.nanosecond range.to.nanosecond text success is);
+          (run_report read graph zone held (bytes.alike graph held are) (launching_asked asked.launcher asked.logs) may_hear range text success is);
     }
 
-    by_files : (may_lose : Losing) (fault : CommandFault) → IsFaultOfRun (launching_asked asked.launcher asked.logs) may_lose read zone range.from.nanosecond range.to.nanosecond fault → IsRunFaultBy (launching_asked asked.launcher asked.logs) may_lose files machine.journals asked.graph None range fault
+    by_files : (may_lose : Losing) (fault : CommandFault) → IsFaultOfRun (launching_asked asked.launcher asked.logs) may_lose read zone range fault → IsRunFaultBy (launching_asked asked.launcher asked.logs) may_lose files machine.journals asked.graph None range fault
     by_files may_lose BadMoment is = absurd is
     by_files may_lose OutOfMemory is = tt
     by_files may_lose (CannotRead path) is = absurd is
     by_files may_lose (CannotWriteFile path) is = absurd is
-    by_files may_lose fault is = (bytes.readable, λ graph held are. run_fault read graph zone held (bytes.alike graph held are) (launching_asked asked.launcher asked.logs) may_lose range.from.nanosecond range.to.nanosecond fault is)
+    by_files may_lose fault is = (bytes.readable, λ graph held are. run_fault read graph zone held (bytes.alike graph held are) (launching_asked asked.launcher asked.logs) may_lose range fault is)
 
     as_run : (may_lose : Losing) (fault : CommandFault) → IsRunFaultBy (launching_asked asked.launcher asked.logs) may_lose files machine.journals asked.graph None range fault → IsRunFaultBy (launching_asked asked.launcher asked.logs) may_lose files machine.journals asked.graph asked.journal range fault
     as_run may_lose fault is = subst (λ (o : Option JournalAsked). IsRunFaultBy (launching_asked asked.launcher asked.logs) may_lose files machine.journals asked.graph o range fault) (sym none) is
 
-    run_files : (may_lose : Losing) (fault : CommandFault) → IsFaultOfRun (launching_asked asked.launcher asked.logs) may_lose read zone range.from.nanosecond range.to.nanosecond fault → IsRunFault may_lose files machine asked fault
+    run_files : (may_lose : Losing) (fault : CommandFault) → IsFaultOfRun (launching_asked asked.launcher asked.logs) may_lose read zone range fault → IsRunFault may_lose files machine asked fault
     run_files may_lose BadMoment is = absurd is
     run_files may_lose (CannotLaunch path) is = absurd is
     run_files may_lose fault is = (range, means, as_run may_lose fault (by_files may_lose fault is))
@@ -215,24 +215,24 @@ module _ {files : Files} (machine : Machine) (asked : RunAsked) (range : MomentR
       launchable = launchable;
       readable = bytes.readable;
       text_is = λ graph held are. subst (λ (o : Option JournalAsked). IsRunReportBy (launching_asked asked.launcher asked.logs) may_hear machine.journals o range graph held text success) (sym named)
-          (λ holds told. journaled_report read graph zone held (bytes.alike graph held are) (launching_asked asked.launcher asked.logs) may_hear journal.retry_failed holds range.from.nanosecond range.to.nanosecond text success (is holds told));
+          (λ holds told. journaled_report read graph zone held (bytes.alike graph held are) (launching_asked asked.launcher asked.logs) may_hear journal.retry_failed holds range text success (is holds told));
     }
 
-    has_runs : (found : List Interval) → HasListing read zone range.from.nanosecond range.to.nanosecond (Ok found) → OfFiles files asked.graph (HasRuns range)
-    has_runs found listing graph held are = (found, listing_of read graph zone held (bytes.alike graph held are) range.from.nanosecond range.to.nanosecond _ listing)
+    has_runs : (found : List Interval) → HasListing read zone range (Ok found) → OfFiles files asked.graph (HasRuns range)
+    has_runs found listing graph held are = (found, listing_of read graph zone held (bytes.alike graph held are) range _ listing)
 
-    goes_wrong : (fault : CommandFault) (draft : Draft) (found : List Interval) → IsGraph read zone draft → HasListing read zone range.from.nanosecond range.to.nanosecond (Ok found)
+    goes_wrong : (fault : CommandFault) (draft : Draft) (found : List Interval) → IsGraph read zone draft → HasListing read zone range (Ok found)
         → OfJournal machine.journals journal (λ holds. IsFaultSince journal.stop_after nothing journal.retry_failed holds [] (option_map string_bytes asked.logs) (dag_of draft) found fault)
-        → OfFiles files asked.graph (λ graph held. OfJournal machine.journals journal (λ holds. GoesWrong journal.stop_after (option_map string_bytes asked.logs) graph held journal.retry_failed holds range.from.nanosecond range.to.nanosecond fault))
+        → OfFiles files asked.graph (λ graph held. OfJournal machine.journals journal (λ holds. GoesWrong journal.stop_after (option_map string_bytes asked.logs) graph held journal.retry_failed holds range fault))
     goes_wrong fault draft found graph_is listing wrong graph held are holds told = record {
       draft = draft;
       found = found;
       graph_is = graph_of read graph zone held (bytes.alike graph held are) draft graph_is;
-      listing = listing_of read graph zone held (bytes.alike graph held are) range.from.nanosecond range.to.nanosecond _ listing;
+      listing = listing_of read graph zone held (bytes.alike graph held are) range _ listing;
       fault_is = wrong holds told;
     }
 
-    over_journal : (fault : CommandFault) (draft : Draft) (found : List Interval) → IsGraph read zone draft → HasListing read zone range.from.nanosecond range.to.nanosecond (Ok found)
+    over_journal : (fault : CommandFault) (draft : Draft) (found : List Interval) → IsGraph read zone draft → HasListing read zone range (Ok found)
         → IsFaultOver machine.journals journal nothing [] (option_map string_bytes asked.logs) (dag_of draft) found fault → IsRecordedRunFault (option_map string_bytes asked.logs) files machine.journals asked.graph journal range fault
     over_journal (CannotRead path) draft found graph_is listing is = inr (bytes.readable, is.0, is.1, has_runs found listing)
     over_journal JournalInUse draft found graph_is listing is = (bytes.readable, is, has_runs found listing)
@@ -244,10 +244,10 @@ module _ {files : Files} (machine : Machine) (asked : RunAsked) (range : MomentR
     over_journal (CannotWrite n) draft found graph_is listing is = (bytes.readable, λ graph held are. tt)
     over_journal fault draft found graph_is listing is = absurd is
 
-    before_journal : (fault : CommandFault) → IsFaultOfList read zone range.from.nanosecond range.to.nanosecond fault → IsRecordedRunFault (option_map string_bytes asked.logs) files machine.journals asked.graph journal range fault
-    before_journal (Read fault) is = (bytes.readable, λ graph held are. list_fault read graph zone held (bytes.alike graph held are) range.from.nanosecond range.to.nanosecond (Read fault) is)
-    before_journal (Check fault) is = (bytes.readable, λ graph held are. list_fault read graph zone held (bytes.alike graph held are) range.from.nanosecond range.to.nanosecond (Check fault) is)
-    before_journal (Range fault) is = (bytes.readable, λ graph held are. list_fault read graph zone held (bytes.alike graph held are) range.from.nanosecond range.to.nanosecond (Range fault) is)
+    before_journal : (fault : CommandFault) → IsFaultOfList read zone range fault → IsRecordedRunFault (option_map string_bytes asked.logs) files machine.journals asked.graph journal range fault
+    before_journal (Read fault) is = (bytes.readable, λ graph held are. list_fault read graph zone held (bytes.alike graph held are) range (Read fault) is)
+    before_journal (Check fault) is = (bytes.readable, λ graph held are. list_fault read graph zone held (bytes.alike graph held are) range (Check fault) is)
+    before_journal (Range fault) is = (bytes.readable, λ graph held are. list_fault read graph zone held (bytes.alike graph held are) range (Range fault) is)
     before_journal (CannotWrite n) is = (bytes.readable, λ graph held are. tt)
     before_journal OutOfMemory is = tt
     before_journal fault is = absurd is

@@ -8,3 +8,4 @@ pub mod CommandEnds
 pub mod ClearEnds
 pub mod FiledReports
 mod Recorded
+pub mod Unasked

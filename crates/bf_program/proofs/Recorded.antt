@@ -19,7 +19,7 @@ use Rattle.bf_command_fault.specs.Refusal.{Leaves, Sends}
 use Rattle.bf_command_fault.specs.declared.fault.CommandFault.{CommandFault}
 use Rattle.bf_command_fault.specs.declared.fault.CommandFault.TheVariants.{CannotWrite, Journal, OutOfMemory, Range, Stopped}
 use Rattle.bf_command_fault.specs.declared.stop.StopFault.{StopFault}
-use Rattle.bf_commands.specs.declared.range.MomentRange.{MomentRange}
+use Rattle.bf_commands.specs.declared.range.RunRange.{RunRange}
 use Rattle.bf_commands.specs.Cleared.{IsKeptOf, MayAnswerBy}
 use Rattle.bf_commands.specs.Graphs.{IsPlanOf}
 use Rattle.bf_commands.specs.Journaled.{Heading, IsFaultSince, IsJournaledReport, IsReportSince, TellsOf}
@@ -94,19 +94,19 @@ module _ (journals : Files) (asked : JournalAsked) (held : List ℕ) (is_held : 
 -- ---- the runs of a range
 
 -- why they aren't there is why they aren't listed
-pub dated_list : (graph : List ℕ) (file : Option (List ℕ)) (from to : ℤ) (fault : CommandFault) → IsDatedFault graph file from to fault → IsFaultOfList graph file from to fault
-dated_list graph file from to (Range fault) (inl is) = absurd is
-dated_list graph file from to (Range fault) (inr is) = is
-dated_list graph file from to (CannotWrite n) is = tt
-dated_list graph file from to OutOfMemory is = tt
-dated_list graph file from to fault (inl is) = is
-dated_list graph file from to fault (inr is) = absurd is
+pub dated_list : (graph : List ℕ) (file : Option (List ℕ)) (range : RunRange) (fault : CommandFault) → IsDatedFault graph file range fault → IsFaultOfList graph file range fault
+dated_list graph file range (Range fault) (inl is) = absurd is
+dated_list graph file range (Range fault) (inr is) = is
+dated_list graph file range (CannotWrite n) is = tt
+dated_list graph file range OutOfMemory is = tt
+dated_list graph file range fault (inl is) = is
+dated_list graph file range fault (inr is) = absurd is
 
-module _ {graph : List ℕ} {file : Option (List ℕ)} {plan : Checked} (range : MomentRange) {found : List Interval} (is : IsPlanOf graph file plan) (listing : HasListing graph file range.from.nanosecond range.to.nanosecond (Ok found)) (journals : Files) (asked : JournalAsked) where
+module _ {graph : List ℕ} {file : Option (List ℕ)} {plan : Checked} (range : RunRange) {found : List Interval} (is : IsPlanOf graph file plan) (listing : HasListing graph file range (Ok found)) (journals : Files) (asked : JournalAsked) where
   -- the report over the journal is that of `run`
   pub journaled : (launching : LaunchingOf) (may_hear : Hearing) (clocks : List ℤ) → AreClocksOf graph file found clocks → (text : List ℕ) (success : Bool)
       → IsReportOver journals asked nothing [] (MayAnswer (launched_by launching may_hear clocks) plan.dag found) plan.dag found text success
-      → OfJournal journals asked (λ held. IsJournaledReport launching may_hear graph file asked.retry_failed held range.from.nanosecond range.to.nanosecond text success)
+      → OfJournal journals asked (λ held. IsJournaledReport launching may_hear graph file asked.retry_failed held range text success)
   journaled launching may_hear clocks are text success over held told = record {
     draft = is.draft;
     found = found;

@@ -19,6 +19,10 @@ use Rattle.bf_command_line.specs.declared.forms.RangeAsked.{RangeAsked}
 use Rattle.bf_command_line.specs.declared.forms.RunAsked.{RunAsked}
 use Rattle.bf_command_line.specs.declared.forms.SeedAsked.{SeedAsked}
 use Rattle.bf_command_line.specs.declared.forms.SingleAsked.{SingleAsked}
+use Rattle.bf_command_line.specs.declared.forms.StartsAsked.{StartsAsked}
+use Rattle.bf_command_line.specs.declared.forms.StartsAsked.TheVariants as starting
+use Rattle.bf_days.specs.Days.{SpellDays}
+use Rattle.bf_days.specs.declared.days.Days.{Days}
 use Rattle.bf_dependents.specs.declared.seeds.Seed.{Seed}
 use Rattle.bf_command_line.specs.Asked.{IsLineBy}
 use Rattle.bf_command_line.specs.CommandLine.{backfill_app}
@@ -26,7 +30,9 @@ use Rattle.bf_command_line.specs.Wrongs as line
 use Rattle.bf_command_fault.specs.declared.status.Status.{Status}
 use Rattle.bf_command_fault.specs.Status.{code_of, of_runs}
 use Rattle.bf_commands.specs.declared.check.GraphSize.{GraphSize}
-use Rattle.bf_commands.specs.declared.range.MomentRange.{MomentRange}
+use Rattle.bf_commands.specs.declared.range.RunRange.{RunRange}
+use Rattle.bf_commands.specs.declared.range.Starts.{Starts}
+use Rattle.bf_commands.specs.declared.range.Starts.TheVariants.{Between, On}
 use Rattle.bf_commands.specs.Cleared.{IsClearReport}
 use Rattle.bf_commands.specs.DatedRuns.{IsReportIn}
 use Rattle.bf_commands.specs.Graphs.{IsSizeOf}
@@ -166,9 +172,15 @@ launching_asked launcher logs = record { launcher = option_map string_bytes laun
 abbrev pub Means : List ℕ → Timestamp → Type 0
 Means text t = (n : ℤ) × (Spells text n × (t.nanosecond ≡ nearest n))
 
--- the texts mean the moments of this range
-abbrev pub MeansRange : RangeAsked → MomentRange → Type 0
-MeansRange asked range = Means (string_bytes asked.from) range.from × Means (string_bytes asked.to) range.to
+-- the texts mean that data intervals start there: between these moments, or on these days
+abbrev pub MeansStarts : StartsAsked → Starts → Type 0
+MeansStarts (starting.Between from to) (Between range) = Means (string_bytes from) range.from × Means (string_bytes to) range.to
+MeansStarts (starting.On text) (On days) = SpellDays (string_bytes text) days
+MeansStarts asked starts = ⊥
+
+-- so they do, and whether there have to be some
+abbrev pub MeansRange : RangeAsked → RunRange → Type 0
+MeansRange asked range = MeansStarts asked.starts range.starts × (range.some ≡ asked.some)
 
 -- the texts mean this task in the run of this logical date, with all its instances
 abbrev pub MeansSeed : SeedAsked → Seed → Type 0
@@ -177,6 +189,11 @@ MeansSeed asked seed = (seed.task ≡ string_bytes asked.task) × Means (string_
 -- no moment is spelled so
 abbrev pub IsNoMoment : List ℕ → Type 0
 IsNoMoment text = (n : ℤ) → Spells text n → ⊥
+
+-- a text means no moment, or no days
+abbrev pub IsNoStarts : StartsAsked → Type 0
+IsNoStarts (starting.Between from to) = IsNoMoment (string_bytes from) ⊎ IsNoMoment (string_bytes to)
+IsNoStarts (starting.On text) = (days : Days) → SpellDays (string_bytes text) days → ⊥
 
 -- ---- what is written, where nothing is refused and no fault comes
 
@@ -193,10 +210,10 @@ pub record IsCheckAnswer (files : Files) (asked : GraphAsked) (text : List ℕ) 
 -- the data intervals of the range
 pub record IsListAnswer (files : Files) (asked : ListAsked) (text : List ℕ) (status : Status) : Type 0 where
   pub success : status ≡ Status.Success
-  pub range : MomentRange
+  pub range : RunRange
   pub means : MeansRange asked.range range
   pub readable : AreReadable files (graph_paths asked.graph)
-  pub text_is : OfFiles files asked.graph (λ graph zone. IsListIn graph zone range.from.nanosecond range.to.nanosecond text)
+  pub text_is : OfFiles files asked.graph (λ graph zone. IsListIn graph zone range text)
 
 -- the report of one run over the table, and whether it is a success
 pub record IsSingleAnswer (files : Files) (asked : SingleAsked) (text : List ℕ) (status : Status) : Type 0 where
@@ -209,23 +226,23 @@ pub record IsSingleAnswer (files : Files) (asked : SingleAsked) (text : List ℕ
 
 -- the report of a run for each data interval of the range over the table, and whether each is a success
 pub record IsDryAnswer (files : Files) (asked : DryAsked) (text : List ℕ) (status : Status) : Type 0 where
-  pub range : MomentRange
+  pub range : RunRange
   pub means : MeansRange asked.range range
   pub succeeded : Bool
   pub status_is : status ≡ of_runs succeeded
   pub readable : AreReadable files (table_paths asked.graph (string_bytes asked.table))
   pub text_is : OfFilesAndTable files asked.graph (string_bytes asked.table) (λ graph zone table.
-      IsReportIn graph zone table range.from.nanosecond range.to.nanosecond text succeeded)
+      IsReportIn graph zone table range text succeeded)
 
 -- the report of these bytes with the programs of the tasks; where a journal is named, of the backfill that goes on from that
-abbrev pub IsRunReportBy : LaunchingOf → Hearing → Files → Option JournalAsked → MomentRange → List ℕ → Option (List ℕ) → List ℕ → Bool → Type 0
-IsRunReportBy launching may_hear journals None range graph zone text success = IsRunReport launching may_hear graph zone range.from.nanosecond range.to.nanosecond text success
+abbrev pub IsRunReportBy : LaunchingOf → Hearing → Files → Option JournalAsked → RunRange → List ℕ → Option (List ℕ) → List ℕ → Bool → Type 0
+IsRunReportBy launching may_hear journals None range graph zone text success = IsRunReport launching may_hear graph zone range text success
 IsRunReportBy launching may_hear journals (Some asked) range graph zone text success =
-    OfJournal journals asked (λ held. IsJournaledReport launching may_hear graph zone asked.retry_failed held range.from.nanosecond range.to.nanosecond text success)
+    OfJournal journals asked (λ held. IsJournaledReport launching may_hear graph zone asked.retry_failed held range text success)
 
 -- the report of a run for each data interval of the range with the programs of the tasks, and whether each is a success
 pub record IsRunAnswer (may_hear : Hearing) (files : Files) (machine : Machine) (asked : RunAsked) (text : List ℕ) (status : Status) : Type 0 where
-  pub range : MomentRange
+  pub range : RunRange
   pub means : MeansRange asked.range range
   pub succeeded : Bool
   pub status_is : status ≡ of_runs succeeded
@@ -243,15 +260,15 @@ OfClearFiles files asked P = OfFilesAndNamedTable files asked.graph (table_named
     (report : List ℕ) → IsHeld (files (string_bytes asked.report)) report → P graph zone table report)
 
 -- the report of these bytes where the seed is cleared; where a journal is named, of the backfill that goes on from that first
-abbrev pub IsClearReportBy : LaunchingOf → Hearing → Files → Option JournalAsked → MomentRange → Seed → List ℕ → Option (List ℕ) → Option (List ℕ) → List ℕ → List ℕ → Bool → Type 0
+abbrev pub IsClearReportBy : LaunchingOf → Hearing → Files → Option JournalAsked → RunRange → Seed → List ℕ → Option (List ℕ) → Option (List ℕ) → List ℕ → List ℕ → Bool → Type 0
 IsClearReportBy launching may_hear journals None range seed graph zone table report text success =
-    IsClearReport launching may_hear graph zone table report range.from.nanosecond range.to.nanosecond seed text success
+    IsClearReport launching may_hear graph zone table report range seed text success
 IsClearReportBy launching may_hear journals (Some asked) range seed graph zone table report text success =
-    OfJournal journals asked (λ held. IsJournaledClearReport launching may_hear graph zone table report asked.retry_failed held range.from.nanosecond range.to.nanosecond seed text success)
+    OfJournal journals asked (λ held. IsJournaledClearReport launching may_hear graph zone table report asked.retry_failed held range seed text success)
 
 -- the report of the backfill that goes on from a report where the seed is cleared, and whether each run of it is a success
 pub record IsClearAnswer (may_hear : Hearing) (files : Files) (machine : Machine) (asked : ClearAsked) (text : List ℕ) (status : Status) : Type 0 where
-  pub range : MomentRange
+  pub range : RunRange
   pub means : MeansRange asked.range range
   pub seed : Seed
   pub means_seed : MeansSeed asked.seed seed
@@ -265,7 +282,7 @@ pub record IsClearAnswer (may_hear : Hearing) (files : Files) (machine : Machine
 
 -- the text that a command is to write, and how it ends then
 abbrev pub IsAnswer : Hearing → Files → Machine → Asked → List ℕ → Status → Type 0
-IsAnswer may_hear files machine (Check asked) text status = IsCheckAnswer files asked text status
+IsAnswer may_hear files machine (Check asked) text status = IsCheckAnswer files asked.graph text status
 IsAnswer may_hear files machine (Intervals asked) text status = IsListAnswer files asked text status
 IsAnswer may_hear files machine (Single asked) text status = IsSingleAnswer files asked text status
 IsAnswer may_hear files machine (Dry asked) text status = IsDryAnswer files asked text status

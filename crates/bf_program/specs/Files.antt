@@ -15,7 +15,7 @@ use Rattle.bf_table.specs.Tables.{table_of}
 use Rattle.bf_command_line.specs.declared.forms.GraphAsked.{GraphAsked}
 use Rattle.bf_command_fault.specs.declared.fault.CommandFault.{CommandFault}
 use Rattle.bf_command_fault.specs.declared.fault.CommandFault.TheVariants.{OutOfMemory, CannotRead, Report as BadReport}
-use Rattle.bf_commands.specs.declared.range.MomentRange.{MomentRange}
+use Rattle.bf_commands.specs.declared.range.RunRange.{RunRange}
 use Rattle.bf_commands.specs.Cleared.{IsFaultAgain, IsFaultBefore, IsReadAs, IsReportAfter}
 use Rattle.bf_process.specs.Words.{LaunchingOf}
 use Rattle.bf_commands.specs.Programs.{HearingTries, Losing}
@@ -57,10 +57,10 @@ pub record IsOfBytes (files : Files) (asked : GraphAsked) (path : Option (List �
   pub holds : P graph zone table
 
 -- the first fault of the files, the graph, the table and the range
-abbrev pub IsPreparingFault : Files → GraphAsked → Option (List ℕ) → MomentRange → CommandFault → Type 0
+abbrev pub IsPreparingFault : Files → GraphAsked → Option (List ℕ) → RunRange → CommandFault → Type 0
 IsPreparingFault files asked path range fault =
     IsReadingFault files (clear_paths asked path) fault
-    ⊎ (AreReadable files (clear_paths asked path) × IsOfBytes files asked path (λ graph zone table. IsFaultBefore graph zone table range.from.nanosecond range.to.nanosecond fault))
+    ⊎ (AreReadable files (clear_paths asked path) × IsOfBytes files asked path (λ graph zone table. IsFaultBefore graph zone table range fault))
 
 -- the report's file can't be read, or it holds no report; or memory is wanting
 abbrev pub IsReportFault : List ℕ → Option (Option (List ℕ)) → CommandFault → Type 0

@@ -16,7 +16,7 @@ use Rattle.bf_command_line.specs.declared.forms.JournalAsked.{JournalAsked}
 use Rattle.bf_command_fault.specs.declared.fault.CommandFault.{CommandFault}
 use Rattle.bf_command_fault.specs.declared.fault.CommandFault.TheVariants.{CannotRead, CannotWriteFile, Journal as BadJournal, JournalInUse, OutOfMemory, Stopped}
 use Rattle.bf_command_fault.specs.declared.stop.StopFault.{StopFault}
-use Rattle.bf_commands.specs.declared.range.MomentRange.{MomentRange}
+use Rattle.bf_commands.specs.declared.range.RunRange.{RunRange}
 use Rattle.bf_commands.specs.Cleared.{IsKeptOf}
 use Rattle.bf_commands.specs.Graphs.{IsGraph}
 use Rattle.bf_commands.specs.Journaled.{Heading, IsFaultOfSeed, IsFaultSince, IsJournaledAfter, IsReportSince, TellsOf}
@@ -76,15 +76,15 @@ IsReportOver journals asked before cleared may_answer dag found text success =
 -- ---- of `run`
 
 -- the report of these bytes, and the first fault of them and of the journal
-abbrev pub IsFaultOfRecorded : Option (List ℕ) → Files → JournalAsked → MomentRange → List ℕ → Option (List ℕ) → CommandFault → Type 0
-IsFaultOfRecorded logs journals asked range graph zone fault = IsFaultOfList graph zone range.from.nanosecond range.to.nanosecond fault
+abbrev pub IsFaultOfRecorded : Option (List ℕ) → Files → JournalAsked → RunRange → List ℕ → Option (List ℕ) → CommandFault → Type 0
+IsFaultOfRecorded logs journals asked range graph zone fault = IsFaultOfList graph zone range fault
     ⊎ ((draft : Draft) × (found : List Interval) × IsGraph graph zone draft
-    × HasListing graph zone range.from.nanosecond range.to.nanosecond (Ok found)
+    × HasListing graph zone range (Ok found)
     × IsFaultOver journals asked nothing [] logs (dag_of draft) found fault)
 
 -- where no journal is named, the first fault of them
-abbrev pub IsFaultOfRunBy : LaunchingOf → Losing → Files → Option JournalAsked → MomentRange → List ℕ → Option (List ℕ) → CommandFault → Type 0
-IsFaultOfRunBy launching may_lose journals None range graph zone fault = IsFaultOfRun launching may_lose graph zone range.from.nanosecond range.to.nanosecond fault
+abbrev pub IsFaultOfRunBy : LaunchingOf → Losing → Files → Option JournalAsked → RunRange → List ℕ → Option (List ℕ) → CommandFault → Type 0
+IsFaultOfRunBy launching may_lose journals None range graph zone fault = IsFaultOfRun launching may_lose graph zone range fault
 IsFaultOfRunBy launching may_lose journals (Some asked) range graph zone fault = IsFaultOfRecorded launching.logs journals asked range graph zone fault
 
 -- ---- of `clear`

@@ -6,5 +6,6 @@ pub mod Texts
 pub mod Commands
 pub mod CommandFaults
 pub mod Files
+pub mod Explained
 pub mod Filed
 pub mod Journals

@@ -21,7 +21,7 @@ use crate::launching::{launching_asked, path_named, tells_of};
 use crate::source::Source;
 use bf_command_fault::{CommandFault, Status};
 use bf_command_line::{ClearAsked, GraphAsked, JournalAsked, SeedAsked};
-use bf_commands::{Crew, MomentRange, Prepared, Screen, clear_in, prepare, run_again};
+use bf_commands::{Crew, Prepared, RunRange, Screen, clear_in, prepare, run_again};
 use bf_dependents::Seed;
 use bf_device::Write;
 use bf_process::Starter;
@@ -93,11 +93,11 @@ fn prepared_in<S: Source>(
     alloc: Global,
     graph: GraphAsked,
     table: Option<String>,
-    range: MomentRange,
+    range: RunRange,
     files: &mut S,
 ) -> Result<Prepared, CommandFault>
     ensures said { IfOk result (λ p. IsOfBytes (S.file files.old) graph (option_map string_bytes table) (λ bytes zone entries.
-        IsPrepared bytes zone entries range.from.nanosecond range.to.nanosecond p.dated.plan.dag p.dated.runs (clocks_in p.dated) p.answers)) }
+        IsPrepared bytes zone entries range p.dated.plan.dag p.dated.runs (clocks_in p.dated) p.answers)) }
     ensures readable { OnOk result (AreReadable (S.file files.old) (clear_paths graph (option_map string_bytes table))) }
     ensures fault { IfErr result (IsPreparingFault (S.file files.old) graph (option_map string_bytes table) range) }
     ensures stays { (p : List ℕ) → S.file files.new p ≡ S.file files.old p }

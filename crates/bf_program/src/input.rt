@@ -1,17 +1,18 @@
 //! The files and moments that a command line names.
-ghost use Rattle.std.specs.Prelude.{◌≡◌, ◌<◌, ◌^◌, ◌⊎◌, ℕ, List, [], ◌∷◌, Option, IfOk, IfErr, IfSome, OnOk, option_map, string_bytes};
+ghost use Rattle.std.specs.Prelude.{◌≡◌, ◌<◌, ◌^◌, ℕ, List, [], ◌∷◌, Option, IfOk, IfErr, IfSome, OnOk, option_map, string_bytes};
 ghost use Rattle.bf_read.specs.Reading.{graph_in};
 ghost use Rattle.bf_table.specs.Tables.{table_of};
 ghost use Rattle.bf_commands.specs.Cleared.{IsReadAs};
-ghost use Rattle.bf_program.specs.Commands.{AreReadable, IsHeld, IsNoMoment, IsReadable, IsHeldIfNamed, Means, MeansRange, OfFiles, OfFilesAndTable, graph_paths, named_paths, table_paths};
+ghost use Rattle.bf_program.specs.Commands.{AreReadable, IsHeld, IsNoMoment, IsNoStarts, IsReadable, IsHeldIfNamed, Means, MeansRange, MeansStarts, OfFiles, OfFilesAndTable, graph_paths, named_paths, table_paths};
 ghost use Rattle.bf_program.specs.Files.{AreAlike, IsReadingFault, IsReportFault, MeanAlike, bytes_of, of_source};
 ghost use Rattle.bf_program.specs.Source.{IsWholeUpTo};
 
 use crate::prefix::first_bytes;
 use crate::source::{Source, SourceFault};
 use bf_command_fault::CommandFault;
-use bf_command_line::{GraphAsked, RangeAsked};
-use bf_commands::MomentRange;
+use bf_command_line::{GraphAsked, RangeAsked, StartsAsked};
+use bf_commands::{MomentRange, RunRange, Starts};
+use bf_days::Days;
 use bf_moment::moment_in;
 use bf_read::MOST_BYTES;
 use bf_report::Report;
@@ -210,13 +211,32 @@ pub(crate) fn moment_of(text: &str) -> Result<Timestamp, CommandFault>
     }
 }
 
-/// The range of two texts.
-pub(crate) fn range_of(asked: &RangeAsked) -> Result<MomentRange, CommandFault>
-    ensures means { IfOk result (MeansRange asked.now) }
-    ensures bad { IfErr result (λ f. (f ≡ CommandFault.BadMoment)
-        × (IsNoMoment (string_bytes asked.now.from) ⊎ IsNoMoment (string_bytes asked.now.to))) }
+/// Where data intervals start by one or two texts.
+fn starts_of(asked: &StartsAsked) -> Result<Starts, CommandFault>
+    ensures means { IfOk result (MeansStarts asked.now) }
+    ensures bad { IfErr result (λ f. (f ≡ CommandFault.BadMoment) × IsNoStarts asked.now) }
 {
-    let from = moment_of(asked.from.as_str())?;
-    let to = moment_of(asked.to.as_str())?;
-    Ok(MomentRange { from, to })
+    match asked {
+        StartsAsked::Between { from, to } => {
+            let from = moment_of(from.as_str())?;
+            let to = moment_of(to.as_str())?;
+            Ok(Starts::Between(MomentRange { from, to }))
+        }
+        StartsAsked::On(text) => match Days::read(text.as_str()) {
+            Some(days) => Ok(Starts::On(days)),
+            None => Err(CommandFault::BadMoment),
+        },
+    }
+}
+
+/// The range that is asked for.
+pub(crate) fn range_of(asked: &RangeAsked) -> Result<RunRange, CommandFault>
+    ensures means { IfOk result (MeansRange asked.now) }
+    ensures bad { IfErr result (λ f. (f ≡ CommandFault.BadMoment) × IsNoStarts asked.now.starts) }
+{
+    let starts = starts_of(&asked.starts)?;
+    Ok(RunRange {
+        starts,
+        some: asked.some,
+    })
 }

@@ -16,7 +16,7 @@ use crate::journals::{Journals, OpenFault};
 use bf_command_fault::{CommandFault, StopFault};
 use bf_command_line::JournalAsked;
 use bf_commands::{
-    Clearing, Crew, DatedPlan, Journal, MomentRange, Recorded, Screen, dated_plan_in, record_again,
+    Clearing, Crew, DatedPlan, Journal, Recorded, RunRange, Screen, dated_plan_in, record_again,
     record_programs, run_programs,
 };
 use bf_device::Write;
@@ -124,7 +124,7 @@ where
 fn run_recorded<RT, J: Journals, W>(
     crew: &Crew<'_, RT>,
     files: &GraphFiles,
-    range: MomentRange,
+    range: RunRange,
     asked: JournalAsked,
     journals: &J,
     out: &mut W,
@@ -152,7 +152,7 @@ where
 pub(crate) fn run_reported<RT, J: Journals, W>(
     crew: &Crew<'_, RT>,
     files: &GraphFiles,
-    range: MomentRange,
+    range: RunRange,
     journal: Option<JournalAsked>,
     journals: &J,
     out: &mut W,

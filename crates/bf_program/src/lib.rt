@@ -5,6 +5,7 @@ mod check;
 mod clear;
 mod disk;
 mod dry;
+mod explaining;
 mod filed;
 mod input;
 mod journaled;
@@ -22,6 +23,7 @@ mod stored;
 mod texts;
 
 pub use disk::Disk;
+pub use explaining::explain;
 pub use journals::{Journals, Lockable, OpenFault, OpenJournal};
 pub use launchers::Launchers;
 pub use new_file::NewFile;

@@ -161,7 +161,7 @@ where
         (W.written out.old) (W.written out.new)) }
 {
     match command {
-        Asked::Check(check) => check_answered(alloc, check, files, out),
+        Asked::Check(check) => check_answered(alloc, check.graph, files, out),
         Asked::List(list) => list_answered(alloc, list, files, out),
         Asked::Single(single) => single_answered(rt, alloc, single, files, out),
         Asked::Dry(dry) => dry_answered(rt, alloc, dry, files, out),
@@ -226,7 +226,7 @@ fn told<E: Write>(alloc: Global, fault: &CommandFault, err: &mut E) -> Status
 }
 
 /// Writes a line to standard error. Where that fails, nothing is left to say so on.
-fn tell<E: Write>(err: &mut E, line: &[u8])
+pub(crate) fn tell<E: Write>(err: &mut E, line: &[u8])
     ensures { IsTold (HasHalted (E.failures err.old) (E.failures err.new)
         (E.interruptions err.old) (E.interruptions err.new))
         (E.written err.old) (E.written err.new) line.now }

@@ -28,18 +28,18 @@ _backfill() {
             _backfill_files "$word"
             return
             ;;
-        --at | --from | --to | --task | --run | --workers | --stop-after) return ;;
+        --at | --from | --to | --on | --task | --run | --workers | --stop-after) return ;;
     esac
 
     case $command in
         '') options='--help --version' words=$commands ;;
         help) words=$commands ;;
-        check) options='--zone-file --help' ;;
-        list) options='--zone-file --from --to --help' ;;
+        check) options='--zone-file --explain --help' ;;
+        list) options='--zone-file --from --to --on --some --help' ;;
         single) options='--zone-file --at --out --help' ;;
-        dry) options='--zone-file --from --to --workers --progress --out --help' ;;
-        run) options='--zone-file --from --to --workers --progress --out --launcher --logs --journal --stop-after --retry-failed --quiet --help' ;;
-        clear) options='--zone-file --task --run --table --from --to --workers --progress --out --launcher --logs --journal --stop-after --retry-failed --quiet --help' ;;
+        dry) options='--zone-file --from --to --on --some --workers --progress --out --help' ;;
+        run) options='--zone-file --from --to --on --some --workers --progress --out --launcher --logs --journal --stop-after --retry-failed --quiet --help' ;;
+        clear) options='--zone-file --task --run --table --from --to --on --some --workers --progress --out --launcher --logs --journal --stop-after --retry-failed --quiet --help' ;;
         schema) options='--help' words='graph table' ;;
         completions) options='--help' words='bash zsh fish' ;;
     esac
@@ -62,7 +62,7 @@ pub const ZSH: &str = r#"#compdef backfill
 _backfill() {
     local curcontext=$curcontext state line
     typeset -A opt_args
-    local -a commands help version zone_file at from to task run table workers progress out launcher logs journal stop_after retry_failed quiet graph_file table_file report_file format shell
+    local -a commands help version zone_file explain at from to on some task run table workers progress out launcher logs journal stop_after retry_failed quiet graph_file table_file report_file format shell
 
     commands=(
         'check:Checks the graph, and tells how many tasks and edges it has'
@@ -79,9 +79,12 @@ _backfill() {
     help=('(-h --help)'{-h,--help}'[Prints help]')
     version=('(-V --version)'{-V,--version}'[Prints the version]')
     zone_file=('--zone-file[The zone file that the zone `file` means]:zone file:_files')
+    explain=('--explain[Tells all that is wrong with a graph that is refused]')
     at=('--at[The moment of the run]:moment: ')
     from=('--from[The first moment at which an interval may start]:moment: ')
     to=('--to[The last moment at which an interval may start]:moment: ')
+    on=('--on[The days on which an interval starts, in place of both]:days: ')
+    some=('--some[Refuses a range in which no interval starts]')
     task=('--task[The task to clear]:task: ')
     run=('--run[The logical date of the run in which it is cleared]:moment: ')
     table=('--table[The table that answers in place of programs]:table:_files')
@@ -106,12 +109,12 @@ _backfill() {
         argument)
             case $line[1] in
                 help) _describe command commands ;;
-                check) _arguments $help $zone_file $graph_file ;;
-                list) _arguments $help $zone_file $from $to $graph_file ;;
+                check) _arguments $help $zone_file $explain $graph_file ;;
+                list) _arguments $help $zone_file $from $to $on $some $graph_file ;;
                 single) _arguments $help $zone_file $at $out $graph_file $table_file ;;
-                dry) _arguments $help $zone_file $from $to $workers $progress $out $graph_file $table_file ;;
-                run) _arguments $help $zone_file $from $to $workers $progress $out $launcher $logs $journal $stop_after $retry_failed $quiet $graph_file ;;
-                clear) _arguments $help $zone_file $task $run $table $from $to $workers $progress $out $launcher $logs $journal $stop_after $retry_failed $quiet $graph_file $report_file ;;
+                dry) _arguments $help $zone_file $from $to $on $some $workers $progress $out $graph_file $table_file ;;
+                run) _arguments $help $zone_file $from $to $on $some $workers $progress $out $launcher $logs $journal $stop_after $retry_failed $quiet $graph_file ;;
+                clear) _arguments $help $zone_file $task $run $table $from $to $on $some $workers $progress $out $launcher $logs $journal $stop_after $retry_failed $quiet $graph_file $report_file ;;
                 schema) _arguments $help $format ;;
                 completions) _arguments $help $shell ;;
             esac
@@ -150,12 +153,15 @@ complete -c backfill -n '__fish_seen_subcommand_from check list single dry run c
 complete -c backfill -n 'not __fish_seen_subcommand_from help' -s h -l help -d 'Prints help'
 complete -c backfill -n __fish_use_subcommand -s V -l version -d 'Prints the version'
 complete -c backfill -n '__fish_seen_subcommand_from check list single dry run clear' -l zone-file -r -F -d 'The zone file that the zone `file` means'
+complete -c backfill -n '__fish_seen_subcommand_from check' -l explain -d 'Tells all that is wrong with a graph that is refused'
 complete -c backfill -n '__fish_seen_subcommand_from single' -l at -x -d 'The moment of the run'
 complete -c backfill -n '__fish_seen_subcommand_from clear' -l task -x -d 'The task to clear'
 complete -c backfill -n '__fish_seen_subcommand_from clear' -l run -x -d 'The logical date of the run in which it is cleared'
 complete -c backfill -n '__fish_seen_subcommand_from clear' -l table -r -F -d 'The table that answers in place of programs'
 complete -c backfill -n '__fish_seen_subcommand_from list dry run clear' -l from -x -d 'The first moment at which an interval may start'
 complete -c backfill -n '__fish_seen_subcommand_from list dry run clear' -l to -x -d 'The last moment at which an interval may start'
+complete -c backfill -n '__fish_seen_subcommand_from list dry run clear' -l on -x -d 'The days on which an interval starts, in place of both'
+complete -c backfill -n '__fish_seen_subcommand_from list dry run clear' -l some -d 'Refuses a range in which no interval starts'
 complete -c backfill -n '__fish_seen_subcommand_from dry run clear' -l workers -x -d 'How many tries may run at once, 1 to 64'
 complete -c backfill -n '__fish_seen_subcommand_from dry run clear' -l progress -d 'Tells how far the runs are'
 complete -c backfill -n '__fish_seen_subcommand_from single dry run clear' -l out -r -F -d 'The file that the report goes to'

@@ -8,7 +8,7 @@ use Rattle.bf_commands.proofs.dry.run_dry.Goals as goal
 pub returns-in_err-table-clause-fault : goal.returns-in_err-table-clause-fault
 returns-in_err-table-clause-fault g c =
     handed_on _ _ c.from_residual-in_err-table.ensures.1
-    (dry_table c.args.graph.now _ c.args.table.now _ _ (is_alone c.args.crew.now.workers c.args.crew.now.progress) _ c.in_ok-timed.ensures.plan _ c.in_err-table.ensures.fault)
+    (dry_table c.args.graph.now _ c.args.table.now _ (is_alone c.args.crew.now.workers c.args.crew.now.progress) _ c.in_ok-timed.ensures.plan _ c.in_err-table.ensures.fault)
 
 pub returns-in_err-table-clause-left : goal.returns-in_err-table-clause-left
 returns-in_err-table-clause-left g c = handed_on _ _ c.from_residual-in_err-table.ensures.1 (table_leaves _ _ _ c.args.table.now _ c.in_err-table.ensures.fault)
@@ -19,11 +19,11 @@ runs-requires g c = (c.in_ok-timed.ensures.zone.draft.schedule, c.in_ok-timed.en
 pub returns-in_err-runs-clause-fault : goal.returns-in_err-runs-clause-fault
 returns-in_err-runs-clause-fault g c =
     handed_on _ _ c.from_residual-in_err-runs.ensures.1
-    (dry_range c.args.graph.now _ c.args.table.now _ _ (is_alone c.args.crew.now.workers c.args.crew.now.progress) _ c.in_ok-table.ensures.ok _ (c.in_err-runs.ensures.fault c.args.graph.now _ c.in_ok-timed.ensures.zone))
+    (dry_range c.args.graph.now _ c.args.table.now _ (is_alone c.args.crew.now.workers c.args.crew.now.progress) _ c.in_ok-table.ensures.ok _ (c.in_err-runs.ensures.fault c.args.graph.now _ c.in_ok-timed.ensures.zone))
 
 pub returns-in_err-runs-clause-left : goal.returns-in_err-runs-clause-left
 returns-in_err-runs-clause-left g c =
-    handed_on _ _ c.from_residual-in_err-runs.ensures.1 (range_leaves _ _ _ c.args.graph.now _ _ _ _ (c.in_err-runs.ensures.fault c.args.graph.now _ c.in_ok-timed.ensures.zone))
+    handed_on _ _ c.from_residual-in_err-runs.ensures.1 (range_leaves _ _ _ c.args.graph.now _ _ _ (c.in_err-runs.ensures.fault c.args.graph.now _ c.in_ok-timed.ensures.zone))
 
 pub write_backfill-requires-sync-K : goal.write_backfill-requires-sync-K
 write_backfill-requires-sync-K g c κs = search shared depth 40 fits 20000
@@ -37,6 +37,6 @@ returns g c =
     let is = reported_in c.in_ok-timed.ensures.plan listing c.in_ok-table.ensures.ok in
     record {
       ok = sends_as is _ _ _ c.write_backfill.ensures.ok;
-      fault = dry_stop_in c.args.graph.now _ c.args.table.now _ _ (is_alone c.args.crew.now.workers c.args.crew.now.progress) _ c.in_ok-table.ensures.ok _ listing _ c.write_backfill.ensures.stop;
+      fault = dry_stop_in c.args.graph.now _ c.args.table.now _ (is_alone c.args.crew.now.workers c.args.crew.now.progress) _ c.in_ok-table.ensures.ok _ listing _ c.write_backfill.ensures.stop;
       left = leaves_as is _ _ _ _ c.write_backfill.ensures.left;
     }

@@ -4,7 +4,7 @@ use Rattle.std.proofs.lemmas.Bool.Decides.{Decides-int_eq}
 use Rattle.jiff.specs.declared.timestamp.Timestamp.{Timestamp}
 use Rattle.bf_interval.specs.declared.interval.Interval.{Interval}
 use Rattle.bf_interval.specs.Intervals.{IsShownInterval}
-use Rattle.bf_commands.proofs.Starts.{found, no_position}
+use Rattle.bf_commands.proofs.RunAt.{found, no_position}
 use Rattle.bf_commands.proofs.heading.heading_of.Goals as goal
 
 pub returns-in_default-clause-fault : goal.returns-in_default-clause-fault

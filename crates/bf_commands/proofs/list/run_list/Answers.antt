@@ -7,10 +7,10 @@ use Rattle.bf_commands.proofs.Results.{handed_on}
 use Rattle.bf_commands.proofs.list.run_list.Goals as goal
 
 pub text_of-requires : goal.text_of-requires
-text_of-requires g c = subst (All IsSince1970) (sym c.intervals.ensures.intervals) (since_1970 c.args.graph.now _ _ _ _ c.in_ok-runs.ensures.listing)
+text_of-requires g c = subst (All IsSince1970) (sym c.intervals.ensures.intervals) (since_1970 c.args.graph.now _ _ _ c.in_ok-runs.ensures.listing)
 
 pub returns-in_err-send-clause-fault : goal.returns-in_err-send-clause-fault
-returns-in_err-send-clause-fault g c = handed_on _ _ c.from_residual-in_err-send.ensures.1 (list_wanting c.args.graph.now _ _ _ _ (write_wanting _))
+returns-in_err-send-clause-fault g c = handed_on _ _ c.from_residual-in_err-send.ensures.1 (list_wanting c.args.graph.now _ _ _ (write_wanting _))
 
 pub returns-in_err-send-clause-left : goal.returns-in_err-send-clause-left
 returns-in_err-send-clause-left g c =

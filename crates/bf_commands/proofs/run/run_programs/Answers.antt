@@ -22,6 +22,6 @@ returns g c =
     let left : _ = rw (c.at-crew.ensures.machine, c.at-crew.ensures.launching, c.deref.ensures.value) at c.write_backfill.ensures.left in
     record {
       ok = sends_as is _ _ _ ok;
-      fault = run_stop_in launching (g.RT.Starter.may_lose c.args.crew.now.rt.now) c.args.graph.now _ _ _ _ dated.plan _ dated.listing (clocks_in c.in_ok-dated.dated) dated.clocks _ stop;
+      fault = run_stop_in launching (g.RT.Starter.may_lose c.args.crew.now.rt.now) c.args.graph.now _ _ _ dated.plan _ dated.listing (clocks_in c.in_ok-dated.dated) dated.clocks _ stop;
       left = leaves_as is _ _ _ _ left;
     }

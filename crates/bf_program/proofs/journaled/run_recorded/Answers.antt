@@ -4,7 +4,7 @@ use Rattle.bf_program.proofs.Recorded.{dated_list, journaled, run_fault}
 use Rattle.bf_program.proofs.journaled.run_recorded.Goals as goal
 
 pub returns-in_err-dated-clause-fault : goal.returns-in_err-dated-clause-fault
-returns-in_err-dated-clause-fault g c = rw (← c.deref.ensures.value, ← c.zone_file.ensures) (handed_on _ _ c.from_residual.ensures.1 (inl (dated_list _ _ _ _ _ c.in_err-dated.ensures.fault)))
+returns-in_err-dated-clause-fault g c = rw (← c.deref.ensures.value, ← c.zone_file.ensures) (handed_on _ _ c.from_residual.ensures.1 (inl (dated_list _ _ _ _ c.in_err-dated.ensures.fault)))
 
 pub returns-clause-ok : goal.returns-clause-ok
 returns-clause-ok g c =

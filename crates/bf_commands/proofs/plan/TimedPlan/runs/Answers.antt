@@ -1,18 +1,27 @@
-use Rattle.std.proofs.Common.{sym, subst}
-use Rattle.jiff.specs.ZoneView.{plain_zone}
-use Rattle.bf_interval.specs.Runs.{IsSaid}
+use Rattle.std.proofs.Common.{rules, ◌≡◌, false, length, Ok, sym, ◌∙◌, true≢false}
+use Rattle.bf_commands.specs.Lists.{HasListing}
 use Rattle.bf_commands.proofs.Faults.{range_fault}
-use Rattle.bf_commands.proofs.ListedIntervals.{listing}
+use Rattle.bf_commands.proofs.ListedIntervals.{listing, none_listed, some_listed}
 use Rattle.bf_commands.proofs.Results.{handed_on}
 use Rattle.bf_commands.proofs.plan.TimedPlan.runs.Goals as goal
-
-pub in_range-requires : goal.in_range-requires
-in_range-requires c = subst IsSaid (sym c.schedule.ensures) c.requires
-
-pub returns-clause-ok : goal.returns-clause-ok
-returns-clause-ok c = λ graph file timed. listing (plain_zone c.as_time_zone-zone.result) timed c.schedule.ensures c.as_time_zone-zone.ensures c.in_ok-runs.ensures
+use Rattle.bf_commands.proofs.plan.TimedPlan.runs.Goals.{else-range-via-then-range+else-count-eq0, else-range-via-else-range}
 
 pub returns-in_err-runs-clause-fault : goal.returns-in_err-runs-clause-fault
 returns-in_err-runs-clause-fault c =
-    handed_on _ _ c.from_residual.ensures.1
-    (λ graph file timed. range_fault graph file _ _ c.in_err-runs.field-0.0 (listing (plain_zone c.as_time_zone-zone.result) timed c.schedule.ensures c.as_time_zone-zone.ensures c.in_err-runs.ensures))
+    let listed = c.in_err-runs.ensures in
+    handed_on _ _ c.from_residual.ensures.1 (λ graph file timed. range_fault graph file _ c.in_err-runs.field-0.0 (listing listed.0 timed listed.1 listed.2))
+
+pub returns-then-count-eq0-clause-fault : goal.returns-then-count-eq0-clause-fault
+returns-then-count-eq0-clause-fault c graph file timed =
+    let listed = c.in_ok-runs.ensures in
+    let none : length c.in_ok-runs.runs ≡ 0 = search rules in
+    none_listed listed.0 c.in_ok-runs.runs timed listed.1 listed.2 c.if-range.true none
+
+pub returns-clause-ok : goal.returns-clause-ok
+returns-clause-ok c graph file timed =
+    let listed = c.in_ok-runs.ensures in
+    elim c.else-range.branch as (λ _. HasListing graph file c.args.range (Ok c.in_ok-runs.runs)) [
+      | else-range-via-then-range+else-count-eq0 w ↦ let some : ¬ (length c.in_ok-runs.runs ≡ 0) = search rules in some_listed listed.0 c.in_ok-runs.runs timed listed.1 listed.2 (λ wanted. some)
+      | else-range-via-else-range w ↦ let needless : c.args.range.some ≡ false = search rules in
+          some_listed listed.0 c.in_ok-runs.runs timed listed.1 listed.2 (λ wanted none. absurd (true≢false (sym wanted ∙ needless)))
+    ]

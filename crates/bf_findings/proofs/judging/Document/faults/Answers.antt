@@ -18,6 +18,7 @@ loop-place-preserved-in-Continue-branch-4 c =
     let at = one_found here c.in_ok-fault.field-0 fault c.in-Some-2.is c.in_ok-fault.ensures.place in
     let steps : c.loop-place.place-iterator.rest.items ≡ c.in-Some.place ∷ c.next.new.self.rest.items = search rules in
     record {
+      few = search rules;
       each = subst Q (sym {A = List Fault} items) (All-push P found fault c.loop-place.invariant.each (one_found P c.in_ok-fault.field-0 fault c.in-Some-2.is c.in_ok-fault.ensures.some));
       all = λ place among wrong. one_more_told c.in-Some.place c.loop-place.place-iterator.rest.items c.next.new.self.rest.items found c.push.new.self.items fault place steps items at (c.loop-place.invariant.all place among wrong);
     }

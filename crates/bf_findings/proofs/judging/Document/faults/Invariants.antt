@@ -1,4 +1,4 @@
-use Rattle.std.proofs.Common.{All, Contains, ◌⊎◌, map, option_map}
+use Rattle.std.proofs.Common.{All, Contains, ◌⊎◌, ◌≤◌, length, map, option_map}
 use Rattle.serde_json.specs.View.{view}
 use Rattle.bf_findings.specs.declared.place.Place.{Place}
 use Rattle.bf_findings.specs.Faults.{IsFault}
@@ -11,6 +11,7 @@ use Rattle.bf_findings.proofs.judging.Document.faults.Given as goal
 -- a place at which something is wrong still comes, or is told
 abbrev pub invariant-loop-place : goal.invariant-loop-place
 invariant-loop-place l = record {
+  few : length l.found.items ≤ 100;
   each : All (IsFault (option_map (λ s. s.now) l.self.zone_file) (view l.self.value.now)) l.found.items;
   all : (place : Place) → Contains (places_of (view l.self.value.now)) place
       → IsWrong (option_map (λ s. s.now) l.self.zone_file) (view l.self.value.now) place (form_of (view l.self.value.now) place) (value_at (view l.self.value.now) place)

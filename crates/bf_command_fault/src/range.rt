@@ -1,0 +1,44 @@
+//! Why there are no runs.
+ghost use Rattle.std.specs.Prelude.{◌≡◌};
+ghost use Rattle.bf_command_fault.specs.Ranges.{range_number};
+
+use bf_interval::IntervalFault;
+use std::error::Error;
+use std::fmt;
+
+/// Why there are no runs in a range, or none at a moment.
+#[derive(Clone, Copy, Debug, PartialEq, Eq)]
+pub enum RangeFault {
+    /// The data intervals aren't listed.
+    Unlisted(IntervalFault),
+    /// None starts in the range, and there have to be some.
+    NoRuns,
+}
+
+impl RangeFault {
+    /// The number of the refusal.
+    pub fn number(self) -> Option<u32>
+        ensures { result ≡ range_number self }
+    {
+        match self {
+            RangeFault::Unlisted(fault) => fault.number(),
+            RangeFault::NoRuns => Some(29),
+        }
+    }
+}
+
+impl fmt::Display for RangeFault {
+    ghost use Rattle.std.specs.Prelude.{Some};
+    ghost use Rattle.bf_command_fault.specs.Ranges.{range_words};
+
+    ghost output = { λ fault. Some (range_words fault) };
+
+    fn fmt<W: fmt::Write>(&self, f: &mut fmt::Formatter<W>) -> fmt::Result {
+        match self {
+            RangeFault::Unlisted(fault) => write!(f, "{fault}"),
+            RangeFault::NoRuns => write!(f, "no runs"),
+        }
+    }
+}
+
+impl Error for RangeFault {}

@@ -1,0 +1,123 @@
+//! What `check --explain` tells behind a refusal.
+ghost use Rattle.std.specs.Prelude.{◌≡◌, ◌++◌, true, IfOk, OnErr, OnOk, string_bytes};
+ghost use Rattle.bf_device.specs.Device.{HasHalted};
+ghost use Rattle.bf_command_line.specs.Asked.{IsLineBy};
+ghost use Rattle.bf_command_line.specs.declared.forms.CommandLine.{CommandLine as CommandLineTerm};
+ghost use Rattle.bf_program.specs.Commands.{OfFiles, found_in};
+ghost use Rattle.bf_program.specs.Explained.{IsExplained, IsExplainedIf, IsExplanation, finding_line, findings_text};
+
+use crate::input::graph_files;
+use crate::program::tell;
+use crate::source::Source;
+use bf_command_fault::CommandFault;
+use bf_command_line::{Asked, CheckAsked, CommandLine, GraphAsked, asked};
+use bf_device::Write;
+use bf_findings::{Finding, findings};
+use bf_value::OutOfMemory;
+use std::alloc::Global;
+
+fn push_finding(text: &mut String, finding: &Finding) -> Result<(), OutOfMemory>
+    ensures { OnOk result (string_bytes text.new ≡ string_bytes text.old ++ finding_line finding.now) }
+{
+    writeln!(text, "{finding}")?;
+    Ok(())
+}
+
+/// A line for each finding.
+fn text_of(alloc: Global, found: &[Finding]) -> Result<String, OutOfMemory>
+    ensures { IfOk result (λ text. string_bytes text ≡ findings_text found.now) }
+{
+    let mut text = String::new(alloc);
+    for finding in found {
+        push_finding(&mut text, finding)?;
+    }
+    Ok(text)
+}
+
+/// What is wrong with a graph, a line for each finding.
+fn explanation<S: Source>(
+    alloc: Global,
+    asked: GraphAsked,
+    files: &mut S,
+) -> Result<String, CommandFault>
+    ensures { IfOk result (λ text. OfFiles (S.file files.old) asked (λ graph zone. IsExplanation graph zone (string_bytes text))) }
+{
+    let files = graph_files(alloc, asked, files)?;
+    let found = findings(alloc, &files.graph, files.zone_file())?;
+    let text = text_of(alloc, found.as_slice())?;
+    Ok(text)
+}
+
+/// Tells on standard error what is wrong with a graph.
+fn tell_findings<S: Source, E: Write>(
+    alloc: Global,
+    asked: GraphAsked,
+    files: &mut S,
+    err: &mut E,
+) -> Result<(), CommandFault>
+    ensures told { OnOk result (IsExplainedIf true (S.file files.old) asked (HasHalted (E.failures err.old) (E.failures err.new)
+        (E.interruptions err.old) (E.interruptions err.new))
+        (E.written err.old) (E.written err.new)) }
+    ensures untold { OnErr result (E.written err.new ≡ E.written err.old) }
+{
+    let text = explanation(alloc, asked, files)?;
+    tell(err, text.as_bytes());
+    Ok(())
+}
+
+fn check_explained<S: Source, E: Write>(
+    alloc: Global,
+    asked: CheckAsked,
+    files: &mut S,
+    err: &mut E,
+) -> Result<(), CommandFault>
+    ensures told { OnOk result (IsExplainedIf asked.explain (S.file files.old) asked.graph (HasHalted (E.failures err.old) (E.failures err.new)
+        (E.interruptions err.old) (E.interruptions err.new))
+        (E.written err.old) (E.written err.new)) }
+    ensures untold { OnErr result (E.written err.new ≡ E.written err.old) }
+{
+    let CheckAsked { graph, explain } = asked;
+    if explain {
+        tell_findings(alloc, graph, files, err)
+    } else {
+        Ok(())
+    }
+}
+
+#[tactic(auto, using(crate::proofs::Unasked::unasked))]
+fn command_explained<S: Source, E: Write>(
+    alloc: Global,
+    command: Asked,
+    files: &mut S,
+    err: &mut E,
+) -> Result<(), CommandFault>
+    ensures told { OnOk result (IsExplained (S.file files.old) command (HasHalted (E.failures err.old) (E.failures err.new)
+        (E.interruptions err.old) (E.interruptions err.new))
+        (E.written err.old) (E.written err.new)) }
+    ensures untold { OnErr result (E.written err.new ≡ E.written err.old) }
+{
+    match command {
+        Asked::Check(check) => check_explained(alloc, check, files, err),
+        _ => Ok(()),
+    }
+}
+
+/// Tells on standard error what is wrong with a graph, where the line asks for that: all of it, or a hundred findings. Its files are read
+/// again for this. Nothing is told where one can't be read, where memory is wanting, and of a line that is wrong.
+pub fn explain<S: Source, E: Write>(
+    alloc: Global,
+    words: &[String],
+    files: &mut S,
+    err: &mut E,
+) -> Result<(), CommandFault>
+    ensures told { OnOk result ((line : CommandLineTerm) × IsLineBy (found_in words.now) line
+        × IsExplained (S.file files.old) line.command (HasHalted (E.failures err.old) (E.failures err.new)
+        (E.interruptions err.old) (E.interruptions err.new))
+        (E.written err.old) (E.written err.new)) }
+    ensures untold { OnErr result (E.written err.new ≡ E.written err.old) }
+{
+    match asked(alloc, words) {
+        Ok(CommandLine { command, out: _ }) => command_explained(alloc, command, files, err),
+        Err(_) => Err(CommandFault::OutOfMemory),
+    }
+}
