@@ -45,8 +45,12 @@ impl<'a, R: Files + Env + Alloc> Launchers for Disk<'a, R> {
             return true;
         };
         for folder in folders.split(':') {
-            let folder = if folder.is_empty() { "." } else { folder };
-            let Ok(program) = format!(in self.rt.alloc(); "{folder}/{path}") else {
+            let in_folder = if folder.is_empty() {
+                format!(in self.rt.alloc(); "./{path}")
+            } else {
+                format!(in self.rt.alloc(); "{folder}/{path}")
+            };
+            let Ok(program) = in_folder else {
                 return true;
             };
             if is_program(self.rt, program.as_str()) {
