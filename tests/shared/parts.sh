@@ -10,7 +10,7 @@ declare -A running=()
 
 # Starts a command as `process`. All that it starts in turn belongs to its session, and signals do to it what they do by default.
 start() {
-    env --default-signal=INT,QUIT setsid "$@" < /dev/null &
+    env --default-signal=HUP,INT,QUIT setsid "$@" < /dev/null &
     process=$!
     running[$process]=$*
 }
