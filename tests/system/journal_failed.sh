@@ -79,6 +79,16 @@ for workers in 1 8; do
     is_same "what ran where a try waits an hour, by $workers" a1 "$(ran)"
 done
 
+# Where nothing stops it, the delay is waited for.
+tasks '{"id":"a","retries":1,"retry_delay":2,"command":["sh","-c","[ $0 = 2 ]",{"context":"try_number"}]}'
+for workers in 1 8; do
+    began=$(date +%s%N)
+    goes_on "delayed_$workers" --workers "$workers" --stop-after 2
+    waited=$((($(date +%s%N) - began) / 1000000))
+    is_same "the end behind a delay, by $workers" '0 ' "$status $(< err)"
+    is_same "that a delay of two seconds is waited for, by $workers" 1 "$((waited >= 1000))"
+done
+
 # ---- retries
 
 # The second try of an instance succeeds, or its third is skipped, or all three fail: the last alone are made again, under their numbers.
