@@ -3,9 +3,11 @@
 
 For each seed from FIRST on, COUNT of them, a folder of its name has graph.json and table.json, and the reports `single` and
 `dry_2` that the program is to print; `dry_1`, the latter in version 1; mended.json and again.json, by which a task is cleared in
-either; and `clear_1` and `clear_2`, the reports that come of it. The file `cases` has a line for each seed: the seed, the moments
+either; and `clear_1` and `clear_2`, the reports that come of it. The file `seeds` names several tasks and instances; `several` is the report
+that comes of clearing them in version 2, `failed` that of clearing all that failed there, and `several_plan` and `failed_plan` are what `--plan`
+prints of either. The file `cases` has a line for each seed: the seed, the moments
 of the first and the last run, the task and the run that are cleared, and the exit statuses of `single`, `dry`, `clear` from
-version 1 and from version 2. The graphs are such as `check` lets pass.
+version 1 and from version 2, of several and of what failed. The graphs are such as `check` lets pass.
 """
 import copy
 import datetime
@@ -179,6 +181,12 @@ def intervals_of(chance):
     return list(zip(moments, moments[1:]))
 
 
+def several_of(chance, graph, dates):
+    """Some tasks to clear, each with a run and a map index or None."""
+    indexes = [None, None, -1, 0, 1, 2, 2147483647]
+    return [(chance.choice(list(graph.tasks)), chance.choice(dates), chance.choice(indexes)) for _ in range(chance.choice([0, 2, 3, 4, 5]))]
+
+
 def in_version_1(report):
     return re.sub(r"(?m)^@(item|pull) .*\n", "", report.replace("@backfill 2 ", "@backfill 1 ", 1))
 
@@ -200,8 +208,14 @@ def write_case(folder, seed):
     task, run = chance.choice(list(graph.tasks)), chance.choice(dates[:2])
     statuses = [single, dry]
     for version in 1, 2:
-        kept = recursion.kept_outcomes(graph, files[f"dry_{version}"], task, run)
+        kept = recursion.kept_outcomes(graph, files[f"dry_{version}"], [(task, run, None)])
         files[f"clear_{version}"], status = recursion.report_by_table(graph, table, intervals, kept)
+        statuses.append(status)
+    several = several_of(chance, graph, dates)
+    files["seeds"] = "".join(f"{start} {task}{'' if index is None else f' {index}'}\n" for task, start, index in several)
+    for name, cleared in ("several", several), ("failed", recursion.failed_in(files["dry_2"])):
+        files[f"{name}_plan"] = recursion.plan_of(graph, dates, cleared)
+        files[name], status = recursion.report_by_table(graph, table, intervals, recursion.kept_outcomes(graph, files["dry_2"], cleared))
         statuses.append(status)
     (folder / f"{seed}").mkdir()
     for name, content in files.items():

@@ -143,7 +143,7 @@ def main():
         last = last_outcomes(graph, [start for start, _ in runs], lines or [])
     except Refused as refused:
         sys.exit(f"refused {refused}")
-    text, status = recursion.report_by_table(graph, json.loads(table), runs, kept_since(last, recursion.kept_outcomes(graph, report, task, run)))
+    text, status = recursion.report_by_table(graph, json.loads(table), runs, kept_since(last, recursion.kept_outcomes(graph, report, [(task, run, None)])))
     sys.stdout.write(text)
     return status
 

@@ -108,7 +108,7 @@ def write_case(folder, seed):
     graph = graphs.mended(chance, sound)
     known = recursion.Graph(graph)
     task, run = chance.choice(list(known.tasks)), chance.choice(dates[:2])
-    before = recursion.kept_outcomes(known, report, task, run)
+    before = recursion.kept_outcomes(known, report, [(task, run, None)])
     # What was recorded is by the same graph, and by one that was mended since.
     records = records_of(chance, known, graphs.table_of(chance, known, dates), intervals, before)
     if happens(chance, 40):

@@ -161,7 +161,7 @@ def kept_of(case, folder, graph, runs, run):
         refuse(41, CLEAR_WORDS[41])
     if is_of_other(graph, runs, report):
         refuse(42, CLEAR_WORDS[42])
-    return recursion.kept_outcomes(graph, report, case.task, intervals.spelled(run))
+    return recursion.kept_outcomes(graph, report, [(case.task, intervals.spelled(run), None)])
 
 
 def told(case, folder):

@@ -289,17 +289,40 @@ def read_report(report):
 # Clearing.
 
 
-def cleared_by(graph, starts, task, start):
-    """The task in the run that starts then, and all that follows: each the start of a run and a task."""
+def cleared_by(graph, starts, seeds):
+    """What is cleared, with all that follows from it, of seeds that are each a task, the start of a run, and a map index or None: each the
+    start of a run, a task, and the map index of an instance, or None where all of the task is cleared."""
     cleared = set()
-    left = [(starts.index(start), task)]
+    left = [(starts.index(start), task, index) for task, start, index in seeds]
     while left:
-        run, task = left.pop()
-        if run < len(starts) and (starts[run], task) not in cleared:
-            cleared.add((starts[run], task))
-            left += [(run, below) for below in graph.downstreams(task)]
-            left += [(run + 1, task)] if graph.tasks[task]["depends_on_past"] else []
+        run, task, index = left.pop()
+        if run < len(starts) and (starts[run], task, index) not in cleared:
+            cleared.add((starts[run], task, index))
+            left += [(run, below, None) for below in graph.downstreams(task)]
+            left += [(run + 1, task, None)] if graph.tasks[task]["depends_on_past"] else []
     return cleared
+
+
+def failed_in(report):
+    """The seeds of the instances that failed."""
+    _, runs = read_report(report)
+    instances = [(run.start, task, instance) for run in runs for task, told in run.instances.items() for instance in told]
+    return [(task, start, instance.index) for start, task, instance in instances if instance.state == "failed"]
+
+
+def plan_of(graph, starts, seeds):
+    """What `clear --plan` prints."""
+    cleared = cleared_by(graph, starts, seeds)
+    tasks = {}
+    for start in starts:
+        for task in graph.tasks:
+            indexes = sorted(index for at, of, index in cleared if (at, of) == (start, task) and index is not None)
+            if (start, task, None) in cleared:
+                tasks[start, task] = [f"{start} {task}"]
+            elif indexes:
+                tasks[start, task] = [f"{start} {task} {index}" for index in indexes]
+    lines = [line for told in tasks.values() for line in told]
+    return "".join(f"{line}\n" for line in [*lines, f"{len(tasks)} tasks in {len({start for start, _ in tasks})} runs"])
 
 
 def worked_out(graph, task, run, index):
@@ -310,17 +333,17 @@ def worked_out(graph, task, run, index):
     return given(graph, task, run, index, items)
 
 
-def kept_outcomes(graph, report, cleared_task, cleared_run):
-    """The outcomes of the tries that are kept: by run, task, map index and try, and by what they were given."""
+def kept_outcomes(graph, report, seeds):
+    """The outcomes of the tries that are kept where these are cleared: by run, task, map index and try, and by what they were given."""
     version, runs = read_report(report)
-    cleared = cleared_by(graph, [run.start for run in runs], cleared_task, cleared_run)
+    cleared = cleared_by(graph, [run.start for run in runs], seeds)
     kept = {}
     for run in runs:
         for task, instances in run.instances.items():
             for index, state, tries, value, lines in instances:
                 if version == 1:
                     lines = worked_out(graph, task, run, index)
-                if tries == 0 or lines is None or (run.start, task) in cleared:
+                if tries == 0 or lines is None or {(run.start, task, None), (run.start, task, index)} & cleared:
                     continue
                 for number in range(1, tries):
                     kept[run.start, task, index, number, *lines] = "failed", None
@@ -350,7 +373,7 @@ def main():
         sys.exit(__doc__)
     graph, table, intervals, *clearing = [pathlib.Path(path).read_text("utf-8") for path in sys.argv[1:5]]
     graph = Graph(json.loads(graph))
-    kept = kept_outcomes(graph, clearing[0], *sys.argv[5:]) if clearing else {}
+    kept = kept_outcomes(graph, clearing[0], [(*sys.argv[5:], None)]) if clearing else {}
     report, status = report_by_table(graph, json.loads(table), [line.split() for line in intervals.splitlines()], kept)
     sys.stdout.write(report)
     return status

@@ -11,7 +11,7 @@ set -euo pipefail
 source "$(dirname "$(readlink -f "${BASH_SOURCE[0]}")")/../shared/compare.sh"
 
 # How many seeds each oracle has by itself.
-declare -A seeds=([backfills]=300 [faults]=1000 [intervals]=600 [journals]=400 [reports]=600 [tables_and_clearing]=600)
+declare -A seeds=([backfills]=300 [faults]=1000 [intervals]=600 [journals]=400 [reports]=600 [tables_and_clearing]=600 [views]=150)
 
 # Below, `folder` has the files of a seed, `graph` is its graph file, and the arguments are what its line in the file `cases` has.
 
@@ -23,9 +23,20 @@ clears() {
         --workers "$workers" < "$folder/clear_$version"
 }
 
+# So are several tasks and instances, or all that failed, by 1 worker and by 8; and what is cleared then is told.
+clears_by() {
+    local name=$1 status=$2 workers
+    shift 2
+    local words=(clear "$graph" "$folder/dry_2" "${range[@]}" "$@")
+    for workers in 1 8; do
+        answers "$status" "${words[@]}" --table "$folder/again.json" --workers "$workers" < "$folder/$name"
+    done
+    answers 0 "${words[@]}" --plan < "$folder/${name}_plan"
+}
+
 # Graphs and tables: a plain recursion over dates.
 compares_backfills() {
-    local from=$1 to=$2 task=$3 run=$4 single=$5 dry=$6 clear_1=$7 clear_2=$8 workers
+    local from=$1 to=$2 task=$3 run=$4 single=$5 dry=$6 clear_1=$7 clear_2=$8 several=$9 failed=${10} workers
     range=(--from "$from" --to "$to")
     answers "$single" single "$graph" "$folder/table.json" --at "$from" < "$folder/single"
     for workers in 1 2 8; do
@@ -34,6 +45,8 @@ compares_backfills() {
     clears "$task" "$run" "$clear_1" 1 1
     clears "$task" "$run" "$clear_2" 2 1
     clears "$task" "$run" "$clear_2" 2 8
+    clears_by several "$several" --seeds "$folder/seeds"
+    clears_by failed "$failed" --failed
 }
 
 # Graph files with faults.
@@ -91,6 +104,21 @@ compares_tables_and_clearing() {
     case $status in
         0 | 1) answers "$status" "${line[@]}" < "$folder/wanted" ;;
         *) tells "$status" "$(< "$folder/wanted")" "${line[@]}" ;;
+    esac
+}
+
+# Reports, shown as lines of JSON and as pages, also with a graph that was mended since.
+compares_views() {
+    local is_other=$1 version
+    for version in 1 2; do
+        answers 0 show --json "$folder/dry_$version" < "$folder/json_$version"
+        answers 0 page "$graph" "$folder/dry_$version" < "$folder/page_$version"
+    done
+    answers 0 page "$graph" "$folder/dry_2" --states-only < "$folder/states"
+    answers 0 page "$graph" "$folder/single" < "$folder/page_single"
+    case $is_other in
+        0) answers 0 page "$folder/mended.json" "$folder/dry_2" < "$folder/page_mended" ;;
+        *) tells 2 'refused 42 report mismatch' page "$folder/mended.json" "$folder/dry_2" ;;
     esac
 }
 

@@ -70,7 +70,7 @@ for words in 'check' 'dry graph.json' 'run --from 2024-01-01' 'clear --table' 'l
 done
 same 'folders in bash' 'folder' < <(bash_offers backfill check fol)
 same 'a file with a space in bash' 'two_words.json' < <(bash_offers backfill check two | sed 's/ /_/')
-for option in --at --from --to --on --task --run --workers; do
+for option in --at --from --to --on --task --run --index --workers; do
     same "what follows $option in bash" '' < <(bash_offers backfill clear "$option" '')
 done
 

@@ -14,32 +14,53 @@ was() {
     sed -e '1s/^@backfill 2 /@backfill 1 /' -e '/^@item /d' -e '/^@pull /d' "$work/report_2" > "$work/report_1"
 }
 
-# A task in the run of a date is cleared, by this table and 1, 2 and 8 workers, in the report of either version: it ends in this
-# status and prints the report on standard input.
-clears() {
-    local status=$1 task=$2 run=$3 version workers
-    echo "$4" > "$table"
+# What these words tell is cleared, by this table and 1, 2 and 8 workers, in the report of either version: it ends in this status and
+# prints the report on standard input.
+clears_told() {
+    local status=$1 version workers
+    echo "$2" > "$table"
+    shift 2
     cat > "$work/cleared"
     for version in 1 2; do
         for workers in 1 2 8; do
-            answers "$status" clear "$graph" "$work/report_$version" --from "$from" --to "$to" --task "$task" --run "$run" \
+            answers "$status" clear "$graph" "$work/report_$version" --from "$from" --to "$to" "$@" \
                 --table "$table" --workers "$workers" < "$work/cleared"
         done
     done
 }
 
+# A task in the run of a date is cleared.
+clears() {
+    clears_told "$1" "$4" --task "$2" --run "$3"
+}
+
 # The same by the programs of the tasks.
-clears_by_programs() {
-    local status=$1 task=$2 run=$3 version workers
+told_to_programs() {
+    local status=$1 version workers
+    shift
     cat > "$work/cleared"
     for version in 1 2; do
         for workers in 1 2 8; do
             : > "$work/ran"
-            answers "$status" clear "$graph" "$work/report_$version" --from "$from" --to "$to" --task "$task" --run "$run" \
+            answers "$status" clear "$graph" "$work/report_$version" --from "$from" --to "$to" "$@" \
                 --workers "$workers" < "$work/cleared"
             is_same "what ran, by $workers workers from a report of version $version" "$(sort "$work/wanted_ran")" "$(sort "$work/ran")"
         done
     done
+}
+clears_by_programs() {
+    told_to_programs "$1" --task "$2" --run "$3"
+}
+
+# What would be cleared is told, and nothing runs.
+plans() {
+    local version
+    cat > "$work/planned"
+    : > "$work/ran"
+    for version in 1 2; do
+        answers 0 clear "$graph" "$work/report_$version" --from "$from" --to "$to" "$@" --plan < "$work/planned"
+    done
+    is_same 'that a plan runs nothing' '' "$(< "$work/ran")"
 }
 
 # Clearing is refused, or a fault, whichever version the report has.
@@ -121,6 +142,117 @@ m -1 skipped 0 -
 sum -1 skipped 0 -
 @end 1
 LINES
+# An instance alone, which leaves the others of its task; and two of them.
+anew='[{"task":"src","out":"[7]"},{"task":"m","index":0,"out":"8"},{"task":"m","index":1,"out":"9"},{"task":"m","out":"6"},{"task":"sum","out":"5"}]'
+clears_told 0 "$anew" --task m --run 2024-01-01 --index 1 <<'LINES'
+@backfill 2 d
+@run 2024-01-01T00:00:00Z 2024-01-02T00:00:00Z success
+src -1 success 1 [3,1,2]
+m 0 success 1 3
+@item 3
+m 1 success 1 9
+@item 1
+m 2 success 1 2
+@item 2
+sum -1 success 1 5
+@pull m [3,9,2]
+@end 1
+LINES
+two_instances() {
+    clears_told 0 "$anew" "$@" <<'LINES'
+@backfill 2 d
+@run 2024-01-01T00:00:00Z 2024-01-02T00:00:00Z success
+src -1 success 1 [3,1,2]
+m 0 success 1 8
+@item 3
+m 1 success 1 -
+@item 1
+m 2 success 1 6
+@item 2
+sum -1 success 1 5
+@pull m [8,6]
+@end 1
+LINES
+}
+two_instances --task m --run 2024-01-01 --index 0 --task m --run 2024-01-01 --index 2
+two_instances --index 2 --index 0 --task m --task m --run 2024-01-01 --run 2024-01-01T00:00:00Z
+seeds=$work/seeds
+printf '2024-01-01 m 0\r\n\n2024-01-01T00:00:00Z m 2' > "$seeds"
+two_instances --seeds "$seeds"
+# One that isn't there: its task is kept, and what follows from it is cleared.
+for index in 3 2147483647 -1; do
+    clears_told 0 "$anew" --task m --run 2024-01-01 "--index=$index" <<'LINES'
+@backfill 2 d
+@run 2024-01-01T00:00:00Z 2024-01-02T00:00:00Z success
+src -1 success 1 [3,1,2]
+m 0 success 1 3
+@item 3
+m 1 success 1 -
+@item 1
+m 2 success 1 2
+@item 2
+sum -1 success 1 5
+@pull m [3,2]
+@end 1
+LINES
+done
+clears_told 0 "$anew" --task src --run 2024-01-01 --index 0 <<'LINES'
+@backfill 2 d
+@run 2024-01-01T00:00:00Z 2024-01-02T00:00:00Z success
+src -1 success 1 [3,1,2]
+m 0 success 1 8
+@item 3
+m 1 success 1 9
+@item 1
+m 2 success 1 6
+@item 2
+sum -1 success 1 5
+@pull m [8,9,6]
+@end 1
+LINES
+# That of a task that isn't expanded is -1.
+clears_told 0 "$anew" --task src --run 2024-01-01 --index=-1 <<'LINES'
+@backfill 2 d
+@run 2024-01-01T00:00:00Z 2024-01-02T00:00:00Z success
+src -1 success 1 [7]
+m 0 success 1 8
+@item 7
+sum -1 success 1 5
+@pull m [8]
+@end 1
+LINES
+# Without a seed, and where nothing has failed, the report stands again.
+: > "$seeds"
+clears_told 0 '[{"status":1}]' --seeds "$seeds" < "$work/report_2"
+clears_told 0 '[{"status":1}]' --failed < "$work/report_2"
+echo > "$seeds"
+clears_told 0 '[{"status":1}]' --seeds "$seeds" < "$work/report_2"
+# What would be cleared: an instance has its index, and its task has none where all of it is cleared.
+plans --task m --run 2024-01-01 --index 1 <<'LINES'
+2024-01-01T00:00:00Z m 1
+2024-01-01T00:00:00Z sum
+2 tasks in 1 runs
+LINES
+printf '2024-01-01 m 2\n2024-01-01 sum\n2024-01-01 m 0\n2024-01-01 m 2\n' > "$seeds"
+plans --seeds "$seeds" <<'LINES'
+2024-01-01T00:00:00Z m 0
+2024-01-01T00:00:00Z m 2
+2024-01-01T00:00:00Z sum
+2 tasks in 1 runs
+LINES
+echo '2024-01-01 m' >> "$seeds"
+plans --seeds "$seeds" <<'LINES'
+2024-01-01T00:00:00Z m
+2024-01-01T00:00:00Z sum
+2 tasks in 1 runs
+LINES
+plans --task src --run 2024-01-01 <<'LINES'
+2024-01-01T00:00:00Z src
+2024-01-01T00:00:00Z m
+2024-01-01T00:00:00Z sum
+3 tasks in 1 runs
+LINES
+plans --failed <<< '0 tasks in 0 runs'
 # Progress is told on standard error, and counts what is kept as well.
 echo '[]' > "$table"
 for version in 1 2; do
@@ -451,7 +583,120 @@ LINES
 clears_by_programs 0 m 2024-01-03 < <(three_days left left right)
 echo 'other 2024-01-01T00:00:00Z -1 1' > "$work/wanted_ran"
 clears_by_programs 0 other 2024-01-01 < <(three_days left left left)
+plans --task choose --run 2024-01-02 <<'LINES'
+2024-01-02T00:00:00Z choose
+2024-01-02T00:00:00Z left
+2024-01-02T00:00:00Z right
+2024-01-02T00:00:00Z join
+2024-01-02T00:00:00Z daily
+2024-01-03T00:00:00Z daily
+6 tasks in 2 runs
+LINES
+
+# Five tasks in one call: the report is that of five calls, and each program starts once, also where one follows from another.
+
+tasks "{\"id\":\"a\",$(noted "cat $work/value")},
+  {\"id\":\"b\",\"upstream\":[\"a\"],$(noted "cat $work/value")},
+  {\"id\":\"c\",\"upstream\":[\"a\"],$(noted "cat $work/value")}"
+valued() {
+    local dates=(2024-01-01 2024-01-02 2024-01-03 2024-01-04) run
+    echo '@backfill 2 d'
+    for run in 0 1 2; do
+        echo "@run ${dates[run]}T00:00:00Z ${dates[run + 1]}T00:00:00Z success"
+        printf 'a -1 success 1 %s\nb -1 success 1 %s\nc -1 success 1 %s\n' "$1" "$2" "$3"
+        shift 3
+    done
+    echo '@end 3'
+}
+was < <(valued 1 1 1 1 1 1 1 1 1)
+echo 2 > "$work/value"
+cat > "$work/wanted_ran" <<'LINES'
+a 2024-01-01T00:00:00Z -1 1
+b 2024-01-01T00:00:00Z -1 1
+c 2024-01-01T00:00:00Z -1 1
+c 2024-01-02T00:00:00Z -1 1
+a 2024-01-03T00:00:00Z -1 1
+b 2024-01-03T00:00:00Z -1 1
+c 2024-01-03T00:00:00Z -1 1
+LINES
+five=('b 2024-01-01' 'a 2024-01-01' 'c 2024-01-02' 'a 2024-01-03' 'b 2024-01-03')
+words=()
+: > "$seeds"
+cp "$work/report_2" "$work/by_five"
+for one in "${five[@]}"; do
+    words+=(--task "${one% *}" --run "${one#* }")
+    echo "${one#* } ${one% *}" >> "$seeds"
+    "$program" clear "$graph" "$work/by_five" --from "$from" --to "$to" --task "${one% *}" --run "${one#* }" --out "$work/by_five"
+done
+is_same 'the report of five calls' "$(valued 2 2 2 1 1 2 2 2 2)" "$(< "$work/by_five")"
+told_to_programs 0 "${words[@]}" < <(valued 2 2 2 1 1 2 2 2 2)
+told_to_programs 0 --seeds "$seeds" < <(valued 2 2 2 1 1 2 2 2 2)
+seven() {
+    cat <<'LINES'
+2024-01-01T00:00:00Z a
+2024-01-01T00:00:00Z b
+2024-01-01T00:00:00Z c
+2024-01-02T00:00:00Z c
+2024-01-03T00:00:00Z a
+2024-01-03T00:00:00Z b
+2024-01-03T00:00:00Z c
+7 tasks in 3 runs
+LINES
+}
+plans "${words[@]}" < <(seven)
+plans --seeds "$seeds" < <(seven)
+# Its lines are those of a seeds file, but for the last.
+seven | head -n -1 > "$seeds"
+plans --seeds "$seeds" < <(seven)
+# With --out it goes to a file, and what tries are made with is passed over.
+answers 0 clear "$graph" "$work/report_2" --from "$from" --to "$to" --seeds "$seeds" --plan --out "$work/plan" \
+    --launcher "$work/none" --table "$work/none" --journal "$work/none" --workers 8 < /dev/null
+is_same 'a plan in a file' "$(seven)" "$(< "$work/plan")"
+is_same 'that no journal is begun' '' "$(ls "$work/none" 2> "$work/said" || true)"
 to=2024-01-01
+
+# Fifty parts, one of which failed: that one and what follows from it run again.
+
+parts=$(seq -s, 50)
+tasks "{\"id\":\"src\",$(noted "echo [$parts]")},
+  {\"id\":\"m\",\"upstream\":[\"src\"],\"expand\":\"src\",$(noted 'echo $4' ',{"item":true}')},
+  {\"id\":\"sum\",\"upstream\":[\"m\"],$(noted 'echo $4' ',{"pull":"m"}')}"
+fifty() {
+    local part
+    printf '@backfill 2 d\n@run 2024-01-01T00:00:00Z 2024-01-02T00:00:00Z %s\nsrc -1 success 1 [%s]\n' "$1" "$parts"
+    for ((part = 0; part < 50; part++)); do
+        if [[ $part -eq 16 ]]; then
+            echo "m 16 $2"
+        else
+            echo "m $part success 1 $((part + 1))"
+        fi
+        echo "@item $((part + 1))"
+    done
+    printf '%s\n@end 1\n' "$3"
+}
+failed() {
+    fifty failed 'failed 1 -' 'sum -1 upstream_failed 0 -'
+}
+mended() {
+    fifty success 'success 1 17' "sum -1 success 1 [$parts]"$'\n'"@pull m [$parts]"
+}
+was < <(failed)
+cat > "$work/wanted_ran" <<'LINES'
+m 2024-01-01T00:00:00Z 16 1
+sum 2024-01-01T00:00:00Z -1 1
+LINES
+told_to_programs 0 --failed < <(mended)
+told_to_programs 0 --task m --run 2024-01-01 --index 16 < <(mended)
+clears_told 1 '[{"task":"m","index":16,"status":1},{"out":"9"}]' --failed < <(failed)
+plans --failed <<'LINES'
+2024-01-01T00:00:00Z m 16
+2024-01-01T00:00:00Z sum
+2 tasks in 1 runs
+LINES
+was < <(mended)
+: > "$work/wanted_ran"
+told_to_programs 0 --failed < <(mended)
+plans --failed <<< '0 tasks in 0 runs'
 
 # Seeds and reports that are refused.
 
@@ -469,12 +714,60 @@ is_told 2 'refused 41 unknown run' --task m --run 0000-01-01
 is_told 2 'refused 41 unknown run' --task m --run 9999-12-31T23:59:59Z
 is_told 2 'refused 28 bad moment' --task m --run 2024-02-30
 is_told 2 'refused 28 bad moment' --task m --run 2024-01-01T24:00:00Z
-# An unknown task comes before an unknown run, and both before a report of something else.
+# An unknown task comes before an unknown run, also of an earlier seed, and both before a report of something else.
 is_told 2 'refused 40 unknown task' --task q --run 2024-02-01
+is_told 2 'refused 40 unknown task' --task m --run 2024-02-01 --task q --run 2024-01-01
+is_told 2 'refused 41 unknown run' --task m --run 2024-01-01 --task m --run 2024-02-01
+is_told 2 'refused 28 bad moment' --task q --run 2024-02-01 --task m --run x
+# Lines of a seeds file that are of another form; the earliest that is refused is told, whichever number it has.
+bad_lines() {
+    local line
+    while IFS= read -r line; do
+        echo "$line" > "$seeds"
+        is_told 2 "refused 45 bad seed: $line" --seeds "$seeds"
+    done
+}
+bad_lines <<'LINES'
+x
+m
+2024-01-01
+m 2024-01-01
+2024-01-01  m
+ 2024-01-01 m
+2024-01-01 m x
+2024-01-01 m 01
+2024-01-01 m +1
+2024-01-01 m -2
+2024-01-01 m 2147483648
+2024-01-01 m  1
+2024-01-01 m 1 2
+2024-02-30 m
+2024-01-01T24:00:00Z m
+LINES
+bad_lines <<< ' '
+bad_lines <<< '2024-01-01 m '
+bad_lines <<< $'2024-01-01\tm'
+earliest() {
+    local line=$1
+    shift
+    printf '%s\n' "$@" > "$seeds"
+    is_told 2 "$line" --seeds "$seeds"
+}
+earliest 'refused 40 unknown task' '2024-01-01 q' x '2024-02-01 m'
+earliest 'refused 41 unknown run' '2024-02-01 m' '2024-01-01 q' x
+earliest 'refused 45 bad seed: x' x '2024-01-01 q' '2024-02-01 m'
+earliest 'refused 45 bad seed: x' '2024-01-01 m' '' '2024-01-01 sum -1' x y
+earliest 'refused 40 unknown task' '2024-02-01 q'
+earliest 'refused 40 unknown task' '2024-01-01 m,'
+printf '2024-01-01 m\nx\n\377\n' > "$seeds"
+is_told 2 'refused 45 bad seed: file' --seeds "$seeds"
 sed -i 's/"dag_id":"d"/"dag_id":"e"/' "$graph"
 is_told 2 'refused 40 unknown task' --task q --run 2024-01-01
 is_told 2 'refused 41 unknown run' --task m --run 2024-02-01
 is_told 2 'refused 42 report mismatch' --task m --run 2024-01-01
+is_told 2 'refused 42 report mismatch' --failed
+earliest 'refused 45 bad seed: x' x
+earliest 'refused 42 report mismatch' '2024-01-01 m'
 # Another range, by a run more or less.
 tasks "$mapped"
 to=2024-01-02
@@ -596,6 +889,22 @@ tells 3 "fault: cannot read $none.r" clear "$graph" "$none.r" "${moments[@]}" --
 tells 2 'refused 30 bad line: 1' clear "$graph" "$work/bad_report" "${moments[@]}" --task q --table "$table"
 tells 2 'refused 40 unknown task' clear "$graph" "$work/report_2" "${moments[@]}" --task q --table "$table"
 tells 2 'refused 41 unknown run' clear "$graph" "$work/report_2" "${moments[@]}" --task m --table "$table"
+# The seeds file is read behind the table, and looked at behind the report, also for a plan.
+echo x > "$seeds"
+backwards=(--from 2024-01-02 --to 2024-01-01)
+tells 3 "fault: cannot read $none.t" clear "$work/bad_graph" "$none.r" "${backwards[@]}" --seeds "$none.s" --table "$none.t"
+tells 3 "fault: cannot read $none.s" clear "$work/bad_graph" "$none.r" "${backwards[@]}" --seeds "$none.s" --table "$work/bad_table"
+for plan in '' --plan; do
+    tells 2 'refused 28 bad moment' clear "$none" "$none" --from 2024-01-01 --to x ${plan:+"$plan"} --seeds "$none"
+    tells 3 "fault: cannot read $none" clear "$none" "$none.r" "${backwards[@]}" ${plan:+"$plan"} --seeds "$none.s"
+    tells 3 "fault: cannot read $none.s" clear "$work/bad_graph" "$none.r" "${backwards[@]}" ${plan:+"$plan"} --seeds "$none.s"
+    tells 2 'refused 1 not json' clear "$work/bad_graph" "$none.r" "${backwards[@]}" ${plan:+"$plan"} --seeds "$seeds"
+    tells 2 'refused 26 range reversed' clear "$graph" "$none.r" "${backwards[@]}" ${plan:+"$plan"} --seeds "$seeds"
+    tells 3 "fault: cannot read $none.r" clear "$graph" "$none.r" --from 2024-01-01 --to 2024-01-01 ${plan:+"$plan"} --seeds "$seeds"
+    tells 2 'refused 30 bad line: 1' clear "$graph" "$work/bad_report" --from 2024-01-01 --to 2024-01-01 ${plan:+"$plan"} --seeds "$seeds"
+    tells 2 'refused 45 bad seed: x' clear "$graph" "$work/report_2" --from 2024-01-01 --to 2024-01-02 ${plan:+"$plan"} --seeds "$seeds"
+    tells 2 'refused 42 report mismatch' clear "$graph" "$work/report_2" --from 2024-01-01 --to 2024-01-02 ${plan:+"$plan"} --failed
+done
 echo '{"dag_id":"d","schedule":"* * * * *","tasks":[]}' > "$graph"
 tells 2 'refused 27 too many runs' clear "$graph" "$none.r" --from 2024-01-01 --to 2024-01-03T20:16:00Z --run 2024-01-01 --task q
 

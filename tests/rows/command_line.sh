@@ -20,7 +20,9 @@ Commands:
   single       Runs the graph once, answering each task from a table
   dry          Runs the graph for each data interval that starts in a range, answering each task from a table
   run          Runs the graph for each data interval that starts in a range, with the programs of its tasks
-  clear        Runs a task of a run again, with all that follows from it, and keeps the rest of a report
+  clear        Runs tasks of runs again, with all that follows from them, and keeps the rest of a report
+  show         Shows a report as lines of JSON, for other programs to read
+  page         Writes a page that shows a report: its runs and tasks as a grid, the graph, and why each task has its state
   schema       Prints the JSON Schema of graph files or tables, for editors
   completions  Prints what a shell completes of a command line
   help         Print this message or the help of the given subcommand(s)
@@ -102,9 +104,9 @@ Examples:
   backfill run --from 2024-01-01 --to 2024-01-07 --journal journal examples/extract_transform_load/graph.json
 HELP
 answers 0 clear --help <<'HELP'
-Runs a task of a run again, with all that follows from it, and keeps the rest of a report
+Runs tasks of runs again, with all that follows from them, and keeps the rest of a report
 
-Usage: backfill clear [OPTIONS] --task <ID> --run <T> <GRAPH> <REPORT>
+Usage: backfill clear [OPTIONS] <GRAPH> <REPORT>
 
 Arguments:
   <GRAPH>   The task graph, a JSON file
@@ -112,8 +114,12 @@ Arguments:
 
 Options:
       --zone-file <PATH>  The zone file that the graph's zone `file` means, as of the tz database
-      --task <ID>         The task to clear
+      --task <ID>         A task to clear; with several, the first is of the first --run, and so on
       --run <T>           The logical date of the run in which it is cleared, in UTC, as 2024-01-31 or 2024-01-31T06:00:00Z
+      --index <N>         Clears the instance of this map index alone, and what follows from it; one for each --task, or none
+      --seeds <PATH>      In place of these, a file of what to clear, a line RUN TASK or RUN TASK INDEX each
+      --failed            In place of these, clears each instance that failed
+      --plan              Prints which tasks of which runs are cleared, and runs nothing
       --table <PATH>      The answers of the tasks' tries, a JSON file, in place of their programs
       --from <T>          The first moment at which an interval may start, in UTC, as 2024-01-31 or 2024-01-31T06:00:00Z
       --to <T>            The last moment at which an interval may start, in UTC, as 2024-01-31 or 2024-01-31T06:00:00Z
@@ -130,9 +136,39 @@ Options:
       --quiet             Tells neither progress nor which tries fail
   -h, --help              Print help
 
-Examples, the first of which makes the report of the second:
+Examples, the first of which makes the report of the others:
   backfill run --from 2024-01-01 --to 2024-01-07 examples/extract_transform_load/graph.json > report
   backfill clear --from 2024-01-01 --to 2024-01-07 --task load --run 2024-01-03 examples/extract_transform_load/graph.json report
+  backfill clear --from 2024-01-01 --to 2024-01-07 --failed --plan examples/extract_transform_load/graph.json report
+HELP
+answers 0 show --help <<'HELP'
+Shows a report as lines of JSON, for other programs to read
+
+Usage: backfill show --json <REPORT>
+
+Options:
+      --json <REPORT>  Prints a JSON object for each task instance of this report, one a line
+  -h, --help           Print help
+
+Example:
+  backfill show --json examples/failed_day/report.txt > instances.jsonl
+HELP
+answers 0 page --help <<'HELP'
+Writes a page that shows a report: its runs and tasks as a grid, the graph, and why each task has its state
+
+Usage: backfill page [OPTIONS] <GRAPH> <REPORT>
+
+Arguments:
+  <GRAPH>   The task graph, a JSON file
+  <REPORT>  The report to show
+
+Options:
+      --zone-file <PATH>  The zone file that the graph's zone `file` means, as of the tz database
+      --states-only       Leaves the report out of the page, which then has states and reasons, but no tries and values
+  -h, --help              Print help
+
+Example:
+  backfill page examples/failed_day/graph.json examples/failed_day/report.txt > page.html
 HELP
 answers 0 schema --help <<'HELP'
 Prints the JSON Schema of graph files or tables, for editors
@@ -200,7 +236,30 @@ check => error: the following required arguments were not provided:|  <GRAPH>|
 check g h => error: unexpected argument 'h' found|
 list g => error: the following required arguments were not provided:|  --from <T> and --to <T>, or --on <DAYS>|
 check g --zone-file => error: a value is required for '--zone-file <PATH>' but none was supplied|
-clear => error: the following required arguments were not provided:|  --task <ID>|  --run <T>|  <GRAPH>|  <REPORT>|
+clear => error: the following required arguments were not provided:|  <GRAPH>|  <REPORT>|
+clear g r => error: the following required arguments were not provided:|  --task <ID> and --run <T>, or --seeds <PATH>, or --failed|
+clear g r --plan --on 2024-01-01 => error: the following required arguments were not provided:|  --task <ID> and --run <T>, or --seeds <PATH>, or --failed|
+clear g r --failed --task a => error: only one of '--task <ID>' with '--run <T>', '--seeds <PATH>' and '--failed' can be used|
+clear g r --failed --index 0 => error: only one of '--task <ID>' with '--run <T>', '--seeds <PATH>' and '--failed' can be used|
+clear g r --failed --seeds s => error: only one of '--task <ID>' with '--run <T>', '--seeds <PATH>' and '--failed' can be used|
+clear g r --seeds s --run 2024-01-01 => error: only one of '--task <ID>' with '--run <T>', '--seeds <PATH>' and '--failed' can be used|
+clear g r --task a --on 2024-01-01 => error: each '--task <ID>' needs a '--run <T>', and each '--run <T>' a '--task <ID>'|
+clear g r --run 2024-01-01 => error: each '--task <ID>' needs a '--run <T>', and each '--run <T>' a '--task <ID>'|
+clear g r --task a --run 2024-01-01 --task b --on 2024-01-01 => error: each '--task <ID>' needs a '--run <T>', and each '--run <T>' a '--task <ID>'|
+clear g r --index 1 => error: as many '--index <N>' are needed as '--task <ID>', or none|
+clear g r --task a --run 2024-01-01 --index 1 --index 2 => error: as many '--index <N>' are needed as '--task <ID>', or none|
+clear g r --task a --run 2024-01-01 --task b --run 2024-01-01 --index 1 => error: as many '--index <N>' are needed as '--task <ID>', or none|
+clear g r --task a --run 2024-01-01 --index x => error: invalid value 'x' for '--index <N>': invalid digit found in string|
+clear g r --task a --run 2024-01-01 --index=-2 => error: invalid value '-2' for '--index <N>': -2 is not in -1..=2147483647|
+clear g r --failed => error: the following required arguments were not provided:|  --from <T> and --to <T>, or --on <DAYS>|
+clear g r --failed --failed => error: the argument '--failed' cannot be used multiple times|
+page g => error: the following required arguments were not provided:|  <REPORT>|
+page g r s => error: unexpected argument 's' found|
+page g r --states-only --states-only => error: the argument '--states-only' cannot be used multiple times|
+show => error: the following required arguments were not provided:|  --json <REPORT>|
+show r => error: unexpected argument 'r' found|
+show --json => error: a value is required for '--json <REPORT>' but none was supplied|
+show --json r --json s => error: the argument '--json <REPORT>' cannot be used multiple times|
 run g --from 2024-01-01 --to 2024-01-01 --launcher => error: a value is required for '--launcher <PATH>' but none was supplied|
 single g t --at 2024-01-01 --launcher on => error: unexpected argument '--launcher' found|
 run g --from 2024-01-01 --to 2024-01-01 --logs => error: a value is required for '--logs <FOLDER>' but none was supplied|

@@ -45,6 +45,13 @@ answers 0 dry "$graph" "$table" "${day[@]}" < <(one_day success <<< 'a -1 succes
 echo >> "$table"
 tells 2 'refused 19 bad table: file' dry "$graph" "$table" "${day[@]}"
 tells 2 'refused 19 bad table: file' dry "$graph" /dev/zero "${day[@]}"
+# A seeds file of empty lines, and one of a line more.
+one_day success <<< 'a -1 success 1 -' > "$work/report"
+head -c 8388608 /dev/zero | tr '\0' '\n' > "$work/seeds"
+answers 0 clear "$graph" "$work/report" "${day[@]}" --seeds "$work/seeds" < "$work/report"
+echo >> "$work/seeds"
+tells 2 'refused 45 bad seed: file' clear "$graph" "$work/report" "${day[@]}" --seeds "$work/seeds"
+tells 2 'refused 45 bad seed: file' clear "$graph" "$work/report" "${day[@]}" --seeds /dev/zero
 echo >> "$work/longer"
 tells 2 'refused 5 limit passed: bytes' check "$work/longer"
 tells 2 'refused 5 limit passed: bytes' check /dev/zero

@@ -171,6 +171,15 @@ is_same 'the head of its journal' '[["m","2024-01-01T05:00:00Z"]]]' "$(head -n 1
 tells 2 'refused 43 journal mismatch' clear every_key/graph.json "$work/was" "${clearing[@]}" sum --journal "$work/clearing"
 tells 2 'refused 43 journal mismatch' run every_key/graph.json --from 2024-01-01 --to 2024-01-03 --journal "$work/clearing"
 tells 2 'refused 40 unknown task' clear every_key/graph.json "$work/was" "${clearing[@]}" none --journal "$work/folder"
+# Several instances that are cleared: the head tells of each, and a journal of others is refused.
+several=(--task m --run 2024-01-01T05:00:00Z --index 1 --task sum --run 2024-01-02T05:00:00Z --index=-1)
+two=(clear every_key/graph.json "$work/was" --from 2024-01-01 --to 2024-01-03 --table every_key/table.json --journal "$work/two")
+"$program" "${two[@]}" "${several[@]}" > "$work/out" || true
+is_same 'the head of a journal of two' '[["m","2024-01-01T05:00:00Z",1],["sum","2024-01-02T05:00:00Z",-1]]]' \
+    "$(head -n 1 "$work/two" | grep -o '\[\["m","2024-01-01T05.*$')"
+tells 2 'refused 43 journal mismatch' "${two[@]}" --task m --run 2024-01-01T05:00:00Z --index 1
+tells 2 'refused 43 journal mismatch' "${two[@]}" --task m --run 2024-01-01T05:00:00Z --task sum --run 2024-01-02T05:00:00Z
+tells 2 'refused 43 journal mismatch' "${two[@]}" --failed
 status=0
 "$program" clear every_key/graph.json "$work/was" "${clearing[@]}" m --journal "$work/clearing" --out "$work/filed" \
     > "$work/out" 2> "$work/err" || status=$?

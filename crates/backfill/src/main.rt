@@ -3,7 +3,8 @@
 
 use bf_command_fault::Status;
 use bf_device::Output;
-use bf_program::{Disk, answer, explain};
+use bf_disk::Disk;
+use bf_program::{answer, explain};
 use std::process::ExitCode;
 use std::{env, io};
 

@@ -10,8 +10,6 @@ use Rattle.bf_report.specs.declared.report.Report.{Report}
 use Rattle.bf_dependents.specs.declared.place.Place.{Place}
 use Rattle.bf_dependents.specs.Listing.{up_to}
 use Rattle.bf_clear.specs.Entries.{found_at, report_at}
-use Rattle.bf_clear.specs.Keeping.{AreKept}
-use Rattle.bf_try.specs.Tries.{Look}
 
 -- the report tells of the instance of that index, and it failed
 abbrev pub HasFailed : Report → ℕ → ℕ → ℤ → Type 0
@@ -25,10 +23,6 @@ IsOfFailed report p = (i : ℤ) × (p.index ≡ Some i) × HasFailed report p.ru
 pub record AreFailed (dag : Dag) (intervals : List Interval) (report : Report) (places : List Place) : Type 0 where
   pub each : (p : Place) → Contains places p → IsOfFailed report p
   pub all : (k t : ℕ) (i : ℤ) → k < length intervals → t < length dag.tasks → i <ℤ pos 2_147_483_648 → HasFailed report k t i → Contains places (record { run = k; task = t; index = Some i })
-
--- what is kept where the instances that failed are cleared
-abbrev pub AreKeptOfFailed : Dag → List Interval → Report → Look → Type 0
-AreKeptOfFailed dag intervals report kept = (places : List Place) × AreFailed dag intervals report places × AreKept dag places report kept
 
 -- ---- as they are listed
 

@@ -46,6 +46,13 @@ impl<'a> Cleared<'a> {
             cleared,
         }
     }
+
+    /// Which instances are cleared.
+    pub fn followers(&self) -> &Followers
+        ensures { result.now ≡ self.now.cleared }
+    {
+        &self.cleared
+    }
 }
 
 impl KeptTries for Cleared<'_> {

@@ -15,8 +15,10 @@ mod matching;
 mod telling;
 mod working;
 
-pub use bf_dependents::{ClearFault, Seed};
 pub use cleared::Cleared;
-pub use clearing::{clear, clear_failed};
+pub use clearing::clear_places;
 pub use failing::failed_places;
 pub use laws::{own_reports_match, reports_tell_ledgers, resumed_backfills_keep_the_rest};
+pub use looking::task_at;
+pub use matching::is_report_of;
+pub use working::value_of;

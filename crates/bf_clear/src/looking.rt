@@ -16,8 +16,8 @@ fn instance_of(task: &TaskReport, index: i32) -> Option<&InstanceReport>
     }
 }
 
-/// What came of a task in a run.
-pub(crate) fn task_at(report: &Report, run: u32, task: u32) -> Option<&TaskReport>
+/// What came of a task in a run; nothing where the report has no such run or task.
+pub fn task_at(report: &Report, run: u32, task: u32) -> Option<&TaskReport>
     ensures { option_copied result ≡ report_at report.now run task }
 {
     match report.runs.get(run as usize) {

@@ -119,7 +119,7 @@ fn are_runs_of(version: Version, dag: &Dag, runs: &[RunReport], intervals: &[Int
 /// Whether a report has the dag id, the data intervals and the tasks of a plan, and in version 2 the pulls of each instance.
 /// One without runs has no tasks.
 #[tactic(auto, unfolding(crate::specs::Matching::is_report_of))]
-pub(crate) fn is_report_of(dag: &Dag, intervals: &[Interval], report: &Report) -> bool
+pub fn is_report_of(dag: &Dag, intervals: &[Interval], report: &Report) -> bool
     ensures { result ≡ report_of dag.now intervals.now report.now }
 {
     let tasks = dag.tasks.as_slice();

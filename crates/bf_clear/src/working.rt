@@ -22,8 +22,8 @@ fn results_of(
     Ok(Sequence::from_vec(results))
 }
 
-/// The value that a task had in a run.
-fn value_of(alloc: Global, task: &TaskReport) -> Result<TaskValue, OutOfMemory>
+/// The value that a task had in a run, by what a report has of it.
+pub fn value_of(alloc: Global, task: &TaskReport) -> Result<TaskValue, OutOfMemory>
     ensures { IfOk result (λ value. value ≡ value_in task.now) }
 {
     match task {

@@ -21,12 +21,15 @@ use Rattle.bf_journal.specs.Found as journaling
 use Rattle.bf_report_reader.specs.declared.fault.ReportFault.{ReportFault}
 use Rattle.bf_report_reader.specs.declared.fault.ReportFault.TheVariants as report
 use Rattle.bf_report_reader.specs.Refusals as reading
+use Rattle.bf_seeds.specs.declared.fault.SeedsFault.{SeedsFault}
+use Rattle.bf_seeds.specs.declared.fault.SeedsFault.TheVariants as seeds
+use Rattle.bf_seeds.specs.Seeds as seeding
 use Rattle.bf_device.specs.declared.sending.Cause.{Cause}
 use Rattle.bf_device.specs.declared.sending.Cause.TheVariants as cause
 use Rattle.bf_device.specs.declared.sending.WriteFault.{WriteFault}
 use Rattle.bf_device.specs.Device.{sent}
 use Rattle.bf_command_fault.specs.declared.fault.CommandFault.{CommandFault}
-use Rattle.bf_command_fault.specs.declared.fault.CommandFault.TheVariants.{Read, Check, Table, Range, Report, Journal, Clear, JournalInUse, BadMoment, OutOfMemory, CannotRead, CannotWriteFile, CannotWrite, CannotLaunch, Stopped}
+use Rattle.bf_command_fault.specs.declared.fault.CommandFault.TheVariants.{Read, Check, Table, Range, Report, Journal, Clear, Seeds, JournalInUse, BadMoment, OutOfMemory, CannotRead, CannotWriteFile, CannotWrite, CannotLaunch, Stopped}
 use Rattle.bf_command_fault.specs.declared.range.RangeFault.TheVariants.{Unlisted}
 use Rattle.bf_command_fault.specs.declared.stop.StopFault.{StopFault}
 use Rattle.bf_command_fault.specs.declared.status.Status.{Status}
@@ -43,6 +46,7 @@ number_of (Range fault) = range_number fault
 number_of (Report fault) = reading.fault_number fault
 number_of (Journal fault) = journaling.fault_number fault
 number_of (Clear fault) = clearing.fault_number fault
+number_of (Seeds fault) = seeding.fault_number fault
 number_of JournalInUse = Some 44
 number_of BadMoment = Some 28
 number_of OutOfMemory = None
@@ -68,6 +72,7 @@ words_of (Range fault) = range_words fault
 words_of (Report fault) = reading.fault_text fault
 words_of (Journal fault) = journaling.fault_text fault
 words_of (Clear fault) = clearing.fault_text fault
+words_of (Seeds fault) = seeding.fault_text fault
 words_of JournalInUse = codes "journal in use"
 words_of BadMoment = codes "bad moment"
 words_of OutOfMemory = codes "out of memory"
@@ -123,6 +128,11 @@ of_journal fault = Journal fault
 abbrev pub of_clear : ClearFault → CommandFault
 of_clear clear.OutOfMemory = OutOfMemory
 of_clear fault = Clear fault
+
+abbrev pub of_seeds : SeedsFault → CommandFault
+of_seeds seeds.OutOfMemory = OutOfMemory
+of_seeds (seeds.Unknown fault) = of_clear fault
+of_seeds fault = Seeds fault
 
 abbrev pub of_cause : Cause → ℕ → CommandFault
 of_cause cause.Io sent = CannotWrite sent

@@ -12,6 +12,7 @@ use bf_interval::IntervalFault;
 use bf_journal::JournalFault;
 use bf_read::ReadFault;
 use bf_report_reader::ReportFault;
+use bf_seeds::SeedsFault;
 use bf_table::TableFault;
 use bf_value::{OutOfMemory, Text};
 use std::alloc::{AllocError, Global};
@@ -35,6 +36,8 @@ pub enum CommandFault {
     Journal(JournalFault),
     /// Nothing is cleared in the report.
     Clear(ClearFault),
+    /// The file of what is to be cleared is none.
+    Seeds(SeedsFault),
     /// Another backfill has the journal open.
     JournalInUse,
     /// A text that is no moment, or one of a date that doesn't exist.
@@ -65,6 +68,7 @@ impl CommandFault {
             CommandFault::Report(fault) => fault.number(),
             CommandFault::Journal(fault) => fault.number(),
             CommandFault::Clear(fault) => fault.number(),
+            CommandFault::Seeds(fault) => fault.number(),
             CommandFault::JournalInUse => Some(44),
             CommandFault::BadMoment => Some(28),
             CommandFault::OutOfMemory
@@ -113,6 +117,7 @@ impl fmt::Display for CommandFault {
             CommandFault::Report(fault) => write!(f, "{fault}"),
             CommandFault::Journal(fault) => write!(f, "{fault}"),
             CommandFault::Clear(fault) => write!(f, "{fault}"),
+            CommandFault::Seeds(fault) => write!(f, "{fault}"),
             CommandFault::JournalInUse => write!(f, "journal in use"),
             CommandFault::BadMoment => write!(f, "bad moment"),
             CommandFault::OutOfMemory => write!(f, "out of memory"),
@@ -234,6 +239,20 @@ impl From<ClearFault> for CommandFault {
         match fault {
             ClearFault::OutOfMemory => CommandFault::OutOfMemory,
             fault => CommandFault::Clear(fault),
+        }
+    }
+}
+
+impl From<SeedsFault> for CommandFault {
+    ghost use Rattle.bf_command_fault.specs.Refusal.{of_seeds};
+
+    ghost from_gives = { λ fault e. e ≡ of_seeds fault };
+
+    fn from(fault: SeedsFault) -> CommandFault {
+        match fault {
+            SeedsFault::OutOfMemory => CommandFault::OutOfMemory,
+            SeedsFault::Unknown(fault) => CommandFault::from(fault),
+            fault => CommandFault::Seeds(fault),
         }
     }
 }

@@ -1,10 +1,13 @@
 -- What the matches of a command line ask for.
-use Rattle.std.specs.Prelude.{◌≡◌, ◌&&◌, ℕ, Bool, false, not, List, Option, None, Some, Ok, codes, bytes_eq, option_map, String, string_bytes}
+use Rattle.std.specs.Prelude.{◌≡◌, ◌&&◌, ◌||◌, ◌==◌, ℕ, ℤ, Bool, true, false, not, List, [], length, slice_get, Option, None, Some, Ok, codes, bytes_eq, option_map, unwrap_or, String, string_bytes}
+use Rattle.std.specs.Int.{w32}
 use Rattle.std.specs.declared.alloc.Global.{Global}
-use Rattle.std.specs.Str.Parse.{ParsesUnsigned}
-use Rattle.clap.specs.Words.{Row, Text, first_of}
+use Rattle.std.specs.Str.Parse.{ParsesSigned, ParsesUnsigned}
+use Rattle.clap.specs.Words.{Row, Text, all_of, first_of}
 use Rattle.bf_command_line.specs.declared.forms.Asked.{Asked}
-use Rattle.bf_command_line.specs.declared.forms.Asked.TheVariants.{Check, Clear, Completions, Dry, List as Intervals, Run, Schema, Single}
+use Rattle.bf_command_line.specs.declared.forms.Asked.TheVariants.{Check, Clear, ClearPlan, Completions, Dry, List as Intervals, Page, Run, Schema, ShowJson, Single}
+use Rattle.bf_command_line.specs.declared.forms.ClearedAsked.{ClearedAsked}
+use Rattle.bf_command_line.specs.declared.forms.ClearedAsked.TheVariants as cleared
 use Rattle.bf_command_line.specs.declared.forms.CommandLine.{CommandLine}
 use Rattle.bf_command_line.specs.declared.forms.Format.{Format}
 use Rattle.bf_command_line.specs.declared.forms.Format.TheVariants as format
@@ -40,10 +43,45 @@ IsStartsBy rows (On days) = (first_of (codes "on") rows ≡ Some (string_bytes d
 abbrev pub IsRangeBy : List Row → RangeAsked → Type 0
 IsRangeBy rows r = IsStartsBy rows r.starts × (r.some ≡ says_true (first_of (codes "some") rows))
 
--- the task, and the logical date of its run
-abbrev pub IsSeedBy : List Row → SeedAsked → Type 0
-IsSeedBy rows s = (first_of (codes "task") rows ≡ Some (string_bytes s.task))
-    × (first_of (codes "run") rows ≡ Some (string_bytes s.run))
+-- each value of an argument
+abbrev pub texts_of : Text → List Row → List Text
+texts_of id rows = unwrap_or (all_of id rows) []
+
+-- the number that the text says in decimal digits, maybe behind a sign, where there is a text
+abbrev pub IsIntegerIfGiven : Option Text → Option ℤ → Type 0
+IsIntegerIfGiven None n = n ≡ None
+IsIntegerIfGiven (Some text) None = ⊥
+IsIntegerIfGiven (Some text) (Some n) = ParsesSigned {E = Unit {0}} w32 10 text (Ok n)
+
+-- the task, the logical date of its run and maybe the map index in this place of theirs
+abbrev pub IsSeedAt : List Row → ℕ → SeedAsked → Type 0
+IsSeedAt rows k s = (slice_get (texts_of (codes "task") rows) k ≡ Some (string_bytes s.task))
+    × (slice_get (texts_of (codes "run") rows) k ≡ Some (string_bytes s.run))
+    × IsIntegerIfGiven (slice_get (texts_of (codes "index") rows) k) s.index
+
+-- one seed for each task, in order
+abbrev pub AreSeedsBy : List Row → List SeedAsked → Type 0
+AreSeedsBy rows seeds = (length seeds ≡ length (texts_of (codes "task") rows))
+    × ((k : ℕ) (seed : SeedAsked) → slice_get seeds k ≡ Some seed → IsSeedAt rows k seed)
+
+abbrev pub has_some : List Text → Bool
+has_some texts = not (length texts == 0)
+
+-- something is told of seeds one by one
+abbrev pub has_seeds : List Row → Bool
+has_seeds rows = has_some (texts_of (codes "task") rows) || (has_some (texts_of (codes "run") rows) || has_some (texts_of (codes "index") rows))
+
+-- what is cleared: seeds, the lines of a file, or what failed
+abbrev pub IsClearedBy : List Row → ClearedAsked → Type 0
+IsClearedBy rows (cleared.Seeds seeds) = (first_of (codes "seeds") rows ≡ None)
+    × (says_true (first_of (codes "failed") rows) ≡ false)
+    × AreSeedsBy rows seeds.items
+IsClearedBy rows (cleared.File path) = (first_of (codes "seeds") rows ≡ Some (string_bytes path))
+    × (says_true (first_of (codes "failed") rows) ≡ false)
+    × (has_seeds rows ≡ false)
+IsClearedBy rows cleared.Failed = (first_of (codes "seeds") rows ≡ None)
+    × (says_true (first_of (codes "failed") rows) ≡ true)
+    × (has_seeds rows ≡ false)
 
 -- the number that the text says in decimal digits, or one where there is no text
 abbrev pub IsNumberOr1 : Option Text → ℕ → Type 0
@@ -138,7 +176,8 @@ IsAskedBy (Some (name, rows)) (Clear c) = (name ≡ codes "clear")
     × IsGraphBy rows c.graph
     × (first_of (codes "report") rows ≡ Some (string_bytes c.report))
     × IsRangeBy rows c.range
-    × IsSeedBy rows c.seed
+    × IsClearedBy rows c.cleared
+    × (says_true (first_of (codes "plan") rows) ≡ false)
     × (first_of (codes "table") rows ≡ option_map string_bytes c.table)
     × IsWorkersBy rows c.workers
     × IsProgressUnlessQuietBy rows c.progress
@@ -146,6 +185,17 @@ IsAskedBy (Some (name, rows)) (Clear c) = (name ≡ codes "clear")
     × IsLauncherBy rows c.launcher
     × IsLogsBy rows c.logs
     × IsJournalBy rows c.journal
+IsAskedBy (Some (name, rows)) (ClearPlan c) = (name ≡ codes "clear")
+    × IsGraphBy rows c.graph
+    × (first_of (codes "report") rows ≡ Some (string_bytes c.report))
+    × IsRangeBy rows c.range
+    × IsClearedBy rows c.cleared
+    × (says_true (first_of (codes "plan") rows) ≡ true)
+IsAskedBy (Some (name, rows)) (ShowJson report) = (name ≡ codes "show") × (first_of (codes "json") rows ≡ Some (string_bytes report))
+IsAskedBy (Some (name, rows)) (Page p) = (name ≡ codes "page")
+    × IsGraphBy rows p.graph
+    × (first_of (codes "report") rows ≡ Some (string_bytes p.report))
+    × (p.states_only ≡ says_true (first_of (codes "states_only") rows))
 IsAskedBy (Some (name, rows)) (Schema format) = (name ≡ codes "schema") × IsFormatBy rows format
 IsAskedBy (Some (name, rows)) (Completions shell) = (name ≡ codes "completions") × IsShellBy rows shell
 

@@ -1,6 +1,6 @@
 -- The command line, in clap's words.
-use Rattle.std.specs.Prelude.{true, [], Some, codes, pos}
-use Rattle.clap.specs.declared.builder.action.ArgAction.TheVariants.{SetTrue}
+use Rattle.std.specs.Prelude.{true, [], Some, codes, pos, negsuc}
+use Rattle.clap.specs.declared.builder.action.ArgAction.TheVariants.{Append, SetTrue}
 use Rattle.clap.specs.declared.builder.value_parser.ValueParser.TheVariants.{Signed}
 use Rattle.clap.specs.Words.{App, Rule, Text, new_app, new_rule, with_rule, with_subcommand}
 use Rattle.clap.specs.Simple.{new_shape}
@@ -16,6 +16,10 @@ option_rule id name = record (new_rule id) { long = Some name; value_names = 1 }
 -- an option with a value, which has to be there
 abbrev pub required_option_rule : Text → Rule
 required_option_rule id = record (option_rule id id) { required = true }
+
+-- an option with a value, which may be given several times
+abbrev pub repeated_rule : Text → Rule
+repeated_rule id = record (option_rule id id) { action = Some Append }
 
 -- `GRAPH`
 abbrev pub graph_rule : Rule
@@ -33,13 +37,29 @@ optional_table_rule = option_rule (codes "table") (codes "table")
 abbrev pub report_rule : Rule
 report_rule = positional_rule (codes "report")
 
--- `--task ID`
+-- `--task ID ..`
 abbrev pub task_rule : Rule
-task_rule = required_option_rule (codes "task")
+task_rule = repeated_rule (codes "task")
 
--- `--run T`, the option of a run's logical date
+-- `--run T ..`, the option of a run's logical date
 abbrev pub run_rule : Rule
-run_rule = required_option_rule (codes "run")
+run_rule = repeated_rule (codes "run")
+
+-- `--index N ..`, a map index, which is -1 of a task that isn't expanded
+abbrev pub index_rule : Rule
+index_rule = record (repeated_rule (codes "index")) { parser = Some (Signed (negsuc 0) (pos 2_147_483_647)) }
+
+-- `--seeds PATH`
+abbrev pub seeds_rule : Rule
+seeds_rule = option_rule (codes "seeds") (codes "seeds")
+
+-- `--failed`, a flag
+abbrev pub failed_rule : Rule
+failed_rule = record (new_rule (codes "failed")) { long = Some (codes "failed"); action = Some SetTrue }
+
+-- `--plan`, a flag
+abbrev pub plan_rule : Rule
+plan_rule = record (new_rule (codes "plan")) { long = Some (codes "plan"); action = Some SetTrue }
 
 -- `--zone-file PATH`
 abbrev pub zone_file_rule : Rule
@@ -106,6 +126,12 @@ abbrev pub quiet_rule : Rule
 quiet_rule = record (new_rule (codes "quiet")) { long = Some (codes "quiet"); action = Some SetTrue }
 
 -- `FORMAT`
+abbrev pub json_rule : Rule
+json_rule = required_option_rule (codes "json")
+
+abbrev pub states_only_rule : Rule
+states_only_rule = record (new_rule (codes "states_only")) { long = Some (codes "states-only"); action = Some SetTrue }
+
 abbrev pub format_rule : Rule
 format_rule = positional_rule (codes "format")
 
@@ -150,13 +176,26 @@ dry_app = ranged_app (with_rule (over_graph_app (codes "dry")) table_rule)
 abbrev pub run_app : App
 run_app = programs_app (ranged_app (over_graph_app (codes "run")))
 
--- `clear GRAPH REPORT --task ID --run T [--table PATH] [--zone-file PATH]`, without its range
-abbrev pub clearing_app : App
-clearing_app = with_rule (with_rule (with_rule (with_rule (over_graph_app (codes "clear")) report_rule) task_rule) run_rule) optional_table_rule
+-- a command with `[--task ID ..] [--run T ..] [--index N ..] [--seeds PATH] [--failed] [--plan]`, what is cleared, behind its other
+-- arguments
+abbrev pub cleared_app : App → App
+cleared_app app = with_rule (with_rule (with_rule (with_rule (with_rule (with_rule app task_rule) run_rule) index_rule) seeds_rule) failed_rule) plan_rule
 
--- `clear GRAPH REPORT RANGE --task ID --run T [--table PATH] [--workers N] [--progress] [--out PATH] [--launcher PATH] [--logs FOLDER] [--journal PATH ..] [--quiet] [--zone-file PATH]`
+-- `clear GRAPH REPORT CLEARED [--table PATH] [--zone-file PATH]`, without its range
+abbrev pub clearing_app : App
+clearing_app = with_rule (cleared_app (with_rule (over_graph_app (codes "clear")) report_rule)) optional_table_rule
+
+-- `clear GRAPH REPORT RANGE CLEARED [--table PATH] [--workers N] [--progress] [--out PATH] [--launcher PATH] [--logs FOLDER] [--journal PATH ..] [--quiet] [--zone-file PATH]`
 abbrev pub clear_app : App
 clear_app = programs_app (ranged_app clearing_app)
+
+-- `show --json REPORT`
+abbrev pub show_app : App
+show_app = with_rule (new_app (codes "show")) json_rule
+
+-- `page GRAPH REPORT [--states-only] [--zone-file PATH]`
+abbrev pub page_app : App
+page_app = with_rule (with_rule (over_graph_app (codes "page")) report_rule) states_only_rule
 
 -- `schema FORMAT`
 abbrev pub schema_app : App
@@ -185,5 +224,9 @@ answered_app = with_subcommand (with_subcommand looking_app single_app.top) dry_
 abbrev pub running_app : App
 running_app = with_subcommand (with_subcommand answered_app run_app.top) clear_app.top
 
+-- and those that show a report
+abbrev pub viewing_app : App
+viewing_app = with_subcommand (with_subcommand running_app show_app.top) page_app.top
+
 abbrev pub backfill_app : App
-backfill_app = with_subcommand (with_subcommand running_app schema_app.top) completions_app.top
+backfill_app = with_subcommand (with_subcommand viewing_app schema_app.top) completions_app.top

@@ -1,10 +1,10 @@
 -- What is wrong with the words of a command line.
-use Rattle.std.specs.Prelude.{◌&&◌, ◌||◌, not, List, [], ◌∷◌, Option, None, Some, codes, bytes_eq, is_some, if◌then◌else◌}
+use Rattle.std.specs.Prelude.{◌&&◌, ◌||◌, ◌==◌, not, Bool, true, false, length, List, [], ◌∷◌, Option, None, Some, codes, bytes_eq, is_some, if◌then◌else◌}
 use Rattle.std.specs.List.{list_any}
 use Rattle.clap.specs.Kinds.{or_else}
 use Rattle.clap.specs.Words.{Kinds, Row, Text, fault_of, first_of, subcommand_of}
-use Rattle.clap.specs.declared.error.kind.ErrorKind.TheVariants.{ArgumentConflict, InvalidValue, MissingRequiredArgument}
-use Rattle.bf_command_line.specs.Asked.{format_word, says_true, shell_word}
+use Rattle.clap.specs.declared.error.kind.ErrorKind.TheVariants.{ArgumentConflict, InvalidValue, MissingRequiredArgument, WrongNumberOfValues}
+use Rattle.bf_command_line.specs.Asked.{format_word, has_seeds, has_some, says_true, shell_word, texts_of}
 use Rattle.bf_command_line.specs.CommandLine.{backfill_app}
 use Rattle.bf_command_line.specs.declared.forms.Format.TheVariants.{Graph, Table}
 use Rattle.bf_command_line.specs.declared.forms.Shell.TheVariants.{Bash, Fish, Zsh}
@@ -40,13 +40,39 @@ journal_wrongs rows =
 abbrev pub programs_wrongs : List Row → Kinds
 programs_wrongs rows = or_else (range_wrongs rows) (journal_wrongs rows)
 
+-- there are as many runs as tasks, and as many indexes where there are some
+abbrev pub pair_wrongs : List Text → List Text → List Text → Kinds
+pair_wrongs tasks runs indexes =
+    if not (length tasks == length runs) then MissingRequiredArgument ∷ []
+    else (if has_some indexes && not (length indexes == length tasks) then WrongNumberOfValues ∷ [] else [])
+
+-- one of these tells what is cleared: a file, seeds one by one, or `--failed`
+abbrev pub choice_wrongs : Option Text → Bool → Bool → Kinds → Kinds
+choice_wrongs None true false paired = paired
+choice_wrongs (Some file) false false paired = []
+choice_wrongs None false true paired = []
+choice_wrongs None false false paired = MissingRequiredArgument ∷ []
+choice_wrongs None true true paired = ArgumentConflict ∷ []
+choice_wrongs (Some file) seeds failed paired = ArgumentConflict ∷ []
+
+abbrev pub seeds_wrongs : List Row → Kinds
+seeds_wrongs rows = pair_wrongs (texts_of (codes "task") rows) (texts_of (codes "run") rows) (texts_of (codes "index") rows)
+
+abbrev pub cleared_wrongs : List Row → Kinds
+cleared_wrongs rows = choice_wrongs (first_of (codes "seeds") rows) (has_seeds rows) (says_true (first_of (codes "failed") rows)) (seeds_wrongs rows)
+
+-- what is cleared comes before the range
+abbrev pub clear_wrongs : List Row → Kinds
+clear_wrongs rows = or_else (cleared_wrongs rows) (programs_wrongs rows)
+
 -- of the subcommand's arguments, those that `clap` doesn't look at
 abbrev pub found_wrongs : Option (Text × List Row) → Kinds
 found_wrongs None = []
 found_wrongs (Some (name, rows)) = if bytes_eq name (codes "schema") then value_wrongs format_words (first_of (codes "format") rows)
     else (if bytes_eq name (codes "completions") then value_wrongs shell_words (first_of (codes "shell") rows)
-    else (if bytes_eq name (codes "run") || bytes_eq name (codes "clear") then programs_wrongs rows
-    else (if bytes_eq name (codes "list") || bytes_eq name (codes "dry") then range_wrongs rows else [])))
+    else (if bytes_eq name (codes "run") then programs_wrongs rows
+    else (if bytes_eq name (codes "clear") then clear_wrongs rows
+    else (if bytes_eq name (codes "list") || bytes_eq name (codes "dry") then range_wrongs rows else []))))
 
 -- what `clap` finds, and else a value that isn't possible
 abbrev pub wrongs_of : List Text → Kinds

@@ -1,7 +1,7 @@
 //! Arguments of commands, as `clap` reads them.
 ghost use Rattle.std.specs.Prelude.{◌≡◌};
 ghost use Rattle.clap.specs.Words.{rule_of};
-ghost use Rattle.bf_command_line.specs.CommandLine.{explain_rule, from_rule, graph_rule, journal_rule, launcher_rule, logs_rule, on_rule, option_rule, out_rule, positional_rule, progress_rule, quiet_rule, required_option_rule, retry_failed_rule, some_rule, stop_after_rule, table_rule, to_rule, workers_rule, zone_file_rule};
+ghost use Rattle.bf_command_line.specs.CommandLine.{explain_rule, failed_rule, from_rule, graph_rule, index_rule, journal_rule, launcher_rule, logs_rule, on_rule, option_rule, out_rule, plan_rule, positional_rule, progress_rule, quiet_rule, repeated_rule, required_option_rule, retry_failed_rule, run_rule, seeds_rule, some_rule, stop_after_rule, table_rule, task_rule, to_rule, workers_rule, zone_file_rule};
 
 use bf_workers::MOST_WORKERS;
 use clap::{Arg, ArgAction, value_parser};
@@ -44,6 +44,13 @@ pub(crate) fn required_option<'a>(
         .value_name(value)
         .help(help)
         .required(true)
+}
+
+/// An option with a value, which may be given several times.
+fn repeated<'a>(alloc: Global, id: &'a str, value: &'a str, help: &'a str) -> Arg<'a>
+    ensures { rule_of result ≡ repeated_rule id.entry.now }
+{
+    option(alloc, id, id, value, help).action(ArgAction::Append)
 }
 
 pub(crate) fn graph<'a>(alloc: Global) -> Arg<'a>
@@ -229,5 +236,69 @@ pub(crate) fn quiet<'a>(alloc: Global) -> Arg<'a>
     Arg::new(alloc, "quiet")
         .long("quiet")
         .help("Tells neither progress nor which tries fail")
+        .action(ArgAction::SetTrue)
+}
+
+pub(crate) fn task<'a>(alloc: Global) -> Arg<'a>
+    ensures { rule_of result ≡ task_rule }
+{
+    repeated(
+        alloc,
+        "task",
+        "ID",
+        "A task to clear; with several, the first is of the first --run, and so on",
+    )
+}
+
+pub(crate) fn run<'a>(alloc: Global) -> Arg<'a>
+    ensures { rule_of result ≡ run_rule }
+{
+    repeated(
+        alloc,
+        "run",
+        "T",
+        "The logical date of the run in which it is cleared, in UTC, as 2024-01-31 or 2024-01-31T06:00:00Z",
+    )
+}
+
+pub(crate) fn index<'a>(alloc: Global) -> Arg<'a>
+    ensures { rule_of result ≡ index_rule }
+{
+    repeated(
+        alloc,
+        "index",
+        "N",
+        "Clears the instance of this map index alone, and what follows from it; one for each --task, or none",
+    )
+    .value_parser(value_parser!(i32).range(-1..))
+}
+
+pub(crate) fn seeds<'a>(alloc: Global) -> Arg<'a>
+    ensures { rule_of result ≡ seeds_rule }
+{
+    option(
+        alloc,
+        "seeds",
+        "seeds",
+        "PATH",
+        "In place of these, a file of what to clear, a line RUN TASK or RUN TASK INDEX each",
+    )
+}
+
+pub(crate) fn failed<'a>(alloc: Global) -> Arg<'a>
+    ensures { rule_of result ≡ failed_rule }
+{
+    Arg::new(alloc, "failed")
+        .long("failed")
+        .help("In place of these, clears each instance that failed")
+        .action(ArgAction::SetTrue)
+}
+
+pub(crate) fn plan<'a>(alloc: Global) -> Arg<'a>
+    ensures { rule_of result ≡ plan_rule }
+{
+    Arg::new(alloc, "plan")
+        .long("plan")
+        .help("Prints which tasks of which runs are cleared, and runs nothing")
         .action(ArgAction::SetTrue)
 }

@@ -1,14 +1,16 @@
 //! The command line as `clap` reads it.
 ghost use Rattle.std.specs.Prelude.{◌≡◌, IfOk};
 ghost use Rattle.clap.specs.Words.{App, app_of};
-ghost use Rattle.bf_command_line.specs.CommandLine.{answered_app, backfill_app, bare_app, check_app, clear_app, completions_app, dated_app, dry_app, list_app, ranged_app, run_app, schema_app, single_app, over_graph_app, programs_app};
+ghost use Rattle.bf_command_line.specs.CommandLine.{answered_app, backfill_app, bare_app, check_app, clear_app, cleared_app, completions_app, dated_app, dry_app, list_app, ranged_app, run_app, running_app, schema_app, single_app, over_graph_app, programs_app};
 ghost use Rattle.bf_command_line.specs.Drafts.{IsDraftOf};
 
 use crate::argument::{
-    explain, from, graph, journal, launcher, logs, on, option, out, positional, progress, quiet,
-    required_option, retry_failed, some, stop_after, table, to, workers, zone_file,
+    explain, failed, from, graph, index, journal, launcher, logs, on, option, out, plan,
+    positional, progress, quiet, required_option, retry_failed, seeds, some, stop_after, table,
+    task, to, workers, zone_file,
 };
 use crate::draft::Draft;
+use crate::viewing::{page, show};
 use clap::Command;
 use std::alloc::{AllocError, Global};
 
@@ -33,9 +35,10 @@ const RUN_EXAMPLES: &str = "Examples:\n\
     \x20 backfill run --from 2024-01-01 --to 2024-01-07 --launcher /usr/bin/env examples/extract_transform_load/graph.json\n\
     \x20 backfill run --from 2024-01-01 --to 2024-01-07 --journal journal examples/extract_transform_load/graph.json";
 
-const CLEAR_EXAMPLES: &str = "Examples, the first of which makes the report of the second:\n\
+const CLEAR_EXAMPLES: &str = "Examples, the first of which makes the report of the others:\n\
     \x20 backfill run --from 2024-01-01 --to 2024-01-07 examples/extract_transform_load/graph.json > report\n\
-    \x20 backfill clear --from 2024-01-01 --to 2024-01-07 --task load --run 2024-01-03 examples/extract_transform_load/graph.json report";
+    \x20 backfill clear --from 2024-01-01 --to 2024-01-07 --task load --run 2024-01-03 examples/extract_transform_load/graph.json report\n\
+    \x20 backfill clear --from 2024-01-01 --to 2024-01-07 --failed --plan examples/extract_transform_load/graph.json report";
 
 const SCHEMA_EXAMPLE: &str = "Example:\n\
     \x20 backfill schema graph > graph.schema.json";
@@ -57,7 +60,12 @@ fn with_programs<'a>(alloc: Global, command: Draft<'a>) -> Draft<'a>
 }
 
 /// A command over a graph.
-fn over_graph<'a>(alloc: Global, name: &'a str, about: &'a str, examples: &'a str) -> Draft<'a>
+pub(crate) fn over_graph<'a>(
+    alloc: Global,
+    name: &'a str,
+    about: &'a str,
+    examples: &'a str,
+) -> Draft<'a>
     ensures { IsDraftOf (over_graph_app name.entry.now) result }
 {
     Draft::new(alloc, name, about, examples)
@@ -84,6 +92,19 @@ fn ranged<'a>(alloc: Global, command: Draft<'a>) -> Draft<'a>
         .arg(workers(alloc))
         .arg(progress(alloc))
         .arg(out(alloc))
+}
+
+/// A command that clears, with these arguments before those that say what.
+fn cleared<'a>(alloc: Global, command: Draft<'a>) -> Draft<'a>
+    ensures { (app : App) → IsDraftOf app command.entry → IsDraftOf (cleared_app app) result }
+{
+    command
+        .arg(task(alloc))
+        .arg(crate::argument::run(alloc))
+        .arg(index(alloc))
+        .arg(seeds(alloc))
+        .arg(failed(alloc))
+        .arg(plan(alloc))
 }
 
 fn check<'a>(alloc: Global) -> Draft<'a>
@@ -159,7 +180,7 @@ pub(crate) fn clear<'a>(alloc: Global) -> Draft<'a>
     let command = over_graph(
         alloc,
         "clear",
-        "Runs a task of a run again, with all that follows from it, and keeps the rest of a report",
+        "Runs tasks of runs again, with all that follows from them, and keeps the rest of a report",
         CLEAR_EXAMPLES,
     )
     .arg(positional(
@@ -167,15 +188,8 @@ pub(crate) fn clear<'a>(alloc: Global) -> Draft<'a>
         "report",
         "REPORT",
         "The report of the backfill to go on from",
-    ))
-    .arg(required_option(alloc, "task", "ID", "The task to clear"))
-    .arg(required_option(
-        alloc,
-        "run",
-        "T",
-        "The logical date of the run in which it is cleared, in UTC, as 2024-01-31 or 2024-01-31T06:00:00Z",
-    ))
-    .arg(option(
+    ));
+    let command = cleared(alloc, command).arg(option(
         alloc,
         "table",
         "table",
@@ -239,13 +253,22 @@ fn answered<'a>(alloc: Global) -> Draft<'a>
         .subcommand(dry(alloc))
 }
 
-/// The whole command line.
-pub(crate) fn backfill<'a>(alloc: Global) -> Result<Command<'a>, AllocError>
-    ensures { IfOk result (λ c. app_of c ≡ backfill_app) }
+/// And those that do.
+fn running<'a>(alloc: Global) -> Draft<'a>
+    ensures { IsDraftOf running_app result }
 {
     answered(alloc)
         .subcommand(run(alloc))
         .subcommand(clear(alloc))
+}
+
+/// The whole command line.
+pub(crate) fn backfill<'a>(alloc: Global) -> Result<Command<'a>, AllocError>
+    ensures { IfOk result (λ c. app_of c ≡ backfill_app) }
+{
+    running(alloc)
+        .subcommand(show(alloc))
+        .subcommand(page(alloc))
         .subcommand(schema(alloc))
         .subcommand(completions(alloc))
         .command

@@ -82,23 +82,35 @@ pub struct RunAsked {
     pub journal: Option<JournalAsked>,
 }
 
-/// `--task ID --run T`: a task in the run of a logical date.
+/// `--task ID --run T [--index N]`: a task in the run of a logical date, or the instance of a map index.
 #[derive(Drop)]
 pub struct SeedAsked {
     pub task: String,
     pub run: String,
+    pub index: Option<i32>,
 }
 
-/// `clear GRAPH REPORT RANGE --task ID --run T [--table PATH] [--workers N] [--progress] [--launcher PATH] [--logs FOLDER]
-/// [--journal PATH ..] [--quiet]`: a backfill that goes on from its report, where a task in a run and all that
-/// follows from it is cleared. Tries are answered from a table where one is named, else by the programs of the tasks, as `run`
+/// What is cleared.
+#[derive(Drop)]
+pub enum ClearedAsked {
+    /// `--task ID --run T [--index N] ..`: the first task in the first run with the first index, and so on.
+    Seeds(Vec<SeedAsked>),
+    /// `--seeds PATH`: the lines of a file.
+    File(String),
+    /// `--failed`: each instance that failed.
+    Failed,
+}
+
+/// `clear GRAPH REPORT RANGE CLEARED [--table PATH] [--workers N] [--progress] [--launcher PATH] [--logs FOLDER]
+/// [--journal PATH ..] [--quiet]`: a backfill that goes on from its report, where some tasks in runs and all that
+/// follows from them are cleared. Tries are answered from a table where one is named, else by the programs of the tasks, as `run`
 /// starts them.
 #[derive(Drop)]
 pub struct ClearAsked {
     pub graph: GraphAsked,
     pub report: String,
     pub range: RangeAsked,
-    pub seed: SeedAsked,
+    pub cleared: ClearedAsked,
     pub table: Option<String>,
     pub workers: Workers,
     pub progress: bool,
@@ -106,6 +118,24 @@ pub struct ClearAsked {
     pub launcher: Option<String>,
     pub logs: Option<String>,
     pub journal: Option<JournalAsked>,
+}
+
+/// `clear GRAPH REPORT RANGE CLEARED --plan`: what is cleared then.
+#[derive(Drop)]
+pub struct ClearPlanAsked {
+    pub graph: GraphAsked,
+    pub report: String,
+    pub range: RangeAsked,
+    pub cleared: ClearedAsked,
+}
+
+/// `page GRAPH REPORT [--states-only]`: the page that shows a report, from which its values are left out where only the states
+/// are asked for.
+#[derive(Drop)]
+pub struct PageAsked {
+    pub graph: GraphAsked,
+    pub report: String,
+    pub states_only: bool,
 }
 
 /// A format that a file of its own is written in, and that has a schema.
@@ -133,6 +163,11 @@ pub enum Asked {
     Dry(DryAsked),
     Run(RunAsked),
     Clear(ClearAsked),
+    /// What `Clear` would clear.
+    ClearPlan(ClearPlanAsked),
+    /// `show --json REPORT`: the task instances of a report, as lines of JSON.
+    ShowJson(String),
+    Page(PageAsked),
     /// `schema FORMAT`: the schema of the files of a format.
     Schema(Format),
     /// `completions SHELL`: what a shell completes.

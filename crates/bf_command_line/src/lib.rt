@@ -7,9 +7,11 @@ mod draft;
 mod forms;
 mod reading;
 mod refusal;
+mod viewing;
 
 pub use forms::{
-    Asked, CheckAsked, ClearAsked, CommandLine, DryAsked, Format, GraphAsked, JournalAsked,
-    ListAsked, RangeAsked, RunAsked, SeedAsked, Shell, SingleAsked, StartsAsked,
+    Asked, CheckAsked, ClearAsked, ClearPlanAsked, ClearedAsked, CommandLine, DryAsked, Format,
+    GraphAsked, JournalAsked, ListAsked, PageAsked, RangeAsked, RunAsked, SeedAsked, Shell,
+    SingleAsked, StartsAsked,
 };
 pub use reading::asked;

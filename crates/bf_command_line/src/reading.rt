@@ -1,16 +1,21 @@
 //! Reads a command line.
-ghost use Rattle.std.specs.Prelude.{◌≡◌, IfOk, map, option_map, string_bytes, Some, codes};
+ghost use Rattle.std.specs.Prelude.{◌≡◌, IfOk, map, length, slice_get, option_map, string_bytes, Some, codes};
 ghost use Rattle.clap.specs.Words.{fault_of, FailsBy, subcommand_of, first_of, found_of, rows_of, subcommand_rows_of};
 ghost use Rattle.bf_command_line.specs.CommandLine.{backfill_app};
-ghost use Rattle.bf_command_line.specs.Wrongs.{format_words, found_wrongs, journal_wrongs, programs_wrongs, range_wrongs, shell_words, value_wrongs, wrongs_of};
-ghost use Rattle.bf_command_line.specs.Asked.{IsAskedBy, IsFormatBy, IsGraphBy, IsJournalBy, IsLineBy, IsNumberIfGiven, IsRangeBy, IsSeedBy, IsShellBy, IsStartsBy, IsWorkersBy, says_true};
+ghost use Rattle.bf_command_line.specs.Wrongs.{cleared_wrongs, clear_wrongs, format_words, found_wrongs, journal_wrongs, programs_wrongs, range_wrongs, seeds_wrongs, shell_words, value_wrongs, wrongs_of};
+ghost use Rattle.bf_command_line.specs.Asked.{has_seeds as has_seeds_in, texts_of as texts_in, AreSeedsBy, IsAskedBy, IsClearedBy, IsFormatBy, IsGraphBy, IsIntegerIfGiven, IsJournalBy, IsLineBy, IsNumberIfGiven, IsRangeBy, IsSeedAt, IsShellBy, IsStartsBy, IsWorkersBy, says_true};
 
 use crate::command::backfill;
 use crate::forms::{
-    Asked, CheckAsked, ClearAsked, CommandLine, DryAsked, Format, GraphAsked, JournalAsked,
-    ListAsked, RangeAsked, RunAsked, SeedAsked, Shell, SingleAsked, StartsAsked,
+    Asked, CheckAsked, ClearAsked, ClearPlanAsked, ClearedAsked, CommandLine, DryAsked, Format,
+    GraphAsked, JournalAsked, ListAsked, RangeAsked, RunAsked, SeedAsked, Shell, SingleAsked,
+    StartsAsked,
 };
-use crate::refusal::{no_format, no_journal, no_range, no_shell, two_ranges};
+use crate::refusal::{
+    cleared_twice, no_format, no_journal, no_range, no_shell, nothing_cleared, odd_indexes,
+    two_ranges, unpaired,
+};
+use crate::viewing::{json_asked, page_asked};
 use bf_workers::Workers;
 use clap::{ArgMatches, Error};
 use std::alloc::{AllocError, Global};
@@ -77,11 +82,13 @@ fn over_graph_asked(
     match name {
         "check" => check_asked(alloc, matches),
         "single" => single_asked(alloc, matches),
+        "show" => json_asked(alloc, matches),
+        "page" => page_asked(alloc, matches),
         _ => Err(AllocError),
     }
 }
 
-fn graph_asked(alloc: Global, matches: &ArgMatches<'_>) -> Result<GraphAsked, AllocError>
+pub(crate) fn graph_asked(alloc: Global, matches: &ArgMatches<'_>) -> Result<GraphAsked, AllocError>
     ensures { IfOk result (IsGraphBy (rows_of (found_of matches.now))) }
 {
     Ok(GraphAsked {
@@ -115,13 +122,116 @@ fn range_asked(alloc: Global, name: &str, matches: &ArgMatches<'_>) -> Result<Ra
     Ok(RangeAsked { starts, some })
 }
 
-fn seed_asked(alloc: Global, matches: &ArgMatches<'_>) -> Result<SeedAsked, AllocError>
-    ensures { IfOk result (IsSeedBy (rows_of (found_of matches.now))) }
+/// How many values an argument has.
+fn count_of(matches: &ArgMatches<'_>, id: &str) -> usize
+    ensures { result ≡ length (texts_in id.now (rows_of (found_of matches.now))) }
+{
+    match matches.get_strs(id) {
+        Some(texts) => texts.len(),
+        None => 0,
+    }
+}
+
+/// The value of an argument in this place of its values.
+fn text_at<'a>(matches: &ArgMatches<'a>, id: &str, place: usize) -> Option<&'a str>
+    ensures { option_map (λ t. t.now) result ≡ slice_get (texts_in id.now (rows_of (found_of matches.now))) place }
+{
+    match matches.get_strs(id) {
+        Some(texts) => texts.get(place).copied(),
+        None => None,
+    }
+}
+
+fn required_at(
+    alloc: Global,
+    matches: &ArgMatches<'_>,
+    id: &str,
+    place: usize,
+) -> Result<String, AllocError>
+    ensures { IfOk result (λ t. slice_get (texts_in id.now (rows_of (found_of matches.now))) place ≡ Some (string_bytes t)) }
+{
+    match text_at(matches, id, place) {
+        Some(value) => String::from_str(alloc, value),
+        None => Err(AllocError),
+    }
+}
+
+fn index_at(matches: &ArgMatches<'_>, place: usize) -> Result<Option<i32>, AllocError>
+    ensures { IfOk result (IsIntegerIfGiven (slice_get (texts_in (codes "index") (rows_of (found_of matches.now))) place)) }
+{
+    let Some(text) = text_at(matches, "index", place) else {
+        return Ok(None);
+    };
+    match text.parse::<i32>() {
+        Ok(index) => Ok(Some(index)),
+        Err(_) => Err(AllocError),
+    }
+}
+
+fn seed_at(alloc: Global, matches: &ArgMatches<'_>, place: usize) -> Result<SeedAsked, AllocError>
+    ensures { IfOk result (IsSeedAt (rows_of (found_of matches.now)) place) }
 {
     Ok(SeedAsked {
-        task: required(alloc, matches, "task")?,
-        run: required(alloc, matches, "run")?,
+        task: required_at(alloc, matches, "task", place)?,
+        run: required_at(alloc, matches, "run", place)?,
+        index: index_at(matches, place)?,
     })
+}
+
+fn seeds_asked(alloc: Global, matches: &ArgMatches<'_>) -> Result<Vec<SeedAsked>, AllocError>
+    ensures { IfOk result (λ seeds. AreSeedsBy (rows_of (found_of matches.now)) seeds.items) }
+{
+    let mut seeds = Vec::new(alloc);
+    for place in 0..count_of(matches, "task") {
+        let seed = seed_at(alloc, matches, place)?;
+        seeds.push(seed)?;
+    }
+    Ok(seeds)
+}
+
+fn has_seeds(matches: &ArgMatches<'_>) -> bool
+    ensures { result ≡ has_seeds_in (rows_of (found_of matches.now)) }
+{
+    count_of(matches, "task") != 0
+        || count_of(matches, "run") != 0
+        || count_of(matches, "index") != 0
+}
+
+fn refuse_unpaired(alloc: Global, matches: &ArgMatches<'_>) -> Result<(), Error>
+    ensures { FailsBy (seeds_wrongs (rows_of (found_of matches.now))) result }
+{
+    let tasks = count_of(matches, "task");
+    let runs = count_of(matches, "run");
+    let indexes = count_of(matches, "index");
+    if tasks != runs {
+        return Err(unpaired(alloc)?);
+    }
+    if indexes != 0 && indexes != tasks {
+        return Err(odd_indexes(alloc)?);
+    }
+    Ok(())
+}
+
+/// What is cleared.
+fn cleared_asked(alloc: Global, matches: &ArgMatches<'_>) -> Result<ClearedAsked, Error>
+    ensures ok { IfOk result (IsClearedBy (rows_of (found_of matches.now))) }
+    ensures err { FailsBy (cleared_wrongs (rows_of (found_of matches.now))) result }
+{
+    let file = optional(alloc, matches, "seeds")?;
+    let seeds = has_seeds(matches);
+    let failed = is_told(matches, "failed");
+    match (file, seeds, failed) {
+        (None, true, false) => {
+            refuse_unpaired(alloc, matches)?;
+            let seeds = seeds_asked(alloc, matches)?;
+            Ok(ClearedAsked::Seeds(seeds))
+        }
+        (Some(path), false, false) => Ok(ClearedAsked::File(path)),
+        (None, false, true) => Ok(ClearedAsked::Failed),
+        (None, false, false) => Err(nothing_cleared(alloc)?),
+        (None, true, true) => Err(cleared_twice(alloc)?),
+        (Some(_), _, _) => Err(cleared_twice(alloc)?),
+    }
 }
 
 #[tactic(auto, using(crate::proofs::Rows::first_rows))]
@@ -139,7 +249,7 @@ fn workers_asked(matches: &ArgMatches<'_>) -> Result<Workers, AllocError>
 
 /// Whether a flag was given.
 #[tactic(auto, using(crate::proofs::Rows::first_rows))]
-fn is_told(matches: &ArgMatches<'_>, id: &str) -> bool
+pub(crate) fn is_told(matches: &ArgMatches<'_>, id: &str) -> bool
     ensures { result ≡ says_true (first_of id.now (rows_of (found_of matches.now))) }
 {
     match matches.get_str(id) {
@@ -248,17 +358,25 @@ fn programs_asked(alloc: Global, name: &str, matches: &ArgMatches<'_>) -> Result
 
 fn clear_asked(alloc: Global, name: &str, matches: &ArgMatches<'_>) -> Result<Asked, Error>
     ensures ok { IfOk result (IsAskedBy (Some (codes "clear", rows_of (found_of matches.now)))) }
-    ensures err { FailsBy (programs_wrongs (rows_of (found_of matches.now))) result }
+    ensures err { FailsBy (clear_wrongs (rows_of (found_of matches.now))) result }
 {
+    let cleared = cleared_asked(alloc, matches)?;
     let run = programs_asked(alloc, name, matches)?;
     let report = required(alloc, matches, "report")?;
-    let seed = seed_asked(alloc, matches)?;
     let table = optional(alloc, matches, "table")?;
+    if is_told(matches, "plan") {
+        return Ok(Asked::ClearPlan(ClearPlanAsked {
+            graph: run.graph,
+            report,
+            range: run.range,
+            cleared,
+        }));
+    }
     Ok(Asked::Clear(ClearAsked {
         graph: run.graph,
         report,
         range: run.range,
-        seed,
+        cleared,
         table,
         workers: run.workers,
         progress: run.progress,
@@ -308,7 +426,11 @@ fn optional(alloc: Global, matches: &ArgMatches<'_>, id: &str) -> Result<Option<
 }
 
 #[tactic(auto, using(crate::proofs::Rows::first_rows))]
-fn required(alloc: Global, matches: &ArgMatches<'_>, id: &str) -> Result<String, AllocError>
+pub(crate) fn required(
+    alloc: Global,
+    matches: &ArgMatches<'_>,
+    id: &str,
+) -> Result<String, AllocError>
     ensures { IfOk result (λ t. first_of id.now (rows_of (found_of matches.now)) ≡ Some (string_bytes t)) }
 {
     match matches.get_str(id) {

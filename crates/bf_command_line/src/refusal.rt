@@ -20,6 +20,17 @@ const NO_RANGE: &str = "the following required arguments were not provided:\n\
 const TWO_RANGES: &str =
     "the argument '--on <DAYS>' cannot be used with '--from <T>' or '--to <T>'";
 
+const NOTHING_CLEARED: &str = "the following required arguments were not provided:\n\
+    \x20 --task <ID> and --run <T>, or --seeds <PATH>, or --failed";
+
+const CLEARED_TWICE: &str =
+    "only one of '--task <ID>' with '--run <T>', '--seeds <PATH>' and '--failed' can be used";
+
+const UNPAIRED: &str =
+    "each '--task <ID>' needs a '--run <T>', and each '--run <T>' a '--task <ID>'";
+
+const ODD_INDEXES: &str = "as many '--index <N>' are needed as '--task <ID>', or none";
+
 const NO_SHELL: &str = "invalid value for '<SHELL>'\n\
     \x20 [possible values: bash, zsh, fish]";
 
@@ -66,6 +77,54 @@ pub(crate) fn no_journal(alloc: Global, name: &str) -> Result<Error, AllocError>
     ensures { IfOk result (λ e. kind_of e ≡ ErrorKind.MissingRequiredArgument) }
 {
     ranged_refusal(alloc, name, ErrorKind::MissingRequiredArgument, NO_JOURNAL)
+}
+
+/// What is said where it isn't told what is cleared.
+pub(crate) fn nothing_cleared(alloc: Global) -> Result<Error, AllocError>
+    ensures { IfOk result (λ e. kind_of e ≡ ErrorKind.MissingRequiredArgument) }
+{
+    refusal(
+        clear(alloc),
+        "backfill clear",
+        ErrorKind::MissingRequiredArgument,
+        NOTHING_CLEARED,
+    )
+}
+
+/// What is said where that is told in two ways.
+pub(crate) fn cleared_twice(alloc: Global) -> Result<Error, AllocError>
+    ensures { IfOk result (λ e. kind_of e ≡ ErrorKind.ArgumentConflict) }
+{
+    refusal(
+        clear(alloc),
+        "backfill clear",
+        ErrorKind::ArgumentConflict,
+        CLEARED_TWICE,
+    )
+}
+
+/// What is said of more tasks than runs, or fewer.
+pub(crate) fn unpaired(alloc: Global) -> Result<Error, AllocError>
+    ensures { IfOk result (λ e. kind_of e ≡ ErrorKind.MissingRequiredArgument) }
+{
+    refusal(
+        clear(alloc),
+        "backfill clear",
+        ErrorKind::MissingRequiredArgument,
+        UNPAIRED,
+    )
+}
+
+/// What is said of more map indexes than tasks, or fewer.
+pub(crate) fn odd_indexes(alloc: Global) -> Result<Error, AllocError>
+    ensures { IfOk result (λ e. kind_of e ≡ ErrorKind.WrongNumberOfValues) }
+{
+    refusal(
+        clear(alloc),
+        "backfill clear",
+        ErrorKind::WrongNumberOfValues,
+        ODD_INDEXES,
+    )
 }
 
 /// What is said of a word that is no format.

@@ -4,15 +4,7 @@ use Rattle.std.proofs.lemmas.Result.{IfErr-weaker}
 use Rattle.jiff.specs.declared.timestamp.Timestamp.{Timestamp}
 use Rattle.bf_value.specs.declared.name.JobName.{JobName}
 use Rattle.bf_xcom.specs.declared.values.Given.{Given}
-use Rattle.bf_read.specs.declared.draft.Draft.{Draft}
-use Rattle.bf_read.specs.declared.fault.ReadFault.{ReadFault}
-use Rattle.bf_read.specs.declared.fault.ReadFault.TheVariants as read
-use Rattle.bf_read.specs.Gives.{Fails}
-use Rattle.bf_read.specs.Reading.{graph_in}
 use Rattle.bf_plan.specs.Checked.{Checked}
-use Rattle.bf_check.specs.declared.fault.CheckFault.{CheckFault}
-use Rattle.bf_check.specs.declared.fault.CheckFault.TheVariants as check
-use Rattle.bf_check.specs.Refusals.{IsFaultOf}
 use Rattle.bf_plan.specs.declared.plan.Dag.{Dag}
 use Rattle.bf_interval.specs.declared.fault.IntervalFault.{IntervalFault}
 use Rattle.bf_interval.specs.declared.fault.IntervalFault.TheVariants as interval
@@ -25,26 +17,26 @@ use Rattle.bf_try.specs.Tries.{Look}
 use Rattle.bf_table.specs.declared.table.TableEntry.{TableEntry}
 use Rattle.bf_table.specs.declared.table.TableFault.{TableFault}
 use Rattle.bf_table.specs.Tables.{table_of}
-use Rattle.bf_device.specs.declared.sending.Cause.{Cause}
-use Rattle.bf_device.specs.declared.sending.Cause.TheVariants as cause
-use Rattle.bf_device.specs.declared.sending.WriteFault.{WriteFault}
-use Rattle.bf_command_fault.specs.Refusal.{Leaves, of_cause, of_check, of_range, of_read, of_write}
+use Rattle.bf_command_fault.specs.Refusal.{Leaves, of_range}
 use Rattle.bf_command_fault.specs.declared.fault.CommandFault.{CommandFault}
 use Rattle.bf_command_fault.specs.declared.fault.CommandFault.TheVariants.{Table, Range, OutOfMemory, CannotWrite, Stopped}
 use Rattle.bf_command_fault.specs.declared.range.RangeFault.{RangeFault}
-use Rattle.bf_command_fault.specs.declared.range.RangeFault.TheVariants.{Unlisted}
 use Rattle.bf_command_fault.specs.declared.stop.StopFault.{StopFault}
-use Rattle.bf_commands.specs.declared.range.RunRange.{RunRange}
+use Rattle.bf_planning.specs.declared.range.RunRange.{RunRange}
 use Rattle.bf_commands.specs.Cleared.{IsStopOrWantingAnew, IsStopOrWantingFrom}
 use Rattle.bf_commands.specs.DatedRuns.{IsFaultOfDry, IsReportIn}
-use Rattle.bf_commands.specs.Graphs.{IsFaultIn, IsFileOf, IsPlanOf}
-use Rattle.bf_commands.specs.Lists.{HasListing, IsFaultOfList, IsRangeFault}
+use Rattle.bf_planning.specs.Graphs.{IsFaultIn, IsPlanOf}
+use Rattle.bf_planning.specs.Lists.{HasListing, IsRangeFault}
 use Rattle.bf_commands.specs.OneRun.{IsFaultOfSingle, IsReportAt}
-use Rattle.bf_commands.specs.OverTable.{AnswersByTable, IsReportOver, IsTableFault, IsWanting, IsWantingWorkers}
-use Rattle.bf_commands.specs.Programs.{AreClocksOf, Hearing, IsFaultOfRun, IsRunReport, IsStop, IsStopOf, IsStopOfOrWanting, Losing, MayGiveUpLaunched, StopsRunning, launched_by, with_clocks}
+use Rattle.bf_commands.specs.OverTable.{AnswersByTable, IsReportOver, IsWantingWorkers}
+use Rattle.bf_planning.specs.Tables.{IsTableFault}
+use Rattle.bf_planning.specs.Wanting.{IsWanting}
+use Rattle.bf_planning.specs.Clocks.{AreClocksOf}
+use Rattle.bf_commands.specs.Programs.{Hearing, IsFaultOfRun, IsRunReport, IsStop, IsStopOf, IsStopOfOrWanting, Losing, MayGiveUpLaunched, StopsRunning, launched_by, with_clocks}
 use Rattle.bf_commands.specs.Reported.{IsReportBy, IsReportFrom}
 use Rattle.bf_commands.proofs.ByPrograms.{stop_weaker}
 use Rattle.bf_commands.proofs.FromKept.{from_nothing}
+use Rattle.bf_planning.proofs.Faults.{wanting_cases}
 
 -- ---- the whole
 
@@ -68,46 +60,19 @@ module _ {graph : List ℕ} {file : Option (List ℕ)} {plan : Checked} {range :
       let by : IsReportBy (MayAnswer (launched_by launching may_hear clocks) plan.dag found) plan.dag found text success = from_nothing text success from in
       record { draft = is.draft; found = found; graph_is = is.graph_is; listing = listing; clocks = clocks; clocks_are = are; reported = rw is.dag at by }
 
--- ---- the faults of parts
-
-pub read_fault : (graph : List ℕ) (file : Option (List ℕ)) (fault : ReadFault) → Fails fault (graph_in graph) → IsFaultIn graph file (of_read fault)
-read_fault graph file read.OutOfMemory is = tt
-read_fault graph file _ is = is
-
-pub check_fault : (graph : List ℕ) (file : Option (List ℕ)) (draft : Draft) → IsFileOf graph draft → (fault : CheckFault) → IsFaultOf draft file fault → IsFaultIn graph file (of_check fault)
-check_fault graph file draft says check.OutOfMemory is = tt
-check_fault graph file draft says _ is = (draft, says, is)
-
-pub range_fault : (graph : List ℕ) (file : Option (List ℕ)) (range : RunRange) (fault : IntervalFault) → HasListing graph file range (Err (Unlisted fault)) → IsRangeFault graph file range (of_range fault)
-range_fault graph file range interval.OutOfMemory is = tt
-range_fault graph file range _ is = is
-
-wanting_by : (c : Cause) (n : ℕ) → IsWanting (of_cause c n)
-wanting_by cause.Io n = tt
-wanting_by cause.OutOfMemory n = tt
-
-pub write_wanting : (fault : WriteFault) → IsWanting (of_write fault)
-write_wanting fault = wanting_by fault.cause fault.sent
-
 -- ---- by cases: each part of a command has but a few faults
 
 module _ (P : CommandFault → Type 0) where
-  -- memory is wanting, or room to write
-  wanting_cases : P OutOfMemory → ((n : ℕ) → P (CannotWrite n)) → (fault : CommandFault) → IsWanting fault → P fault
-  wanting_cases memory write OutOfMemory is = memory
-  wanting_cases memory write (CannotWrite n) is = write n
-  wanting_cases memory write _ is = absurd is
-
   -- so it is, or where workers are started, the thread of one is wanting
   pub workers_cases : (alone : Bool) → (alone ≡ false → P (Stopped StopFault.CannotStart)) → P OutOfMemory → ((n : ℕ) → P (CannotWrite n)) → (fault : CommandFault) → IsWantingWorkers alone fault → P fault
   workers_cases alone start memory write (Stopped StopFault.CannotStart) is = start is
-  workers_cases alone start memory write fault is = wanting_cases memory write fault is
+  workers_cases alone start memory write fault is = wanting_cases P memory write fault is
 
   -- a backfill with programs stops, or something is wanting
   pub stop_cases : (may_give_up : JobName → Given → Type 0) (logs : Option (List ℕ)) (dag : Dag) (intervals : List Interval) → ((stop : StopFault) → IsStopOf may_give_up logs dag intervals stop → P (Stopped stop))
       → P OutOfMemory → ((n : ℕ) → P (CannotWrite n)) → (fault : CommandFault) → IsStopOfOrWanting may_give_up logs dag intervals fault → P fault
   stop_cases may_give_up logs dag intervals stops memory write (Stopped stop) is = stops stop is
-  stop_cases may_give_up logs dag intervals stops memory write fault is = wanting_cases memory write fault is
+  stop_cases may_give_up logs dag intervals stops memory write fault is = wanting_cases P memory write fault is
 
   -- a table has a fault, or memory is wanting
   pub table_cases : (table : List ℕ) → ((fault : TableFault) → table_of table ≡ Err fault → P (Table fault)) → P OutOfMemory → (fault : CommandFault) → IsTableFault table fault → P fault
@@ -123,10 +88,6 @@ module _ (P : CommandFault → Type 0) where
   range_cases graph file range listed memory _ is = absurd is
 
 -- ---- the faults of parts are those of commands
-
-module _ (graph : List ℕ) (file : Option (List ℕ)) (range : RunRange) where
-  pub list_wanting : (fault : CommandFault) → IsWanting fault → IsFaultOfList graph file range fault
-  list_wanting = wanting_cases (IsFaultOfList graph file range) tt (λ n. tt)
 
 module _ (graph : List ℕ) (file : Option (List ℕ)) (table : List ℕ) (at : Timestamp) where
   pub single_table : (plan : Checked) → IsPlanOf graph file plan → (fault : CommandFault) → IsTableFault table fault → IsFaultOfSingle graph file table at fault

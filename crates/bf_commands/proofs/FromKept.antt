@@ -1,5 +1,5 @@
 -- Backfills that go on from what is kept, if anything is.
-use Rattle.std.proofs.Common.{◌≡◌, ℕ, Bool, List, [], ◌∷◌, length, Option, None, Some, Result, Ok, Err, IfOk, subst}
+use Rattle.std.proofs.Common.{◌≡◌, ℕ, Bool, List, length, Option, None, Some, Result, Ok, Err, IfOk, subst}
 use Rattle.bf_value.specs.declared.name.JobName.{JobName}
 use Rattle.bf_plan.specs.declared.plan.Dag.{Dag}
 use Rattle.bf_plan.specs.declared.plan.Limits.{Limits}
@@ -17,11 +17,8 @@ use Rattle.bf_core.specs.Events.{entry_in}
 use Rattle.bf_core.specs.declared.fault.BackfillFault.{BackfillFault}
 use Rattle.bf_exec.specs.Faults.{MayFail}
 use Rattle.bf_report.specs.declared.report.Report.{Report}
-use Rattle.bf_dependents.specs.declared.seeds.Seed.{Seed}
-use Rattle.bf_dependents.specs.Seeds.{places_of}
-use Rattle.bf_clear.specs.Keeping.{AreKept}
-use Rattle.bf_clear.specs.Matching.{clear_fault}
-use Rattle.bf_commands.specs.Cleared.{IsReportAfter, MayAnswerBy}
+use Rattle.bf_commands.specs.declared.cleared.ToClear.{ToClear}
+use Rattle.bf_commands.specs.Cleared.{IsKeptOf, IsReportAfter, MayAnswerBy}
 use Rattle.bf_commands.specs.OverTable.{AnswersByTable, answering}
 use Rattle.bf_commands.specs.Programs.{HearingTries}
 use Rattle.bf_commands.specs.Reported.{IsEndFrom, IsReportBy, IsReportFrom, IsReportOf}
@@ -56,11 +53,11 @@ reported_from {dag = dag} {intervals = intervals} {ending = ending} end is text 
   reported = subst (λ (d : Dag). IsReportOf d intervals (entry_in ending.state.ledger) text success) is.of.dag_is reports;
 }
 
--- the same of what is kept of a report where a seed is cleared
-pub reported_after : {may_hear : HearingTries} {answers : Option (List TableEntry)} {dag : Dag} {intervals : List Interval} {was : Report} {seed : Seed} {kept : Look} → clear_fault dag intervals was (seed ∷ []) ≡ None
-    → AreKept dag (places_of dag intervals (seed ∷ [])) was kept → (text : List ℕ) (success : Bool) → IsReportFrom kept (MayAnswerBy may_hear answers dag intervals) dag intervals text success
-    → IsReportAfter may_hear answers dag intervals was seed text success
-reported_after {kept = kept} none are text success reports = record { kept = kept; kept_is = record { not_refused = none; are_kept = are }; reported = reports }
+-- the same of what is kept of a report where this is cleared
+pub reported_after : {may_hear : HearingTries} {answers : Option (List TableEntry)} {dag : Dag} {intervals : List Interval} {was : Report} {what : ToClear} {kept : Look} → IsKeptOf dag intervals was what kept
+    → (text : List ℕ) (success : Bool) → IsReportFrom kept (MayAnswerBy may_hear answers dag intervals) dag intervals text success
+    → IsReportAfter may_hear answers dag intervals was what text success
+reported_after {kept = kept} is text success reports = record { kept = kept; kept_is = is; reported = reports }
 
 -- where what is kept could have been answered, the report is that of a backfill from nothing
 pub from_graded : {kept : Look} {may_answer : JobName → Given → Raw → Type 0} {dag : Dag} {intervals : List Interval} → AreGraded may_answer dag kept → (text : List ℕ) (success : Bool)

@@ -11,6 +11,6 @@ pub mod Results
 pub mod SameClocks
 pub mod Faults
 pub mod ClearFaults
+pub mod Headings
 pub mod OneList
 pub mod OneReport
-pub mod ListedIntervals

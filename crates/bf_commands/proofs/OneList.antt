@@ -17,11 +17,11 @@ use Rattle.bf_interval.proofs.OneListing as listings
 use Rattle.bf_days.specs.Listing.{AreIntervalsOn, StartsOn}
 use Rattle.bf_days.specs.declared.days.Days.{Days}
 use Rattle.bf_days.proofs.OneListing as day_listings
-use Rattle.bf_commands.specs.declared.range.RunRange.{RunRange}
-use Rattle.bf_commands.specs.declared.range.Starts.{Starts}
-use Rattle.bf_commands.specs.declared.range.Starts.TheVariants.{Between, On}
-use Rattle.bf_commands.specs.Lists.{HasListing}
-use Rattle.bf_commands.specs.Ranges.{IsStartsAnswer}
+use Rattle.bf_planning.specs.declared.range.RunRange.{RunRange}
+use Rattle.bf_planning.specs.declared.range.Starts.{Starts}
+use Rattle.bf_planning.specs.declared.range.Starts.TheVariants.{Between, On}
+use Rattle.bf_planning.specs.Lists.{HasListing}
+use Rattle.bf_planning.specs.Ranges.{IsStartsAnswer}
 use Rattle.bf_commands.proofs.SameClocks.{same_clocks}
 
 -- whether one of the days is shown where the clock is so many seconds ahead of UTC

@@ -22,9 +22,9 @@ use Rattle.bf_core.proofs.Confluence.{tries-same}
 use Rattle.bf_report.specs.declared.report.Report.{Report}
 use Rattle.bf_report.specs.Report.{report_text}
 use Rattle.bf_report.proofs.DatedFacts.{dated-once}
-use Rattle.bf_commands.specs.declared.range.RunRange.{RunRange}
+use Rattle.bf_planning.specs.declared.range.RunRange.{RunRange}
 use Rattle.bf_commands.specs.DatedRuns.{IsReportIn}
-use Rattle.bf_commands.specs.Graphs.{IsGraph}
+use Rattle.bf_planning.specs.Graphs.{IsGraph}
 use Rattle.bf_commands.specs.OneRun.{IsReportAt}
 use Rattle.bf_commands.specs.OverTable.{AnswersByTable, IsReportOver}
 use Rattle.bf_commands.specs.Reported.{IsReportOf, is_success}

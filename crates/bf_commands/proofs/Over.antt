@@ -1,14 +1,20 @@
 -- Backfills over a table.
-use Rattle.std.proofs.Common.{◌≡◌, ◌==◌, ◌&&◌, ℕ, zero, suc, Bool, true, false, List, [], ◌∷◌, map, All, refl, ◌∙◌, arith}
-use Rattle.std.proofs.lemmas.Bool.Decides.{nat_tests}
+use Rattle.std.proofs.Common.{◌≡◌, ◌≤◌, ℕ, zero, suc, List, [], ◌∷◌, map, All, ◌∙◌, arith}
 use Rattle.jiff.specs.declared.timestamp.Timestamp.{Timestamp}
+use Rattle.bf_value.specs.declared.name.JobName.{JobName}
 use Rattle.bf_plan.specs.declared.plan.Dag.{Dag}
+use Rattle.bf_plan.specs.declared.plan.Limits.{Limits}
 use Rattle.bf_interval.specs.declared.interval.Interval.{Interval}
 use Rattle.bf_interval.specs.Intervals.{IsShownInterval}
+use Rattle.bf_xcom.specs.declared.values.Given.{Given}
+use Rattle.bf_try.specs.declared.answers.Raw.{Raw}
+use Rattle.bf_try.specs.Tries.{Look}
+use Rattle.bf_core.specs.Endings.{Ending}
 use Rattle.bf_table.specs.declared.table.TableEntry.{TableEntry}
 use Rattle.bf_table.specs.Tables.{Answering, dates_of}
 use Rattle.bf_moment.specs.Moment.{IsShown}
-use Rattle.bf_commands.specs.OverTable.{answering, is_alone}
+use Rattle.bf_commands.specs.OverTable.{answering}
+use Rattle.bf_commands.specs.Reported.{IsEndFrom}
 
 -- a runner over the starts of the intervals answers as the table does for them
 pub answering_by : (dag : Dag) (table : List TableEntry) (intervals : List Interval) (starts : List Timestamp) (runner : Answering) → runner ≡ record { dag = dag; dates = dates_of starts; entries = table } → starts ≡ map (λ i. i.start) intervals
@@ -21,15 +27,13 @@ starts_shown [] shown k d below = let none : ⊥ = omega arith in absurd none
 starts_shown (i ∷ is) shown zero d below = (shown zero i (omega arith)).0
 starts_shown (i ∷ is) shown (suc k) d below = starts_shown is (λ j e l. shown (suc j) e (omega arith)) k d (omega arith)
 
--- who makes tries alone is one worker
-pub alone_one : (workers : ℕ) (progress : Bool) → is_alone workers progress ≡ true → workers ≡ 1
-alone_one workers true is = absurd (none (workers == 1) is)
-  where
-    none : (b : Bool) → (b && false) ≡ true → ⊥
-    none true e = cc
-    none false e = cc
-alone_one workers false is = let one : (workers == 1) ≡ true = first (workers == 1) is in grind (arith, nat_tests)
-  where
-    first : (b : Bool) → (b && true) ≡ true → b ≡ true
-    first true e = refl
-    first false e = e
+-- the end of a backfill in which no more tries ran at once than these is one in which no more did than those
+pub end_by_more : (kept : Look) (may_answer : JobName → Given → Raw → Type 0) (dag : Dag) (limits : Limits) (runs few many : ℕ) (ending : Ending) → few ≤ many
+    → IsEndFrom kept may_answer dag limits runs few ending → IsEndFrom kept may_answer dag limits runs many ending
+end_by_more kept may_answer dag limits runs few many ending more is = record {
+  of = is.of;
+  again = is.again;
+  anew = is.anew;
+  all = is.all;
+  within = record { within = λ before rest are. (let now = is.within.within before rest are in omega (arith, now, more)) };
+}

@@ -18,7 +18,7 @@ use Rattle.bf_command_fault.specs.declared.fault.CommandFault.{CommandFault}
 use Rattle.bf_command_fault.specs.declared.fault.CommandFault.TheVariants.{CannotWrite, Journal, OutOfMemory, Stopped}
 use Rattle.bf_command_fault.specs.declared.stop.StopFault.{StopFault}
 use Rattle.bf_commands.specs.Journaled.{HasTries, Heading, IsFaultOfJournal, IsFaultSince, IsStopRecordedOrWanting, IsToldAt, IsToldOfRecorded}
-use Rattle.bf_commands.specs.OverTable.{IsWanting}
+use Rattle.bf_planning.specs.Wanting.{IsWanting}
 
 -- ---- what is told of what stopped one
 

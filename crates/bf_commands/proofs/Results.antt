@@ -1,15 +1,9 @@
 -- What a function's result has by that of a function that it calls.
-use Rattle.std.proofs.Common.{◌≡◌, ℕ, Bool, List, Option, Result, Ok, Err, IfOk, IfErr, sym, subst}
-use Rattle.std.specs.Result.{IsErrAnd}
+use Rattle.std.proofs.Common.{ℕ, Bool, List, Option, Result, IfOk, IfErr}
 use Rattle.std.proofs.lemmas.Result.{IfOk-weaker}
 use Rattle.bf_command_fault.specs.Refusal.{Leaves, Sends}
 use Rattle.bf_command_fault.specs.declared.fault.CommandFault.{CommandFault}
 use Rattle.bf_command_fault.proofs.Leaving.{leaves_due_in}
-
--- what holds of a fault holds of the result by which a `?` hands it on
-pub handed_on : {A E : Type 0} {fault : E} (P : E → Type 0) (r : Result A E) → IsErrAnd r (λ e. e ≡ fault) → P fault → IfErr r P
-handed_on P (Ok x) same is = absurd same
-handed_on P (Err e) same is = subst P (sym same) is
 
 -- a text that is due for one reason is due for another: where it is sent, and where a fault leaves a part of it
 module _ {P Q : List ℕ → Bool → Type 0} (is : (text : List ℕ) (success : Bool) → P text success → Q text success) where

@@ -1,5 +1,5 @@
 -- What the command `clear` reports: a backfill that goes on from what is kept of a report.
-use Rattle.std.specs.Prelude.{◌≡◌, ℕ, ℤ, Bool, false, List, [], ◌∷◌, Option, Some, None, Ok, Err, option_map}
+use Rattle.std.specs.Prelude.{◌≡◌, ◌⊎◌, ℕ, ℤ, Bool, false, List, [], Option, Some, None, Ok, Err, option_map}
 use Rattle.bf_value.specs.declared.name.JobName.{JobName}
 use Rattle.bf_read.specs.declared.draft.Draft.{Draft}
 use Rattle.bf_check.specs.Checking.{dag_of}
@@ -13,21 +13,30 @@ use Rattle.bf_try.specs.Tries.{Look}
 use Rattle.bf_process.specs.Words.{LaunchingOf, MayAnswer}
 use Rattle.bf_kept.specs.Kept.{MayGiveUpAnew}
 use Rattle.bf_report.specs.declared.report.Report.{Report}
-use Rattle.bf_report.specs.Report.{report_text}
-use Rattle.bf_report_reader.specs.Rules.{IsShownReport}
+use Rattle.bf_report_reader.specs.Reading.{IsReadAs}
 use Rattle.bf_dependents.specs.declared.fault.ClearFault.{ClearFault}
+use Rattle.bf_dependents.specs.declared.place.Place.{Place}
 use Rattle.bf_dependents.specs.declared.seeds.Seed.{Seed}
-use Rattle.bf_dependents.specs.Seeds.{places_of}
+use Rattle.bf_dependents.specs.Seeds.{places_of, seed_fault}
+use Rattle.bf_seeds.specs.declared.fault.SeedsFault.{SeedsFault}
+use Rattle.bf_seeds.specs.declared.fault.SeedsFault.TheVariants.{Unknown}
+use Rattle.bf_seeds.specs.Seeds.{AreSeedsOfFile, IsFaultOfFile}
+use Rattle.bf_clear.specs.Failing.{AreFailed}
 use Rattle.bf_clear.specs.Keeping.{AreKept}
 use Rattle.bf_clear.specs.Matching.{clear_fault}
 use Rattle.bf_command_fault.specs.declared.fault.CommandFault.{CommandFault}
-use Rattle.bf_command_fault.specs.declared.fault.CommandFault.TheVariants.{Clear as NotCleared, Range, Stopped, Table}
+use Rattle.bf_command_fault.specs.declared.fault.CommandFault.TheVariants.{Clear as NotCleared, OutOfMemory, Range, Seeds as BadSeeds, Stopped, Table}
 use Rattle.bf_command_fault.specs.declared.stop.StopFault.{StopFault}
-use Rattle.bf_commands.specs.declared.range.RunRange.{RunRange}
-use Rattle.bf_commands.specs.Graphs.{IsFaultIn, IsGraph}
-use Rattle.bf_commands.specs.Lists.{HasListing}
-use Rattle.bf_commands.specs.OverTable.{AnswersByTable, IsTableFault, IsWanting, IsWantingWorkers}
-use Rattle.bf_commands.specs.Programs.{AreClocksOf, Hearing, HearingTries, IsStopOf, IsStopOfOrWanting, Losing, MayGiveUpLaunched, launched_by, with_clocks}
+use Rattle.bf_commands.specs.declared.cleared.ToClear.{ToClear}
+use Rattle.bf_commands.specs.declared.cleared.ToClear.TheVariants as to_clear
+use Rattle.bf_planning.specs.declared.range.RunRange.{RunRange}
+use Rattle.bf_planning.specs.Graphs.{IsFaultIn, IsGraph}
+use Rattle.bf_planning.specs.Lists.{HasListing}
+use Rattle.bf_commands.specs.OverTable.{AnswersByTable, IsWantingWorkers}
+use Rattle.bf_planning.specs.Tables.{IsTableFault}
+use Rattle.bf_planning.specs.Wanting.{IsWanting}
+use Rattle.bf_planning.specs.Clocks.{AreClocksOf}
+use Rattle.bf_commands.specs.Programs.{Hearing, HearingTries, IsStopOf, IsStopOfOrWanting, Losing, MayGiveUpLaunched, launched_by, with_clocks}
 use Rattle.bf_commands.specs.Reported.{IsReportFrom}
 
 -- the answers of the table where there is one, and else what is heard of tries
@@ -35,20 +44,23 @@ abbrev pub MayAnswerBy : HearingTries → Option (List TableEntry) → Dag → L
 MayAnswerBy may_hear (Some entries) dag intervals n given raw = AnswersByTable dag entries intervals n given raw
 MayAnswerBy may_hear None dag intervals n given raw = MayAnswer may_hear dag intervals n given raw
 
--- the bytes say a report, by the rules by which reports are read
-pub record IsReadAs (bytes : List ℕ) (report : Report) : Type 0 where
-  pub text_is : bytes ≡ report_text report
-  pub shown : IsShownReport report
+-- the places that are cleared: of seeds whose tasks and runs are known, of those that a file's lines name, or of the instances that failed
+abbrev pub AreCleared : Dag → List Interval → Report → ToClear → List Place → Type 0
+AreCleared dag intervals was (to_clear.Seeds seeds) places = (seed_fault dag intervals seeds.items ≡ None) × (places ≡ places_of dag intervals seeds.items)
+AreCleared dag intervals was (to_clear.File bytes) places = (seeds : List Seed) × AreSeedsOfFile dag intervals bytes.items seeds × (places ≡ places_of dag intervals seeds)
+AreCleared dag intervals was to_clear.Failed places = AreFailed dag intervals was places
 
--- the report is one of the plan over these data intervals, the seed one of its tasks in one of its runs, and this is what is kept
-pub record IsKeptOf (dag : Dag) (intervals : List Interval) (was : Report) (seed : Seed) (kept : Look) : Type 0 where
-  pub not_refused : clear_fault dag intervals was (seed ∷ []) ≡ None
-  pub are_kept : AreKept dag (places_of dag intervals (seed ∷ [])) was kept
+-- the report is one of the plan over these data intervals, what is cleared is known there, and this is what is kept
+pub record IsKeptOf (dag : Dag) (intervals : List Interval) (was : Report) (what : ToClear) (kept : Look) : Type 0 where
+  pub places : List Place
+  pub are_cleared : AreCleared dag intervals was what places
+  pub not_refused : clear_fault dag intervals was [] ≡ None
+  pub are_kept : AreKept dag places was kept
 
--- the text is the report of the backfill that goes on from what is kept of this report where this seed is cleared
-pub record IsReportAfter (may_hear : HearingTries) (answers : Option (List TableEntry)) (dag : Dag) (intervals : List Interval) (was : Report) (seed : Seed) (text : List ℕ) (success : Bool) : Type 0 where
+-- the text is the report of the backfill that goes on from what is kept of this report where this is cleared
+pub record IsReportAfter (may_hear : HearingTries) (answers : Option (List TableEntry)) (dag : Dag) (intervals : List Interval) (was : Report) (what : ToClear) (text : List ℕ) (success : Bool) : Type 0 where
   pub kept : Look
-  pub kept_is : IsKeptOf dag intervals was seed kept
+  pub kept_is : IsKeptOf dag intervals was what kept
   pub reported : IsReportFrom kept (MayAnswerBy may_hear answers dag intervals) dag intervals text success
 
 -- the table's bytes say these answers, where there is a table
@@ -56,8 +68,8 @@ abbrev pub AreAnswersIn : Option (List ℕ) → Option (List TableEntry) → Typ
 AreAnswersIn table answers = option_map table_of table ≡ option_map Ok answers
 
 -- the bytes say a graph, which has no fault, a table where there is one, and a report of the graph's runs in the range; and the
--- text is the report of the backfill that goes on from it where the seed is cleared
-pub record IsClearReport (launching : LaunchingOf) (may_hear : Hearing) (graph : List ℕ) (file table : Option (List ℕ)) (report : List ℕ) (range : RunRange) (seed : Seed) (text : List ℕ) (success : Bool) : Type 0 where
+-- text is the report of the backfill that goes on from it where this is cleared
+pub record IsClearReport (launching : LaunchingOf) (may_hear : Hearing) (graph : List ℕ) (file table : Option (List ℕ)) (report : List ℕ) (range : RunRange) (what : ToClear) (text : List ℕ) (success : Bool) : Type 0 where
   pub draft : Draft
   pub answers : Option (List TableEntry)
   pub found : List Interval
@@ -68,7 +80,7 @@ pub record IsClearReport (launching : LaunchingOf) (may_hear : Hearing) (graph :
   pub report_says : IsReadAs report was
   pub clocks : List ℤ
   pub clocks_are : AreClocksOf graph file found clocks
-  pub reported : IsReportAfter (launched_by launching may_hear clocks) answers (dag_of draft) found was seed text success
+  pub reported : IsReportAfter (launched_by launching may_hear clocks) answers (dag_of draft) found was what text success
 
 -- ---- what goes wrong
 
@@ -96,12 +108,39 @@ IsFaultBefore graph file table range (Table fault) = (draft : Draft) × IsGraph 
 IsFaultBefore graph file table range (Range fault) = (answers : Option (List TableEntry)) × AreAnswersIn table answers × HasListing graph file range (Err fault)
 IsFaultBefore graph file table range fault = IsFaultIn graph file fault
 
--- they have none, the bytes say a report, and the seed isn't cleared in it for this
-pub record IsUnclearable (graph : List ℕ) (file table : Option (List ℕ)) (report : List ℕ) (range : RunRange) (seed : Seed) (fault : ClearFault) : Type 0 where
+-- the task or the run of a seed is unknown: of the first task, and else of the first run, or by lines of a file
+abbrev pub IsUnknownSeed : Dag → List Interval → ToClear → ClearFault → Type 0
+IsUnknownSeed dag intervals (to_clear.Seeds seeds) fault = seed_fault dag intervals seeds.items ≡ Some fault
+IsUnknownSeed dag intervals (to_clear.File bytes) fault = IsFaultOfFile dag intervals bytes.items (Unknown fault)
+IsUnknownSeed dag intervals to_clear.Failed fault = ⊥
+
+-- the file is refused for this
+abbrev pub IsBadFile : Dag → List Interval → ToClear → SeedsFault → Type 0
+IsBadFile dag intervals (to_clear.File bytes) fault = IsFaultOfFile dag intervals bytes.items fault
+IsBadFile dag intervals _ fault = ⊥
+
+-- what is to be cleared isn't known for this
+abbrev pub IsUnknown : Dag → List Interval → ToClear → CommandFault → Type 0
+IsUnknown dag intervals what (NotCleared fault) = IsUnknownSeed dag intervals what fault
+IsUnknown dag intervals what (BadSeeds fault) = IsBadFile dag intervals what fault
+IsUnknown dag intervals what OutOfMemory = Unit {0}
+IsUnknown dag intervals what fault = ⊥
+
+-- it is known, and the report is none of the plan over these data intervals
+abbrev pub IsMismatch : Dag → List Interval → Report → ToClear → ClearFault → Type 0
+IsMismatch dag intervals was what fault = (places : List Place) × AreCleared dag intervals was what places × (clear_fault dag intervals was [] ≡ Some fault)
+
+-- nothing is cleared for this; or memory is wanting
+abbrev pub IsUncleared : Dag → List Interval → Report → ToClear → CommandFault → Type 0
+IsUncleared dag intervals was what (NotCleared fault) = IsUnknownSeed dag intervals what fault ⊎ IsMismatch dag intervals was what fault
+IsUncleared dag intervals was what fault = IsUnknown dag intervals what fault
+
+-- they have none, the bytes say a report, and nothing is cleared in it for this
+pub record IsUnclearable (graph : List ℕ) (file table : Option (List ℕ)) (report : List ℕ) (range : RunRange) (what : ToClear) (fault : CommandFault) : Type 0 where
   pub ready : IsReady graph file table range
   pub was : Report
   pub report_says : IsReadAs report was
-  pub fault_is : clear_fault ready.dag ready.found was (seed ∷ []) ≡ Some fault
+  pub fault_is : IsUncleared ready.dag ready.found was what fault
 
 -- where a table answers and workers are started, one can't be; else the backfill stops as one of programs does, but at no try
 -- that is kept
@@ -109,19 +148,20 @@ abbrev pub IsStopFrom : Bool → Look → LaunchingOf → Losing → Option (Lis
 IsStopFrom alone kept launching may_lose (Some entries) dag intervals stop = (stop ≡ StopFault.CannotStart) × (alone ≡ false)
 IsStopFrom alone kept launching may_lose None dag intervals stop = IsStopOf (MayGiveUpAnew kept (MayGiveUpLaunched launching may_lose dag intervals)) launching.logs dag intervals stop
 
--- the fault is the first: the seed isn't cleared in the report for this; or it is, and the backfill stops; or memory or the device is wanting
-abbrev pub IsFaultAgain : Bool → LaunchingOf → Losing → Option (List TableEntry) → Dag → List Interval → Report → Seed → CommandFault → Type 0
-IsFaultAgain alone launching may_lose answers dag intervals was seed (NotCleared fault) = clear_fault dag intervals was (seed ∷ []) ≡ Some fault
-IsFaultAgain alone launching may_lose answers dag intervals was seed (Stopped stop) = (kept : Look) × IsKeptOf dag intervals was seed kept × IsStopFrom alone kept launching may_lose answers dag intervals stop
-IsFaultAgain alone launching may_lose answers dag intervals was seed fault = IsWanting fault
+-- the fault is the first: nothing is cleared in the report for this; or it is, and the backfill stops; or memory or the device is wanting
+abbrev pub IsFaultAgain : Bool → LaunchingOf → Losing → Option (List TableEntry) → Dag → List Interval → Report → ToClear → CommandFault → Type 0
+IsFaultAgain alone launching may_lose answers dag intervals was what (NotCleared fault) = IsUncleared dag intervals was what (NotCleared fault)
+IsFaultAgain alone launching may_lose answers dag intervals was what (BadSeeds fault) = IsUncleared dag intervals was what (BadSeeds fault)
+IsFaultAgain alone launching may_lose answers dag intervals was what (Stopped stop) = (kept : Look) × IsKeptOf dag intervals was what kept × IsStopFrom alone kept launching may_lose answers dag intervals stop
+IsFaultAgain alone launching may_lose answers dag intervals was what fault = IsWanting fault
 
--- they have none, the bytes say a report, the seed is cleared in it, and the backfill that goes on from it stops
-pub record StopsClearing (alone : Bool) (launching : LaunchingOf) (may_lose : Losing) (graph : List ℕ) (file table : Option (List ℕ)) (report : List ℕ) (range : RunRange) (seed : Seed) (stop : StopFault) : Type 0 where
+-- they have none, the bytes say a report, this is cleared in it, and the backfill that goes on from it stops
+pub record StopsClearing (alone : Bool) (launching : LaunchingOf) (may_lose : Losing) (graph : List ℕ) (file table : Option (List ℕ)) (report : List ℕ) (range : RunRange) (what : ToClear) (stop : StopFault) : Type 0 where
   pub ready : IsReady graph file table range
   pub was : Report
   pub report_says : IsReadAs report was
   pub kept : Look
-  pub kept_is : IsKeptOf ready.dag ready.found was seed kept
+  pub kept_is : IsKeptOf ready.dag ready.found was what kept
   pub stops : IsStopFrom alone kept (with_clocks launching ready.clocks) may_lose ready.answers ready.dag ready.found stop
 
 -- ---- for private clauses
@@ -139,3 +179,9 @@ IsStopOrWantingFrom alone kept launching may_lose None dag intervals fault = IsS
 -- the fault is that of the table's bytes, where there are some
 abbrev pub IsFaultOfNamed : Option (List ℕ) → CommandFault → Type 0
 IsFaultOfNamed table fault = (bytes : List ℕ) × (table ≡ Some bytes) × IsTableFault bytes fault
+
+-- the first task of the seeds that is unknown, and else a run, is the fault; or memory is wanting
+abbrev pub IsUnknownNamed : Dag → List Interval → List Seed → CommandFault → Type 0
+IsUnknownNamed dag intervals seeds (NotCleared fault) = seed_fault dag intervals seeds ≡ Some fault
+IsUnknownNamed dag intervals seeds OutOfMemory = Unit {0}
+IsUnknownNamed dag intervals seeds fault = ⊥

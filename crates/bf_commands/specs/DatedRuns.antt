@@ -8,10 +8,11 @@ use Rattle.bf_table.specs.Tables.{table_of}
 use Rattle.bf_command_fault.specs.declared.fault.CommandFault.{CommandFault}
 use Rattle.bf_command_fault.specs.declared.fault.CommandFault.TheVariants.{Table, Range, CannotWrite, Stopped}
 use Rattle.bf_command_fault.specs.declared.stop.StopFault.{StopFault}
-use Rattle.bf_commands.specs.declared.range.RunRange.{RunRange}
-use Rattle.bf_commands.specs.Graphs.{IsGraph, IsFaultIn}
-use Rattle.bf_commands.specs.Lists.{HasListing}
-use Rattle.bf_commands.specs.OverTable.{IsReportOver, IsTable}
+use Rattle.bf_planning.specs.declared.range.RunRange.{RunRange}
+use Rattle.bf_planning.specs.Graphs.{IsGraph, IsFaultIn}
+use Rattle.bf_planning.specs.Lists.{HasListing}
+use Rattle.bf_commands.specs.OverTable.{IsReportOver}
+use Rattle.bf_planning.specs.Tables.{IsTable}
 
 -- the bytes say a graph, which has no fault, and a table, and the text is the report of the graph's runs in the range over that
 pub record IsReportIn (graph : List ℕ) (file : Option (List ℕ)) (table : List ℕ) (range : RunRange) (text : List ℕ) (success : Bool) : Type 0 where

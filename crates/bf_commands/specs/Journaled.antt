@@ -1,10 +1,10 @@
 -- What is reported of a backfill that records its tries: it goes on from those of its journal, and else from those that were kept before.
-use Rattle.std.specs.Prelude.{◌≡◌, ℕ, ℤ, Bool, true, List, [], ◌∷◌, Option, Some, Ok}
+use Rattle.std.specs.Prelude.{◌≡◌, ℕ, ℤ, Bool, List, [], ◌∷◌, ◌++◌, slice_get, Option, Some, None, Ok}
 use Rattle.bf_value.specs.declared.name.JobName.{JobName}
 use Rattle.bf_read.specs.declared.draft.Draft.{Draft}
 use Rattle.bf_check.specs.Checking.{dag_of}
 use Rattle.bf_plan.specs.declared.plan.Dag.{Dag}
-use Rattle.bf_moment.specs.declared.moment.Moment.{Moment}
+use Rattle.bf_plan.specs.Plans.{task_of}
 use Rattle.bf_interval.specs.declared.interval.Interval.{Interval}
 use Rattle.bf_xcom.specs.declared.values.Given.{Given}
 use Rattle.bf_try.specs.declared.answers.Raw.{Raw}
@@ -13,35 +13,51 @@ use Rattle.bf_table.specs.declared.table.TableEntry.{TableEntry}
 use Rattle.bf_core.specs.declared.fault.BackfillFault.{BackfillFault}
 use Rattle.bf_kept.specs.Kept.{IsNew, nothing}
 use Rattle.bf_process.specs.Words.{LaunchingOf, MayAnswer}
+use Rattle.bf_journal.specs.declared.head.ClearedTask.{ClearedTask}
 use Rattle.bf_journal.specs.Found.{IsFault}
 use Rattle.bf_journal.specs.Heads.{head_text}
 use Rattle.bf_journal.specs.Left.{IsFoundIn}
 use Rattle.bf_journal.specs.Since.{left_of, since}
 use Rattle.bf_report.specs.declared.report.Report.{Report}
-use Rattle.bf_dependents.specs.declared.fault.ClearFault.{ClearFault}
-use Rattle.bf_dependents.specs.declared.seeds.Seed.{Seed}
-use Rattle.bf_dependents.specs.Seeds.{is_unknown_run}
+use Rattle.bf_dependents.specs.declared.place.Place.{Place}
 use Rattle.bf_command_fault.specs.declared.fault.CommandFault.{CommandFault}
-use Rattle.bf_command_fault.specs.declared.fault.CommandFault.TheVariants.{Clear as NotCleared, Journal as BadJournal, OutOfMemory, Stopped}
+use Rattle.bf_command_fault.specs.declared.fault.CommandFault.TheVariants.{Journal as BadJournal, OutOfMemory, Stopped}
 use Rattle.bf_command_fault.specs.declared.stop.StopFault.{StopFault}
-use Rattle.bf_clear.specs.Matching.{clear_fault}
-use Rattle.bf_commands.specs.declared.range.RunRange.{RunRange}
-use Rattle.bf_commands.specs.Cleared.{AreAnswersIn, IsKeptOf, IsReadAs, IsReady, MayAnswerBy}
-use Rattle.bf_commands.specs.Graphs.{IsGraph}
-use Rattle.bf_commands.specs.Lists.{HasListing}
-use Rattle.bf_commands.specs.OverTable.{IsWanting}
-use Rattle.bf_commands.specs.Programs.{AreClocksOf, Hearing, HearingTries, IsGivenUp, IsStopOf, launched_by}
+use Rattle.bf_commands.specs.declared.cleared.ToClear.{ToClear}
+use Rattle.bf_planning.specs.declared.range.RunRange.{RunRange}
+use Rattle.bf_report_reader.specs.Reading.{IsReadAs}
+use Rattle.bf_commands.specs.Cleared.{AreAnswersIn, IsKeptOf, IsReady, MayAnswerBy}
+use Rattle.bf_planning.specs.Graphs.{IsGraph}
+use Rattle.bf_planning.specs.Lists.{HasListing}
+use Rattle.bf_planning.specs.Wanting.{IsWanting}
+use Rattle.bf_planning.specs.Clocks.{AreClocksOf}
+use Rattle.bf_commands.specs.Programs.{Hearing, HearingTries, IsGivenUp, IsStopOf, launched_by}
 use Rattle.bf_commands.specs.Reported.{IsReportFrom}
 
--- what the head of a journal tells of what is cleared: a task, and the start of its run
+-- what the head of a journal tells of what is cleared
 abbrev pub Heading : Type 0
-Heading = List (List ℕ × Moment)
+Heading = List ClearedTask
 
--- of a backfill that clears a seed, it tells of that one
-pub record TellsOf (seed : Seed) (cleared : Heading) : Type 0 where
-  pub moment : Moment
-  pub is_start : moment.at.nanosecond ≡ seed.run.nanosecond
-  pub cleared_is : cleared ≡ (seed.task, moment) ∷ []
+-- the task of the place, the start of its run, and its index
+pub record IsToldOf (dag : Dag) (interval : Interval) (place : Place) (cleared : ClearedTask) : Type 0 where
+  pub task_is : cleared.task ≡ (task_of dag place.task).id
+  pub run_is : cleared.run.at.nanosecond ≡ interval.start.nanosecond
+  pub index_is : cleared.index ≡ place.index
+
+abbrev pub TellsFirst : Dag → Option Interval → Place → (Heading → Type 0) → Heading → Type 0
+TellsFirst dag None place TellsRest cleared = TellsRest cleared
+TellsFirst dag (Some interval) place TellsRest [] = ⊥
+TellsFirst dag (Some interval) place TellsRest (first ∷ rest) = IsToldOf dag interval place first × TellsRest rest
+
+-- of a backfill that clears these places, it tells of each, in order
+abbrev pub TellsOf : Dag → List Interval → List Place → Heading → Type 0
+TellsOf dag intervals [] cleared = cleared ≡ []
+TellsOf dag intervals (place ∷ places) cleared = TellsFirst dag (slice_get intervals place.run) place (TellsOf dag intervals places) cleared
+
+-- this is kept where it is cleared, and the head tells of the places
+pub record IsClearedBy (dag : Dag) (intervals : List Interval) (was : Report) (what : ToClear) (kept : Look) (cleared : Heading) : Type 0 where
+  pub kept_is : IsKeptOf dag intervals was what kept
+  pub tells : TellsOf dag intervals kept_is.places cleared
 
 -- ---- what is kept of a journal
 
@@ -70,17 +86,16 @@ pub record IsJournaledReport (launching : LaunchingOf) (may_hear : Hearing) (gra
   pub clocks_are : AreClocksOf graph file found clocks
   pub reported : IsReportSince nothing retry held [] (MayAnswer (launched_by launching may_hear clocks) (dag_of draft) found) (dag_of draft) found text success
 
--- the text is the report of the backfill that goes on from a journal, and else from what is kept of a report where the seed is cleared
-pub record IsJournaledAfter (may_hear : HearingTries) (answers : Option (List TableEntry)) (dag : Dag) (intervals : List Interval) (was : Report) (seed : Seed) (retry : Bool) (held : List ℕ) (text : List ℕ) (success : Bool) : Type 0 where
+-- the text is the report of the backfill that goes on from a journal, and else from what is kept of a report where this is cleared
+pub record IsJournaledAfter (may_hear : HearingTries) (answers : Option (List TableEntry)) (dag : Dag) (intervals : List Interval) (was : Report) (what : ToClear) (retry : Bool) (held : List ℕ) (text : List ℕ) (success : Bool) : Type 0 where
   pub kept : Look
-  pub kept_is : IsKeptOf dag intervals was seed kept
   pub cleared : Heading
-  pub tells : TellsOf seed cleared
+  pub cleared_is : IsClearedBy dag intervals was what kept cleared
   pub reported : IsReportSince kept retry held cleared (MayAnswerBy may_hear answers dag intervals) dag intervals text success
 
 -- the bytes say a graph, which has no fault, a table where there is one, and a report of the graph's runs in the range; and the text
--- is the report of the backfill that goes on from a journal of these bytes, and else from that report where the seed is cleared
-pub record IsJournaledClearReport (launching : LaunchingOf) (may_hear : Hearing) (graph : List ℕ) (file table : Option (List ℕ)) (report : List ℕ) (retry : Bool) (held : List ℕ) (range : RunRange) (seed : Seed) (text : List ℕ) (success : Bool) : Type 0 where
+-- is the report of the backfill that goes on from a journal of these bytes, and else from that report where this is cleared
+pub record IsJournaledClearReport (launching : LaunchingOf) (may_hear : Hearing) (graph : List ℕ) (file table : Option (List ℕ)) (report : List ℕ) (retry : Bool) (held : List ℕ) (range : RunRange) (what : ToClear) (text : List ℕ) (success : Bool) : Type 0 where
   pub draft : Draft
   pub answers : Option (List TableEntry)
   pub found : List Interval
@@ -91,7 +106,7 @@ pub record IsJournaledClearReport (launching : LaunchingOf) (may_hear : Hearing)
   pub report_says : IsReadAs report was
   pub clocks : List ℤ
   pub clocks_are : AreClocksOf graph file found clocks
-  pub reported : IsJournaledAfter (launched_by launching may_hear clocks) answers (dag_of draft) found was seed retry held text success
+  pub reported : IsJournaledAfter (launched_by launching may_hear clocks) answers (dag_of draft) found was what retry held text success
 
 -- ---- what goes wrong
 
@@ -122,28 +137,26 @@ pub record GoesWrong (most : Option ℕ) (logs : Option (List ℕ)) (graph : Lis
   pub listing : HasListing graph file range (Ok found)
   pub fault_is : IsFaultSince most nothing retry held [] logs (dag_of draft) found fault
 
--- the graph, the table and the range have no fault, the bytes say a report, and the seed is cleared in it
-pub record IsClearable (graph : List ℕ) (file table : Option (List ℕ)) (report : List ℕ) (range : RunRange) (seed : Seed) : Type 0 where
+-- the graph, the table and the range have no fault, the bytes say a report, and this is cleared in it
+pub record IsClearable (graph : List ℕ) (file table : Option (List ℕ)) (report : List ℕ) (range : RunRange) (what : ToClear) : Type 0 where
   pub ready : IsReady graph file table range
   pub was : Report
   pub report_says : IsReadAs report was
   pub kept : Look
-  pub kept_is : IsKeptOf ready.dag ready.found was seed kept
+  pub cleared : Heading
+  pub cleared_is : IsClearedBy ready.dag ready.found was what kept cleared
 
 -- so it is, and the backfill that goes on from a journal of these bytes, and else from that report, has this fault
-pub record GoesWrongClearing (most : Option ℕ) (logs : Option (List ℕ)) (graph : List ℕ) (file table : Option (List ℕ)) (report : List ℕ) (retry : Bool) (held : List ℕ) (range : RunRange) (seed : Seed) (fault : CommandFault) : Type 0 where
-  pub clearable : IsClearable graph file table report range seed
-  pub cleared : Heading
-  pub tells : TellsOf seed cleared
-  pub fault_is : IsFaultSince most clearable.kept retry held cleared logs clearable.ready.dag clearable.ready.found fault
-
--- the seed isn't cleared in the report for this; or memory is wanting
-abbrev pub IsFaultOfSeed : Dag → List Interval → Report → Seed → CommandFault → Type 0
-IsFaultOfSeed dag intervals was seed (NotCleared fault) = clear_fault dag intervals was (seed ∷ []) ≡ Some fault
-IsFaultOfSeed dag intervals was seed OutOfMemory = Unit {0}
-IsFaultOfSeed dag intervals was seed fault = ⊥
+pub record GoesWrongClearing (most : Option ℕ) (logs : Option (List ℕ)) (graph : List ℕ) (file table : Option (List ℕ)) (report : List ℕ) (retry : Bool) (held : List ℕ) (range : RunRange) (what : ToClear) (fault : CommandFault) : Type 0 where
+  pub clearable : IsClearable graph file table report range what
+  pub fault_is : IsFaultSince most clearable.kept retry held clearable.cleared logs clearable.ready.dag clearable.ready.found fault
 
 -- ---- for private clauses
+
+-- what is told of one place more, where its run is there
+abbrev pub AddsTold : Dag → Option Interval → Place → Heading → Heading → Type 0
+AddsTold dag None place before cleared = cleared ≡ before
+AddsTold dag (Some interval) place before cleared = (more : ClearedTask) × IsToldOf dag interval place more × (cleared ≡ before ++ more ∷ [])
 
 -- the journal is refused; or a write to it fails; or memory is wanting
 abbrev pub IsFaultOfJournal : Dag → List Interval → Heading → List ℕ → CommandFault → Type 0
@@ -156,12 +169,6 @@ IsFaultOfJournal dag intervals cleared held fault = ⊥
 abbrev pub IsStopRecordedOrWanting : Option ℕ → Look → Option (List ℕ) → Dag → List Interval → CommandFault → Type 0
 IsStopRecordedOrWanting most kept logs dag intervals (Stopped stop) = IsStopRecorded most kept logs dag intervals stop
 IsStopRecordedOrWanting most kept logs dag intervals fault = IsWanting fault
-
--- the run of the seed isn't there; or memory is wanting
-abbrev pub IsFaultOfHeading : List Interval → Seed → CommandFault → Type 0
-IsFaultOfHeading intervals seed (NotCleared ClearFault.UnknownRun) = is_unknown_run intervals seed ≡ true
-IsFaultOfHeading intervals seed OutOfMemory = Unit {0}
-IsFaultOfHeading intervals seed fault = ⊥
 
 -- what is told of a try that was given up while tries were recorded: why no further one was begun, or the try
 abbrev pub IsToldAt : Option ℕ → Option (List ℕ) → Dag → List Interval → JobName → CommandFault → Type 0

@@ -2,9 +2,7 @@ pub mod Reported
 pub mod OverTable
 pub mod OneRun
 pub mod DatedRuns
-pub mod Graphs
-pub mod Ranges
-pub mod Lists
 pub mod Programs
 pub mod Cleared
 pub mod Journaled
+pub mod Planned

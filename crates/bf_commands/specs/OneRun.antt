@@ -11,8 +11,9 @@ use Rattle.bf_table.specs.Tables.{table_of}
 use Rattle.bf_command_fault.specs.declared.fault.CommandFault.{CommandFault}
 use Rattle.bf_command_fault.specs.declared.fault.CommandFault.TheVariants.{Table, Range, CannotWrite}
 use Rattle.bf_command_fault.specs.declared.range.RangeFault.TheVariants.{Unlisted}
-use Rattle.bf_commands.specs.Graphs.{IsGraph, IsFaultIn}
-use Rattle.bf_commands.specs.OverTable.{IsReportOver, IsTable}
+use Rattle.bf_planning.specs.Graphs.{IsGraph, IsFaultIn}
+use Rattle.bf_commands.specs.OverTable.{IsReportOver}
+use Rattle.bf_planning.specs.Tables.{IsTable}
 
 -- the bytes say a graph, which has no fault, and a table, and the text is the report of one run of this over that
 pub record IsReportAt (graph : List ℕ) (file : Option (List ℕ)) (table : List ℕ) (at : Timestamp) (text : List ℕ) (success : Bool) : Type 0 where

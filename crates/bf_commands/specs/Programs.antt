@@ -1,6 +1,5 @@
 -- What the command `run` reports: a run for each data interval of a range, with the programs of its tasks.
-use Rattle.std.specs.Prelude.{◌≡◌, ℕ, ℤ, Bool, List, map, codes, Option, None, Some, Ok, Err}
-use Rattle.jiff.specs.Types.{TimeZone}
+use Rattle.std.specs.Prelude.{◌≡◌, ℕ, ℤ, Bool, List, codes, Option, None, Some, Ok, Err}
 use Rattle.bf_value.specs.declared.name.JobName.{JobName}
 use Rattle.bf_read.specs.declared.draft.Draft.{Draft}
 use Rattle.bf_check.specs.Checking.{dag_of}
@@ -10,20 +9,19 @@ use Rattle.bf_interval.specs.declared.interval.Interval.{Interval}
 use Rattle.bf_xcom.specs.declared.values.Given.{Given}
 use Rattle.bf_try.specs.declared.answers.Raw.{Raw}
 use Rattle.bf_core.specs.declared.fault.BackfillFault.{BackfillFault}
-use Rattle.bf_zone.specs.Zones.{asked, IsZone}
 use Rattle.bf_words.specs.declared.context.JobContext.{JobContext}
 use Rattle.bf_failure.specs.Tried.{IsContextOf, log_of}
-use Rattle.bf_process.specs.Clocks.{clock_in}
 use Rattle.bf_process.specs.Words.{Launched, LaunchingOf, MayAnswer, MayGiveUp, Tried, lost_through, through}
 use Rattle.bf_command_fault.specs.declared.fault.CommandFault.{CommandFault}
 use Rattle.bf_command_fault.specs.declared.fault.CommandFault.TheVariants.{OutOfMemory, Range, CannotWrite, Stopped}
 use Rattle.bf_command_fault.specs.declared.stop.StopFault.{StopFault}
-use Rattle.bf_commands.specs.declared.range.RunRange.{RunRange}
-use Rattle.bf_commands.specs.declared.plan.DatedPlan.{DatedPlan}
-use Rattle.bf_commands.specs.Graphs.{IsGraph, IsFaultIn}
-use Rattle.bf_commands.specs.Lists.{HasListing}
-use Rattle.bf_commands.specs.OverTable.{IsWanting}
+use Rattle.bf_planning.specs.declared.range.RunRange.{RunRange}
+use Rattle.bf_planning.specs.declared.plan.DatedPlan.{DatedPlan}
+use Rattle.bf_planning.specs.Graphs.{IsGraph, IsFaultIn}
+use Rattle.bf_planning.specs.Lists.{HasListing}
+use Rattle.bf_planning.specs.Wanting.{IsWanting}
 use Rattle.bf_commands.specs.Reported.{IsReportBy}
+use Rattle.bf_planning.specs.Clocks.{AreClocksOf, clocks_in}
 
 -- what is heard of programs that are started so
 abbrev pub Hearing : Type 1
@@ -44,18 +42,6 @@ with_clocks launching clocks = record launching { clocks = clocks }
 -- what is heard of tries that are launched so, with this that clocks show
 abbrev pub launched_by : LaunchingOf → Hearing → List ℤ → HearingTries
 launched_by launching may_hear clocks = through (with_clocks launching clocks) may_hear
-
--- this is what the clocks of the graph's zone show at the moments of these runs
-pub record AreClocksOf (graph : List ℕ) (file : Option (List ℕ)) (found : List Interval) (clocks : List ℤ) : Type 0 where
-  pub draft : Draft
-  pub graph_is : IsGraph graph file draft
-  pub zone : TimeZone
-  pub zone_is : IsZone (asked draft.zone) file zone
-  pub clocks_are : clocks ≡ map (λ run. clock_in zone run.start.nanosecond) found
-
--- what the clocks of a plan with its runs show
-abbrev pub clocks_in : DatedPlan → List ℤ
-clocks_in dated = map (λ clock. clock.at.nanosecond) dated.clocks.items
 
 -- what is heard of the tries of a plan with its runs that are launched so
 abbrev pub launched_in : DatedPlan → LaunchingOf → Hearing → HearingTries

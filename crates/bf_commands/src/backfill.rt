@@ -83,7 +83,7 @@ fn ended_over_table<'p, RT: Screen + Threads + Wait + Clock + Sync, K: KeptTries
     requires { AreFit plan.now.dag (K.kept kept.now) }
     ensures end { IfOk result (IsEndFrom (K.kept kept.now) (AnswersByTable plan.entry.now.dag table runs.now)
         plan.entry.now.dag plan.entry.now.limits (length runs.now) crew.now.workers) }
-    ensures wanting { IfErr result (IsWantingWorkers (is_alone crew.now.workers crew.now.progress)) }
+    ensures wanting { IfErr result (IsWantingWorkers (is_alone crew.now.progress)) }
     ensures unsent { IfErr result IsUnsent }
 {
     let runner = runner_over(crew.alloc, plan, table, runs)?;
@@ -93,6 +93,7 @@ fn ended_over_table<'p, RT: Screen + Threads + Wait + Clock + Sync, K: KeptTries
         runner: &runner,
     };
     if crew.is_alone() {
+        let _some = crew.workers.count();
         return ended_alone(plan, runs, &keeping);
     }
     match crew.resumed(plan, runs, &keeping, Jump::new()) {
@@ -146,7 +147,7 @@ fn ended<'p, RT: Starter + Screen + Threads + Wait + Clock + Sync, K: KeptTries 
     ensures end { IfOk result (IsEndFrom (K.kept kept.now)
         (MayAnswerBy (through (launching_of crew.now.launching) (RT.may_hear crew.now.rt.now)) answers plan.entry.now.dag runs.now)
         plan.entry.now.dag plan.entry.now.limits (length runs.now) crew.now.workers) }
-    ensures stop { IfErr result (IsStopOrWantingFrom (is_alone crew.now.workers crew.now.progress) (K.kept kept.now)
+    ensures stop { IfErr result (IsStopOrWantingFrom (is_alone crew.now.progress) (K.kept kept.now)
         (launching_of crew.now.launching) (RT.may_lose crew.now.rt.now) answers plan.entry.now.dag runs.now) }
     ensures unsent { IfErr result IsUnsent }
 {
@@ -174,7 +175,7 @@ pub(crate) fn write_backfill<
     ensures ok { IfOk result (λ success. Sends (λ text. IsReportFrom (K.kept kept.now)
         (MayAnswerBy (through (launching_of crew.now.launching) (RT.may_hear crew.now.rt.now)) answers plan.now.dag runs.now)
         plan.now.dag runs.now text success) (W.written out.old) (W.written out.new)) }
-    ensures stop { IfErr result (IsStopOrWantingFrom (is_alone crew.now.workers crew.now.progress) (K.kept kept.now)
+    ensures stop { IfErr result (IsStopOrWantingFrom (is_alone crew.now.progress) (K.kept kept.now)
         (launching_of crew.now.launching) (RT.may_lose crew.now.rt.now) answers plan.now.dag runs.now) }
     ensures left { IfErr result (Leaves (HasHalted (W.failures out.old) (W.failures out.new)
         (W.interruptions out.old) (W.interruptions out.new))

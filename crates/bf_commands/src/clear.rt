@@ -1,35 +1,33 @@
-//! The command `clear`: a backfill that goes on from its report, where a task in a run is cleared.
+//! The command `clear`: a backfill that goes on from its report, where some tasks in runs are cleared.
 ghost use Rattle.std.specs.Prelude.{◌≡◌, Bool, IfOk, IfErr, option_map};
 ghost use Rattle.bf_device.specs.Device.{HasHalted};
 ghost use Rattle.bf_command_fault.specs.Refusal.{Leaves, Sends};
 ghost use Rattle.bf_kept.specs.Kept.{AreFit};
 ghost use Rattle.bf_process.specs.Words.{launching_of};
 ghost use Rattle.bf_clear.specs.Keeping.{kept_in};
-ghost use Rattle.bf_commands.specs.Cleared.{AreAnswersIn, IsFaultAgain, IsFaultBefore, IsFaultOfNamed, IsKeptOf, IsPrepared, IsReportAfter, MayAnswerBy};
+ghost use Rattle.bf_commands.specs.Cleared.{AreAnswersIn, IsFaultAgain, IsFaultBefore, IsFaultOfNamed, IsPrepared, IsReportAfter, IsUncleared, MayAnswerBy};
 ghost use Rattle.bf_journal.specs.Heads.{head_text};
 ghost use Rattle.bf_journal.specs.Left.{KeepsJournal};
-ghost use Rattle.bf_commands.specs.Journaled.{IsFaultOfSeed, IsFaultSince, IsReportSince, TellsOf};
+ghost use Rattle.bf_commands.specs.Journaled.{IsClearedBy, IsFaultSince, IsReportSince};
 ghost use Rattle.bf_commands.specs.OverTable.{is_alone};
-ghost use Rattle.bf_commands.specs.Programs.{clocks_in, launched_in, with_clocks};
+ghost use Rattle.bf_planning.specs.Clocks.{clocks_in};
+ghost use Rattle.bf_commands.specs.Programs.{launched_in, with_clocks};
 
 use crate::backfill::write_backfill;
+use crate::cleared::{ToClear, places_to_clear};
 use crate::crew::Crew;
-use crate::heading::heading_of;
+use crate::heading::headings_of;
 use crate::journal::Journal;
 use crate::journaled::{Backfill, Recorded, record_backfill};
-use crate::plan::{DatedPlan, table_in, timed_plan_in};
-use crate::range::RunRange;
-use bf_clear::{Cleared, clear};
+use bf_clear::{Cleared, clear_places};
 use bf_command_fault::CommandFault;
-use bf_dependents::Seed;
 use bf_device::Write;
-use bf_journal::Cuttable;
-use bf_moment::Moment;
+use bf_journal::{ClearedTask, Cuttable};
+use bf_planning::{DatedPlan, RunRange, table_in, timed_plan_in};
 use bf_process::Starter;
 use bf_progress::Screen;
 use bf_report::Report;
 use bf_table::Table;
-use bf_value::Text;
 use std::alloc::Global;
 use std::sync::Wait;
 use std::thread::Threads;
@@ -75,65 +73,69 @@ pub fn prepare(
     Ok(Prepared { dated, answers })
 }
 
-/// Writes the report of a backfill that goes on from a report where a task in a run is cleared, with all that follows from it.
-/// Says whether every run is a success.
-pub fn run_again<RT: Starter + Screen + Threads + Wait + Clock + Sync, W: Write>(
-    crew: &Crew<'_, RT>,
-    prepared: Prepared,
-    report: &Report,
-    seed: Seed,
-    out: &mut W,
-) -> Result<bool, CommandFault>
-    ensures ok { IfOk result (λ success. Sends (λ text. IsReportAfter (launched_in prepared.dated (launching_of crew.now.launching) (RT.may_hear crew.now.rt.now))
-        prepared.answers prepared.dated.plan.dag prepared.dated.runs report.now seed text success)
-        (W.written out.old) (W.written out.new)) }
-    ensures fault { IfErr result (IsFaultAgain (is_alone crew.now.workers crew.now.progress)
-        (with_clocks (launching_of crew.now.launching) (clocks_in prepared.dated)) (RT.may_lose crew.now.rt.now)
-        prepared.answers prepared.dated.plan.dag prepared.dated.runs report.now seed) }
-    ensures left { IfErr result (Leaves (HasHalted (W.failures out.old) (W.failures out.new)
-        (W.interruptions out.old) (W.interruptions out.new))
-        (λ text. (success : Bool) × IsReportAfter (launched_in prepared.dated (launching_of crew.now.launching) (RT.may_hear crew.now.rt.now))
-        prepared.answers prepared.dated.plan.dag prepared.dated.runs report.now seed text success)
-        (W.written out.old) (W.written out.new)) }
-{
-    let Prepared { dated, answers } = prepared;
-    let seeds = [seed];
-    let kept = clear(crew.alloc, &dated.plan, &dated.runs, report, &seeds)?;
-    let crew = crew.at(&dated.clocks);
-    write_backfill(&crew, &dated.plan, &dated.runs, &kept, answers, out)
-}
-
 /// What a backfill goes over that goes on from its report, what is kept of that, and what the head of a journal tells of what is
 /// cleared.
 #[derive(Drop)]
 pub struct Clearing<'a> {
     pub dated: &'a DatedPlan,
     pub kept: Cleared<'a>,
-    pub cleared: Vec<(Text, Moment)>,
+    pub cleared: Vec<ClearedTask>,
 }
 
-/// Clears a task in a run of a report, with all that follows from it.
+/// Clears this in a report, with all that follows from it.
 pub fn clear_in<'a>(
     alloc: Global,
     dated: &'a DatedPlan,
     report: &'a Report,
-    seed: Seed,
+    what: ToClear,
 ) -> Result<Clearing<'a>, CommandFault>
     ensures dated { IfOk result (λ c. c.dated ≡ dated.entry) }
-    ensures kept { IfOk result (λ c. IsKeptOf dated.entry.now.plan.dag dated.entry.now.runs report.entry.now seed (kept_in c.kept)) }
+    ensures cleared { IfOk result (λ c. IsClearedBy dated.entry.now.plan.dag dated.entry.now.runs report.entry.now what (kept_in c.kept) c.cleared.items) }
     ensures fit { IfOk result (λ c. AreFit dated.entry.now.plan.dag (kept_in c.kept)) }
-    ensures tells { IfOk result (λ c. TellsOf seed c.cleared.items) }
-    ensures fault { IfErr result (IsFaultOfSeed dated.entry.now.plan.dag dated.entry.now.runs report.entry.now seed) }
+    ensures fault { IfErr result (IsUncleared dated.entry.now.plan.dag dated.entry.now.runs report.entry.now what) }
 {
-    let seeds = [seed];
-    let kept = clear(alloc, &dated.plan, &dated.runs, report, &seeds)?;
-    let [seed] = &seeds;
-    let cleared = heading_of(alloc, &dated.runs, seed)?;
+    let places = places_to_clear(alloc, dated, report, &what)?;
+    let kept = clear_places(alloc, &dated.plan, &dated.runs, report, places.as_slice())?;
+    let cleared = headings_of(alloc, &dated.plan, &dated.runs, places.as_slice())?;
     Ok(Clearing {
         dated,
         kept,
         cleared,
     })
+}
+
+/// Writes the report of a backfill that goes on from a report where this is cleared, with all that follows from it.
+/// Says whether every run is a success.
+pub fn run_again<RT: Starter + Screen + Threads + Wait + Clock + Sync, W: Write>(
+    crew: &Crew<'_, RT>,
+    prepared: Prepared,
+    report: &Report,
+    what: ToClear,
+    out: &mut W,
+) -> Result<bool, CommandFault>
+    ensures ok { IfOk result (λ success. Sends (λ text. IsReportAfter (launched_in prepared.dated (launching_of crew.now.launching) (RT.may_hear crew.now.rt.now))
+        prepared.answers prepared.dated.plan.dag prepared.dated.runs report.now what text success)
+        (W.written out.old) (W.written out.new)) }
+    ensures fault { IfErr result (IsFaultAgain (is_alone crew.now.progress)
+        (with_clocks (launching_of crew.now.launching) (clocks_in prepared.dated)) (RT.may_lose crew.now.rt.now)
+        prepared.answers prepared.dated.plan.dag prepared.dated.runs report.now what) }
+    ensures left { IfErr result (Leaves (HasHalted (W.failures out.old) (W.failures out.new)
+        (W.interruptions out.old) (W.interruptions out.new))
+        (λ text. (success : Bool) × IsReportAfter (launched_in prepared.dated (launching_of crew.now.launching) (RT.may_hear crew.now.rt.now))
+        prepared.answers prepared.dated.plan.dag prepared.dated.runs report.now what text success)
+        (W.written out.old) (W.written out.new)) }
+{
+    let Prepared { dated, answers } = prepared;
+    let clearing = clear_in(crew.alloc, &dated, report, what)?;
+    let crew = crew.at(&dated.clocks);
+    write_backfill(
+        &crew,
+        &dated.plan,
+        &dated.runs,
+        &clearing.kept,
+        answers,
+        out,
+    )
 }
 
 /// Goes on from a journal, and else from what is kept of a report, records each other try there as it ends, and writes the report.

@@ -131,11 +131,12 @@ impl<'m, RT> Crew<'m, RT> {
         }
     }
 
-    /// Whether the calling thread makes the tries that a table answers: one worker needs no threads, where no progress is told.
+    /// Whether the calling thread makes the tries that a table answers. To hand one to a worker takes longer than to answer it, so workers are started
+    /// only where progress is told beside them.
     pub(crate) fn is_alone(&self) -> bool
-        ensures { result ≡ alone_by self.now.workers self.now.progress }
+        ensures { result ≡ alone_by self.now.progress }
     {
-        self.workers.count() == 1 && !self.progress
+        !self.progress
     }
 }
 

@@ -7,11 +7,10 @@ ghost use Rattle.bf_commands.specs.OverTable.{is_alone};
 
 use crate::backfill::write_backfill;
 use crate::crew::Crew;
-use crate::plan::{table_in, timed_plan_in};
-use crate::range::RunRange;
 use bf_command_fault::CommandFault;
 use bf_device::Write;
 use bf_kept::NothingKept;
+use bf_planning::{RunRange, table_in, timed_plan_in};
 use bf_process::Starter;
 use bf_progress::Screen;
 use std::sync::Wait;
@@ -32,7 +31,7 @@ pub fn run_dry<RT: Starter + Screen + Threads + Wait + Clock + Sync, W: Write>(
     ensures ok { IfOk result (λ success. Sends (λ text.
         IsReportIn graph.now (option_map (λ s. s.now) zone_file.entry) table.now range text success)
         (W.written out.old) (W.written out.new)) }
-    ensures fault { IfErr result (IsFaultOfDry (is_alone crew.now.workers crew.now.progress) graph.now (option_map (λ s. s.now) zone_file.entry) table.now range) }
+    ensures fault { IfErr result (IsFaultOfDry (is_alone crew.now.progress) graph.now (option_map (λ s. s.now) zone_file.entry) table.now range) }
     ensures left { IfErr result (Leaves (HasHalted (W.failures out.old) (W.failures out.new)
         (W.interruptions out.old) (W.interruptions out.new))
         (λ text. (success : Bool)

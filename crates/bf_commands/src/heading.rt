@@ -1,41 +1,65 @@
 //! What the head of a journal tells of what is cleared.
-ghost use Rattle.std.specs.Prelude.{◌≡◌, ◌∷◌, [], IfErr, IfOk, find, option_copied};
-ghost use Rattle.std.specs.Ordering.{int_eq};
-ghost use Rattle.bf_commands.specs.Journaled.{IsFaultOfHeading, TellsOf};
+ghost use Rattle.std.specs.Prelude.{IfOk, OnOk, slice_get};
+ghost use Rattle.bf_interval.specs.Intervals.{IsShownInterval};
+ghost use Rattle.bf_commands.specs.Journaled.{AddsTold, IsToldOf, TellsOf};
 
-use bf_command_fault::CommandFault;
-use bf_dependents::{ClearFault, Seed};
+use bf_dependents::Place;
 use bf_interval::{Interval, Runs};
+use bf_journal::{ClearedTask, id_of};
 use bf_moment::Moment;
+use bf_plan::{Dag, Plan};
 use bf_value::{OutOfMemory, Text};
-use jiff::Timestamp;
 use std::alloc::Global;
 
-fn starting_at(intervals: &[Interval], moment: Timestamp) -> Option<&Interval>
-    ensures { option_copied result ≡ find (λ i. int_eq i.start.nanosecond moment.nanosecond) intervals.entry.now }
-{
-    intervals.iter().find(|interval| interval.start == moment)
-}
-
-/// The task of a seed, and the start of its run.
-pub(crate) fn heading_of(
+/// The task of a place, the start of its run, and its index.
+fn heading_of(
     alloc: Global,
-    runs: &Runs,
-    seed: &Seed,
-) -> Result<Vec<(Text, Moment)>, CommandFault>
-    ensures tells { IfOk result (λ cleared. TellsOf seed.now cleared.items) }
-    ensures fault { IfErr result (IsFaultOfHeading runs.now seed.now) }
+    dag: &Dag,
+    interval: &Interval,
+    place: Place,
+) -> Result<ClearedTask, OutOfMemory>
+    requires { IsShownInterval interval.now }
+    ensures { IfOk result (IsToldOf dag.now interval.now place) }
 {
-    let Some(interval) = starting_at(runs.intervals(), seed.run) else {
-        return Err(CommandFault::Clear(ClearFault::UnknownRun));
-    };
-    let start = Moment::new(interval.start);
-    Ok(one_of(alloc, seed, start)?)
+    let task = Text::copied(alloc, id_of(dag, place.task))?;
+    Ok(ClearedTask {
+        task,
+        run: Moment::new(interval.start),
+        index: place.index,
+    })
 }
 
-fn one_of(alloc: Global, seed: &Seed, start: Moment) -> Result<Vec<(Text, Moment)>, OutOfMemory>
-    ensures { IfOk result (λ cleared. cleared.items ≡ (seed.now.task, start) ∷ []) }
+/// Adds what is told of a place, where its run is there.
+fn add_heading(
+    alloc: Global,
+    dag: &Dag,
+    runs: &Runs,
+    place: Place,
+    cleared: &mut Vec<ClearedTask>,
+) -> Result<(), OutOfMemory>
+    ensures { OnOk result (AddsTold dag.now (slice_get runs.now place.run) place cleared.old.items cleared.new.items) }
 {
-    let task = seed.task.copy(alloc)?;
-    Ok(vec![in alloc; (task, start)]?)
+    let Some(interval) = runs.intervals().get(place.run as usize) else {
+        return Ok(());
+    };
+    let told = heading_of(alloc, dag, interval, place)?;
+    cleared.push(told)?;
+    Ok(())
+}
+
+/// What is told of these places, in order.
+pub(crate) fn headings_of(
+    alloc: Global,
+    plan: &Plan,
+    runs: &Runs,
+    places: &[Place],
+) -> Result<Vec<ClearedTask>, OutOfMemory>
+    ensures { IfOk result (λ cleared. TellsOf plan.now.dag runs.now places.now cleared.items) }
+{
+    let dag = plan.dag();
+    let mut cleared = Vec::new(alloc);
+    for place in places {
+        add_heading(alloc, dag, runs, *place, &mut cleared)?;
+    }
+    Ok(cleared)
 }

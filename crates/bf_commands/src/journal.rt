@@ -9,12 +9,10 @@ ghost use Rattle.bf_commands.specs.Journaled.{HasTries, IsFaultOfJournal};
 use crate::telling::tell_of;
 use bf_command_fault::{CommandFault, StopFault};
 use bf_interval::Runs;
-use bf_journal::{Cuttable, head_of, is_made_whole, read_journal};
-use bf_moment::Moment;
+use bf_journal::{ClearedTask, Cuttable, head_of, is_made_whole, read_journal};
 use bf_plan::Plan;
 use bf_progress::Screen;
 use bf_try::Ledger;
-use bf_value::Text;
 use std::alloc::Global;
 
 /// A journal that is open.
@@ -36,7 +34,7 @@ pub(crate) fn tries_of<RT: Screen, D: Cuttable + Drop>(
     alloc: Global,
     plan: &Plan,
     runs: &Runs,
-    cleared: &[(Text, Moment)],
+    cleared: &[ClearedTask],
     journal: &mut Journal<D>,
 ) -> Result<Ledger, CommandFault>
     ensures tries { IfOk result (λ tries. HasTries plan.now.dag runs.now cleared.now journal.old.held.items (map.get tries)) }

@@ -11,7 +11,8 @@ ghost use Rattle.bf_journal.specs.Recording.{IsRecordBy, IsWritten, is_write_fai
 ghost use Rattle.bf_command_fault.specs.Refusal.{Leaves, Sends};
 ghost use Rattle.bf_commands.specs.Cleared.{MayAnswerBy};
 ghost use Rattle.bf_commands.specs.Journaled.{IsFaultSince, IsReportSince, IsStopRecordedOrWanting};
-ghost use Rattle.bf_commands.specs.OverTable.{AnswersByTable, IsUnsent, IsWanting};
+ghost use Rattle.bf_commands.specs.OverTable.{AnswersByTable, IsUnsent};
+ghost use Rattle.bf_planning.specs.Wanting.{IsWanting};
 ghost use Rattle.bf_commands.specs.Reported.{IsEndFrom, IsReportFrom, IsReportOf};
 
 use crate::backfill::runner_over;
@@ -25,15 +26,13 @@ use bf_command_fault::CommandFault;
 use bf_core::Ended;
 use bf_device::Write;
 use bf_interval::Runs;
-use bf_journal::{Cuttable, Since, Stop};
+use bf_journal::{ClearedTask, Cuttable, Since, Stop};
 use bf_kept::{Keeping, KeptTries};
 use bf_lane::{Jump, MachineClock};
-use bf_moment::Moment;
 use bf_plan::Plan;
 use bf_process::Starter;
 use bf_progress::Screen;
 use bf_table::Table;
-use bf_value::Text;
 use std::sync::Wait;
 use std::thread::Threads;
 use std::time::Clock;
@@ -52,7 +51,7 @@ pub(crate) struct Backfill<'a, K> {
     pub(crate) plan: &'a Plan,
     pub(crate) runs: &'a Runs,
     pub(crate) before: &'a K,
-    pub(crate) cleared: &'a [(Text, Moment)],
+    pub(crate) cleared: &'a [ClearedTask],
 }
 
 /// The end of a backfill in which a table answers what isn't kept.

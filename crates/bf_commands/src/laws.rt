@@ -11,9 +11,9 @@ ghost use Rattle.bf_table.specs.declared.table.TableEntry.{TableEntry as TableEn
 ghost use Rattle.bf_journal.specs.Heads.{head_text};
 ghost use Rattle.bf_journal.specs.Left.{IsLeftByCrashes};
 ghost use Rattle.bf_commands.specs.DatedRuns.{IsReportIn};
-ghost use Rattle.bf_commands.specs.declared.range.RunRange.{RunRange as RunRangeTerm};
+ghost use Rattle.bf_planning.specs.declared.range.RunRange.{RunRange as RunRangeTerm};
 ghost use Rattle.bf_commands.specs.Journaled.{Heading, IsReportSince};
-ghost use Rattle.bf_commands.specs.Lists.{HasListing};
+ghost use Rattle.bf_planning.specs.Lists.{HasListing};
 ghost use Rattle.bf_commands.specs.OneRun.{IsReportAt};
 ghost use Rattle.bf_commands.specs.OverTable.{IsReportOver};
 ghost use Rattle.bf_commands.specs.Reported.{IsReportBy};

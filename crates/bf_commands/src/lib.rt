@@ -2,19 +2,17 @@
 #![tactic(auto)]
 
 mod backfill;
-mod check;
 mod clear;
+mod clear_plan;
+mod cleared;
 mod crew;
 mod dry;
 mod heading;
 mod journal;
 mod journaled;
 mod laws;
-mod list;
-mod plan;
 mod programs;
 mod progress;
-mod range;
 mod recorded;
 mod reported;
 mod run;
@@ -24,15 +22,13 @@ mod stopping_clock;
 mod telling;
 
 pub use bf_progress::Screen;
-pub use check::{GraphSize, check_graph};
 pub use clear::{Clearing, Prepared, clear_in, prepare, record_again, run_again};
+pub use clear_plan::write_clear_plan;
+pub use cleared::ToClear;
 pub use crew::{Crew, Tells};
 pub use dry::run_dry;
 pub use journal::Journal;
 pub use journaled::Recorded;
 pub use laws::{crashes_change_no_report, one_dry_report, one_list, one_report, one_single_report};
-pub use list::run_list;
-pub use plan::{DatedPlan, dated_plan_in};
-pub use range::{MomentRange, RunRange, Starts};
 pub use run::{record_programs, run_programs};
 pub use single::run_single;

@@ -4,7 +4,7 @@ ghost use Rattle.std.specs.List.{list_all};
 ghost use Rattle.bf_core.specs.Events.{entry_in};
 ghost use Rattle.bf_device.specs.Device.{HasHalted};
 ghost use Rattle.bf_command_fault.specs.Refusal.{Leaves, Sends};
-ghost use Rattle.bf_commands.specs.OverTable.{IsWanting};
+ghost use Rattle.bf_planning.specs.Wanting.{IsWanting};
 ghost use Rattle.bf_commands.specs.Reported.{IsReportOf, is_success as succeeds};
 
 use bf_command_fault::CommandFault;

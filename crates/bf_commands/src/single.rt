@@ -8,11 +8,11 @@ ghost use Rattle.bf_commands.specs.OneRun.{IsFaultOfSingle, IsReportAt};
 
 use crate::backfill::write_backfill;
 use crate::crew::Crew;
-use crate::plan::{table_in, timed_plan_in};
 use bf_command_fault::CommandFault;
 use bf_device::Write;
 use bf_interval::Runs;
 use bf_kept::NothingKept;
+use bf_planning::{table_in, timed_plan_in};
 use bf_process::Starter;
 use bf_progress::Screen;
 use bf_workers::Workers;

@@ -1,5 +1,5 @@
 -- The head of a journal.
-use Rattle.std.specs.Prelude.{ℕ, pos, List, [], ◌∷◌, ◌++◌, map, codes}
+use Rattle.std.specs.Prelude.{ℕ, ℤ, pos, List, [], ◌∷◌, ◌++◌, map, codes, Option, None, Some}
 use Rattle.bf_value.specs.declared.xval.Xval.{Xval}
 use Rattle.bf_value.specs.declared.xval.Xval.TheVariants.{Int, Text}
 use Rattle.bf_value.specs.Views.{list_of}
@@ -9,7 +9,7 @@ use Rattle.bf_plan.specs.declared.plan.Task.{Task}
 use Rattle.bf_plan.specs.Plans.{task_of}
 use Rattle.bf_interval.specs.declared.interval.Interval.{Interval}
 use Rattle.bf_moment.specs.Moment.{moment_text}
-use Rattle.bf_moment.specs.declared.moment.Moment.{Moment}
+use Rattle.bf_journal.specs.declared.head.ClearedTask.{ClearedTask}
 
 abbrev pub id_value : Dag → ℕ → Xval
 id_value dag task = Text (task_of dag task).id
@@ -23,20 +23,25 @@ abbrev pub interval_value : Interval → Xval
 interval_value interval =
     list_of (Text (moment_text interval.start.nanosecond) ∷ Text (moment_text interval.end.nanosecond) ∷ [])
 
--- a task, and the start of the run in which it is cleared
-abbrev pub seed_value : List ℕ × Moment → Xval
-seed_value seed = list_of (Text seed.0 ∷ Text (moment_text seed.1.at.nanosecond) ∷ [])
+-- a map index, where there is one
+abbrev pub index_fields : Option ℤ → List Xval
+index_fields None = []
+index_fields (Some index) = Int index ∷ []
+
+-- a task, the start of the run in which it is cleared, and the map index where an instance is
+abbrev pub seed_value : ClearedTask → Xval
+seed_value seed = list_of (Text seed.task ∷ Text (moment_text seed.run.at.nanosecond) ∷ index_fields seed.index)
 
 -- what is cleared, where something is
-abbrev pub seed_fields : List (List ℕ × Moment) → List Xval
+abbrev pub seed_fields : List ClearedTask → List Xval
 seed_fields [] = []
 seed_fields (seed ∷ seeds) = list_of (map seed_value (seed ∷ seeds)) ∷ []
 
 -- the words, the version, the dag id, the tasks, the runs, and what is cleared
-abbrev pub head_value : Dag → List Interval → List (List ℕ × Moment) → Xval
+abbrev pub head_value : Dag → List Interval → List ClearedTask → Xval
 head_value dag intervals seeds =
     list_of ((Text (codes "backfill journal") ∷ Int (pos 1) ∷ Text dag.id ∷ list_of (map (task_value dag) dag.tasks)
     ∷ list_of (map interval_value intervals) ∷ []) ++ seed_fields seeds)
 
-unfoldable pub head_text : Dag → List Interval → List (List ℕ × Moment) → List ℕ
+unfoldable pub head_text : Dag → List Interval → List ClearedTask → List ℕ
 head_text dag intervals seeds = text_of (head_value dag intervals seeds) ++ 10 ∷ []

@@ -1,9 +1,9 @@
 //! The head of a journal.
-ghost use Rattle.std.specs.Prelude.{◌≡◌, IfOk, map, string_bytes};
+ghost use Rattle.std.specs.Prelude.{◌≡◌, ◌∷◌, IfOk, map, string_bytes};
 ghost use Rattle.bf_value.specs.Views.{list_of};
 ghost use Rattle.bf_interval.specs.Intervals.{IsShownInterval};
 ghost use Rattle.bf_plan.specs.Plans.{task_of};
-ghost use Rattle.bf_journal.specs.Heads.{head_text, head_value, interval_value, seed_value, task_value};
+ghost use Rattle.bf_journal.specs.Heads.{head_text, head_value, index_fields, interval_value, seed_value, task_value};
 
 use crate::value::{moment_value, text_value};
 use bf_interval::{Interval, Runs};
@@ -71,16 +71,39 @@ fn all_interval_words(alloc: Global, runs: &Runs) -> Result<Xval, OutOfMemory>
     Ok(Xval::List(Values::new(intervals)))
 }
 
-/// A task, and the start of the run in which it is cleared.
-fn seed_words(alloc: Global, seed: &(Text, Moment)) -> Result<Xval, OutOfMemory>
-    ensures { IfOk result (λ v. v ≡ seed_value seed.now) }
-{
-    let task = text_value(alloc, seed.0.as_str())?;
-    let run = Xval::Text(Text::new(seed.1.to_string(alloc)?));
-    Ok(Xval::List(Values::new(vec![in alloc; task, run]?)))
+/// A task in the run that starts at a moment, or the instance of a map index, which is cleared.
+#[derive(Drop)]
+pub struct ClearedTask {
+    pub task: Text,
+    pub run: Moment,
+    pub index: Option<i32>,
 }
 
-fn all_seed_words(alloc: Global, seeds: &[(Text, Moment)]) -> Result<Xval, OutOfMemory>
+fn words_with(
+    alloc: Global,
+    task: Xval,
+    run: Xval,
+    index: Option<i32>,
+) -> Result<Vec<Xval>, OutOfMemory>
+    ensures { IfOk result (λ words. words.items ≡ task ∷ run ∷ index_fields index) }
+{
+    match index {
+        Some(index) => Ok(vec![in alloc; task, run, Xval::Int(i64::from(index))]?),
+        None => Ok(vec![in alloc; task, run]?),
+    }
+}
+
+/// A task, the start of the run in which it is cleared, and the map index where an instance is.
+fn seed_words(alloc: Global, seed: &ClearedTask) -> Result<Xval, OutOfMemory>
+    ensures { IfOk result (λ v. v ≡ seed_value seed.now) }
+{
+    let task = text_value(alloc, seed.task.as_str())?;
+    let run = Xval::Text(Text::new(seed.run.to_string(alloc)?));
+    let words = words_with(alloc, task, run, seed.index)?;
+    Ok(Xval::List(Values::new(words)))
+}
+
+fn all_seed_words(alloc: Global, seeds: &[ClearedTask]) -> Result<Xval, OutOfMemory>
     ensures { IfOk result (λ v. v ≡ list_of (map seed_value seeds.now)) }
 {
     let mut words = Vec::new(alloc);
@@ -95,7 +118,7 @@ fn value_of(
     alloc: Global,
     dag: &Dag,
     runs: &Runs,
-    seeds: &[(Text, Moment)],
+    seeds: &[ClearedTask],
 ) -> Result<Xval, OutOfMemory>
     ensures { IfOk result (λ v. v ≡ head_value dag.now runs.now seeds.now) }
 {
@@ -111,14 +134,13 @@ fn value_of(
 }
 
 /// The line that a journal of this backfill begins with. It is never parsed: a journal is of another backfill where it
-/// doesn't begin with this. `seeds` is what is cleared: each task by its id, with the start of the run; a backfill that
-/// clears nothing has none.
+/// doesn't begin with this. `seeds` is what is cleared; a backfill that clears nothing has none.
 #[tactic(auto, unfolding(crate::specs::Heads::head_text))]
 pub fn head_of(
     alloc: Global,
     plan: &Plan,
     runs: &Runs,
-    seeds: &[(Text, Moment)],
+    seeds: &[ClearedTask],
 ) -> Result<String, OutOfMemory>
     ensures { IfOk result (λ head. string_bytes head ≡ head_text plan.now.dag runs.now seeds.now) }
 {

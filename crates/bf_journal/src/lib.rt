@@ -34,7 +34,7 @@ pub use cuttable::Cuttable;
 pub use durable::Durable;
 pub use fault::JournalFault;
 pub use found::{Found, read_journal};
-pub use head::{head_of, id_of};
+pub use head::{ClearedTask, head_of, id_of};
 pub use journaled::Journaled;
 pub use laws::{
     cut_journals_keep_graded_tries, journals_are_cut_and_gone_on_with, journals_tell_one_list,

@@ -11,17 +11,18 @@ use Rattle.bf_table.specs.Tables.{table_of}
 use Rattle.bf_command_fault.specs.declared.fault.CommandFault.{CommandFault}
 use Rattle.bf_command_fault.specs.declared.fault.CommandFault.TheVariants.{Read, Check, Table, Range, CannotWrite, Stopped}
 use Rattle.bf_command_fault.specs.declared.range.RangeFault.{RangeFault}
-use Rattle.bf_commands.specs.declared.check.GraphSize.{GraphSize}
-use Rattle.bf_commands.specs.declared.range.RunRange.{RunRange}
+use Rattle.bf_planning.specs.declared.check.GraphSize.{GraphSize}
+use Rattle.bf_planning.specs.declared.range.RunRange.{RunRange}
 use Rattle.bf_commands.specs.DatedRuns.{IsFaultOfDry, IsReportIn}
-use Rattle.bf_commands.specs.Graphs.{IsFaultIn, IsFileOf, IsGraph, IsSizeOf}
+use Rattle.bf_planning.specs.Graphs.{IsFaultIn, IsFileOf, IsGraph, IsSizeOf}
 use Rattle.bf_commands.specs.Journaled.{IsJournaledReport}
-use Rattle.bf_commands.specs.Lists.{HasListing, IsFaultOfList, IsListIn}
+use Rattle.bf_planning.specs.Lists.{HasListing, IsFaultOfList, IsListIn}
 use Rattle.bf_commands.specs.OneRun.{IsFaultOfSingle, IsReportAt}
-use Rattle.bf_commands.specs.OverTable.{IsTable}
+use Rattle.bf_planning.specs.Tables.{IsTable}
 use Rattle.bf_process.specs.Words.{LaunchingOf}
-use Rattle.bf_commands.specs.Programs.{AreClocksOf, Hearing, Losing, IsFaultOfRun, IsRunReport}
-use Rattle.bf_program.specs.Files.{AreAlike}
+use Rattle.bf_planning.specs.Clocks.{AreClocksOf}
+use Rattle.bf_commands.specs.Programs.{Hearing, Losing, IsFaultOfRun, IsRunReport}
+use Rattle.bf_input.specs.Inputs.{AreAlike}
 
 module _ (read held : List ℕ) (one two : Option (List ℕ)) (alike : AreAlike read held one two) where
   scheduled : (draft : Draft) → IsScheduled draft one → IsScheduled draft two

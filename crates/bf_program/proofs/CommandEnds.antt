@@ -21,19 +21,21 @@ use Rattle.bf_command_fault.specs.declared.stop.StopFault.{StopFault}
 use Rattle.bf_command_fault.specs.declared.status.Status.{Status}
 use Rattle.bf_command_fault.specs.Refusal.{of_cause, of_write}
 use Rattle.bf_command_fault.specs.Status.{of_runs}
-use Rattle.bf_commands.specs.declared.check.GraphSize.{GraphSize}
-use Rattle.bf_commands.specs.declared.range.RunRange.{RunRange}
+use Rattle.bf_planning.specs.declared.check.GraphSize.{GraphSize}
+use Rattle.bf_planning.specs.declared.range.RunRange.{RunRange}
 use Rattle.bf_commands.specs.DatedRuns.{IsFaultOfDry, IsReportIn}
 use Rattle.bf_commands.specs.OverTable.{is_alone}
-use Rattle.bf_commands.specs.Graphs.{IsFaultIn, IsGraph, IsSizeOf}
+use Rattle.bf_planning.specs.Graphs.{IsFaultIn, IsGraph, IsSizeOf}
 use Rattle.bf_commands.specs.Journaled.{GoesWrong, IsFaultSince}
-use Rattle.bf_commands.specs.Lists.{HasListing, IsFaultOfList, IsListIn}
+use Rattle.bf_planning.specs.Lists.{HasListing, IsFaultOfList, IsListIn}
 use Rattle.bf_commands.specs.OneRun.{IsFaultOfSingle, IsReportAt}
 use Rattle.bf_process.specs.Words.{LaunchingOf}
 use Rattle.bf_commands.specs.Programs.{Hearing, Losing, IsFaultOfRun, IsRunReport}
-use Rattle.bf_program.specs.Commands.{AreReadable, Files, IsCheckAnswer, IsDryAnswer, IsFirstUntold, IsLaunchable, IsListAnswer, IsRunAnswer, IsRunReportBy, IsSingleAnswer, Machine, Means, MeansRange, OfFiles, OfFilesAndTable, OfJournal, graph_paths, launching_asked, size_text, table_paths}
+use Rattle.bf_disk.specs.Files.{AreReadable, Files, IsFirstUntold}
+use Rattle.bf_input.specs.Inputs.{OfFiles, OfFilesAndTable, graph_paths, table_paths, AreAlike}
+use Rattle.bf_input.specs.Moments.{Means}
+use Rattle.bf_program.specs.Commands.{IsCheckAnswer, IsDryAnswer, IsLaunchable, IsListAnswer, IsRunAnswer, IsRunReportBy, IsSingleAnswer, Machine, MeansRange, OfJournal, launching_asked, size_text}
 use Rattle.bf_program.specs.CommandFaults.{IsCheckFault, IsDryFault, IsFaultOfLauncher, IsListFault, HasRuns, IsRecordedRunFault, IsRunFault, IsRunFaultBy, IsSingleFault}
-use Rattle.bf_program.specs.Files.{AreAlike}
 use Rattle.bf_program.specs.Journals.{IsFaultOfRecorded, IsFaultOfRunBy, IsFaultOver}
 use Rattle.bf_program.proofs.Alike.{dry_fault, fault_in, graph_of, journaled_report, list_fault, list_of, listing_of, report_at, report_in, run_fault, run_report, single_fault, size_of}
 
@@ -141,12 +143,12 @@ module _ {files : Files} (asked : DryAsked) (range : RunRange) (means : MeansRan
     text_is = λ graph other held are holds. (let same = bytes.alike graph other held are holds in report_in read graph zone held same.0 table other same.1 range text success is);
   }
 
-  pub dry_files : (fault : CommandFault) → IsFaultOfDry (is_alone asked.workers asked.progress) read zone table range fault → IsDryFault files asked fault
+  pub dry_files : (fault : CommandFault) → IsFaultOfDry (is_alone asked.progress) read zone table range fault → IsDryFault files asked fault
   dry_files BadMoment is = absurd is
   dry_files OutOfMemory is = (range, means, tt)
   dry_files (CannotRead path) is = absurd is
   dry_files (CannotWriteFile path) is = absurd is
-  dry_files fault is = (range, means, (bytes.readable, λ graph other held are holds. (let same = bytes.alike graph other held are holds in dry_fault read graph zone held same.0 table other same.1 (is_alone asked.workers asked.progress) range fault is)))
+  dry_files fault is = (range, means, (bytes.readable, λ graph other held are holds. (let same = bytes.alike graph other held are holds in dry_fault read graph zone held same.0 table other same.1 (is_alone asked.progress) range fault is)))
 
 -- ---- `run`
 

@@ -18,9 +18,10 @@ use Rattle.bf_command_fault.specs.declared.fault.CommandFault.{CommandFault}
 use Rattle.bf_command_fault.specs.declared.fault.CommandFault.TheVariants.{OutOfMemory}
 use Rattle.bf_command_fault.specs.declared.status.Status.{Status}
 use Rattle.bf_command_fault.proofs.Leaving.{leaves_due, refusal_leaves, send_leaves}
-use Rattle.bf_commands.proofs.Faults.{write_wanting}
+use Rattle.bf_planning.proofs.Faults.{write_wanting}
 use Rattle.bf_commands.specs.Programs.{Hearing, Losing}
-use Rattle.bf_program.specs.Commands.{Files, HasGone, IsAnswer, IsDone, Machine, Outputs, out_of, outputs}
+use Rattle.bf_disk.specs.Files.{Files}
+use Rattle.bf_program.specs.Commands.{HasGone, IsAnswer, IsDone, Machine, Outputs, out_of, outputs}
 use Rattle.bf_program.specs.CommandFaults.{IsFault, IsFaultBy, LeavesBy, MayBeFaulted, MayTell, Tells}
 use Rattle.bf_file.specs.Replacing.{HasReplaced}
 use Rattle.bf_program.specs.Shown.{EndsAs, IsUnshown, ShowsHelp, shown_as}
@@ -101,6 +102,9 @@ runs_low false = omega arith
 answer_low : (may_hear : Hearing) (files : Files) (machine : Machine) (asked : Asked) (text : List ℕ) (status : Status) → IsAnswer may_hear files machine asked text status → code_of status ≤ 1
 answer_low may_hear files machine (asked.Check a) text status is = rw is.success (omega arith)
 answer_low may_hear files machine (asked.List a) text status is = rw is.success (omega arith)
+answer_low may_hear files machine (asked.ClearPlan a) text status is = rw is.success (omega arith)
+answer_low may_hear files machine (asked.ShowJson path) text status is = rw is.success (omega arith)
+answer_low may_hear files machine (asked.Page a) text status is = rw is.success (omega arith)
 answer_low may_hear files machine (asked.Schema format) text status is = rw is.0 (omega arith)
 answer_low may_hear files machine (asked.Completions shell) text status is = rw is.0 (omega arith)
 answer_low may_hear files machine a text status is = rw is.status_is (runs_low is.succeeded)

@@ -7,8 +7,8 @@ use Rattle.bf_command_fault.specs.declared.fault.CommandFault.TheVariants.{OutOf
 use Rattle.bf_command_fault.specs.declared.status.Status.{Status}
 use Rattle.bf_command_fault.proofs.Leaving.{leaves_due}
 use Rattle.bf_commands.proofs.Faults.{unwritten_leaves}
-use Rattle.bf_program.specs.Commands.{Files, IsFirstUntold}
-use Rattle.bf_program.specs.Files.{IsReadingFault}
+use Rattle.bf_disk.specs.Files.{Files, IsFirstUntold}
+use Rattle.bf_input.specs.Inputs.{IsReadingFault}
 
 -- where files can't be read, memory was wanting, or one of them can't be read
 pub reading_cases : (files : Files) (paths : List (List ℕ)) (P : CommandFault → Type 0) → P OutOfMemory → ((path : List ℕ) → IsFirstUntold files paths path → P (CannotRead path))

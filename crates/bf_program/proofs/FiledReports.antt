@@ -11,7 +11,8 @@ use Rattle.bf_command_fault.specs.declared.fault.CommandFault.{CommandFault}
 use Rattle.bf_command_fault.specs.declared.fault.CommandFault.TheVariants.{CannotWriteFile, CannotWrite, OutOfMemory}
 use Rattle.bf_command_line.specs.declared.forms.Asked.{Asked}
 use Rattle.bf_commands.specs.Programs.{Losing}
-use Rattle.bf_program.specs.Commands.{Files, Machine}
+use Rattle.bf_disk.specs.Files.{Files}
+use Rattle.bf_program.specs.Commands.{Machine}
 use Rattle.bf_program.specs.CommandFaults.{IsFault, IsFaultBy}
 use Rattle.bf_program.specs.Filed.{filed_fault, replacing_fault}
 

@@ -1,5 +1,3 @@
-pub mod FoundFiles
-pub mod OpenedFiles
 pub mod Exits
 pub mod Ends
 pub mod Alike
@@ -8,4 +6,6 @@ pub mod CommandEnds
 pub mod ClearEnds
 pub mod FiledReports
 mod Recorded
+mod MeantSeeds
+mod ReadFiles
 pub mod Unasked

@@ -12,21 +12,23 @@ use Rattle.bf_kept.specs.Kept.{nothing}
 use Rattle.bf_process.specs.Words.{LaunchingOf, MayAnswer}
 use Rattle.bf_table.specs.declared.table.TableEntry.{TableEntry}
 use Rattle.bf_report.specs.declared.report.Report.{Report}
-use Rattle.bf_dependents.specs.declared.seeds.Seed.{Seed}
+use Rattle.bf_commands.specs.declared.cleared.ToClear.{ToClear}
 use Rattle.bf_command_line.specs.declared.forms.JournalAsked.{JournalAsked}
 use Rattle.bf_command_fault.proofs.Leaving.{leaves_due}
 use Rattle.bf_command_fault.specs.Refusal.{Leaves, Sends}
 use Rattle.bf_command_fault.specs.declared.fault.CommandFault.{CommandFault}
 use Rattle.bf_command_fault.specs.declared.fault.CommandFault.TheVariants.{CannotWrite, Journal, OutOfMemory, Range, Stopped}
 use Rattle.bf_command_fault.specs.declared.stop.StopFault.{StopFault}
-use Rattle.bf_commands.specs.declared.range.RunRange.{RunRange}
-use Rattle.bf_commands.specs.Cleared.{IsKeptOf, MayAnswerBy}
-use Rattle.bf_commands.specs.Graphs.{IsPlanOf}
-use Rattle.bf_commands.specs.Journaled.{Heading, IsFaultSince, IsJournaledReport, IsReportSince, TellsOf}
-use Rattle.bf_commands.specs.Lists.{HasListing, IsDatedFault, IsFaultOfList}
-use Rattle.bf_commands.specs.Programs.{AreClocksOf, Hearing, HearingTries, launched_by}
-use Rattle.bf_program.specs.Commands.{Files, OfJournal}
-use Rattle.bf_program.specs.Files.{IsReadOf}
+use Rattle.bf_planning.specs.declared.range.RunRange.{RunRange}
+use Rattle.bf_commands.specs.Cleared.{MayAnswerBy}
+use Rattle.bf_planning.specs.Graphs.{IsPlanOf}
+use Rattle.bf_commands.specs.Journaled.{Heading, IsClearedBy, IsFaultSince, IsJournaledReport, IsReportSince}
+use Rattle.bf_planning.specs.Lists.{HasListing, IsDatedFault, IsFaultOfList}
+use Rattle.bf_planning.specs.Clocks.{AreClocksOf}
+use Rattle.bf_commands.specs.Programs.{Hearing, HearingTries, launched_by}
+use Rattle.bf_disk.specs.Files.{Files}
+use Rattle.bf_program.specs.Commands.{OfJournal}
+use Rattle.bf_input.specs.Inputs.{IsReadOf}
 use Rattle.bf_program.specs.Journals.{IsFaultOfRecorded, IsFaultOver, IsJournaledAfterFile, IsReportOver, journaled_fault}
 
 module _ (journals : Files) (asked : JournalAsked) (held : List ℕ) (is_held : OfJournal journals asked (λ told. held ≡ told)) (before : Look) (cleared : Heading) (dag : Dag) (found : List Interval) where
@@ -122,14 +124,14 @@ module _ {graph : List ℕ} {file : Option (List ℕ)} {plan : Checked} (range :
   run_fault logs r = IfErr-weaker r _ _ (λ fault over.
       inr (is.draft, found, is.graph_is, listing, subst (λ (d : Dag). IsFaultOver journals asked nothing [] logs d found fault) is.dag over))
 
--- ---- a report where a seed is cleared
+-- ---- a report where some tasks are cleared
 
 -- the report over the journal is that of `clear`
-pub after_file : (journals : Files) (asked : JournalAsked) (may_hear : HearingTries) (answers : Option (List TableEntry)) (dag : Dag) (found : List Interval) (file : Option (Option (List ℕ))) (seed : Seed)
-    (was : Report) → IsReadOf file was → (kept : Look) → IsKeptOf dag found was seed kept → (cleared : Heading) → TellsOf seed cleared → (text : List ℕ) (success : Bool)
-    → IsReportOver journals asked kept cleared (MayAnswerBy may_hear answers dag found) dag found text success → IsJournaledAfterFile may_hear journals answers dag found file seed asked text success
-after_file journals asked may_hear answers dag found file seed was read kept kept_is cleared tells text success over = record {
+pub after_file : (journals : Files) (asked : JournalAsked) (may_hear : HearingTries) (answers : Option (List TableEntry)) (dag : Dag) (found : List Interval) (file : Option (Option (List ℕ))) (what : ToClear)
+    (was : Report) → IsReadOf file was → (kept : Look) (cleared : Heading) → IsClearedBy dag found was what kept cleared → (text : List ℕ) (success : Bool)
+    → IsReportOver journals asked kept cleared (MayAnswerBy may_hear answers dag found) dag found text success → IsJournaledAfterFile may_hear journals answers dag found file what asked text success
+after_file journals asked may_hear answers dag found file what was read kept cleared cleared_is text success over = record {
   was = was;
   read = read;
-  reported = λ held told. record { kept = kept; kept_is = kept_is; cleared = cleared; tells = tells; reported = over held told };
+  reported = λ held told. record { kept = kept; cleared = cleared; cleared_is = cleared_is; reported = over held told };
 }

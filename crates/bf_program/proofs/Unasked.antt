@@ -3,7 +3,7 @@ use Rattle.std.proofs.Common.{◌≡◌, ℕ, List, Option, refl}
 use Rattle.bf_command_line.specs.declared.forms.Asked.{Asked}
 use Rattle.bf_command_line.specs.declared.forms.Asked.TheVariants.{Check}
 use Rattle.bf_command_line.specs.declared.forms.CheckAsked.{CheckAsked}
-use Rattle.bf_program.specs.Commands.{Files}
+use Rattle.bf_disk.specs.Files.{Files}
 use Rattle.bf_program.specs.Explained.{IsExplained}
 
 -- nothing, where another command stands than `check`

@@ -1,15 +1,17 @@
 -- What the commands come to, by what the files hold that they name.
-use Rattle.std.specs.Prelude.{◌≡◌, ◌≢◌, ◌⊎◌, ℕ, ℤ, Bool, true, false, List, [], ◌∷◌, ◌++◌, All, Option, Some, None, String, map, option_map, codes, decimal, string_bytes}
+use Rattle.std.specs.Prelude.{◌≡◌, ◌≢◌, ◌⊎◌, ℕ, Bool, true, false, List, [], ◌∷◌, ◌++◌, Option, Some, None, Ok, String, map, option_map, codes, decimal, string_bytes, Contains, IfSome}
 use Rattle.std.specs.Global.{Global}
 use Rattle.clap.specs.Words.{Kinds, Row, Text, subcommand_of}
 use Rattle.jiff.specs.declared.timestamp.Timestamp.{Timestamp}
-use Rattle.bf_moment.specs.Moment.{Spells, nearest}
 use Rattle.bf_device.specs.Device.{sent}
 use Rattle.bf_file.specs.declared.call.Placed.{Placed}
 use Rattle.bf_file.specs.Replacing.{HasReplaced}
 use Rattle.bf_command_line.specs.declared.forms.Asked.{Asked}
-use Rattle.bf_command_line.specs.declared.forms.Asked.TheVariants.{Check, Clear, Completions, Dry, List as Intervals, Run, Schema, Single}
+use Rattle.bf_command_line.specs.declared.forms.Asked.TheVariants.{Check, Clear, ClearPlan, Completions, Dry, List as Intervals, Page, Run, Schema, ShowJson, Single}
 use Rattle.bf_command_line.specs.declared.forms.ClearAsked.{ClearAsked}
+use Rattle.bf_command_line.specs.declared.forms.ClearPlanAsked.{ClearPlanAsked}
+use Rattle.bf_command_line.specs.declared.forms.ClearedAsked.{ClearedAsked}
+use Rattle.bf_command_line.specs.declared.forms.ClearedAsked.TheVariants as cleared
 use Rattle.bf_command_line.specs.declared.forms.CommandLine.{CommandLine}
 use Rattle.bf_command_line.specs.declared.forms.DryAsked.{DryAsked}
 use Rattle.bf_command_line.specs.declared.forms.GraphAsked.{GraphAsked}
@@ -24,24 +26,38 @@ use Rattle.bf_command_line.specs.declared.forms.StartsAsked.TheVariants as start
 use Rattle.bf_days.specs.Days.{SpellDays}
 use Rattle.bf_days.specs.declared.days.Days.{Days}
 use Rattle.bf_dependents.specs.declared.seeds.Seed.{Seed}
+use Rattle.bf_commands.specs.declared.cleared.ToClear.{ToClear}
+use Rattle.bf_commands.specs.declared.cleared.ToClear.TheVariants as to_clear
 use Rattle.bf_command_line.specs.Asked.{IsLineBy}
 use Rattle.bf_command_line.specs.CommandLine.{backfill_app}
 use Rattle.bf_command_line.specs.Wrongs as line
 use Rattle.bf_command_fault.specs.declared.status.Status.{Status}
 use Rattle.bf_command_fault.specs.Status.{code_of, of_runs}
-use Rattle.bf_commands.specs.declared.check.GraphSize.{GraphSize}
-use Rattle.bf_commands.specs.declared.range.RunRange.{RunRange}
-use Rattle.bf_commands.specs.declared.range.Starts.{Starts}
-use Rattle.bf_commands.specs.declared.range.Starts.TheVariants.{Between, On}
+use Rattle.bf_planning.specs.declared.check.GraphSize.{GraphSize}
+use Rattle.bf_planning.specs.declared.range.RunRange.{RunRange}
+use Rattle.bf_planning.specs.declared.range.Starts.{Starts}
+use Rattle.bf_planning.specs.declared.range.Starts.TheVariants.{Between, On}
+use Rattle.bf_read.specs.declared.draft.Draft.{Draft}
+use Rattle.bf_check.specs.Checking.{dag_of}
+use Rattle.bf_interval.specs.declared.interval.Interval.{Interval}
+use Rattle.bf_report.specs.declared.report.Report.{Report}
+use Rattle.bf_commands.specs.Planned.{IsClearPlan}
 use Rattle.bf_commands.specs.Cleared.{IsClearReport}
+use Rattle.bf_report_reader.specs.Reading.{IsReadAs}
 use Rattle.bf_commands.specs.DatedRuns.{IsReportIn}
-use Rattle.bf_commands.specs.Graphs.{IsSizeOf}
+use Rattle.bf_planning.specs.Graphs.{IsGraph, IsSizeOf}
 use Rattle.bf_commands.specs.Journaled.{IsJournaledClearReport, IsJournaledReport}
-use Rattle.bf_commands.specs.Lists.{IsListIn}
+use Rattle.bf_planning.specs.Lists.{HasListing, IsListIn}
 use Rattle.bf_commands.specs.OneRun.{IsReportAt}
 use Rattle.bf_process.specs.Words.{LaunchingOf}
 use Rattle.bf_commands.specs.Programs.{Hearing, IsRunReport}
+use Rattle.bf_views.specs.Json.{IsJsonAnswer}
+use Rattle.bf_views.specs.Pages.{IsPageAnswer}
 use Rattle.bf_program.specs.Texts.{IsPrinted, completions_text, schema_text}
+use Rattle.bf_disk.specs.Files.{AreReadable, Files, IsHeld, IsReadable, IsUntold}
+use Rattle.bf_disk.specs.Source.{IsWholeUpTo}
+use Rattle.bf_input.specs.Inputs.{OfFiles, OfFilesAndNamedTable, OfFilesAndTable, clear_paths, graph_paths, table_paths}
+use Rattle.bf_input.specs.Moments.{IsNoMoment, Means}
 
 -- ---- the words of a line
 
@@ -52,77 +68,6 @@ wrongs_of words = line.wrongs_of (map string_bytes words)
 -- the subcommand that `clap` finds in them, with its arguments
 abbrev pub found_in : List (String Global) → Option (Text × List Row)
 found_in words = subcommand_of backfill_app (map string_bytes words)
-
--- ---- what files hold
-
--- of each path, where it is told: its file's bytes, or that it can't be read
-abbrev pub Files : Type 0
-Files = List ℕ → Option (Option (List ℕ))
-
--- the file is told to hold these bytes, however many they are
-abbrev pub IsHeld : Option (Option (List ℕ)) → List ℕ → Type 0
-IsHeld file bytes = file ≡ Some (Some bytes)
-
--- so it is with a file where one is named
-abbrev pub IsHeldIfNamed : Files → Option (List ℕ) → Option (List ℕ) → Type 0
-IsHeldIfNamed files None None = Unit {0}
-IsHeldIfNamed files (Some path) (Some bytes) = IsHeld (files path) bytes
-IsHeldIfNamed files None (Some bytes) = ⊥
-IsHeldIfNamed files (Some path) None = ⊥
-
--- the graph file, and the zone file
-pub record AreHeld (files : Files) (asked : GraphAsked) (graph : List ℕ) (zone : Option (List ℕ)) : Type 0 where
-  pub graph_held : IsHeld (files (string_bytes asked.graph)) graph
-  pub zone_held : IsHeldIfNamed files (option_map string_bytes asked.zone_file) zone
-
--- so it is with whatever the graph file and the zone file are told to hold
-abbrev pub OfFiles : Files → GraphAsked → (List ℕ → Option (List ℕ) → Type 0) → Type 0
-OfFiles files asked P = (graph : List ℕ) (zone : Option (List ℕ)) → AreHeld files asked graph zone → P graph zone
-
--- and with whatever the table is told to hold
-abbrev pub OfFilesAndTable : Files → GraphAsked → List ℕ → (List ℕ → Option (List ℕ) → List ℕ → Type 0) → Type 0
-OfFilesAndTable files asked path P =
-    (graph table : List ℕ) (zone : Option (List ℕ)) → AreHeld files asked graph zone → IsHeld (files path) table → P graph zone table
-
--- so it is with whatever the graph file, the zone file, and a table where one is named are told to hold
-abbrev pub OfFilesAndNamedTable : Files → GraphAsked → Option (List ℕ) → (List ℕ → Option (List ℕ) → Option (List ℕ) → Type 0) → Type 0
-OfFilesAndNamedTable files asked path P =
-    (graph : List ℕ) (zone table : Option (List ℕ)) → AreHeld files asked graph zone → IsHeldIfNamed files path table → P graph zone table
-
--- ---- files that can't be read
-
--- it is not told that the file can't be read
-abbrev pub IsReadable : Option (Option (List ℕ)) → Type 0
-IsReadable file = file ≢ Some None
-
--- no bytes are told of the file
-abbrev pub IsUntold : Option (Option (List ℕ)) → Type 0
-IsUntold file = (bytes : List ℕ) → file ≢ Some (Some bytes)
-
-abbrev pub AreReadable : Files → List (List ℕ) → Type 0
-AreReadable files paths = All (λ path. IsReadable (files path)) paths
-
--- the path is one of these: no bytes are told of its file, and of none before it is told that it can't be read
-abbrev pub IsFirstUntold : Files → List (List ℕ) → List ℕ → Type 0
-IsFirstUntold files [] path = ⊥
-IsFirstUntold files (p ∷ ps) path = ((path ≡ p) × IsUntold (files p)) ⊎ (IsReadable (files p) × IsFirstUntold files ps path)
-
--- the path of a file where one is named
-abbrev pub named_paths : Option (List ℕ) → List (List ℕ)
-named_paths None = []
-named_paths (Some path) = path ∷ []
-
--- the paths of the graph file and of the zone file, in the order in which they are read
-abbrev pub graph_paths : GraphAsked → List (List ℕ)
-graph_paths asked = string_bytes asked.graph ∷ named_paths (option_map string_bytes asked.zone_file)
-
--- and of the table behind them
-abbrev pub table_paths : GraphAsked → List ℕ → List (List ℕ)
-table_paths asked table = graph_paths asked ++ table ∷ []
-
--- and of the table behind them, where one is named
-abbrev pub clear_paths : GraphAsked → Option (List ℕ) → List (List ℕ)
-clear_paths asked table = graph_paths asked ++ named_paths table
 
 -- ---- journals
 
@@ -168,10 +113,6 @@ launching_asked launcher logs = record { launcher = option_map string_bytes laun
 
 -- ---- moments
 
--- the text means this moment
-abbrev pub Means : List ℕ → Timestamp → Type 0
-Means text t = (n : ℤ) × (Spells text n × (t.nanosecond ≡ nearest n))
-
 -- the texts mean that data intervals start there: between these moments, or on these days
 abbrev pub MeansStarts : StartsAsked → Starts → Type 0
 MeansStarts (starting.Between from to) (Between range) = Means (string_bytes from) range.from × Means (string_bytes to) range.to
@@ -182,13 +123,30 @@ MeansStarts asked starts = ⊥
 abbrev pub MeansRange : RangeAsked → RunRange → Type 0
 MeansRange asked range = MeansStarts asked.starts range.starts × (range.some ≡ asked.some)
 
--- the texts mean this task in the run of this logical date, with all its instances
+-- the texts mean this task in the run of this logical date, or the instance of this map index
 abbrev pub MeansSeed : SeedAsked → Seed → Type 0
-MeansSeed asked seed = (seed.task ≡ string_bytes asked.task) × Means (string_bytes asked.run) seed.run × (seed.index ≡ None)
+MeansSeed asked seed = (seed.task ≡ string_bytes asked.task) × Means (string_bytes asked.run) seed.run × (seed.index ≡ asked.index)
 
--- no moment is spelled so
-abbrev pub IsNoMoment : List ℕ → Type 0
-IsNoMoment text = (n : ℤ) → Spells text n → ⊥
+-- one by one
+abbrev pub MeanSeeds : List SeedAsked → List Seed → Type 0
+MeanSeeds [] [] = Unit {0}
+MeanSeeds (asked ∷ more) (seed ∷ seeds) = MeansSeed asked seed × MeanSeeds more seeds
+MeanSeeds _ _ = ⊥
+
+-- this is to be cleared: what the texts mean; or what a file's bytes say, of which the first are read where they are too many; or what failed
+abbrev pub MeansCleared : Files → ClearedAsked → ToClear → Type 0
+MeansCleared files (cleared.Seeds asked) (to_clear.Seeds seeds) = MeanSeeds asked.items seeds.items
+MeansCleared files (cleared.File path) (to_clear.File bytes) = IfSome (files (string_bytes path)) (λ held. IsWholeUpTo 8_388_608 held bytes.items)
+MeansCleared files cleared.Failed to_clear.Failed = Unit {0}
+MeansCleared files _ _ = ⊥
+
+-- the text of the run of one of these means no moment
+abbrev pub HasUnmeantRun : List SeedAsked → Type 0
+HasUnmeantRun asked = (seed : SeedAsked) × Contains asked seed × IsNoMoment (string_bytes seed.run)
+
+abbrev pub HasNoMoment : ClearedAsked → Type 0
+HasNoMoment (cleared.Seeds asked) = HasUnmeantRun asked.items
+HasNoMoment _ = ⊥
 
 -- a text means no moment, or no days
 abbrev pub IsNoStarts : StartsAsked → Type 0
@@ -250,35 +208,75 @@ pub record IsRunAnswer (may_hear : Hearing) (files : Files) (machine : Machine) 
   pub readable : AreReadable files (graph_paths asked.graph)
   pub text_is : OfFiles files asked.graph (λ graph zone. IsRunReportBy (launching_asked asked.launcher asked.logs) may_hear machine.journals asked.journal range graph zone text succeeded)
 
--- the path of the table, where one is named
-abbrev pub table_named : ClearAsked → Option (List ℕ)
-table_named asked = option_map string_bytes asked.table
+-- what `clear` is given to read, and what is to be cleared in it
+pub record ClearInput : Type 0 where
+  pub graph : GraphAsked
+  pub table : Option (List ℕ)
+  pub report : List ℕ
+  pub cleared : ClearedAsked
+
+abbrev pub clear_input : ClearAsked → ClearInput
+clear_input asked = record { graph = asked.graph; table = option_map string_bytes asked.table; report = string_bytes asked.report; cleared = asked.cleared }
+
+-- with `--plan`, which takes no table
+abbrev pub plan_input : ClearPlanAsked → ClearInput
+plan_input asked = record { graph = asked.graph; table = None; report = string_bytes asked.report; cleared = asked.cleared }
+
+-- the path of the seeds file, where one is named
+abbrev pub seeds_named : ClearedAsked → Option (List ℕ)
+seeds_named (cleared.File path) = Some (string_bytes path)
+seeds_named _ = None
+
+-- the paths of the files that are read before any is looked at, in this order: all but the report's
+abbrev pub first_paths : ClearInput → List (List ℕ)
+first_paths input = clear_paths input.graph input.table (seeds_named input.cleared)
 
 -- so it is with whatever the graph file, the zone file, the table where one is named, and the report are told to hold
-abbrev pub OfClearFiles : Files → ClearAsked → (List ℕ → Option (List ℕ) → Option (List ℕ) → List ℕ → Type 0) → Type 0
-OfClearFiles files asked P = OfFilesAndNamedTable files asked.graph (table_named asked) (λ graph zone table.
-    (report : List ℕ) → IsHeld (files (string_bytes asked.report)) report → P graph zone table report)
+abbrev pub OfClearFiles : Files → ClearInput → (List ℕ → Option (List ℕ) → Option (List ℕ) → List ℕ → Type 0) → Type 0
+OfClearFiles files input P = OfFilesAndNamedTable files input.graph input.table (λ graph zone table.
+    (report : List ℕ) → IsHeld (files input.report) report → P graph zone table report)
 
--- the report of these bytes where the seed is cleared; where a journal is named, of the backfill that goes on from that first
-abbrev pub IsClearReportBy : LaunchingOf → Hearing → Files → Option JournalAsked → RunRange → Seed → List ℕ → Option (List ℕ) → Option (List ℕ) → List ℕ → List ℕ → Bool → Type 0
-IsClearReportBy launching may_hear journals None range seed graph zone table report text success =
-    IsClearReport launching may_hear graph zone table report range seed text success
-IsClearReportBy launching may_hear journals (Some asked) range seed graph zone table report text success =
-    OfJournal journals asked (λ held. IsJournaledClearReport launching may_hear graph zone table report asked.retry_failed held range seed text success)
+-- the report of these bytes where this is cleared; where a journal is named, of the backfill that goes on from that first
+abbrev pub IsClearReportBy : LaunchingOf → Hearing → Files → Option JournalAsked → RunRange → ToClear → List ℕ → Option (List ℕ) → Option (List ℕ) → List ℕ → List ℕ → Bool → Type 0
+IsClearReportBy launching may_hear journals None range what graph zone table report text success =
+    IsClearReport launching may_hear graph zone table report range what text success
+IsClearReportBy launching may_hear journals (Some asked) range what graph zone table report text success =
+    OfJournal journals asked (λ held. IsJournaledClearReport launching may_hear graph zone table report asked.retry_failed held range what text success)
 
--- the report of the backfill that goes on from a report where the seed is cleared, and whether each run of it is a success
+-- the report of the backfill that goes on from a report where this is cleared, and whether each run of it is a success
 pub record IsClearAnswer (may_hear : Hearing) (files : Files) (machine : Machine) (asked : ClearAsked) (text : List ℕ) (status : Status) : Type 0 where
   pub range : RunRange
   pub means : MeansRange asked.range range
-  pub seed : Seed
-  pub means_seed : MeansSeed asked.seed seed
+  pub what : ToClear
+  pub means_what : MeansCleared files asked.cleared what
   pub succeeded : Bool
   pub status_is : status ≡ of_runs succeeded
   pub launchable : IsLaunchable machine.startable (launcher_used asked.table asked.launcher)
-  pub readable : AreReadable files (clear_paths asked.graph (table_named asked))
+  pub readable : AreReadable files (first_paths (clear_input asked))
   pub report_readable : IsReadable (files (string_bytes asked.report))
-  pub text_is : OfClearFiles files asked (λ graph zone table report.
-      IsClearReportBy (launching_asked asked.launcher asked.logs) may_hear machine.journals asked.journal range seed graph zone table report text succeeded)
+  pub text_is : OfClearFiles files (clear_input asked) (λ graph zone table report.
+      IsClearReportBy (launching_asked asked.launcher asked.logs) may_hear machine.journals asked.journal range what graph zone table report text succeeded)
+
+-- the bytes say a graph, which has no fault, and a report of its runs in the range, and the text tells what is cleared in it
+pub record IsClearPlanIn (graph : List ℕ) (file : Option (List ℕ)) (report : List ℕ) (range : RunRange) (what : ToClear) (text : List ℕ) : Type 0 where
+  pub draft : Draft
+  pub found : List Interval
+  pub was : Report
+  pub graph_is : IsGraph graph file draft
+  pub listing : HasListing graph file range (Ok found)
+  pub report_says : IsReadAs report was
+  pub plan : IsClearPlan (dag_of draft) found was what text
+
+-- what is cleared in the report of the range
+pub record IsClearPlanAnswer (files : Files) (asked : ClearPlanAsked) (text : List ℕ) (status : Status) : Type 0 where
+  pub success : status ≡ Status.Success
+  pub range : RunRange
+  pub means : MeansRange asked.range range
+  pub what : ToClear
+  pub means_what : MeansCleared files asked.cleared what
+  pub readable : AreReadable files (first_paths (plan_input asked))
+  pub report_readable : IsReadable (files (string_bytes asked.report))
+  pub text_is : OfClearFiles files (plan_input asked) (λ graph zone table report. IsClearPlanIn graph zone report range what text)
 
 -- the text that a command is to write, and how it ends then
 abbrev pub IsAnswer : Hearing → Files → Machine → Asked → List ℕ → Status → Type 0
@@ -288,6 +286,9 @@ IsAnswer may_hear files machine (Single asked) text status = IsSingleAnswer file
 IsAnswer may_hear files machine (Dry asked) text status = IsDryAnswer files asked text status
 IsAnswer may_hear files machine (Run asked) text status = IsRunAnswer may_hear files machine asked text status
 IsAnswer may_hear files machine (Clear asked) text status = IsClearAnswer may_hear files machine asked text status
+IsAnswer may_hear files machine (ClearPlan asked) text status = IsClearPlanAnswer files asked text status
+IsAnswer may_hear files machine (ShowJson path) text status = IsJsonAnswer files (string_bytes path) text status
+IsAnswer may_hear files machine (Page asked) text status = IsPageAnswer files asked text status
 IsAnswer may_hear files machine (Schema format) text status = IsPrinted (schema_text format) text status
 IsAnswer may_hear files machine (Completions shell) text status = IsPrinted (completions_text shell) text status
 

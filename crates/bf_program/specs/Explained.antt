@@ -7,9 +7,9 @@ use Rattle.bf_findings.specs.Texts.{finding_text}
 use Rattle.bf_command_line.specs.declared.forms.Asked.{Asked}
 use Rattle.bf_command_line.specs.declared.forms.Asked.TheVariants.{Check}
 use Rattle.bf_command_line.specs.declared.forms.GraphAsked.{GraphAsked}
-use Rattle.bf_program.specs.Commands.{Files, OfFiles}
+use Rattle.bf_disk.specs.Files.{Files}
+use Rattle.bf_input.specs.Inputs.{OfFiles, AreAlike}
 use Rattle.bf_program.specs.CommandFaults.{IsTold}
-use Rattle.bf_program.specs.Files.{AreAlike}
 
 abbrev pub finding_line : Finding → List ℕ
 finding_line finding = finding_text finding ++ 10 ∷ []

@@ -1,5 +1,5 @@
 -- What is given of a journal that is opened, and what is told of it.
-use Rattle.std.specs.Prelude.{◌≡◌, ◌⊎◌, ℕ, Bool, List, [], Option, Some, None, Result, Ok, Err, ⊤, string_bytes}
+use Rattle.std.specs.Prelude.{◌≡◌, ◌⊎◌, ℕ, Bool, List, [], Option, Some, None, Ok, string_bytes}
 use Rattle.bf_value.specs.declared.name.JobName.{JobName}
 use Rattle.bf_plan.specs.declared.plan.Dag.{Dag}
 use Rattle.bf_read.specs.declared.draft.Draft.{Draft}
@@ -10,31 +10,25 @@ use Rattle.bf_try.specs.declared.answers.Raw.{Raw}
 use Rattle.bf_try.specs.Tries.{Look}
 use Rattle.bf_kept.specs.Kept.{nothing}
 use Rattle.bf_table.specs.declared.table.TableEntry.{TableEntry}
-use Rattle.bf_dependents.specs.declared.seeds.Seed.{Seed}
+use Rattle.bf_commands.specs.declared.cleared.ToClear.{ToClear}
 use Rattle.bf_report.specs.declared.report.Report.{Report}
 use Rattle.bf_command_line.specs.declared.forms.JournalAsked.{JournalAsked}
 use Rattle.bf_command_fault.specs.declared.fault.CommandFault.{CommandFault}
 use Rattle.bf_command_fault.specs.declared.fault.CommandFault.TheVariants.{CannotRead, CannotWriteFile, Journal as BadJournal, JournalInUse, OutOfMemory, Stopped}
 use Rattle.bf_command_fault.specs.declared.stop.StopFault.{StopFault}
-use Rattle.bf_commands.specs.declared.range.RunRange.{RunRange}
-use Rattle.bf_commands.specs.Cleared.{IsKeptOf}
-use Rattle.bf_commands.specs.Graphs.{IsGraph}
-use Rattle.bf_commands.specs.Journaled.{Heading, IsFaultOfSeed, IsFaultSince, IsJournaledAfter, IsReportSince, TellsOf}
-use Rattle.bf_commands.specs.Lists.{HasListing, IsFaultOfList}
-use Rattle.bf_commands.specs.OverTable.{IsWanting}
+use Rattle.bf_planning.specs.declared.range.RunRange.{RunRange}
+use Rattle.bf_commands.specs.Cleared.{IsUncleared}
+use Rattle.bf_planning.specs.Graphs.{IsGraph}
+use Rattle.bf_commands.specs.Journaled.{Heading, IsClearedBy, IsFaultSince, IsJournaledAfter, IsReportSince}
+use Rattle.bf_planning.specs.Lists.{HasListing, IsFaultOfList}
+use Rattle.bf_planning.specs.Wanting.{IsWanting}
 use Rattle.bf_process.specs.Words.{LaunchingOf}
 use Rattle.bf_commands.specs.Programs.{HearingTries, IsFaultOfRun, Losing}
-use Rattle.bf_program.specs.Commands.{Files, IsUnopened, OfJournal}
-use Rattle.bf_program.specs.Files.{IsFaultAfterFile, IsReadOf, IsReportAfterFile, IsReportFault}
-use Rattle.bf_program.specs.declared.journals.OpenFault.{OpenFault}
-use Rattle.bf_program.specs.declared.journals.OpenJournal.{OpenJournal}
-
--- of a journal that holds these bytes a device with them; and none of one that can't be opened
-abbrev pub OpensJournal : {D : Type 0} → Option (List ℕ) → Result (OpenJournal D) OpenFault → Type 0
-OpensJournal (Some held) (Ok opened) = opened.held.items ≡ held
-OpensJournal (Some held) (Err fault) = fault ≡ OpenFault.OutOfMemory
-OpensJournal None (Ok opened) = ⊥
-OpensJournal None (Err fault) = ⊤
+use Rattle.bf_disk.specs.Files.{Files}
+use Rattle.bf_program.specs.Commands.{IsUnopened, OfJournal}
+use Rattle.bf_input.specs.Inputs.{IsReadOf, IsReportFault}
+use Rattle.bf_program.specs.Files.{IsFaultAfterFile, IsReportAfterFile}
+use Rattle.bf_disk.specs.declared.journals.OpenFault.{OpenFault}
 
 -- ---- for private clauses
 
@@ -89,30 +83,29 @@ IsFaultOfRunBy launching may_lose journals (Some asked) range graph zone fault =
 
 -- ---- of `clear`
 
--- the report of the backfill that goes on from a journal, and else from that of a file where the seed is cleared
-pub record IsJournaledAfterFile (may_hear : HearingTries) (journals : Files) (answers : Option (List TableEntry)) (dag : Dag) (found : List Interval) (file : Option (Option (List ℕ))) (seed : Seed) (asked : JournalAsked) (text : List ℕ) (success : Bool) : Type 0 where
+-- the report of the backfill that goes on from a journal, and else from that of a file where this is cleared
+pub record IsJournaledAfterFile (may_hear : HearingTries) (journals : Files) (answers : Option (List TableEntry)) (dag : Dag) (found : List Interval) (file : Option (Option (List ℕ))) (what : ToClear) (asked : JournalAsked) (text : List ℕ) (success : Bool) : Type 0 where
   pub was : Report
   pub read : IsReadOf file was
-  pub reported : OfJournal journals asked (λ held. IsJournaledAfter may_hear answers dag found was seed asked.retry_failed held text success)
+  pub reported : OfJournal journals asked (λ held. IsJournaledAfter may_hear answers dag found was what asked.retry_failed held text success)
 
--- what is kept of a report where the seed is cleared, and the backfill that goes on from a journal and from that has this fault
-pub record GoesWrongAfter (logs : Option (List ℕ)) (journals : Files) (dag : Dag) (found : List Interval) (was : Report) (seed : Seed) (asked : JournalAsked) (fault : CommandFault) : Type 0 where
+-- what is kept of a report where this is cleared, and the backfill that goes on from a journal and from that has this fault
+pub record GoesWrongAfter (logs : Option (List ℕ)) (journals : Files) (dag : Dag) (found : List Interval) (was : Report) (what : ToClear) (asked : JournalAsked) (fault : CommandFault) : Type 0 where
   pub kept : Look
-  pub kept_is : IsKeptOf dag found was seed kept
   pub cleared : Heading
-  pub tells : TellsOf seed cleared
+  pub cleared_is : IsClearedBy dag found was what kept cleared
   pub fault_is : IsFaultOver journals asked kept cleared logs dag found fault
 
--- the fault of a report's file, or of the seed, or else of the backfill that goes on
-abbrev pub IsFaultSinceFile : Option (List ℕ) → Files → Dag → List Interval → List ℕ → Option (Option (List ℕ)) → Seed → JournalAsked → CommandFault → Type 0
-IsFaultSinceFile logs journals dag found path file seed asked fault = IsReportFault path file fault
-    ⊎ ((was : Report) × IsReadOf file was × (IsFaultOfSeed dag found was seed fault ⊎ GoesWrongAfter logs journals dag found was seed asked fault))
+-- the fault of a report's file, or of what is cleared, or else of the backfill that goes on
+abbrev pub IsFaultSinceFile : Option (List ℕ) → Files → Dag → List Interval → List ℕ → Option (Option (List ℕ)) → ToClear → JournalAsked → CommandFault → Type 0
+IsFaultSinceFile logs journals dag found path file what asked fault = IsReportFault path file fault
+    ⊎ ((was : Report) × IsReadOf file was × (IsUncleared dag found was what fault ⊎ GoesWrongAfter logs journals dag found was what asked fault))
 
 -- so it is where a journal is named; and where none is, without one
-abbrev pub IsReportAfterFileBy : HearingTries → Files → Option JournalAsked → Option (List TableEntry) → Dag → List Interval → Option (Option (List ℕ)) → Seed → List ℕ → Bool → Type 0
-IsReportAfterFileBy may_hear journals None answers dag found file seed text success = IsReportAfterFile may_hear answers dag found file seed text success
-IsReportAfterFileBy may_hear journals (Some asked) answers dag found file seed text success = IsJournaledAfterFile may_hear journals answers dag found file seed asked text success
+abbrev pub IsReportAfterFileBy : HearingTries → Files → Option JournalAsked → Option (List TableEntry) → Dag → List Interval → Option (Option (List ℕ)) → ToClear → List ℕ → Bool → Type 0
+IsReportAfterFileBy may_hear journals None answers dag found file what text success = IsReportAfterFile may_hear answers dag found file what text success
+IsReportAfterFileBy may_hear journals (Some asked) answers dag found file what text success = IsJournaledAfterFile may_hear journals answers dag found file what asked text success
 
-abbrev pub IsFaultAfterFileBy : Bool → LaunchingOf → Losing → Files → Option JournalAsked → Option (List TableEntry) → Dag → List Interval → List ℕ → Option (Option (List ℕ)) → Seed → CommandFault → Type 0
-IsFaultAfterFileBy alone launching may_lose journals None answers dag found path file seed fault = IsFaultAfterFile alone launching may_lose answers dag found path file seed fault
-IsFaultAfterFileBy alone launching may_lose journals (Some asked) answers dag found path file seed fault = IsFaultSinceFile launching.logs journals dag found path file seed asked fault
+abbrev pub IsFaultAfterFileBy : Bool → LaunchingOf → Losing → Files → Option JournalAsked → Option (List TableEntry) → Dag → List Interval → List ℕ → Option (Option (List ℕ)) → ToClear → CommandFault → Type 0
+IsFaultAfterFileBy alone launching may_lose journals None answers dag found path file what fault = IsFaultAfterFile alone launching may_lose answers dag found path file what fault
+IsFaultAfterFileBy alone launching may_lose journals (Some asked) answers dag found path file what fault = IsFaultSinceFile launching.logs journals dag found path file what asked fault

@@ -1,9 +1,7 @@
-pub mod Source
-pub mod Stored
-pub mod Disks
 pub mod Shown
 pub mod Texts
 pub mod Commands
+pub mod Named
 pub mod CommandFaults
 pub mod Files
 pub mod Explained

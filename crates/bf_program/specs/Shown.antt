@@ -8,7 +8,7 @@ use Rattle.bf_command_fault.specs.Status.{code_of}
 use Rattle.bf_command_fault.specs.declared.fault.CommandFault.{CommandFault}
 use Rattle.bf_command_fault.specs.declared.status.Status.{Status}
 use Rattle.bf_command_fault.specs.declared.status.Status.TheVariants.{Success, Refused, Fault}
-use Rattle.bf_commands.specs.OverTable.{IsWanting}
+use Rattle.bf_planning.specs.Wanting.{IsWanting}
 
 -- help is a success, and anything else is refused
 abbrev pub shown_as : ErrorKind → Status

@@ -6,12 +6,12 @@ ghost use Rattle.bf_command_fault.specs.declared.status.Status.{Status as Status
 ghost use Rattle.bf_program.specs.Commands.{IsCheckAnswer, size_text};
 ghost use Rattle.bf_program.specs.CommandFaults.{IsCheckFault};
 
-use crate::input::graph_files;
-use crate::source::Source;
 use bf_command_fault::{CommandFault, Status};
 use bf_command_line::GraphAsked;
-use bf_commands::{GraphSize, check_graph};
 use bf_device::{Write, send};
+use bf_disk::Source;
+use bf_input::graph_files;
+use bf_planning::{GraphSize, check_graph};
 use bf_value::OutOfMemory;
 use std::alloc::Global;
 

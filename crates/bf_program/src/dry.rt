@@ -6,12 +6,13 @@ ghost use Rattle.bf_command_fault.specs.declared.status.Status.{Status as Status
 ghost use Rattle.bf_program.specs.Commands.{IsDryAnswer};
 ghost use Rattle.bf_program.specs.CommandFaults.{IsDryFault};
 
-use crate::input::{files_with_table, range_of};
-use crate::source::Source;
+use crate::range::range_of;
 use bf_command_fault::{CommandFault, Status};
 use bf_command_line::DryAsked;
 use bf_commands::{Crew, Screen, run_dry};
 use bf_device::Write;
+use bf_disk::Source;
+use bf_input::files_with_table;
 use bf_process::Starter;
 use std::alloc::Global;
 use std::sync::Wait;

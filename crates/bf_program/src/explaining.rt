@@ -3,16 +3,17 @@ ghost use Rattle.std.specs.Prelude.{◌≡◌, ◌++◌, true, IfOk, OnErr, OnOk
 ghost use Rattle.bf_device.specs.Device.{HasHalted};
 ghost use Rattle.bf_command_line.specs.Asked.{IsLineBy};
 ghost use Rattle.bf_command_line.specs.declared.forms.CommandLine.{CommandLine as CommandLineTerm};
-ghost use Rattle.bf_program.specs.Commands.{OfFiles, found_in};
+ghost use Rattle.bf_input.specs.Inputs.{OfFiles};
+ghost use Rattle.bf_program.specs.Commands.{found_in};
 ghost use Rattle.bf_program.specs.Explained.{IsExplained, IsExplainedIf, IsExplanation, finding_line, findings_text};
 
-use crate::input::graph_files;
 use crate::program::tell;
-use crate::source::Source;
 use bf_command_fault::CommandFault;
 use bf_command_line::{Asked, CheckAsked, CommandLine, GraphAsked, asked};
 use bf_device::Write;
+use bf_disk::Source;
 use bf_findings::{Finding, findings};
+use bf_input::graph_files;
 use bf_value::OutOfMemory;
 use std::alloc::Global;
 

@@ -5,13 +5,11 @@ ghost use Rattle.bf_program.specs.Commands.{IsAnswer, machine_of};
 ghost use Rattle.bf_program.specs.CommandFaults.{IsFaultBy};
 ghost use Rattle.bf_program.specs.Filed.{filed_fault, replacing_fault};
 
-use crate::journals::Journals;
-use crate::launchers::Launchers;
 use crate::program::command_answered;
-use crate::source::Source;
 use bf_command_fault::{CommandFault, Status};
 use bf_command_line::Asked;
 use bf_commands::Screen;
+use bf_disk::{Journals, Launchers, Source};
 use bf_file::{Folder, Page, ReplaceFault, give_up, replace};
 use bf_process::Starter;
 use bf_value::Text;

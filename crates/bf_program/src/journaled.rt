@@ -8,19 +8,19 @@ ghost use Rattle.bf_command_fault.specs.Refusal.{Leaves, Sends};
 ghost use Rattle.bf_commands.specs.Cleared.{MayAnswerBy};
 ghost use Rattle.bf_commands.specs.Programs.{launched_in};
 ghost use Rattle.bf_program.specs.Commands.{IsRunReportBy, OfJournal};
-ghost use Rattle.bf_program.specs.Files.{bytes_of};
+ghost use Rattle.bf_input.specs.Inputs.{bytes_of};
 ghost use Rattle.bf_program.specs.Journals.{IsFaultOfOpening, IsFaultOfRecorded, IsFaultOfRunBy, IsFaultOver, IsReportOver, journaled_fault, of_open};
 
-use crate::input::GraphFiles;
-use crate::journals::{Journals, OpenFault};
 use bf_command_fault::{CommandFault, StopFault};
 use bf_command_line::JournalAsked;
 use bf_commands::{
-    Clearing, Crew, DatedPlan, Journal, Recorded, RunRange, Screen, dated_plan_in, record_again,
-    record_programs, run_programs,
+    Clearing, Crew, Journal, Recorded, Screen, record_again, record_programs, run_programs,
 };
 use bf_device::Write;
+use bf_disk::{Journals, OpenFault};
+use bf_input::GraphFiles;
 use bf_journal::Cuttable;
+use bf_planning::{DatedPlan, RunRange, dated_plan_in};
 use bf_process::Starter;
 use bf_table::Table;
 use bf_value::Text;

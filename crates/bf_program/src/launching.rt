@@ -1,16 +1,40 @@
 //! How the programs of tries are launched, and whether tries that fail are told.
-ghost use Rattle.std.specs.Prelude.{◌≡◌, false, option_map, string_bytes, true};
+ghost use Rattle.std.specs.Prelude.{◌≡◌, IfErr, OnOk, false, option_map, string_bytes, true};
 ghost use Rattle.bf_process.specs.Words.{launching_of};
-ghost use Rattle.bf_program.specs.Commands.{launching_asked as asked};
+ghost use Rattle.bf_program.specs.Commands.{IsLaunchable, launching_asked as asked};
+ghost use Rattle.bf_program.specs.CommandFaults.{IsFaultOfLauncher};
 
+use bf_command_fault::CommandFault;
 use bf_commands::{Screen, Tells};
+use bf_disk::Launchers;
 use bf_process::Launching;
+use bf_value::Text;
+use std::alloc::Global;
 
 /// The path that is named, where one is.
 pub(crate) fn path_named(path: &Option<String>) -> Option<&str>
     ensures { option_map (λ p. p.now) result ≡ option_map string_bytes path.entry.now }
 {
     path.as_deref()
+}
+
+/// Looks whether the launcher that is named can be started.
+pub(crate) fn look_at<L: Launchers>(
+    launchers: &L,
+    alloc: Global,
+    launcher: Option<&str>,
+) -> Result<(), CommandFault>
+    ensures ok { OnOk result (IsLaunchable (L.startable launchers.now) (option_map (λ l. l.now) launcher.entry)) }
+    ensures fault { IfErr result (IsFaultOfLauncher (L.startable launchers.now) (option_map (λ l. l.now) launcher.entry)) }
+{
+    let Some(path) = launcher else {
+        return Ok(());
+    };
+    if launchers.can_start(path) {
+        return Ok(());
+    }
+    let path = Text::copied(alloc, path)?;
+    Err(CommandFault::CannotLaunch(path))
 }
 
 /// How programs are launched where this launcher and this folder of logs are named. What clocks show is left open.

@@ -3,30 +3,19 @@
 
 mod check;
 mod clear;
-mod disk;
+mod clear_plan;
 mod dry;
 mod explaining;
 mod filed;
-mod input;
 mod journaled;
-mod journals;
-mod launchers;
 mod launching;
 mod list;
-mod new_file;
-mod prefix;
+mod named;
 mod program;
+mod range;
 mod run;
 mod single;
-mod source;
-mod stored;
 mod texts;
 
-pub use disk::Disk;
 pub use explaining::explain;
-pub use journals::{Journals, Lockable, OpenFault, OpenJournal};
-pub use launchers::Launchers;
-pub use new_file::NewFile;
 pub use program::answer;
-pub use source::{Source, SourceFault};
-pub use stored::StoredFiles;

@@ -6,12 +6,13 @@ ghost use Rattle.bf_command_fault.specs.declared.status.Status.{Status as Status
 ghost use Rattle.bf_program.specs.Commands.{IsListAnswer};
 ghost use Rattle.bf_program.specs.CommandFaults.{IsListFault};
 
-use crate::input::{graph_files, range_of};
-use crate::source::Source;
+use crate::range::range_of;
 use bf_command_fault::{CommandFault, Status};
 use bf_command_line::ListAsked;
-use bf_commands::run_list;
 use bf_device::Write;
+use bf_disk::Source;
+use bf_input::graph_files;
+use bf_planning::run_list;
 use std::alloc::Global;
 
 /// The moments are looked at first. Then the files are read, and only then what they hold is looked at.

@@ -12,21 +12,21 @@ ghost use Rattle.bf_program.specs.Shown.{shown_as, EndsAs, IsUnshown, ShowsHelp}
 
 use crate::check::check_answered;
 use crate::clear::clear_answered;
+use crate::clear_plan::clear_plan_answered;
 use crate::dry::dry_answered;
 use crate::filed::filed;
-use crate::journals::Journals;
-use crate::launchers::Launchers;
 use crate::list::list_answered;
 use crate::run::run_answered;
 use crate::single::single_answered;
-use crate::source::Source;
 use crate::texts::{completions_answered, schema_answered};
 use bf_command_fault::{CommandFault, Status};
 use bf_command_line::{Asked, CommandLine, asked};
 use bf_commands::Screen;
 use bf_device::{Write, send};
+use bf_disk::{Journals, Launchers, Source};
 use bf_file::Folder;
 use bf_process::Starter;
+use bf_views::{json_answered, page_answered};
 use clap::Error;
 use clap::error::ErrorKind;
 use std::alloc::Global;
@@ -167,6 +167,9 @@ where
         Asked::Dry(dry) => dry_answered(rt, alloc, dry, files, out),
         Asked::Run(ran) => run_answered(rt, alloc, ran, files, journals, out),
         Asked::Clear(clear) => clear_answered(rt, alloc, clear, files, journals, out),
+        Asked::ClearPlan(plan) => clear_plan_answered(alloc, plan, files, out),
+        Asked::ShowJson(path) => json_answered(alloc, path, files, out),
+        Asked::Page(page) => page_answered(alloc, page, files, out),
         Asked::Schema(format) => schema_answered(format, out),
         Asked::Completions(shell) => completions_answered(shell, out),
     }

@@ -6,16 +6,15 @@ ghost use Rattle.bf_command_fault.specs.declared.status.Status.{Status as Status
 ghost use Rattle.bf_program.specs.Commands.{IsRunAnswer, machine_of};
 ghost use Rattle.bf_program.specs.CommandFaults.{IsRunFault};
 
-use crate::input::{graph_files, range_of};
 use crate::journaled::run_reported;
-use crate::journals::Journals;
-use crate::launchers::{Launchers, look_at};
-use crate::launching::{launching_asked, path_named, tells_of};
-use crate::source::Source;
+use crate::launching::{launching_asked, look_at, path_named, tells_of};
+use crate::range::range_of;
 use bf_command_fault::{CommandFault, Status};
 use bf_command_line::RunAsked;
 use bf_commands::{Crew, Screen};
 use bf_device::Write;
+use bf_disk::{Journals, Launchers, Source};
+use bf_input::graph_files;
 use bf_process::Starter;
 use std::alloc::Global;
 use std::sync::Wait;

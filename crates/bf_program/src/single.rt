@@ -6,12 +6,12 @@ ghost use Rattle.bf_command_fault.specs.declared.status.Status.{Status as Status
 ghost use Rattle.bf_program.specs.Commands.{IsSingleAnswer};
 ghost use Rattle.bf_program.specs.CommandFaults.{IsSingleFault};
 
-use crate::input::{files_with_table, moment_of};
-use crate::source::Source;
 use bf_command_fault::{CommandFault, Status};
 use bf_command_line::SingleAsked;
 use bf_commands::{Screen, run_single};
 use bf_device::Write;
+use bf_disk::Source;
+use bf_input::{files_with_table, moment_of};
 use bf_process::Starter;
 use std::alloc::Global;
 use std::sync::Wait;

@@ -9,6 +9,7 @@ pub mod Parting
 pub mod Beginning
 pub mod Lasts
 pub mod Rules
+pub mod Reading
 pub mod Steps
 pub mod Extensions
 pub mod Faults

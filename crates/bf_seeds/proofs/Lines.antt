@@ -9,7 +9,7 @@ use Rattle.bf_interval.specs.declared.interval.Interval.{Interval}
 use Rattle.bf_plan.specs.declared.plan.Dag.{Dag}
 use Rattle.bf_dependents.specs.declared.seeds.Seed.{Seed}
 use Rattle.bf_seeds.specs.declared.fault.SeedsFault.{SeedsFault}
-use Rattle.bf_seeds.specs.declared.fault.SeedsFault.TheVariants.{BadSeed, Unknown, OutOfMemory}
+use Rattle.bf_seeds.specs.declared.fault.SeedsFault.TheVariants.{BadFile, BadSeed, Unknown, OutOfMemory}
 use Rattle.bf_seeds.specs.Seeds.{cut, is_space, parts, AreSeeds, IsEarliest, IsFaultOfLine, IsFaultOfSeed, IsFirstFault, IsSeedOf, SpellsSeed}
 
 not-below : (n : ℕ) → nat_lt n n ≡ false
@@ -46,6 +46,7 @@ module _ (dag : Dag) (intervals : List Interval) where
       at f h = record { before = take i lines; line = get_or lines i []; behind = drop (suc i) lines; parts = split; seeds = seeds; known = are; is_fault = h }
 
       go : (f : SeedsFault) → IsFaultOfLine dag intervals (get_or lines i []) f → IsFirstFault dag intervals lines f
+      go BadFile h = absurd h
       go (BadSeed bad) h = at (BadSeed bad) h
       go (Unknown why) h = at (Unknown why) h
       go OutOfMemory h = tt
@@ -56,6 +57,7 @@ if-none (Some x) p = tt
 
 -- why a seed is refused is why its line is
 pub fault-of-line : (dag : Dag) (intervals : List Interval) (line : List ℕ) (seed : Seed) (fault : SeedsFault) → SpellsSeed line seed → IsFaultOfSeed dag intervals seed fault → IsFaultOfLine dag intervals line fault
+fault-of-line dag intervals line seed BadFile spells is = absurd is
 fault-of-line dag intervals line seed (BadSeed bad) spells is = absurd is
 fault-of-line dag intervals line seed (Unknown why) spells is = (seed, spells, is)
 fault-of-line dag intervals line seed OutOfMemory spells is = tt

@@ -1,5 +1,5 @@
 -- Lines of a seeds file, and what they say.
-use Rattle.std.specs.Prelude.{◌≡◌, ◌⊎◌, ℕ, ◌<◌, ◌==◌, nat_lt, ℤ, pos, negsuc, Bool, true, false, not, List, [], ◌∷◌, ◌++◌, length, codes, decimal, Option, Some, None}
+use Rattle.std.specs.Prelude.{◌≡◌, ◌⊎◌, ℕ, ◌<◌, ◌==◌, nat_lt, ◌≤◌, IsUtf8, ℤ, pos, negsuc, Bool, true, false, not, List, [], ◌∷◌, ◌++◌, length, codes, decimal, Option, Some, None}
 use Rattle.std.specs.List.{after_first, before_first, filter, position_or_len}
 use Rattle.std.specs.Str.Lines.{lines}
 use Rattle.jiff.specs.declared.timestamp.Timestamp.{Timestamp}
@@ -10,13 +10,21 @@ use Rattle.bf_dependents.specs.declared.seeds.Seed.{Seed}
 use Rattle.bf_dependents.specs.Faults as clearing
 use Rattle.bf_dependents.specs.Seeds.{seed_fault}
 use Rattle.bf_seeds.specs.declared.fault.SeedsFault.{SeedsFault}
-use Rattle.bf_seeds.specs.declared.fault.SeedsFault.TheVariants.{BadSeed, Unknown, OutOfMemory}
+use Rattle.bf_seeds.specs.declared.fault.SeedsFault.TheVariants.{BadFile, BadSeed, Unknown, OutOfMemory}
 
 -- the number of the refusal, which want of memory doesn't have
 abbrev pub fault_number : SeedsFault → Option ℕ
+fault_number BadFile = Some 45
 fault_number (BadSeed line) = Some 45
 fault_number (Unknown fault) = clearing.fault_number fault
 fault_number OutOfMemory = None
+
+-- why no seeds are read, as it is printed
+abbrev pub fault_text : SeedsFault → List ℕ
+fault_text BadFile = codes "bad seed: file"
+fault_text (BadSeed line) = codes "bad seed: " ++ line
+fault_text (Unknown fault) = clearing.fault_text fault
+fault_text OutOfMemory = codes "out of memory"
 
 -- ---- a line
 
@@ -73,12 +81,14 @@ AreSeeds dag intervals _ _ = ⊥
 
 -- why a seed is refused: its task is unknown, and else its run
 abbrev pub IsFaultOfSeed : Dag → List Interval → Seed → SeedsFault → Type 0
+IsFaultOfSeed dag intervals seed BadFile = ⊥
 IsFaultOfSeed dag intervals seed (BadSeed line) = ⊥
 IsFaultOfSeed dag intervals seed (Unknown fault) = seed_fault dag intervals (seed ∷ []) ≡ Some fault
 IsFaultOfSeed dag intervals seed OutOfMemory = Unit {0}
 
 -- why a line is refused: it is of no seed, and else its seed is
 abbrev pub IsFaultOfLine : Dag → List Interval → List ℕ → SeedsFault → Type 0
+IsFaultOfLine dag intervals line BadFile = ⊥
 IsFaultOfLine dag intervals line (BadSeed bad) = (bad ≡ line) × ((seed : Seed) → SpellsSeed line seed → ⊥)
 IsFaultOfLine dag intervals line (Unknown fault) = (seed : Seed) × SpellsSeed line seed × (seed_fault dag intervals (seed ∷ []) ≡ Some fault)
 IsFaultOfLine dag intervals line OutOfMemory = Unit {0}
@@ -97,3 +107,19 @@ pub record IsEarliest (dag : Dag) (intervals : List Interval) (lines : List (Lis
 abbrev pub IsFirstFault : Dag → List Interval → List (List ℕ) → SeedsFault → Type 0
 IsFirstFault dag intervals lines OutOfMemory = Unit {0}
 IsFirstFault dag intervals lines fault = IsEarliest dag intervals lines fault
+
+-- ---- files
+
+-- the bytes may be those of a seeds file
+abbrev pub IsSeedsText : List ℕ → Type 0
+IsSeedsText bytes = (length bytes ≤ 8_388_608) × IsUtf8 bytes
+
+-- the bytes say these seeds, line by line
+abbrev pub AreSeedsOfFile : Dag → List Interval → List ℕ → List Seed → Type 0
+AreSeedsOfFile dag intervals bytes seeds = IsSeedsText bytes × AreSeeds dag intervals (lines_in bytes) seeds
+
+-- why the bytes are refused: as a whole, or for their first line that is of no seed that is known
+abbrev pub IsFaultOfFile : Dag → List Interval → List ℕ → SeedsFault → Type 0
+IsFaultOfFile dag intervals bytes BadFile = ¬ (IsSeedsText bytes)
+IsFaultOfFile dag intervals bytes OutOfMemory = Unit {0}
+IsFaultOfFile dag intervals bytes fault = IsSeedsText bytes × IsEarliest dag intervals (lines_in bytes) fault

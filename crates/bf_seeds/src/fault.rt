@@ -4,10 +4,14 @@ ghost use Rattle.bf_seeds.specs.Seeds.{fault_number};
 
 use bf_dependents::ClearFault;
 use bf_value::{OutOfMemory, Text};
+use std::error::Error;
+use std::fmt;
 
-/// Why no seeds are read: the earliest line that is refused, and why.
+/// Why no seeds are read: the file as a whole, or the earliest line that is refused, and why.
 #[derive(Debug, Drop)]
 pub enum SeedsFault {
+    /// A file that is too long, or isn't UTF-8.
+    BadFile,
     /// A line of another form, which is this one.
     BadSeed(Text),
     /// A line with a task or a run that is unknown.
@@ -21,12 +25,30 @@ impl SeedsFault {
         ensures { result ≡ fault_number self.now }
     {
         match self {
-            SeedsFault::BadSeed(_) => Some(45),
+            SeedsFault::BadFile | SeedsFault::BadSeed(_) => Some(45),
             SeedsFault::Unknown(fault) => fault.number(),
             SeedsFault::OutOfMemory => None,
         }
     }
 }
+
+impl fmt::Display for SeedsFault {
+    ghost use Rattle.std.specs.Prelude.{Some};
+    ghost use Rattle.bf_seeds.specs.Seeds.{fault_text};
+
+    ghost output = { λ fault. Some (fault_text fault) };
+
+    fn fmt<W: fmt::Write>(&self, f: &mut fmt::Formatter<W>) -> fmt::Result {
+        match self {
+            SeedsFault::BadFile => write!(f, "bad seed: file"),
+            SeedsFault::BadSeed(line) => write!(f, "bad seed: {line}"),
+            SeedsFault::Unknown(fault) => write!(f, "{fault}"),
+            SeedsFault::OutOfMemory => write!(f, "out of memory"),
+        }
+    }
+}
+
+impl Error for SeedsFault {}
 
 impl From<OutOfMemory> for SeedsFault {
     ghost use Rattle.bf_seeds.specs.declared.fault.SeedsFault.TheVariants.{OutOfMemory as NoMemory};

@@ -4,13 +4,16 @@
 //! which is -1 of a task that isn't expanded. The last line may lack its line feed, and a carriage return before a line feed is no
 //! part of a line. Empty lines are passed over, as by `sha256sum --check` and `tsort`; a line of spaces isn't empty.
 //!
-//! `seeds_in` reads the lines, and refuses the earliest that is of another form, or else names a task or a run that is unknown.
+//! `read_seeds` reads a file, and `seeds_in` its lines: refused is the earliest that is of another form, or else names a task or
+//! a run that is unknown.
 #![tactic(auto)]
 
 mod fault;
+mod file;
 mod index;
 mod line;
 mod reading;
 
 pub use fault::SeedsFault;
-pub use reading::{LONGEST_FILE, seeds_in};
+pub use file::{LONGEST_FILE, read_seeds};
+pub use reading::seeds_in;

@@ -13,9 +13,6 @@ use bf_value::{OutOfMemory, Text};
 use std::alloc::{AllocError, Global};
 use std::slice;
 
-/// How many bytes a seeds file may have.
-pub const LONGEST_FILE: usize = 8_388_608;
-
 /// The lines that aren't empty.
 fn lines_of(alloc: Global, text: &str) -> Result<Vec<&str>, AllocError>
     ensures { IfOk result (λ found. map (λ line. line.now) found.items ≡ lines_in text.now) }

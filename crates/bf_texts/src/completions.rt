@@ -11,7 +11,7 @@ _backfill_files() {
 }
 
 _backfill() {
-    local word=$2 before=$3 commands='check list single dry run clear schema completions help' command='' options='' words='' at
+    local word=$2 before=$3 commands='check list single dry run clear show page schema completions help' command='' options='' words='' at
     COMPREPLY=()
     # --from=T comes in three words
     [[ $word != '=' ]] || word=''
@@ -24,11 +24,11 @@ _backfill() {
     done
 
     case $before in
-        --zone-file | --table | --out | --launcher | --logs | --journal)
+        --zone-file | --table | --seeds | --out | --launcher | --logs | --journal | --json)
             _backfill_files "$word"
             return
             ;;
-        --at | --from | --to | --on | --task | --run | --workers | --stop-after) return ;;
+        --at | --from | --to | --on | --task | --run | --index | --workers | --stop-after) return ;;
     esac
 
     case $command in
@@ -39,7 +39,9 @@ _backfill() {
         single) options='--zone-file --at --out --help' ;;
         dry) options='--zone-file --from --to --on --some --workers --progress --out --help' ;;
         run) options='--zone-file --from --to --on --some --workers --progress --out --launcher --logs --journal --stop-after --retry-failed --quiet --help' ;;
-        clear) options='--zone-file --task --run --table --from --to --on --some --workers --progress --out --launcher --logs --journal --stop-after --retry-failed --quiet --help' ;;
+        clear) options='--zone-file --task --run --index --seeds --failed --plan --table --from --to --on --some --workers --progress --out --launcher --logs --journal --stop-after --retry-failed --quiet --help' ;;
+        show) options='--json --help' ;;
+        page) options='--zone-file --states-only --help' ;;
         schema) options='--help' words='graph table' ;;
         completions) options='--help' words='bash zsh fish' ;;
     esac
@@ -62,7 +64,7 @@ pub const ZSH: &str = r#"#compdef backfill
 _backfill() {
     local curcontext=$curcontext state line
     typeset -A opt_args
-    local -a commands help version zone_file explain at from to on some task run table workers progress out launcher logs journal stop_after retry_failed quiet graph_file table_file report_file format shell
+    local -a commands help version zone_file explain at from to on some task run index seeds failed plan table workers progress out launcher logs journal stop_after retry_failed quiet json states_only graph_file table_file report_file format shell
 
     commands=(
         'check:Checks the graph, and tells how many tasks and edges it has'
@@ -70,7 +72,9 @@ _backfill() {
         'single:Runs the graph once, answered from a table'
         'dry:Runs the graph over a range, answered from a table'
         'run:Runs the graph over a range, with the programs of its tasks'
-        'clear:Runs a task of a run again, with all that follows from it'
+        'clear:Runs tasks of runs again, with all that follows from them'
+        'show:Shows a report as lines of JSON'
+        'page:Writes a page that shows a report'
         'schema:Prints the JSON Schema of graph files or tables'
         'completions:Prints what a shell completes'
         'help:Prints help'
@@ -85,8 +89,12 @@ _backfill() {
     to=('--to[The last moment at which an interval may start]:moment: ')
     on=('--on[The days on which an interval starts, in place of both]:days: ')
     some=('--some[Refuses a range in which no interval starts]')
-    task=('--task[The task to clear]:task: ')
-    run=('--run[The logical date of the run in which it is cleared]:moment: ')
+    task=('*--task[A task to clear]:task: ')
+    run=('*--run[The logical date of the run in which it is cleared]:moment: ')
+    index=('*--index[The map index of the instance that is cleared of it]:number: ')
+    seeds=('--seeds[The file of what to clear]:file:_files')
+    failed=('--failed[Clears each instance that failed]')
+    plan=('--plan[Prints what is cleared, and runs nothing]')
     table=('--table[The table that answers in place of programs]:table:_files')
     workers=('--workers[How many tries may run at once]:number from 1 to 64: ')
     progress=('--progress[Tells how far the runs are]')
@@ -97,6 +105,8 @@ _backfill() {
     stop_after=('--stop-after[Behind how many failed tries no further one begins]:number: ')
     retry_failed=('--retry-failed[Makes the failed tries of the journal again]')
     quiet=('--quiet[Tells neither progress nor which tries fail]')
+    json=('--json[Prints an object for each task instance of this report]:report:_files')
+    states_only=('--states-only[Leaves the report out of the page]')
     graph_file=('1:graph:_files')
     table_file=('2:table:_files')
     report_file=('2:report:_files')
@@ -114,7 +124,9 @@ _backfill() {
                 single) _arguments $help $zone_file $at $out $graph_file $table_file ;;
                 dry) _arguments $help $zone_file $from $to $on $some $workers $progress $out $graph_file $table_file ;;
                 run) _arguments $help $zone_file $from $to $on $some $workers $progress $out $launcher $logs $journal $stop_after $retry_failed $quiet $graph_file ;;
-                clear) _arguments $help $zone_file $task $run $table $from $to $on $some $workers $progress $out $launcher $logs $journal $stop_after $retry_failed $quiet $graph_file $report_file ;;
+                clear) _arguments $help $zone_file $task $run $index $seeds $failed $plan $table $from $to $on $some $workers $progress $out $launcher $logs $journal $stop_after $retry_failed $quiet $graph_file $report_file ;;
+                show) _arguments $help $json ;;
+                page) _arguments $help $zone_file $states_only $graph_file $report_file ;;
                 schema) _arguments $help $format ;;
                 completions) _arguments $help $shell ;;
             esac
@@ -140,23 +152,29 @@ complete -c backfill -n __fish_use_subcommand -a list -d 'Lists the data interva
 complete -c backfill -n __fish_use_subcommand -a single -d 'Runs the graph once, answered from a table'
 complete -c backfill -n __fish_use_subcommand -a dry -d 'Runs the graph over a range, answered from a table'
 complete -c backfill -n __fish_use_subcommand -a run -d 'Runs the graph over a range, with the programs of its tasks'
-complete -c backfill -n __fish_use_subcommand -a clear -d 'Runs a task of a run again, with all that follows from it'
+complete -c backfill -n __fish_use_subcommand -a clear -d 'Runs tasks of runs again, with all that follows from them'
+complete -c backfill -n __fish_use_subcommand -a show -d 'Shows a report as lines of JSON'
+complete -c backfill -n __fish_use_subcommand -a page -d 'Writes a page that shows a report'
 complete -c backfill -n __fish_use_subcommand -a schema -d 'Prints the JSON Schema of graph files or tables'
 complete -c backfill -n __fish_use_subcommand -a completions -d 'Prints what a shell completes'
 complete -c backfill -n __fish_use_subcommand -a help -d 'Prints help'
 
-complete -c backfill -n '__fish_seen_subcommand_from help' -a 'check list single dry run clear schema completions help'
+complete -c backfill -n '__fish_seen_subcommand_from help' -a 'check list single dry run clear show page schema completions help'
 complete -c backfill -n '__fish_seen_subcommand_from schema' -a 'graph table'
 complete -c backfill -n '__fish_seen_subcommand_from completions' -a 'bash zsh fish'
-complete -c backfill -n '__fish_seen_subcommand_from check list single dry run clear' -F
+complete -c backfill -n '__fish_seen_subcommand_from check list single dry run clear page' -F
 
 complete -c backfill -n 'not __fish_seen_subcommand_from help' -s h -l help -d 'Prints help'
 complete -c backfill -n __fish_use_subcommand -s V -l version -d 'Prints the version'
-complete -c backfill -n '__fish_seen_subcommand_from check list single dry run clear' -l zone-file -r -F -d 'The zone file that the zone `file` means'
+complete -c backfill -n '__fish_seen_subcommand_from check list single dry run clear page' -l zone-file -r -F -d 'The zone file that the zone `file` means'
 complete -c backfill -n '__fish_seen_subcommand_from check' -l explain -d 'Tells all that is wrong with a graph that is refused'
 complete -c backfill -n '__fish_seen_subcommand_from single' -l at -x -d 'The moment of the run'
-complete -c backfill -n '__fish_seen_subcommand_from clear' -l task -x -d 'The task to clear'
+complete -c backfill -n '__fish_seen_subcommand_from clear' -l task -x -d 'A task to clear'
 complete -c backfill -n '__fish_seen_subcommand_from clear' -l run -x -d 'The logical date of the run in which it is cleared'
+complete -c backfill -n '__fish_seen_subcommand_from clear' -l index -x -d 'The map index of the instance that is cleared of it'
+complete -c backfill -n '__fish_seen_subcommand_from clear' -l seeds -r -F -d 'The file of what to clear'
+complete -c backfill -n '__fish_seen_subcommand_from clear' -l failed -d 'Clears each instance that failed'
+complete -c backfill -n '__fish_seen_subcommand_from clear' -l plan -d 'Prints what is cleared, and runs nothing'
 complete -c backfill -n '__fish_seen_subcommand_from clear' -l table -r -F -d 'The table that answers in place of programs'
 complete -c backfill -n '__fish_seen_subcommand_from list dry run clear' -l from -x -d 'The first moment at which an interval may start'
 complete -c backfill -n '__fish_seen_subcommand_from list dry run clear' -l to -x -d 'The last moment at which an interval may start'
@@ -171,4 +189,6 @@ complete -c backfill -n '__fish_seen_subcommand_from run clear' -l journal -r -F
 complete -c backfill -n '__fish_seen_subcommand_from run clear' -l stop-after -x -d 'Behind how many failed tries no further one begins'
 complete -c backfill -n '__fish_seen_subcommand_from run clear' -l retry-failed -d 'Makes the failed tries of the journal again'
 complete -c backfill -n '__fish_seen_subcommand_from run clear' -l quiet -d 'Tells neither progress nor which tries fail'
+complete -c backfill -n '__fish_seen_subcommand_from show' -l json -r -F -d 'Prints an object for each task instance of this report'
+complete -c backfill -n '__fish_seen_subcommand_from page' -l states-only -d 'Leaves the report out of the page'
 "#;

@@ -2,4 +2,5 @@
 #![tactic(auto)]
 
 pub mod completions;
+pub mod page;
 pub mod schemas;

@@ -1,10 +1,12 @@
-use Rattle.std.proofs.Common.{◌≡◌, Bool, ℕ, length, sym, ◌∙◌, subst}
+use Rattle.std.proofs.Common.{◌≡◌, ◌≤◌, Bool, ℕ, length, sym, ◌∙◌, subst}
 use Rattle.std.proofs.lemmas.Result.{IfErr-weaker, IfOk-weaker}
+use Rattle.bf_value.specs.declared.name.JobName.{JobName}
+use Rattle.bf_xcom.specs.declared.values.Given.{Given}
+use Rattle.bf_try.specs.declared.answers.Raw.{Raw}
 use Rattle.bf_table.specs.Tables.{answer_of}
 use Rattle.bf_commands.specs.OverTable.{IsUnsent, IsWantingWorkers, is_alone}
-use Rattle.bf_commands.specs.Reported.{IsEndFrom}
 use Rattle.bf_commands.proofs.FromKept.{end_over, fail_weaker}
-use Rattle.bf_commands.proofs.Over.{alone_one}
+use Rattle.bf_commands.proofs.Over.{end_by_more}
 use Rattle.bf_commands.proofs.backfill.ended_over_table.Goals as goal
 
 pub stopped_over_table-requires : goal.stopped_over_table-requires
@@ -18,15 +20,15 @@ returns-then-is_alone-clause-end g c =
     let runner = c.in_ok-runner.runner in
     let runs = length c.args.runs.now in
     let workers = c.args.crew.now.workers in
-    let many = alone_one c.args.crew.now.workers c.args.crew.now.progress (sym c.is_alone.ensures ∙ c.if-is_alone.true) in
+    let may_answer = λ (n : JobName) (given : Given) (raw : Raw). raw ≡ answer_of runner n in
     IfOk-weaker c.ended_alone.result _ _
     (λ ended is. end_over kept dag c.args.table c.args.runs.now runner limits runs workers ended c.in_ok-runner.ensures
-    (subst (λ (w : ℕ). IsEndFrom kept (λ n given raw. raw ≡ answer_of runner n) dag limits runs w ended) (sym many) is))
+    (end_by_more kept may_answer dag limits runs 1 workers ended (subst (λ (n : ℕ). 1 ≤ n) c.count-some.ensures.count c.count-some.ensures.some) is))
     c.ended_alone.ensures.end
 
 pub returns-then-is_alone-clause-wanting : goal.returns-then-is_alone-clause-wanting
 returns-then-is_alone-clause-wanting g c =
-    IfErr-weaker c.ended_alone.result _ _ (λ fault is. subst (IsWantingWorkers (is_alone c.args.crew.now.workers c.args.crew.now.progress)) (sym is) tt) c.ended_alone.ensures.memory
+    IfErr-weaker c.ended_alone.result _ _ (λ fault is. subst (IsWantingWorkers (is_alone c.args.crew.now.progress)) (sym is) tt) c.ended_alone.ensures.memory
 
 pub returns-then-is_alone-clause-unsent : goal.returns-then-is_alone-clause-unsent
 returns-then-is_alone-clause-unsent g c = IfErr-weaker c.ended_alone.result _ _ (λ fault is. subst IsUnsent (sym is) tt) c.ended_alone.ensures.memory

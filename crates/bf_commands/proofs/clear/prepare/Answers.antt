@@ -1,8 +1,8 @@
 use Rattle.std.proofs.Common.{sym, subst}
-use Rattle.bf_commands.specs.Graphs.{IsPlanOf}
-use Rattle.bf_commands.specs.Programs.{clocks_in}
+use Rattle.bf_planning.specs.Graphs.{IsPlanOf}
+use Rattle.bf_planning.specs.Clocks.{clocks_in}
 use Rattle.bf_commands.proofs.ClearFaults.{prepared, range_before, table_before}
-use Rattle.bf_commands.proofs.Results.{handed_on}
+use Rattle.bf_planning.proofs.Results.{handed_on}
 use Rattle.bf_commands.proofs.clear.prepare.Goals as goal
 
 pub returns-in_err-answers-clause-fault : goal.returns-in_err-answers-clause-fault

@@ -14,8 +14,8 @@ use Rattle.bf_interval.specs.Runs.{AreOfRuns}
 use Rattle.bf_report_reader.proofs.Written.{written_reports_are_shown}
 use Rattle.bf_command_fault.proofs.Leaving.{write_leaves}
 use Rattle.bf_commands.specs.Reported.{IsReportOf, is_success}
-use Rattle.bf_commands.proofs.Faults.{write_wanting}
-use Rattle.bf_commands.proofs.Results.{handed_on}
+use Rattle.bf_planning.proofs.Faults.{write_wanting}
+use Rattle.bf_planning.proofs.Results.{handed_on}
 use Rattle.bf_commands.proofs.reported.write_ended.Goals as goal
 
 -- the report of a backfill that has ended keeps the rules by which reports are read

@@ -1,5 +1,5 @@
 use Rattle.bf_process.specs.Words.{launching_of}
-use Rattle.bf_commands.specs.Programs.{clocks_in}
+use Rattle.bf_planning.specs.Clocks.{clocks_in}
 use Rattle.bf_commands.proofs.Faults.{reported_by, run_stop_in}
 use Rattle.bf_commands.proofs.FromKept.{nothing_fits}
 use Rattle.bf_commands.proofs.Results.{leaves_as, sends_as}

@@ -2,7 +2,7 @@ use Rattle.std.proofs.Common.{◌∙◌}
 use Rattle.bf_command_fault.specs.declared.status.Status.{Status}
 use Rattle.bf_command_fault.proofs.Leaving.{send_leaves}
 use Rattle.bf_commands.proofs.Faults.{graph_leaves}
-use Rattle.bf_program.specs.Commands.{graph_paths}
+use Rattle.bf_input.specs.Inputs.{graph_paths}
 use Rattle.bf_program.proofs.CommandEnds.{check_answer, check_files, check_write, lent_graph}
 use Rattle.bf_program.proofs.Exits.{fails, reading_fails}
 use Rattle.bf_program.proofs.check.check_answered.Goals as goal

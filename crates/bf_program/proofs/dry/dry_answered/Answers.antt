@@ -1,5 +1,6 @@
 use Rattle.std.proofs.Common.{string_bytes}
-use Rattle.bf_program.specs.Commands.{IsDryAnswer, table_paths}
+use Rattle.bf_input.specs.Inputs.{table_paths}
+use Rattle.bf_program.specs.Commands.{IsDryAnswer}
 use Rattle.bf_program.proofs.CommandEnds.{dry_answer, dry_files, lent_with_table}
 use Rattle.bf_program.proofs.Exits.{fails, reading_fails, runs_leave, runs_send}
 use Rattle.bf_program.proofs.dry.dry_answered.Goals as goal
@@ -12,7 +13,7 @@ returns-in_err-files g c =
 pub returns-in_err-succeeded : goal.returns-in_err-succeeded
 returns-in_err-succeeded g c =
     let bytes = lent_with_table c.deref.ensures.value c.deref-2.ensures.value c.zone_file.ensures c.in_ok-files.ensures.readable c.in_ok-files.ensures.alike in
-    fails _ _ _ _ _ c.from_residual-in_err-succeeded.ensures.1 (dry_files c.args.asked c.in_ok-range.range c.in_ok-range.ensures.means bytes _ (rw (c.of-crew.ensures.workers, c.of-crew.ensures.progress) at c.in_err-succeeded.ensures.fault))
+    fails _ _ _ _ _ c.from_residual-in_err-succeeded.ensures.1 (dry_files c.args.asked c.in_ok-range.range c.in_ok-range.ensures.means bytes _ (rw (c.of-crew.ensures.progress) at c.in_err-succeeded.ensures.fault))
     (runs_leave _ _ (dry_answer c.args.asked c.in_ok-range.range c.in_ok-range.ensures.means bytes) _ _ _ _ c.in_err-succeeded.ensures.left)
 
 pub returns-clause-answer : goal.returns-clause-answer

@@ -1,6 +1,6 @@
 use Rattle.std.proofs.Common.{rules, ◌≡◌, ap, ◌∙◌}
 use Rattle.bf_program.specs.Explained.{findings_text}
-use Rattle.bf_program.specs.Files.{bytes_of}
+use Rattle.bf_input.specs.Inputs.{bytes_of}
 use Rattle.bf_program.proofs.explaining.explanation.Goals as goal
 
 pub returns : goal.returns

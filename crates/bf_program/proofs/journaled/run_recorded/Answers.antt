@@ -1,5 +1,6 @@
 use Rattle.std.proofs.Common.{inl}
-use Rattle.bf_commands.proofs.Results.{handed_on, leaves_as, sends_as}
+use Rattle.bf_planning.proofs.Results.{handed_on}
+use Rattle.bf_commands.proofs.Results.{leaves_as, sends_as}
 use Rattle.bf_program.proofs.Recorded.{dated_list, journaled, run_fault}
 use Rattle.bf_program.proofs.journaled.run_recorded.Goals as goal
 

@@ -1,6 +1,6 @@
 use Rattle.bf_command_fault.specs.declared.status.Status.{Status}
 use Rattle.bf_command_fault.proofs.Leaving.{leaves_due}
-use Rattle.bf_program.specs.Commands.{graph_paths}
+use Rattle.bf_input.specs.Inputs.{graph_paths}
 use Rattle.bf_program.proofs.CommandEnds.{lent_graph, list_answer, list_files}
 use Rattle.bf_program.proofs.Exits.{fails, reading_fails}
 use Rattle.bf_program.proofs.list.list_answered.Goals as goal

@@ -1,4 +1,4 @@
-use Rattle.bf_commands.proofs.Results.{handed_on}
+use Rattle.bf_planning.proofs.Results.{handed_on}
 use Rattle.bf_program.proofs.Ends.{help_by, help_unshown}
 use Rattle.bf_program.proofs.program.shown.Goals as goal
 

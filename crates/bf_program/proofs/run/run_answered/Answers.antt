@@ -1,5 +1,6 @@
 use Rattle.std.proofs.Common.{option_map, string_bytes, subst}
-use Rattle.bf_program.specs.Commands.{IsLaunchable, IsRunAnswer, graph_paths, machine_of}
+use Rattle.bf_input.specs.Inputs.{graph_paths}
+use Rattle.bf_program.specs.Commands.{IsLaunchable, IsRunAnswer, machine_of}
 use Rattle.bf_program.specs.CommandFaults.{IsFaultOfLauncher}
 use Rattle.bf_program.proofs.CommandEnds.{read_graph, run_answer_by, run_files_by, run_memory, run_unlaunched, run_unread}
 use Rattle.bf_commands.proofs.Faults.{unwritten_leaves}

@@ -1,5 +1,6 @@
 use Rattle.std.proofs.Common.{string_bytes}
-use Rattle.bf_program.specs.Commands.{IsSingleAnswer, table_paths}
+use Rattle.bf_input.specs.Inputs.{table_paths}
+use Rattle.bf_program.specs.Commands.{IsSingleAnswer}
 use Rattle.bf_program.proofs.CommandEnds.{lent_with_table, single_answer, single_files}
 use Rattle.bf_program.proofs.CommandFacts.{means_lent}
 use Rattle.bf_program.proofs.Exits.{fails, reading_fails, runs_leave, runs_send}

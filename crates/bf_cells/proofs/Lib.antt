@@ -1,0 +1,2 @@
+mod RowFacts
+mod SafeFacts

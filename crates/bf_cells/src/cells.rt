@@ -1,0 +1,158 @@
+//! Cells, each added behind a text.
+ghost use Rattle.std.specs.Prelude.{◌≡◌, ◌++◌, ◌∷◌, [], All, IfOk, OnOk, codes, decimal, length, map, string_bytes};
+ghost use Rattle.std.specs.List.{enumerate_from, flat_map};
+ghost use Rattle.bf_cells.specs.Cells.{cells_text, letters_from, row};
+ghost use Rattle.bf_cells.specs.Rows.{word_behind};
+ghost use Rattle.bf_moment.specs.Moment.{moment_text};
+ghost use Rattle.bf_reason.specs.Letters.{ended_letter};
+ghost use Rattle.bf_reason.specs.Runs.{tasks_at, tasks_before};
+ghost use Rattle.bf_reason.specs.Settled.{IsFewTask};
+ghost use Rattle.bf_report.specs.declared.report.Report.{Report as ReportTerm};
+ghost use Rattle.bf_report.specs.Report.{run_state_word};
+
+use bf_moment::Moment;
+use bf_plan::Plan;
+use bf_reason::{Settled, ended_letter, letter_at, settled_tasks};
+use bf_report::{Report, RunReport, TaskReport};
+use bf_value::OutOfMemory;
+use bf_xcom::{RunState, TaskResult};
+use std::alloc::Global;
+
+/// The letter of each task of a run.
+fn push_letters(
+    text: &mut String,
+    plan: &Plan,
+    run: usize,
+    settled: &[Settled<'_>],
+    before: &[Settled<'_>],
+) -> Result<(), OutOfMemory>
+    requires { length settled.now ≡ length plan.now.dag.tasks }
+    ensures { (report : ReportTerm) → settled.now ≡ tasks_at report run → before.now ≡ tasks_before report run →
+        OnOk result (string_bytes text.new
+        ≡ string_bytes text.old ++ letters_from plan.now.dag report run 0 settled.now) }
+{
+    let _few = plan.dag();
+    for (task, told) in settled.iter().enumerate() {
+        let letter = letter_at(plan, run, settled, before, task as u32, told);
+        text.push(char::from(letter))?;
+    }
+    Ok(())
+}
+
+/// The letter of each instance.
+fn push_results(text: &mut String, results: &[TaskResult]) -> Result<(), OutOfMemory>
+    ensures { OnOk result (string_bytes text.new
+        ≡ string_bytes text.old ++ map (λ ended. ended_letter ended.outcome ended.tries) results.now) }
+{
+    for ended in results {
+        text.push(char::from(ended_letter(ended)))?;
+    }
+    Ok(())
+}
+
+/// A word of the instances of a task, where it is expanded and ran.
+fn push_instances(text: &mut String, task: &Settled<'_>) -> Result<(), OutOfMemory>
+    ensures { OnOk result (string_bytes text.new ≡ string_bytes text.old ++ word_behind task.now) }
+{
+    if let TaskReport::Mapped(_) = task.told() {
+        text.push_str(" ")?;
+        push_results(text, task.results())?;
+    }
+    Ok(())
+}
+
+fn push_words(text: &mut String, settled: &[Settled<'_>]) -> Result<(), OutOfMemory>
+    ensures { OnOk result (string_bytes text.new
+        ≡ string_bytes text.old ++ flat_map word_behind settled.now) }
+{
+    for task in settled {
+        push_instances(text, task)?;
+    }
+    Ok(())
+}
+
+fn state_word(state: RunState) -> &'static str
+    ensures { result.now ≡ run_state_word state }
+{
+    match state {
+        RunState::Success => "success",
+        RunState::Failed => "failed",
+    }
+}
+
+/// When a run starts and ends, and its state.
+fn push_run(text: &mut String, run: &RunReport) -> Result<(), OutOfMemory>
+    ensures { OnOk result (string_bytes text.new ≡ string_bytes text.old
+        ++ (moment_text run.now.interval.start.nanosecond ++ 32 ∷ (moment_text run.now.interval.end.nanosecond
+        ++ 32 ∷ (run_state_word run.now.state ++ 32 ∷ [])))) }
+{
+    let start = Moment::new(run.interval.start);
+    let end = Moment::new(run.interval.end);
+    let state = state_word(run.state);
+    write!(text, "{start} {end} {state} ")?;
+    Ok(())
+}
+
+fn push_row(
+    text: &mut String,
+    plan: &Plan,
+    number: usize,
+    run: &RunReport,
+    settled: &[Settled<'_>],
+    before: &[Settled<'_>],
+) -> Result<(), OutOfMemory>
+    requires all { length settled.now ≡ length plan.now.dag.tasks }
+    requires tasks { settled.now ≡ run.now.tasks }
+    ensures { (report : ReportTerm) → settled.now ≡ tasks_at report number → before.now ≡ tasks_before report number →
+        OnOk result (string_bytes text.new
+        ≡ string_bytes text.old ++ row plan.now.dag report number run.now) }
+{
+    push_run(text, run)?;
+    push_letters(text, plan, number, settled, before)?;
+    push_words(text, settled)?;
+    text.push_str("\n")?;
+    Ok(())
+}
+
+/// A row for each run. What came of its tasks is worked out once, and kept for the next run.
+fn push_rows(
+    alloc: Global,
+    text: &mut String,
+    plan: &Plan,
+    report: &Report,
+) -> Result<(), OutOfMemory>
+    requires tasks { All (λ run. length run.tasks ≡ length plan.now.dag.tasks) report.now.runs }
+    requires few { All (λ run. All IsFewTask run.tasks) report.now.runs }
+    ensures { OnOk result (string_bytes text.new ≡ string_bytes text.old
+        ++ flat_map (λ p. row plan.now.dag report.now p.0 p.1) (enumerate_from 0 report.now.runs)) }
+{
+    let mut before = Vec::new(alloc);
+    for (number, run) in report.runs.as_slice().iter().enumerate() {
+        let settled = settled_tasks(alloc, run.tasks.as_slice())?;
+        push_row(text, plan, number, run, &settled, &before)?;
+        before = settled;
+    }
+    Ok(())
+}
+
+/// The cells of a report of so many bytes. Each of its runs has the tasks of the graph, and none of these more than 1,024 instances.
+pub fn cells_of(
+    alloc: Global,
+    plan: &Plan,
+    report: &Report,
+    bytes: u64,
+) -> Result<String, OutOfMemory>
+    requires tasks { All (λ run. length run.tasks ≡ length plan.now.dag.tasks) report.now.runs }
+    requires few { All (λ run. All IsFewTask run.tasks) report.now.runs }
+    ensures { IfOk result (λ text. string_bytes text ≡ cells_text plan.now.dag report.now bytes) }
+{
+    let mut text = String::new(alloc);
+    let (id, tasks, runs) = (
+        report.dag_id.as_str(),
+        plan.dag().tasks.len(),
+        report.runs.len(),
+    );
+    writeln!(text, "@cells 1 {id} {tasks} {runs} {bytes}")?;
+    push_rows(alloc, &mut text, plan, report)?;
+    Ok(text)
+}

@@ -1,0 +1,27 @@
+//! What holds of all cells. These functions do nothing: their contracts are the laws, over the definitions alone.
+ghost use Rattle.std.specs.Prelude.{◌≡◌, ◌<◌, ◌^◌, ℕ, List, length, true};
+ghost use Rattle.bf_cells.specs.Cells.{cells_text, letters_from};
+ghost use Rattle.bf_cells.specs.Whole.{HasWholeMoments};
+ghost use Rattle.bf_core.specs.Terms.{Dag};
+ghost use Rattle.bf_page.specs.Safe.{safe};
+ghost use Rattle.bf_plan.specs.Ids.{is_id};
+ghost use Rattle.bf_report.specs.declared.report.Report.{Report};
+ghost use Rattle.bf_report.specs.declared.report.TaskReport.{TaskReport};
+
+use bf_moment::long_form;
+
+/// Each task of a run has a letter.
+pub fn each_task_has_a_letter()
+    ensures { (dag : Dag) (report : Report) (run place : ℕ) (tasks : List TaskReport) →
+        length (letters_from dag report run place tasks) ≡ length tasks }
+{}
+
+/// The cells of a report, whose dag id is an id and whose moments are whole seconds, stand on a page as they are.
+pub fn cells_stand_as_they_are()
+    ensures { (dag : Dag) (report : Report) (bytes : ℕ) → is_id report.dag_id ≡ true → HasWholeMoments report.runs →
+        length dag.tasks < 2 ^ 64 → length report.runs < 2 ^ 64 → bytes < 2 ^ 64 →
+        safe (cells_text dag report bytes) ≡ cells_text dag report bytes }
+{
+    long_form();
+    bf_page::cells_stand_as_they_are();
+}

@@ -1,0 +1,137 @@
+//! The command `clear --plan`: what is cleared.
+ghost use Rattle.std.specs.Prelude.{◌≡◌, ◌++◌, IfErr, IfOk, OnOk, option_copied, string_bytes};
+ghost use Rattle.std.specs.List.{flat_map};
+ghost use Rattle.bf_command_fault.specs.Refusal.{Leaves, Sends};
+ghost use Rattle.bf_device.specs.Device.{HasHalted};
+ghost use Rattle.bf_commands.specs.Cleared.{IsUncleared};
+ghost use Rattle.bf_commands.specs.Planned.{begins_run as run_begins, begins_task as task_begins, cleared_line, place_before as before, runs_in, sum_line, tasks_in, IsClearPlan, IsFaultOfClearPlan};
+
+use crate::cleared::{ToClear, places_to_clear};
+use crate::heading::headings_of;
+use bf_clear::clear_places;
+use bf_command_fault::CommandFault;
+use bf_dependents::{Place, dependents};
+use bf_device::{Write, send};
+use bf_journal::ClearedTask;
+use bf_planning::DatedPlan;
+use bf_report::Report;
+use bf_value::OutOfMemory;
+use std::alloc::Global;
+
+fn push_cleared(text: &mut String, cleared: &ClearedTask) -> Result<(), OutOfMemory>
+    ensures { OnOk result (string_bytes text.new ≡ string_bytes text.old ++ cleared_line cleared.now) }
+{
+    let ClearedTask { task, run, index } = cleared;
+    match index {
+        Some(index) => writeln!(text, "{run} {task} {index}")?,
+        None => writeln!(text, "{run} {task}")?,
+    }
+    Ok(())
+}
+
+fn lines_of(alloc: Global, cleared: &[ClearedTask]) -> Result<String, OutOfMemory>
+    ensures { IfOk result (λ text. string_bytes text ≡ flat_map cleared_line cleared.now) }
+{
+    let mut text = String::new(alloc);
+    for one in cleared {
+        push_cleared(&mut text, one)?;
+    }
+    Ok(text)
+}
+
+fn place_before(places: &[Place], place: usize) -> Option<&Place>
+    ensures { option_copied result ≡ before places.now place }
+{
+    if place == 0 {
+        return None;
+    }
+    places.get(place - 1)
+}
+
+fn begins_run(places: &[Place], place: usize) -> bool
+    ensures { result ≡ run_begins places.now place }
+{
+    match (place_before(places, place), places.get(place)) {
+        (Some(one), Some(other)) => one.run != other.run,
+        _ => true,
+    }
+}
+
+fn begins_task(places: &[Place], place: usize) -> bool
+    ensures { result ≡ task_begins places.now place }
+{
+    match (place_before(places, place), places.get(place)) {
+        (Some(one), Some(other)) => !(one.run == other.run && one.task == other.task),
+        _ => true,
+    }
+}
+
+fn count_runs(places: &[Place]) -> usize
+    ensures { result ≡ runs_in places.now }
+{
+    let mut count = 0;
+    for place in 0..places.len() {
+        count += usize::from(begins_run(places, place));
+    }
+    count
+}
+
+fn count_tasks(places: &[Place]) -> usize
+    ensures { result ≡ tasks_in places.now }
+{
+    let mut count = 0;
+    for place in 0..places.len() {
+        count += usize::from(begins_task(places, place));
+    }
+    count
+}
+
+fn push_sum(text: &mut String, places: &[Place]) -> Result<(), OutOfMemory>
+    ensures { OnOk result (string_bytes text.new ≡ string_bytes text.old ++ sum_line places.now) }
+{
+    let (tasks, runs) = (count_tasks(places), count_runs(places));
+    writeln!(text, "{tasks} tasks in {runs} runs")?;
+    Ok(())
+}
+
+/// The lines and the sum of what is cleared.
+fn plan_text(
+    alloc: Global,
+    dated: &DatedPlan,
+    report: &Report,
+    what: &ToClear,
+) -> Result<String, CommandFault>
+    ensures ok { IfOk result (λ text. IsClearPlan dated.now.plan.dag dated.now.runs report.now what.now (string_bytes text)) }
+    ensures fault { IfErr result (IsUncleared dated.now.plan.dag dated.now.runs report.now what.now) }
+{
+    let seeds = places_to_clear(alloc, dated, report, what)?;
+    let kept = clear_places(alloc, &dated.plan, &dated.runs, report, seeds.as_slice())?;
+    let runs = dated.runs.intervals().len() as u32;
+    let places = kept.followers().places(alloc, &dated.plan, runs)?;
+    let cleared = headings_of(alloc, &dated.plan, &dated.runs, places.as_slice())?;
+    let mut text = lines_of(alloc, cleared.as_slice())?;
+    push_sum(&mut text, places.as_slice())?;
+    Ok(text)
+}
+
+/// Writes what is cleared in a report, with all that follows from it: a line for each task in a run, by date and in the order of the
+/// file, and how many these are. Of a task of which some instances are cleared and others aren't, each has a line. Nothing is run.
+pub fn write_clear_plan<W: Write>(
+    alloc: Global,
+    dated: &DatedPlan,
+    report: &Report,
+    what: &ToClear,
+    out: &mut W,
+) -> Result<(), CommandFault>
+    ensures ok { OnOk result (Sends (IsClearPlan dated.now.plan.dag dated.now.runs report.now what.now)
+        (W.written out.old) (W.written out.new)) }
+    ensures fault { IfErr result (IsFaultOfClearPlan dated.now.plan.dag dated.now.runs report.now what.now) }
+    ensures left { IfErr result (Leaves (HasHalted (W.failures out.old) (W.failures out.new)
+        (W.interruptions out.old) (W.interruptions out.new))
+        (IsClearPlan dated.now.plan.dag dated.now.runs report.now what.now)
+        (W.written out.old) (W.written out.new)) }
+{
+    let text = plan_text(alloc, dated, report, what)?;
+    send(out, text.as_bytes())?;
+    Ok(())
+}

@@ -1,0 +1,2 @@
+mod OpenedFiles
+mod FoundFiles

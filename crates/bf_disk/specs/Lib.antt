@@ -1,0 +1,5 @@
+pub mod Files
+pub mod Source
+pub mod Stored
+pub mod Disks
+pub mod Journals

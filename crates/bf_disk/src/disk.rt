@@ -1,0 +1,67 @@
+//! The system's files.
+ghost use Rattle.std.specs.Prelude.{◌≡◌, None, false};
+ghost use Rattle.bf_disk.specs.Disks.{has_failed_on};
+
+use crate::source::{Source, SourceFault};
+use bf_device::Input;
+use std::fs::File;
+use std::io;
+use std::io::ErrorKind;
+use std::rt::Files;
+
+/// A path as it was given, and the one whose file is replaced: of a link the one that it leads to.
+#[derive(Drop)]
+pub(crate) struct Target {
+    pub(crate) path: String,
+    pub(crate) file: String,
+}
+
+/// The files of the system, by their paths.
+#[derive(Drop)]
+pub struct Disk<'a, R> {
+    pub(crate) rt: &'a R,
+    /// Where a file was to be replaced last.
+    pub(crate) target: Option<Target>,
+    /// Whether one could not be.
+    pub(crate) failed: bool,
+}
+
+impl<'a, R: Files> Disk<'a, R> {
+    /// The files that a runtime reaches.
+    pub fn new(rt: &'a R) -> Self
+        ensures { has_failed_on result ≡ false }
+    {
+        Disk {
+            rt,
+            target: None,
+            failed: false,
+        }
+    }
+}
+
+impl From<io::Error> for SourceFault {
+    ghost use Rattle.std.specs.Prelude.{◌≢◌};
+    ghost use Rattle.std.specs.IoError.{error_kind};
+    ghost use Rattle.std.specs.declared.io.ErrorKind.TheVariants.{OutOfMemory as NoMemory};
+    ghost use Rattle.bf_disk.specs.declared.source.SourceFault.TheVariants.{CannotRead, OutOfMemory};
+
+    ghost from_gives = { λ error fault. (error_kind error ≡ NoMemory → fault ≡ OutOfMemory)
+        × (error_kind error ≢ NoMemory → fault ≡ CannotRead) };
+
+    fn from(error: io::Error) -> SourceFault {
+        match error.kind() {
+            ErrorKind::OutOfMemory => SourceFault::OutOfMemory,
+            _ => SourceFault::CannotRead,
+        }
+    }
+}
+
+impl<'a, R: Files> Source for Disk<'a, R> {
+    type Device = Input<R::File>;
+
+    ghost file = { λ _ _. None };
+
+    fn open(&mut self, path: &str) -> Result<Input<R::File>, SourceFault> {
+        Ok(Input::new(File::open(self.rt, path)?))
+    }
+}

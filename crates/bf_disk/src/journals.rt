@@ -1,0 +1,120 @@
+//! Where journals are.
+ghost use Rattle.std.specs.Prelude.{IfSome};
+ghost use Rattle.bf_disk.specs.Journals.{OpensJournal};
+
+use crate::disk::Disk;
+use bf_device::Output;
+use bf_journal::Cuttable;
+use std::alloc::Global;
+use std::fs::{File, OpenFile, TryLockError};
+use std::io;
+use std::io::{ErrorKind, Read};
+use std::rt::Files;
+
+/// Why a journal is not open.
+#[derive(Clone, Copy, Debug, PartialEq, Eq)]
+pub enum OpenFault {
+    /// It can't be opened, made, locked or read, or is no regular file.
+    CannotRead,
+    /// Another backfill has it open.
+    InUse,
+    OutOfMemory,
+}
+
+/// A journal that is open: what it holds, and what is written to behind that.
+#[derive(Drop)]
+pub struct OpenJournal<D: Cuttable + Drop> {
+    pub held: Vec<u8>,
+    pub device: D,
+}
+
+/// Where journals are, by their paths.
+pub trait Journals {
+    ghost use Rattle.std.specs.Prelude.{ℕ, List, Option};
+
+    type Device: Cuttable + Drop;
+
+    /// What a path's journal holds, where that is told: its bytes, which are none where there is no such file, or `None` where it
+    /// can't be opened.
+    ghost journal: { Self → List ℕ → Option (Option (List ℕ)) };
+
+    /// Opens a path's journal, or makes it. While it is open, no other backfill can open it.
+    fn open_journal(
+        &self,
+        alloc: Global,
+        path: &str,
+    ) -> Result<OpenJournal<Self::Device>, OpenFault>
+        ensures { IfSome (journal self.now path.now) (λ held. OpensJournal held result) };
+}
+
+fn fault_of(error: &io::Error) -> OpenFault {
+    match error.kind() {
+        ErrorKind::OutOfMemory => OpenFault::OutOfMemory,
+        _ => OpenFault::CannotRead,
+    }
+}
+
+/// Opens a file that is written to behind its last byte, or makes it. A device or a pipe is none: it might be read for ever.
+fn file_at<R: Files>(rt: &R, path: &str) -> io::Result<R::File> {
+    let file = File::options()
+        .read(true)
+        .append(true)
+        .create(true)
+        .open(rt, path)?;
+    if file.metadata()?.is_file() {
+        Ok(file)
+    } else {
+        Err(io::Error::from(ErrorKind::Unsupported))
+    }
+}
+
+fn bytes_of<F: Read>(alloc: Global, file: &mut F) -> io::Result<Vec<u8>> {
+    let mut held = Vec::new(alloc);
+    file.read_to_end(&mut held)?;
+    Ok(held)
+}
+
+/// A file that can be locked: by one process at a time, until it is closed or the process ends.
+pub trait Lockable {
+    fn lock_for_one(&self) -> Result<(), OpenFault>;
+}
+
+impl Lockable for File {
+    fn lock_for_one(&self) -> Result<(), OpenFault> {
+        match self.try_lock() {
+            Ok(()) => Ok(()),
+            Err(TryLockError::WouldBlock) => Err(OpenFault::InUse),
+            Err(TryLockError::Error(error)) => Err(fault_of(&error)),
+        }
+    }
+}
+
+impl<'a, R: Files> Journals for Disk<'a, R>
+where
+    R::File: Lockable,
+{
+    ghost use Rattle.std.specs.Prelude.{None};
+
+    type Device = Output<R::File>;
+
+    ghost journal = { λ _ _. None };
+
+    fn open_journal(
+        &self,
+        alloc: Global,
+        path: &str,
+    ) -> Result<OpenJournal<Output<R::File>>, OpenFault> {
+        let mut file = match file_at(self.rt, path) {
+            Ok(file) => file,
+            Err(error) => return Err(fault_of(&error)),
+        };
+        file.lock_for_one()?;
+        match bytes_of(alloc, &mut file) {
+            Ok(held) => Ok(OpenJournal {
+                held,
+                device: Output::new(file),
+            }),
+            Err(error) => Err(fault_of(&error)),
+        }
+    }
+}

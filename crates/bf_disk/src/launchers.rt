@@ -1,0 +1,58 @@
+//! Which launchers can be started.
+ghost use Rattle.std.specs.Prelude.{◌≡◌, IfSome};
+
+use crate::disk::Disk;
+use std::alloc::Alloc;
+use std::os::unix::fs::PermissionsExt;
+use std::rt::{Env, Files};
+use std::{env, fs};
+
+/// Where launchers are, by their paths.
+pub trait Launchers {
+    ghost use Rattle.std.specs.Prelude.{ℕ, Bool, List, Option};
+
+    /// Whether a path's program can be started, where that is told.
+    ghost startable: { Self → List ℕ → Option Bool };
+
+    /// Whether a path's program can be started.
+    fn can_start(&self, path: &str) -> bool
+        ensures { IfSome (startable self.now path.now) (λ told. result ≡ told) };
+}
+
+/// Whether a regular file stands there that somebody may execute.
+fn is_program<R: Files>(rt: &R, path: &str) -> bool {
+    match fs::metadata(rt, path) {
+        Ok(there) => there.is_file() && there.permissions().mode() & 0o111 != 0,
+        Err(_) => false,
+    }
+}
+
+/// A name without `/` is looked for in the folders of `PATH`, an empty one of which is the current folder. Where these can't be told, or memory is wanting, the system is left to look.
+impl<'a, R: Files + Env + Alloc> Launchers for Disk<'a, R> {
+    ghost use Rattle.std.specs.Prelude.{None};
+
+    ghost startable = { λ _ _. None };
+
+    fn can_start(&self, path: &str) -> bool {
+        if path.is_empty() || path.contains('/') {
+            return is_program(self.rt, path);
+        }
+        let Ok(folders) = env::var(self.rt, "PATH") else {
+            return true;
+        };
+        for folder in folders.split(':') {
+            let in_folder = if folder.is_empty() {
+                format!(in self.rt.alloc(); "./{path}")
+            } else {
+                format!(in self.rt.alloc(); "{folder}/{path}")
+            };
+            let Ok(program) = in_folder else {
+                return true;
+            };
+            if is_program(self.rt, program.as_str()) {
+                return true;
+            }
+        }
+        false
+    }
+}

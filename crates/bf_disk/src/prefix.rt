@@ -1,0 +1,57 @@
+//! The first bytes of a file.
+ghost use Rattle.std.specs.Prelude.{◌≡◌, ◌≤◌, ℕ, List, IfOk, IfErr, IfSome, OnOk, take, vec_len};
+ghost use Rattle.bf_device.specs.Device.{HasGoneOn, HasHalted};
+ghost use Rattle.bf_disk.specs.Source.{GivesFirst};
+
+use crate::source::{Source, SourceFault};
+use bf_device::{Halt, MOST_INTERRUPTIONS, Read};
+use std::alloc::Global;
+
+/// How many bytes one read may give.
+const CHUNK: usize = 8_192;
+
+/// The first `count` bytes of a path's file, or all of them where it has fewer.
+pub fn first_bytes<S: Source>(
+    alloc: Global,
+    path: &str,
+    count: usize,
+    files: &mut S,
+) -> Result<Vec<u8>, SourceFault>
+    ensures bound { IfOk result (λ bytes. vec_len bytes ≤ count) }
+    ensures first { IfSome (S.file files.old path.now) (λ held. GivesFirst count held result) }
+    ensures stays { (p : List ℕ) → S.file files.new p ≡ S.file files.old p }
+{
+    let mut device = files.open(path)?;
+    first_read(alloc, &mut device, count)
+}
+
+/// Reads up to `count` bytes, in whatever pieces a device gives. It gives up where a read fails, and at the 1,001st interruption.
+fn first_read<R: Read>(alloc: Global, device: &mut R, count: usize) -> Result<Vec<u8>, SourceFault>
+    ensures bound { IfOk result (λ bytes. vec_len bytes ≤ count) }
+    ensures first { IfOk result (λ bytes.
+        IfSome (R.left device.old) (λ held. bytes.items ≡ take count held)) }
+    ensures halted { IfErr result (λ fault. fault ≡ SourceFault.CannotRead →
+        HasHalted (R.failures device.old) (R.failures device.new)
+        (R.interruptions device.old) (R.interruptions device.new)) }
+    ensures went_on { OnOk result (HasGoneOn (R.failures device.old) (R.failures device.new)
+        (R.interruptions device.old) (R.interruptions device.new)) }
+{
+    let mut bytes = Vec::new(alloc);
+    let mut chunk = [0; CHUNK];
+    let mut interruptions = 0;
+    while bytes.len() < count {
+        let room = CHUNK.min(count - bytes.len());
+        match device.read(&mut chunk[..room]) {
+            Ok(0) => return Ok(bytes),
+            Ok(n) => bytes.extend_from_slice(&chunk[..n])?,
+            Err(Halt::Again) => {
+                if interruptions == MOST_INTERRUPTIONS {
+                    return Err(SourceFault::CannotRead);
+                }
+                interruptions += 1;
+            }
+            Err(Halt::Failed) => return Err(SourceFault::CannotRead),
+        }
+    }
+    Ok(bytes)
+}

@@ -1,0 +1,41 @@
+//! Where files are read from.
+ghost use Rattle.std.specs.Prelude.{◌≡◌, ℕ, List, Option, IfSome};
+ghost use Rattle.bf_disk.specs.Source.{NeverHalts, Opens};
+
+use bf_device::Read;
+use std::alloc::AllocError;
+
+/// Why a file's bytes aren't there.
+#[derive(Clone, Copy, Debug, PartialEq, Eq)]
+pub enum SourceFault {
+    /// There is no such file, it may not be read, or a read of it failed.
+    CannotRead,
+    OutOfMemory,
+}
+
+impl From<AllocError> for SourceFault {
+    ghost use Rattle.bf_disk.specs.declared.source.SourceFault.TheVariants.{OutOfMemory as NoMemory};
+
+    ghost from_gives = { λ _ e. e ≡ NoMemory };
+
+    fn from(_e: AllocError) -> SourceFault {
+        SourceFault::OutOfMemory
+    }
+}
+
+/// What files are read from.
+pub trait Source {
+    /// What a file that was opened is read by.
+    type Device: Read + Drop;
+
+    /// What a path's file holds, where the source tells it: its bytes, or `None` where it can't be read.
+    ghost file: { Self → List ℕ → Option (Option (List ℕ)) };
+
+    /// Opens a path's file. Its device has all bytes of the file before it, and where the source tells them it never halts.
+    fn open(&mut self, path: &str) -> Result<Self::Device, SourceFault>
+        ensures opens { IfSome (file self.old path.now) (λ held.
+            Opens Self.Device.left held result) }
+        ensures steady { IfSome (file self.old path.now) (λ _.
+            NeverHalts Self.Device.interruptions Self.Device.failures) }
+        ensures stays { (p : List ℕ) → file self.new p ≡ file self.old p };
+}

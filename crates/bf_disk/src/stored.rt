@@ -1,0 +1,91 @@
+//! Files in memory.
+ghost use Rattle.std.specs.Prelude.{◌≡◌, ◌++◌, ◌∷◌, [], OnOk, OnErr, map, option_map, option_copied, find, string_bytes};
+ghost use Rattle.std.specs.Str.{bytes_eq};
+ghost use Rattle.bf_disk.specs.Source.{file_in};
+ghost use Rattle.bf_disk.specs.Stored.{seen};
+
+use crate::source::{Source, SourceFault};
+use bf_device::Bytes;
+use bf_value::OutOfMemory;
+use std::alloc::Global;
+use std::marker::Model;
+
+#[derive(Drop)]
+struct StoredFile {
+    path: String,
+    bytes: Vec<u8>,
+}
+
+/// Files in memory, which tell what they hold: that a source can do so and keep the clauses of `Source` is proved of them.
+/// Contracts see the list of paths and contents; of two files with one path the first is read, and a path without a file
+/// can't be read.
+#[derive(Drop)]
+pub struct StoredFiles {
+    alloc: Global,
+    files: Vec<StoredFile>,
+}
+
+impl Model for StoredFiles {
+    ghost use Rattle.std.specs.Prelude.{List, ℕ, map};
+
+    ghost Value = { List (List ℕ × List ℕ) };
+
+    ghost use Rattle.bf_disk.specs.Stored.{seen};
+
+    ghost view = { λ s. map seen s.files.items };
+}
+
+impl StoredFiles {
+    /// No files.
+    pub fn new(alloc: Global) -> Self
+        ensures { result ≡ [] }
+    {
+        StoredFiles {
+            alloc,
+            files: Vec::new(alloc),
+        }
+    }
+
+    /// Adds a file behind the others.
+    pub fn add(&mut self, path: &str, bytes: &[u8]) -> Result<(), OutOfMemory>
+        ensures ok { OnOk result (self.new ≡ self.old ++ (path.now, bytes.now) ∷ []) }
+        ensures err { OnErr result (self.new ≡ self.old) }
+    {
+        let file = StoredFile {
+            path: String::from_str(self.alloc, path)?,
+            bytes: bytes.to_vec(self.alloc)?,
+        };
+        self.files.push(file)?;
+        Ok(())
+    }
+}
+
+impl Source for StoredFiles {
+    ghost use Rattle.std.specs.Prelude.{Some};
+    ghost use Rattle.bf_disk.specs.Source.{file_in};
+
+    type Device = Bytes;
+
+    ghost file = { λ s path. Some (file_in s path) };
+
+    fn open(&mut self, path: &str) -> Result<Bytes, SourceFault> {
+        let Some(bytes) = found_in(&self.files, path) else {
+            return Err(SourceFault::CannotRead);
+        };
+        Ok(Bytes::new(bytes.to_vec(self.alloc)?))
+    }
+}
+
+#[tactic(auto, using(crate::proofs::FoundFiles::found_bytes))]
+fn found_in<'a>(files: &'a [StoredFile], path: &str) -> Option<&'a [u8]>
+    ensures { option_map (λ b. b.now) result ≡ file_in (map seen files.entry.now) path.now }
+{
+    let file = file_at(files, path)?;
+    Some(file.bytes.as_slice())
+}
+
+fn file_at<'a>(files: &'a [StoredFile], path: &str) -> Option<&'a StoredFile>
+    ensures { option_copied result ≡ find (λ f. bytes_eq (string_bytes f.path) path.now) files.entry.now }
+{
+    files.iter().find(|f| f.path.as_str() == path)
+}

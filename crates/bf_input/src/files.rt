@@ -1,0 +1,217 @@
+//! The files that a command line names, read.
+ghost use Rattle.std.specs.Prelude.{◌≡◌, ◌<◌, ◌^◌, ℕ, List, [], ◌∷◌, Option, IfOk, IfErr, IfSome, OnOk, option_map, string_bytes};
+ghost use Rattle.bf_read.specs.Reading.{graph_in};
+ghost use Rattle.bf_table.specs.Tables.{table_of};
+ghost use Rattle.bf_report_reader.specs.Reading.{IsReadAs};
+ghost use Rattle.bf_report_reader.specs.Rules.{IsShownReport};
+ghost use Rattle.bf_disk.specs.Files.{AreReadable, IsHeld, IsReadable, IsHeldIfNamed, named_paths};
+ghost use Rattle.bf_input.specs.Inputs.{OfFiles, OfFilesAndTable, graph_paths, table_paths, AreAlike, IsReadingFault, IsReportFault, IsWholeGraph, MeanAlike, bytes_of, of_source};
+ghost use Rattle.bf_disk.specs.Source.{IsWholeUpTo};
+
+use bf_command_fault::CommandFault;
+use bf_command_line::GraphAsked;
+use bf_disk::{Source, SourceFault, first_bytes};
+use bf_read::MOST_BYTES;
+use bf_report::Report;
+use bf_report_reader::{ReportFault, read_report};
+use bf_seeds::LONGEST_FILE;
+use bf_table::LONGEST_TABLE;
+use bf_value::Text;
+use bf_zone::MOST_FILE_BYTES;
+use std::alloc::Global;
+
+/// Why there is no answer where a path's file isn't there.
+fn fault_at(path: String, fault: SourceFault) -> CommandFault
+    ensures { result ≡ of_source (string_bytes path) fault }
+{
+    match fault {
+        SourceFault::CannotRead => CommandFault::CannotRead(Text::new(path)),
+        SourceFault::OutOfMemory => CommandFault::OutOfMemory,
+    }
+}
+
+/// The bytes of a file. Of one with more than `longest` so many and more are read that its reader sees it.
+fn file_bytes<S: Source>(
+    alloc: Global,
+    path: String,
+    longest: usize,
+    files: &mut S,
+) -> Result<Vec<u8>, CommandFault>
+    requires { longest < 2 ^ 63 }
+    ensures ok { IfOk result (λ bytes. IfSome (S.file files.old (string_bytes path)) (λ held.
+        IsWholeUpTo longest held bytes.items)) }
+    ensures readable { OnOk result (IsReadable (S.file files.old (string_bytes path))) }
+    ensures fault { IfErr result (IsReadingFault (S.file files.old) (string_bytes path ∷ [])) }
+    ensures stays { (p : List ℕ) → S.file files.new p ≡ S.file files.old p }
+{
+    match first_bytes(alloc, path.as_str(), longest + 1, files) {
+        Ok(bytes) => Ok(bytes),
+        Err(fault) => Err(fault_at(path, fault)),
+    }
+}
+
+fn graph_bytes<S: Source>(
+    alloc: Global,
+    path: String,
+    files: &mut S,
+) -> Result<Vec<u8>, CommandFault>
+    ensures says { IfOk result (λ bytes. (held : List ℕ) → IsHeld (S.file files.old (string_bytes path)) held
+        → graph_in bytes.items ≡ graph_in held) }
+    ensures whole { IfOk result (λ bytes. (held : List ℕ) → IsHeld (S.file files.old (string_bytes path)) held
+        → IsWholeGraph held bytes.items) }
+    ensures readable { OnOk result (IsReadable (S.file files.old (string_bytes path))) }
+    ensures fault { IfErr result (IsReadingFault (S.file files.old) (string_bytes path ∷ [])) }
+    ensures stays { (p : List ℕ) → S.file files.new p ≡ S.file files.old p }
+{
+    file_bytes(alloc, path, MOST_BYTES, files)
+}
+
+fn table_bytes<S: Source>(
+    alloc: Global,
+    path: String,
+    files: &mut S,
+) -> Result<Vec<u8>, CommandFault>
+    ensures says { IfOk result (λ bytes. (held : List ℕ) → IsHeld (S.file files.old (string_bytes path)) held
+        → table_of bytes.items ≡ table_of held) }
+    ensures readable { OnOk result (IsReadable (S.file files.old (string_bytes path))) }
+    ensures fault { IfErr result (IsReadingFault (S.file files.old) (string_bytes path ∷ [])) }
+    ensures stays { (p : List ℕ) → S.file files.new p ≡ S.file files.old p }
+{
+    file_bytes(alloc, path, LONGEST_TABLE, files)
+}
+
+fn zone_bytes<S: Source>(
+    alloc: Global,
+    path: Option<String>,
+    files: &mut S,
+) -> Result<Option<Vec<u8>>, CommandFault>
+    ensures means { IfOk result (λ bytes. (held : Option (List ℕ)) → IsHeldIfNamed (S.file files.old) (option_map string_bytes path) held
+        → MeanAlike (bytes_of bytes) held) }
+    ensures readable { OnOk result (AreReadable (S.file files.old) (named_paths (option_map string_bytes path))) }
+    ensures fault { IfErr result (IsReadingFault (S.file files.old) (named_paths (option_map string_bytes path))) }
+    ensures stays { (p : List ℕ) → S.file files.new p ≡ S.file files.old p }
+{
+    match path {
+        Some(path) => {
+            let bytes = file_bytes(alloc, path, MOST_FILE_BYTES, files)?;
+            Ok(Some(bytes))
+        }
+        None => Ok(None),
+    }
+}
+
+/// The bytes of a table where one is named.
+pub fn named_table_bytes<S: Source>(
+    alloc: Global,
+    path: Option<String>,
+    files: &mut S,
+) -> Result<Option<Vec<u8>>, CommandFault>
+    ensures says { IfOk result (λ bytes. (held : Option (List ℕ)) → IsHeldIfNamed (S.file files.old) (option_map string_bytes path) held
+        → option_map table_of (bytes_of bytes) ≡ option_map table_of held) }
+    ensures readable { OnOk result (AreReadable (S.file files.old) (named_paths (option_map string_bytes path))) }
+    ensures fault { IfErr result (IsReadingFault (S.file files.old) (named_paths (option_map string_bytes path))) }
+    ensures stays { (p : List ℕ) → S.file files.new p ≡ S.file files.old p }
+{
+    match path {
+        Some(path) => {
+            let bytes = table_bytes(alloc, path, files)?;
+            Ok(Some(bytes))
+        }
+        None => Ok(None),
+    }
+}
+
+/// The bytes of a seeds file. Of one that is longer than it may be so many and more are read that its reader sees it.
+pub fn seeds_bytes<S: Source>(
+    alloc: Global,
+    path: String,
+    files: &mut S,
+) -> Result<Vec<u8>, CommandFault>
+    ensures ok { IfOk result (λ bytes. IfSome (S.file files.old (string_bytes path)) (λ held.
+        IsWholeUpTo 8_388_608 held bytes.items)) }
+    ensures readable { OnOk result (IsReadable (S.file files.old (string_bytes path))) }
+    ensures fault { IfErr result (IsReadingFault (S.file files.old) (string_bytes path ∷ [])) }
+    ensures stays { (p : List ℕ) → S.file files.new p ≡ S.file files.old p }
+{
+    file_bytes(alloc, path, LONGEST_FILE, files)
+}
+
+/// The report that a file holds. It is looked at as it is read, and read no further than its first fault.
+pub fn report_in<S: Source>(
+    alloc: Global,
+    path: String,
+    files: &mut S,
+) -> Result<Report, CommandFault>
+    ensures says { IfOk result (λ report. (held : List ℕ) → IsHeld (S.file files.old (string_bytes path)) held
+        → IsReadAs held report) }
+    ensures rules { IfOk result IsShownReport }
+    ensures readable { OnOk result (IsReadable (S.file files.old (string_bytes path))) }
+    ensures fault { IfErr result (IsReportFault (string_bytes path) (S.file files.old (string_bytes path))) }
+{
+    let mut device = match files.open(path.as_str()) {
+        Ok(device) => device,
+        Err(fault) => return Err(fault_at(path, fault)),
+    };
+    match read_report(alloc, &mut device) {
+        Ok(report) => Ok(report),
+        Err(ReportFault::Io) => Err(CommandFault::CannotRead(Text::new(path))),
+        Err(fault) => Err(CommandFault::from(fault)),
+    }
+}
+
+/// The bytes of a graph file, and those of a zone file where one was named.
+#[derive(Drop)]
+pub struct GraphFiles {
+    pub graph: Vec<u8>,
+    pub zone_file: Option<Vec<u8>>,
+}
+
+impl GraphFiles {
+    /// The zone file's bytes.
+    pub fn zone_file(&self) -> Option<&[u8]>
+        ensures { option_map (λ s. s.now) result ≡ bytes_of self.now.zone_file }
+    {
+        self.zone_file.as_deref()
+    }
+}
+
+/// Reads the graph file, and then the zone file where one is named.
+pub fn graph_files<S: Source>(
+    alloc: Global,
+    asked: GraphAsked,
+    files: &mut S,
+) -> Result<GraphFiles, CommandFault>
+    ensures alike { IfOk result (λ f. OfFiles (S.file files.old) asked (λ graph zone. AreAlike f.graph.items graph (bytes_of f.zone_file) zone)) }
+    ensures whole { IfOk result (λ f. OfFiles (S.file files.old) asked (λ graph zone. IsWholeGraph graph f.graph.items)) }
+    ensures readable { OnOk result (AreReadable (S.file files.old) (graph_paths asked)) }
+    ensures fault { IfErr result (IsReadingFault (S.file files.old) (graph_paths asked)) }
+    ensures stays { (p : List ℕ) → S.file files.new p ≡ S.file files.old p }
+{
+    let graph = graph_bytes(alloc, asked.graph, files)?;
+    let zone_file = zone_bytes(alloc, asked.zone_file, files)?;
+    Ok(GraphFiles { graph, zone_file })
+}
+
+/// The files of a backfill over a table.
+#[derive(Drop)]
+pub struct FilesWithTable {
+    pub graph: GraphFiles,
+    pub table: Vec<u8>,
+}
+
+/// Reads the graph file, the zone file where one is named, and then the table.
+pub fn files_with_table<S: Source>(
+    alloc: Global,
+    asked: GraphAsked,
+    table: String,
+    files: &mut S,
+) -> Result<FilesWithTable, CommandFault>
+    ensures alike { IfOk result (λ f. OfFilesAndTable (S.file files.old) asked (string_bytes table) (λ graph zone held.
+        AreAlike f.graph.graph.items graph (bytes_of f.graph.zone_file) zone × (table_of f.table.items ≡ table_of held))) }
+    ensures readable { OnOk result (AreReadable (S.file files.old) (table_paths asked (string_bytes table))) }
+    ensures fault { IfErr result (IsReadingFault (S.file files.old) (table_paths asked (string_bytes table))) }
+{
+    let graph = graph_files(alloc, asked, files)?;
+    let table = table_bytes(alloc, table, files)?;
+    Ok(FilesWithTable { graph, table })
+}

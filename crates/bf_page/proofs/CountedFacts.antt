@@ -1,0 +1,55 @@
+-- How many bytes a page has, at most.
+use Rattle.std.proofs.Common.{◌≡◌, ◌≤◌, ◌<◌, ◌+◌, ◌*◌, ◌||◌, ℕ, Bool, true, false, List, [], ◌∷◌, ◌++◌, length, map, not, refl, arith}
+use Rattle.std.specs.List.{concat, list_any}
+use Rattle.std.proofs.lemmas.Bool.Decides.{nat_tests}
+use Rattle.std.proofs.lemmas.List.{length-append}
+use Rattle.bf_page.specs.Counted.{is_long}
+use Rattle.bf_page.specs.Safe.{safe, safe_byte}
+use Rattle.bf_page.proofs.SafeFacts.{by_byte}
+
+-- texts, each behind a piece
+abbrev pub woven : List (List ℕ) → List (List ℕ) → List (List ℕ)
+woven [] told = map safe told
+woven (piece ∷ fixed) [] = piece ∷ fixed
+woven (piece ∷ fixed) (text ∷ told) = piece ∷ safe text ∷ woven fixed told
+
+length-woven : (fixed told : List (List ℕ)) → length (concat (woven fixed told)) ≡ length (concat fixed) + length (concat (map safe told))
+length-woven [] told = omega arith
+length-woven (piece ∷ fixed) [] = omega arith
+length-woven (piece ∷ fixed) (text ∷ told) =
+    omega (arith, length-append piece (safe text ++ concat (woven fixed told)), length-append (safe text) (concat (woven fixed told)), length-woven fixed told, length-append piece (concat fixed), length-append (safe text) (concat (map safe told)))
+
+three_bytes : (b : ℕ) → length (safe_byte b) ≤ 3
+three_bytes = by_byte (λ _ s. length s ≤ 3) (omega arith) (omega arith) (omega arith) (omega arith) (λ b p q r s. omega arith)
+
+length-safe : (text : List ℕ) → length (safe text) ≤ 3 * length text
+length-safe [] = omega arith
+length-safe (b ∷ text) = omega (arith, length-append (safe_byte b) (safe text), three_bytes b, length-safe text)
+
+or_false : (a b : Bool) → (a || b) ≡ false → (a ≡ false) × (b ≡ false)
+or_false true b is = cc
+or_false false b is = (refl, is)
+
+short : (text : List ℕ) → is_long text ≡ false → length text ≤ 288_230_376_151_711_744
+short text is = grind (arith, nat_tests)
+
+fixed-length : (fixed : List (List ℕ)) → list_any is_long fixed ≡ false → length (concat fixed) ≤ 288_230_376_151_711_744 * length fixed
+fixed-length [] is = omega arith
+fixed-length (piece ∷ fixed) is =
+    let parts = or_false (is_long piece) (list_any is_long fixed) is in
+    omega (arith, length-append piece (concat fixed), short piece parts.0, fixed-length fixed parts.1)
+
+told-length : (told : List (List ℕ)) → list_any is_long told ≡ false → length (concat (map safe told)) ≤ 864_691_128_455_135_232 * length told
+told-length [] is = omega arith
+told-length (text ∷ told) is =
+    let parts = or_false (is_long text) (list_any is_long told) is in
+    omega (arith, length-append (safe text) (concat (map safe told)), length-safe text, short text parts.0, told-length told parts.1)
+
+-- of so many pieces and texts, none of them long, 64 bits count the bytes
+pub woven-counted : (fixed told : List (List ℕ)) → length fixed ≤ 7 → length told ≤ 6 → list_any is_long fixed ≡ false → list_any is_long told ≡ false
+    → length (concat (woven fixed told)) < 18_446_744_073_709_551_616
+woven-counted fixed told seven six pieces texts = omega (arith, length-woven fixed told, fixed-length fixed pieces, told-length told texts, seven, six)
+
+pub unset : (b : Bool) → not b ≡ true → b ≡ false
+unset true is = cc
+unset false is = refl

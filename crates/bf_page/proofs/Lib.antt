@@ -1,0 +1,4 @@
+mod PageFacts
+mod SafeFacts
+mod SendingFacts
+pub mod CountedFacts

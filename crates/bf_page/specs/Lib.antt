@@ -1,0 +1,4 @@
+pub mod Safe
+pub mod Pieces
+pub mod Page
+pub mod Counted

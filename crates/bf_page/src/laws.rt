@@ -1,0 +1,32 @@
+//! What holds of all texts on a page. These functions do nothing: their contracts are the laws, over the definitions alone.
+ghost use Rattle.std.specs.Prelude.{◌≡◌, ℕ, List};
+ghost use Rattle.std.specs.List.{All, AllPass, filter};
+ghost use Rattle.bf_page.specs.declared.page.PageTexts.{PageTexts as Texts};
+ghost use Rattle.bf_page.specs.Page.{page_text, fixed_text, TellTheSame};
+ghost use Rattle.bf_page.specs.Safe.{safe, plain, IsTame, is_tag, is_cell_byte};
+
+/// What stands on a page says the text that it is of, whatever that is.
+pub fn texts_are_read_back()
+    ensures { (text : List ℕ) → plain (safe text) ≡ text }
+{}
+
+/// No `<` stands where a text does, so all tags of a page are those of its fixed pieces; and no carriage return or U+0000,
+/// which a browser would change.
+pub fn no_text_has_a_tag()
+    ensures { (text : List ℕ) → All IsTame (safe text) }
+{}
+
+/// The cells of a page stand as they are.
+pub fn cells_stand_as_they_are()
+    ensures { (text : List ℕ) → AllPass is_cell_byte text → safe text ≡ text }
+{}
+
+/// A page has just the `<` of its fixed pieces, whatever its texts are.
+pub fn all_tags_are_fixed()
+    ensures { (texts : Texts) → filter is_tag (page_text texts) ≡ filter is_tag fixed_text }
+{}
+
+/// The six texts are read off a page: pages that are the same tell the same.
+pub fn pages_differ_where_texts_do()
+    ensures { (one two : Texts) → page_text one ≡ page_text two → TellTheSame one two }
+{}

@@ -1,0 +1,104 @@
+//! A text in pieces, sent to a device.
+ghost use Rattle.std.specs.Prelude.{◌≡◌, ◌<◌, ◌≤◌, [], length, OnOk, IfErr, IfSome, IfNone};
+ghost use Rattle.std.specs.List.{flat_map};
+ghost use Rattle.bf_device.specs.Device.{sent, HasHalted, HasGoneOn};
+ghost use Rattle.bf_page.specs.Page.{EndsAt};
+ghost use Rattle.bf_page.specs.Pieces.{piece_text, behind, steps_behind, left};
+
+use crate::safe::first_of;
+use bf_device::{Cause, Halt, MOST_INTERRUPTIONS, Write, WriteFault};
+
+/// A piece that is fixed, and the text that is told behind it.
+#[derive(Clone, Copy)]
+pub(crate) struct Piece<'a> {
+    pub(crate) fixed: &'a [u8],
+    pub(crate) told: &'a [u8],
+}
+
+/// What of a text is still to go out: bytes as they lie in memory, a text that is told behind them, and further pieces.
+#[derive(Clone, Copy)]
+pub(crate) struct Rest<'a> {
+    front: &'a [u8],
+    told: &'a [u8],
+    pieces: &'a [Piece<'a>],
+}
+
+/// Brings the next bytes to the front. There may be none, and more pieces behind them.
+fn brought<'a>(told: &'a [u8], pieces: &'a [Piece<'a>]) -> Option<Rest<'a>>
+    ensures none { IfNone result (behind told.now pieces.now ≡ []) }
+    ensures some { IfSome result (λ rest. left rest ≡ behind told.now pieces.now) }
+    ensures fewer { IfSome result (λ rest.
+        steps_behind rest.told.now rest.pieces.now < steps_behind told.now pieces.now) }
+{
+    if !told.is_empty() {
+        let (front, told) = first_of(told);
+        return Some(Rest {
+            front,
+            told,
+            pieces,
+        });
+    }
+    match pieces.split_first() {
+        Some((piece, pieces)) => Some(Rest {
+            front: piece.fixed,
+            told: piece.told,
+            pieces,
+        }),
+        None => None,
+    }
+}
+
+fn halted_after(sent: u64) -> WriteFault
+    ensures sent { result.sent ≡ sent }
+    ensures cause { result.cause ≡ Cause.Io }
+{
+    WriteFault {
+        sent,
+        cause: Cause::Io,
+    }
+}
+
+/// Writes a text that is given in pieces, in whatever parts the device takes. It gives up where a write fails or takes nothing, and
+/// at the 1,001st interruption.
+pub(crate) fn send_pieces<W: Write>(out: &mut W, pieces: &[Piece<'_>]) -> Result<(), WriteFault>
+    ensures ok { OnOk result (W.written out.new
+        ≡ sent (W.written out.old) (flat_map piece_text pieces.now)) }
+    ensures part { IfErr result (λ fault. EndsAt fault.sent (flat_map piece_text pieces.now)
+        (W.written out.old) (W.written out.new)) }
+    ensures only_io { IfErr result (λ fault. fault.cause ≡ Cause.Io) }
+    ensures halted { IfErr result (λ _. HasHalted (W.failures out.old) (W.failures out.new)
+        (W.interruptions out.old) (W.interruptions out.new)) }
+    ensures went_on { OnOk result (HasGoneOn (W.failures out.old) (W.failures out.new)
+        (W.interruptions out.old) (W.interruptions out.new)) }
+{
+    let mut rest = Rest {
+        front: &[],
+        told: &[],
+        pieces,
+    };
+    let mut sent: u64 = 0;
+    let mut interruptions = 0;
+    loop {
+        if rest.front.is_empty() {
+            match brought(rest.told, rest.pieces) {
+                Some(more) => rest = more,
+                None => return Ok(()),
+            }
+            continue;
+        }
+        match out.write(rest.front) {
+            Ok(0) => return Err(halted_after(sent)),
+            Ok(count) => {
+                rest.front = &rest.front[count..];
+                sent = sent.wrapping_add(count as u64);
+            }
+            Err(Halt::Again) => {
+                if interruptions == MOST_INTERRUPTIONS {
+                    return Err(halted_after(sent));
+                }
+                interruptions += 1;
+            }
+            Err(Halt::Failed) => return Err(halted_after(sent)),
+        }
+    }
+}

@@ -1,0 +1,12 @@
+//! What the bytes of a graph file come to: its size, a plan, and the runs of its schedule in a range, which `list` prints.
+#![tactic(auto)]
+
+mod check;
+mod list;
+mod plan;
+mod range;
+
+pub use check::{GraphSize, check_graph};
+pub use list::run_list;
+pub use plan::{DatedPlan, TimedPlan, dated_plan_in, table_in, timed_plan_in};
+pub use range::{MomentRange, RunRange, Starts};

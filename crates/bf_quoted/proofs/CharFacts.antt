@@ -1,0 +1,87 @@
+-- Characters, and the bytes that they are.
+use Rattle.std.proofs.Common.{◌≡◌, ℕ, ◌+◌, ◌/◌, ◌%◌, ◌<◌, ◌≤◌, true, false, ◌&&◌, ltb, [], ◌∷◌, All, refl, subst, ⊎_elim, arith}
+use Rattle.std.specs.Int.{is_in_range}
+use Rattle.std.proofs.lemmas.Bool.{cond_both, ltb-true, ltb-false, lt-leb, lt-ltb, le-ltb, and_right, and_from, or_from, ne_eqb, cases_lt, both_ways, agree_below, agree_below_at}
+use Rattle.std.proofs.lemmas.List.Elements.{All-nil, All-cons, All-same, All-weaker}
+use Rattle.std.proofs.lemmas.Str.{encode_ascii}
+use lib.Utf8.{encode}
+use Rattle.bf_quoted.specs.Seen.{is_unseen}
+use Rattle.bf_quoted.specs.Words.{is_bare}
+
+two : (P : ℕ → Type 0) (a b : ℕ) → P a → P b → All P (a ∷ b ∷ [])
+two P a b p q = All-cons P a (b ∷ []) p (All-cons P b [] q (All-nil P))
+
+three : (P : ℕ → Type 0) (a b c : ℕ) → P a → P b → P c → All P (a ∷ b ∷ c ∷ [])
+three P a b c p q r = All-cons P a (b ∷ c ∷ []) p (two P b c q r)
+
+four : (P : ℕ → Type 0) (a b c d : ℕ) → P a → P b → P c → P d → All P (a ∷ b ∷ c ∷ d ∷ [])
+four P a b c d p q r s = All-cons P a (b ∷ c ∷ d ∷ []) p (three P b c d q r s)
+
+-- the bytes of a character past ASCII are past ASCII
+abbrev IsHigh : ℕ → Type 0
+IsHigh b = 128 ≤ b
+
+high_bytes : (c : ℕ) → 128 ≤ c → All (λ b. 128 ≤ b) (encode c)
+unfolding encode
+high_bytes c high =
+    cond_both (ltb c 128) _ _ (All IsHigh) (λ e. let low = ltb-true c 128 e in absurd (omega arith))
+    (λ _. cond_both (ltb c 2_048) _ _ (All IsHigh) (λ _. two IsHigh (192 + c / 64) (128 + c % 64) (omega arith) (omega arith))
+    (λ _. cond_both (ltb c 65_536) _ _ (All IsHigh) (λ _. three IsHigh (224 + c / 4_096) (128 + c / 64 % 64) (128 + c % 64) (omega arith) (omega arith) (omega arith))
+    (λ _. four IsHigh (240 + c / 262_144) (128 + c / 4_096 % 64) (128 + c / 64 % 64) (128 + c % 64) (omega arith) (omega arith) (omega arith) (omega arith))))
+
+-- those of a character of at most three bytes are bytes
+abbrev pub IsByte : ℕ → Type 0
+IsByte b = b < 256
+
+pub small_bytes : (c : ℕ) → c < 65_536 → All IsByte (encode c)
+unfolding encode
+small_bytes c small =
+    cond_both (ltb c 128) _ _ (All IsByte) (λ e. let low = ltb-true c 128 e in All-cons IsByte c [] (omega arith) (All-nil IsByte))
+    (λ _. cond_both (ltb c 2_048) _ _ (All IsByte) (λ e. let low = ltb-true c 2_048 e in two IsByte (192 + c / 64) (128 + c % 64) (omega arith) (omega arith))
+    (λ _. cond_both (ltb c 65_536) _ _ (All IsByte) (λ _. three IsByte (224 + c / 4_096) (128 + c / 64 % 64) (128 + c % 64) (omega arith) (omega arith) (omega arith))
+    (λ e. let large = ltb-false c 65_536 e in absurd (omega arith))))
+
+-- a character other than one of ASCII has no byte that is that one
+pub other_bytes : (P : ℕ → Type 0) (c : ℕ) → P c → ((b : ℕ) → 128 ≤ b → P b) → All P (encode c)
+other_bytes P c this high =
+    ⊎_elim (λ low. All-same P (encode c) (c ∷ []) (encode_ascii c low) (All-cons P c [] this (All-nil P)))
+    (λ large. All-weaker (λ b. 128 ≤ b) P high (encode c) (high_bytes c large)) (cases_lt c 128)
+
+-- ---- classes
+
+above : (first last c : ℕ) → last < c → is_in_range first last c ≡ false
+above first last c h = and_right _ _ (lt-leb c last h)
+
+-- what isn't seen has at most three bytes
+pub unseen_small : (c : ℕ) → is_unseen c ≡ true → c < 65_536
+unseen_small c unseen =
+    ⊎_elim (λ small. small)
+    (λ large. absurd (both_ways (is_unseen c)
+    (or_from _ _ (or_from _ _ (or_from _ _ (or_from _ _ (or_from _ _ (or_from _ _ (or_from _ _ (or_from _ _ (above 0 31 c (omega arith)) (above 127 159 c (omega arith)))
+    (ne_eqb c 173 (omega arith))) (ne_eqb c 1_564 (omega arith))) (above 8_203 8_207 c (omega arith))) (above 8_232 8_238 c (omega arith))) (above 8_288 8_303 c (omega arith)))
+    (ne_eqb c 65_279 (omega arith))) (above 65_529 65_531 c (omega arith)))
+    unseen))
+    (cases_lt c 65_536)
+
+ascii_seen : agree_below is_unseen (λ c. ltb c 32) 127 ≡ true
+ascii_seen = refl
+
+-- the characters of ASCII from the space on are seen
+pub seen_ascii : (c : ℕ) → 32 ≤ c → c < 127 → is_unseen c ≡ false
+seen_ascii c low high = let e = agree_below_at is_unseen (λ c. ltb c 32) 127 c ascii_seen high in subst (λ b. is_unseen c ≡ b) (le-ltb c 32 low) e
+
+bare_visible : agree_below (λ b. is_bare b && ltb b 43) (λ _. false) 128 ≡ true
+bare_visible = refl
+
+-- a bare byte is one of ASCII, and is seen
+pub bare_small : (b : ℕ) → is_bare b ≡ true → (43 ≤ b) × (b < 127)
+bare_small b bare =
+    let below : b < 127 = ⊎_elim (λ small. small)
+    (λ large. absurd (both_ways (is_bare b)
+    (or_from _ _ (or_from _ _ (or_from _ _ (above 48 57 b (omega arith)) (above 65 90 b (omega arith))) (above 97 122 b (omega arith)))
+    (or_from _ _ (ne_eqb 95 b (omega arith)) (or_from _ _ (ne_eqb 64 b (omega arith)) (or_from _ _ (ne_eqb 43 b (omega arith)) (or_from _ _ (ne_eqb 58 b (omega arith))
+    (or_from _ _ (ne_eqb 44 b (omega arith)) (or_from _ _ (ne_eqb 46 b (omega arith)) (or_from _ _ (ne_eqb 47 b (omega arith)) (or_from _ _ (ne_eqb 45 b (omega arith)) refl)))))))))
+    bare)) (cases_lt b 127) in
+    let none = agree_below_at (λ b. is_bare b && ltb b 43) (λ _. false) 128 b bare_visible (omega arith) in
+    let from : 43 ≤ b = ⊎_elim (λ low. absurd (both_ways (is_bare b && ltb b 43) none (and_from _ _ bare (lt-ltb b 43 low)))) (λ high. high) (cases_lt b 43) in
+    (from, below)

@@ -1,0 +1,4 @@
+mod CharFacts
+mod LineFacts
+mod ReadFacts
+mod SeenFacts

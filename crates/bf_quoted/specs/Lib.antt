@@ -1,0 +1,5 @@
+pub mod Seen
+pub mod Words
+pub mod Values
+pub mod Shell
+pub mod Lines

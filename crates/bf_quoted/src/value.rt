@@ -1,0 +1,54 @@
+//! Values as JSON text on a terminal.
+ghost use Rattle.std.specs.Prelude.{◌≡◌, ◌<◌, ◌++◌, OnOk, string_bytes};
+ghost use Rattle.std.specs.Char.{digit_char};
+ghost use Rattle.std.specs.List.{flat_map};
+ghost use Rattle.std.specs.Str.{chars};
+ghost use Rattle.bf_quoted.specs.Values.{escape, shown_char, shown};
+
+use crate::seen::is_unseen;
+use bf_value::OutOfMemory;
+
+/// A digit of base 16, in lower case.
+fn hex_digit(value: u32) -> char
+    requires { value < 16 }
+    ensures { result ≡ digit_char value }
+{
+    if value < 10 {
+        char::from(b'0' + value as u8)
+    } else {
+        char::from(b'a' + (value - 10) as u8)
+    }
+}
+
+/// Adds the escape of a character that JSON writes by one.
+fn push_escape(text: &mut String, code: u32) -> Result<(), OutOfMemory>
+    requires { code < 65_536 }
+    ensures { OnOk result (string_bytes text.new ≡ string_bytes text.old ++ escape code) }
+{
+    text.push_str("\\u")?;
+    text.push(hex_digit(code / 4_096))?;
+    text.push(hex_digit(code / 256 % 16))?;
+    text.push(hex_digit(code / 16 % 16))?;
+    text.push(hex_digit(code % 16))?;
+    Ok(())
+}
+
+fn push_shown_char(text: &mut String, c: char) -> Result<(), OutOfMemory>
+    ensures { OnOk result (string_bytes text.new ≡ string_bytes text.old ++ shown_char c) }
+{
+    if is_unseen(c) {
+        return push_escape(text, c as u32);
+    }
+    text.push(c)?;
+    Ok(())
+}
+
+/// Adds the compact JSON text of a value, with what a terminal doesn't show as itself by its escapes.
+pub fn push_shown(text: &mut String, json: &str) -> Result<(), OutOfMemory>
+    ensures { OnOk result (string_bytes text.new ≡ string_bytes text.old ++ shown json.now) }
+{
+    for c in json.chars() {
+        push_shown_char(text, c)?;
+    }
+    Ok(())
+}

@@ -1,0 +1,4 @@
+mod CauseFacts
+mod LetterFacts
+mod LetterSteps
+mod ReasonFacts

@@ -1,0 +1,49 @@
+-- Reasons without what the instances are given.
+use Rattle.std.specs.Prelude.{ℕ, zero, suc, ◌==◌, ◌&&◌, not, Bool, true, false, if◌then◌else◌, length, map, Option, None, Some}
+use Rattle.bf_core.specs.Terms.{Items, TaskValue}
+use Rattle.bf_mapped.specs.declared.source.SourceValues.{SourceValues}
+use Rattle.bf_xcom.specs.Pulls.{pushed, pushed_alone}
+use Rattle.bf_core.specs.Deciding.{lets_pass}
+use Rattle.bf_reason.specs.declared.cause.Cause.{Cause}
+use Rattle.bf_reason.specs.Reasons.{Reason, waits, not_followed, branch_is_blocked, upstream_is_blocked, rule_skips, rule_fails, past_has_not_passed, items_are_missing, has_no_items, runs}
+
+-- of the instances of a task that runs their number is left
+abbrev pub cause_of : Reason → Cause
+cause_of waits = Cause.Waits
+cause_of not_followed = Cause.NotFollowed
+cause_of branch_is_blocked = Cause.BranchIsBlocked
+cause_of upstream_is_blocked = Cause.UpstreamIsBlocked
+cause_of rule_skips = Cause.RuleSkips
+cause_of rule_fails = Cause.RuleFails
+cause_of past_has_not_passed = Cause.PastHasNotPassed
+cause_of items_are_missing = Cause.ItemsAreMissing
+cause_of has_no_items = Cause.HasNoItems
+cause_of (runs given) = Cause.Runs (length given)
+
+-- how many items there are, unless they are missing
+abbrev pub item_count : Items → Option ℕ
+item_count Items.Missing = None
+item_count (Items.List items) = Some (length items)
+
+-- what a source that is expanded, or isn't, has by its value
+abbrev pub values_given : Bool → TaskValue → SourceValues
+values_given each (TaskValue.Ran results) = if each then SourceValues.Each (map pushed results) else SourceValues.Pushed (pushed_alone results)
+values_given each value = SourceValues.Absent
+
+abbrev pub cause_by_count : Option ℕ → Cause
+cause_by_count None = Cause.ItemsAreMissing
+cause_by_count (Some zero) = Cause.HasNoItems
+cause_by_count (Some (suc count)) = Cause.Runs (suc count)
+
+-- the past, where it is asked, lets the task go on
+abbrev pub passed : Option TaskValue → Bool
+passed None = false
+passed (Some value) = lets_pass value
+
+abbrev pub past_lets_go_on : Bool → ℕ → Option TaskValue → Bool
+past_lets_go_on depends run before = if depends && not (run == 0) then passed before else true
+
+-- it runs as so many instances
+abbrev pub runs_as : Cause → ℕ → Bool
+runs_as (Cause.Runs instances) count = count == instances
+runs_as cause count = false

@@ -1,0 +1,5 @@
+pub mod Reasons
+pub mod Settled
+pub mod Causes
+pub mod Letters
+pub mod Runs

@@ -1,0 +1,342 @@
+//! Why something is decided of a task in a run.
+ghost use Rattle.std.specs.Prelude.{◌≡◌, ◌≤◌, ◌<◌, List, Option, Some, filter, is_some, length, not};
+ghost use Rattle.std.specs.List.{list_all, list_any};
+ghost use Rattle.bf_mapped.specs.Items.{items_of};
+ghost use Rattle.bf_mapped.specs.declared.source.SourceValues.{SourceValues};
+ghost use Rattle.bf_xcom.specs.Pulls.{pushed, pushed_alone};
+ghost use Rattle.bf_core.specs.Deciding.{branch_is, branch_skips, counts_of, counts_over, is_blocked as blocked, lets_pass as lets_go_on};
+ghost use Rattle.bf_core.specs.Terms.{is_failed, items, task_of, TaskResult as ResultTerm, TaskValue as ValueTerm, Verdict as VerdictTerm, Xval as XvalTerm};
+ghost use Rattle.bf_reason.specs.Causes.{cause_of, item_count, past_lets_go_on as past_lets_go_on_in, values_given};
+ghost use Rattle.bf_reason.specs.Reasons.{by_source as by_source_of, by_verdict as by_verdict_of, reason};
+ghost use Rattle.bf_reason.specs.Settled.{before_among, seen_among, value_among};
+ghost use Rattle.bf_rule.specs.Verdicts.{total};
+
+use crate::settled::Settled;
+use bf_plan::{Dag, Plan, Task};
+use bf_rule::{Counts, Verdict, followed, verdict};
+use bf_value::Xval;
+use bf_xcom::{Outcome, TaskResult, TaskValue};
+
+/// Why something is decided of a task in a run: the line of the decision that made it so.
+#[derive(Clone, Copy, Debug, PartialEq, Eq)]
+pub enum Cause {
+    /// What it looks at isn't settled, which in a report all is.
+    Waits,
+    /// It is skipped: a branch directly upstream succeeded and doesn't follow it.
+    NotFollowed,
+    /// A branch directly upstream is blocked.
+    BranchIsBlocked,
+    /// A task directly upstream is blocked.
+    UpstreamIsBlocked,
+    /// Its rule skips it.
+    RuleSkips,
+    /// Its rule makes it upstream_failed.
+    RuleFails,
+    /// It is blocked: it depends on its past, which has not passed.
+    PastHasNotPassed,
+    /// It is upstream_failed: its source gives no items.
+    ItemsAreMissing,
+    /// It is skipped: the list of its items is empty.
+    HasNoItems,
+    /// It runs, as so many instances.
+    Runs(usize),
+}
+
+/// How many instances of a task are in each state; of one that isn't there as of one that is blocked.
+pub fn counts_at(settled: &[Settled<'_>], task: u32) -> Counts
+    ensures counts { result ≡ counts_of (value_among settled.now task) }
+    ensures few { total result ≤ 1_024 }
+{
+    match settled.get(task as usize) {
+        Some(settled) => settled.counts(),
+        None => Counts {
+            blocked: 1,
+            ..Counts::NONE
+        },
+    }
+}
+
+/// How many instances of these upstreams are in each state.
+pub fn counts_of_upstreams(settled: &[Settled<'_>], upstreams: &[u32]) -> Counts
+    requires { length upstreams.now ≤ 20_000 }
+    ensures { result ≡ counts_over (seen_among settled.now) upstreams.now }
+{
+    let mut counts = Counts::NONE;
+    for upstream in upstreams {
+        counts = counts.plus(counts_at(settled, *upstream));
+    }
+    counts
+}
+
+fn results_skip(plan: &Plan, branch: u32, task: u32, results: &[TaskResult]) -> bool
+    requires { task < length plan.now.dag.tasks }
+    ensures { result ≡ branch_skips plan.now.dag task branch (ValueTerm.Ran results.now) }
+{
+    let [first, ..] = results else {
+        return false;
+    };
+    match &first.outcome {
+        Outcome::Success(pushed) => !followed(plan.graph(), branch, pushed.as_ref(), task),
+        Outcome::Failed | Outcome::Skipped => false,
+    }
+}
+
+/// Whether a branch of this value succeeded and doesn't follow a task.
+fn value_skips(plan: &Plan, branch: u32, task: u32, value: &TaskValue) -> bool
+    requires { task < length plan.now.dag.tasks }
+    ensures { result ≡ branch_skips plan.now.dag task branch value.now }
+{
+    match value {
+        TaskValue::Ran(results) => results_skip(plan, branch, task, results.as_slice()),
+        TaskValue::Blocked | TaskValue::Skipped | TaskValue::UpstreamFailed => false,
+    }
+}
+
+/// Whether an upstream is a branch that succeeded and doesn't follow a task.
+pub fn skips(plan: &Plan, settled: &[Settled<'_>], upstream: u32, task: u32) -> bool
+    requires { task < length plan.now.dag.tasks }
+    ensures { result ≡ branch_is plan.now.dag (branch_skips plan.now.dag task upstream) upstream
+        (Some (value_among settled.now upstream)) }
+{
+    match settled.get(upstream as usize) {
+        Some(settled) => {
+            plan.dag().is_branch(upstream) && value_skips(plan, upstream, task, settled.value())
+        }
+        None => false,
+    }
+}
+
+/// Whether a task is blocked, and so one that isn't there.
+pub fn is_blocked(settled: &[Settled<'_>], task: u32) -> bool
+    ensures { result ≡ blocked (value_among settled.now task) }
+{
+    match settled.get(task as usize) {
+        Some(settled) => matches!(settled.value(), TaskValue::Blocked),
+        None => true,
+    }
+}
+
+/// Whether an upstream is a branch that is blocked.
+pub fn is_blocked_branch(dag: &Dag, settled: &[Settled<'_>], upstream: u32) -> bool
+    ensures { result ≡ branch_is dag.now blocked upstream (Some (value_among settled.now upstream)) }
+{
+    dag.is_branch(upstream) && is_blocked(settled, upstream)
+}
+
+fn any_skips(plan: &Plan, settled: &[Settled<'_>], task: u32, upstreams: &[u32]) -> bool
+    requires { task < length plan.now.dag.tasks }
+    ensures { result ≡ list_any (λ u. branch_is plan.now.dag (branch_skips plan.now.dag task u) u
+        (Some (value_among settled.now u))) upstreams.now }
+{
+    upstreams
+        .iter()
+        .any(|upstream| skips(plan, settled, *upstream, task))
+}
+
+fn any_is_blocked_branch(plan: &Plan, settled: &[Settled<'_>], upstreams: &[u32]) -> bool
+    ensures { result ≡ list_any (λ u. branch_is plan.now.dag blocked u
+        (Some (value_among settled.now u))) upstreams.now }
+{
+    let dag = plan.dag();
+    upstreams
+        .iter()
+        .any(|upstream| is_blocked_branch(dag, settled, *upstream))
+}
+
+fn has_failed(ended: &TaskResult) -> bool
+    ensures { result ≡ is_failed ended.now.outcome }
+{
+    matches!(ended.outcome, Outcome::Failed)
+}
+
+fn have_passed(results: &[TaskResult]) -> bool
+    ensures { result ≡ list_all (λ ended. not (is_failed ended.outcome)) results.now }
+{
+    results.iter().all(|ended| !has_failed(ended))
+}
+
+/// Whether a task that depends on its past goes on after this value of the run before.
+#[tactic(auto, using(crate::proofs::CauseFacts::all_passed_is))]
+fn lets_pass(value: &TaskValue) -> bool
+    ensures { result ≡ lets_go_on value.now }
+{
+    match value {
+        TaskValue::Skipped => true,
+        TaskValue::Ran(results) => have_passed(results.as_slice()),
+        TaskValue::Blocked | TaskValue::UpstreamFailed => false,
+    }
+}
+
+/// Whether a task passed in a run of which these are the tasks.
+fn has_passed(settled: &[Settled<'_>], task: u32) -> bool
+    ensures { result ≡ lets_go_on (value_among settled.now task) }
+{
+    match settled.get(task as usize) {
+        Some(settled) => lets_pass(settled.value()),
+        None => false,
+    }
+}
+
+/// Whether its past lets a task go on. Nothing is asked of it in the first run.
+fn past_lets_go_on(task: &Task, run: usize, before: &[Settled<'_>], number: u32) -> bool
+    ensures { result ≡ past_lets_go_on_in task.now.depends_on_past run (before_among before.now run number) }
+{
+    !task.depends_on_past || run == 0 || has_passed(before, number)
+}
+
+/// Whether there is a task of this number that is expanded.
+#[tactic(auto, unfolding(bf_plan::specs::Plans::task_of))]
+pub fn is_expanded(dag: &Dag, task: u32) -> bool
+    ensures { result ≡ is_some (task_of dag.now task).expand }
+{
+    match dag.tasks.get(task as usize) {
+        Some(task) => task.expand.is_some(),
+        None => false,
+    }
+}
+
+fn count_pushed(results: &[TaskResult]) -> usize
+    ensures { result ≡ length (filter (λ ended. is_some (pushed ended)) results.now) }
+{
+    results
+        .iter()
+        .filter(|ended| ended.outcome.pushed().is_some())
+        .count()
+}
+
+/// How many items the list has that an unmapped source pushed.
+fn count_listed(results: &[TaskResult]) -> Option<usize>
+    ensures { result ≡ item_count (items_of (SourceValues.Pushed (pushed_alone results.now))) }
+{
+    let [first, ..] = results else {
+        return None;
+    };
+    match first.outcome.pushed() {
+        Some(Xval::List(values)) => Some(values.as_slice().len()),
+        _ => None,
+    }
+}
+
+/// How many items a source gives that ran, unless they are missing.
+#[tactic(auto, using(crate::proofs::CauseFacts::pushed_count))]
+fn count_of_ran(is_expanded: bool, results: &[TaskResult]) -> Option<usize>
+    ensures { result ≡ item_count (items_of (values_given is_expanded (ValueTerm.Ran results.now))) }
+{
+    if is_expanded {
+        Some(count_pushed(results))
+    } else {
+        count_listed(results)
+    }
+}
+
+fn count_given(is_expanded: bool, value: &TaskValue) -> Option<usize>
+    ensures { result ≡ item_count (items_of (values_given is_expanded value.now)) }
+{
+    match value {
+        TaskValue::Ran(results) => count_of_ran(is_expanded, results.as_slice()),
+        TaskValue::Blocked | TaskValue::Skipped | TaskValue::UpstreamFailed => None,
+    }
+}
+
+/// How many items a source gives, unless they are missing.
+#[tactic(auto, using(crate::proofs::CauseFacts::items_by))]
+fn count_items(dag: &Dag, settled: &[Settled<'_>], source: u32) -> Option<usize>
+    ensures { result ≡ item_count (items (task_of dag.now source) (value_among settled.now source)) }
+{
+    match settled.get(source as usize) {
+        Some(settled) => count_given(is_expanded(dag, source), settled.value()),
+        None => None,
+    }
+}
+
+/// Of a task that goes on, by the source of its items.
+fn by_source(dag: &Dag, settled: &[Settled<'_>], expand: Option<u32>) -> Cause
+    ensures { (pulled : List (Option XvalTerm)) →
+        result ≡ cause_of (by_source_of dag.now (seen_among settled.now) pulled expand) }
+{
+    let Some(source) = expand else {
+        return Cause::Runs(1);
+    };
+    match count_items(dag, settled, source) {
+        None => Cause::ItemsAreMissing,
+        Some(0) => Cause::HasNoItems,
+        Some(count) => Cause::Runs(count),
+    }
+}
+
+/// Of a task that its rule lets run.
+fn by_past(
+    dag: &Dag,
+    run: usize,
+    settled: &[Settled<'_>],
+    before: &[Settled<'_>],
+    number: u32,
+) -> Cause
+    requires { number < length dag.now.tasks }
+    ensures { result ≡ cause_of (by_verdict_of dag.now run (seen_among settled.now)
+        (before_among before.now run number) number VerdictTerm.Run) }
+{
+    let task = dag.task(number);
+    if past_lets_go_on(task, run, before, number) {
+        by_source(dag, settled, task.expand)
+    } else {
+        Cause::PastHasNotPassed
+    }
+}
+
+/// Of a task on which its rule has this verdict.
+fn by_verdict(
+    dag: &Dag,
+    run: usize,
+    settled: &[Settled<'_>],
+    before: &[Settled<'_>],
+    number: u32,
+    verdict: Verdict,
+) -> Cause
+    requires { number < length dag.now.tasks }
+    ensures { result ≡ cause_of (by_verdict_of dag.now run (seen_among settled.now)
+        (before_among before.now run number) number verdict) }
+{
+    match verdict {
+        Verdict::Wait => Cause::Waits,
+        Verdict::Blocked => Cause::UpstreamIsBlocked,
+        Verdict::Skip => Cause::RuleSkips,
+        Verdict::UpstreamFailed => Cause::RuleFails,
+        Verdict::Run => by_past(dag, run, settled, before, number),
+    }
+}
+
+/// A task of the graph, which has few upstreams.
+fn task_in(plan: &Plan, task: u32) -> &Task
+    requires { task < length plan.now.dag.tasks }
+    ensures task { result.now ≡ task_of plan.now.dag task }
+    ensures few { length result.now.upstreams ≤ 20_000 }
+{
+    plan.dag().task(task)
+}
+
+/// Why the graph decides what it does of a task in the run of this number, over what a report has of the run's tasks and of
+/// those of the run before, which are none before the first.
+pub fn cause_at(
+    plan: &Plan,
+    run: usize,
+    settled: &[Settled<'_>],
+    before: &[Settled<'_>],
+    task: u32,
+) -> Cause
+    requires { task < length plan.now.dag.tasks }
+    ensures { result ≡ cause_of (reason plan.now.dag run (seen_among settled.now)
+        (before_among before.now run task) task) }
+{
+    let decided = task_in(plan, task);
+    let upstreams = decided.upstreams.as_slice();
+    if any_skips(plan, settled, task, upstreams) {
+        return Cause::NotFollowed;
+    }
+    if any_is_blocked_branch(plan, settled, upstreams) {
+        return Cause::BranchIsBlocked;
+    }
+    let counts = counts_of_upstreams(settled, upstreams);
+    let verdict = verdict(decided.rule, &counts);
+    by_verdict(plan.dag(), run, settled, before, task, verdict)
+}

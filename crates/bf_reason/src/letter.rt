@@ -1,0 +1,189 @@
+//! The letter of a task in a run, which tells its state and why it has that.
+ghost use Rattle.std.specs.Prelude.{◌≡◌, ◌<◌, ◌==◌, Bool, List, length, map};
+ghost use Rattle.std.specs.List.{list_any};
+ghost use Rattle.bf_reason.specs.Causes.{runs_as as runs_as_by};
+ghost use Rattle.bf_reason.specs.Letters.{ended_letter as ended_letter_of, expanded_digit as expanded_digit_of, first_by as first_by_of, first_letter as first_letter_of, letter_for, letter_of, upper as upper_of};
+ghost use Rattle.bf_reason.specs.Runs.{tasks_at, tasks_before};
+ghost use Rattle.bf_report.specs.declared.report.InstanceReport.{InstanceReport as InstanceTerm};
+ghost use Rattle.bf_report.specs.declared.report.TaskReport.{TaskReport as TaskTerm};
+ghost use Rattle.bf_report.specs.declared.report.Report.{Report as ReportTerm};
+
+use crate::cause::{Cause, cause_at, is_expanded};
+use crate::settled::Settled;
+use bf_plan::Plan;
+use bf_report::TaskReport;
+use bf_xcom::{Outcome, TaskResult};
+
+/// The letter of an instance that ended so.
+pub fn ended_letter(ended: &TaskResult) -> u8
+    ensures letter { result ≡ ended_letter_of ended.now.outcome ended.now.tries }
+    ensures ascii { result < 128 }
+{
+    match ended.outcome {
+        Outcome::Success(_) if ended.tries == 1 => b's',
+        Outcome::Success(_) => b'r',
+        Outcome::Failed => b'f',
+        Outcome::Skipped => b'x',
+    }
+}
+
+fn some_has(results: &[TaskResult], letter: u8) -> bool
+    ensures { result ≡ list_any (λ ended. ended_letter_of ended.outcome ended.tries == letter) results.now }
+{
+    results.iter().any(|ended| ended_letter(ended) == letter)
+}
+
+/// The first of f, r and s that some instance has, or else x.
+fn first_by(some_f: bool, some_r: bool, some_s: bool) -> u8
+    ensures letter { result ≡ first_by_of some_f some_r some_s }
+    ensures ascii { result < 128 }
+{
+    match (some_f, some_r, some_s) {
+        (true, _, _) => b'f',
+        (false, true, _) => b'r',
+        (false, false, true) => b's',
+        (false, false, false) => b'x',
+    }
+}
+
+fn first_letter(results: &[TaskResult]) -> u8
+    ensures letter { (instances : List InstanceTerm) → results.now ≡ map (λ instance. instance.result) instances →
+        result ≡ first_letter_of instances }
+    ensures ascii { result < 128 }
+{
+    first_by(
+        some_has(results, b'f'),
+        some_has(results, b'r'),
+        some_has(results, b's'),
+    )
+}
+
+fn upper(first: u8) -> u8
+    ensures letter { result ≡ upper_of first }
+    ensures ascii { result < 128 }
+{
+    match first {
+        b'f' => b'F',
+        b'r' => b'R',
+        b's' => b'S',
+        _ => b'X',
+    }
+}
+
+fn expanded_digit(first: u8) -> u8
+    ensures letter { result ≡ expanded_digit_of first }
+    ensures ascii { result < 128 }
+{
+    match first {
+        b'f' => b'8',
+        b'x' => b'9',
+        _ => b'7',
+    }
+}
+
+fn skipped_letter(cause: Cause) -> u8
+    ensures letter { (expanded : Bool) → result ≡ letter_for expanded cause TaskTerm.Skipped }
+    ensures ascii { result < 128 }
+{
+    match cause {
+        Cause::NotFollowed => b'b',
+        Cause::RuleSkips => b'k',
+        Cause::HasNoItems => b'e',
+        _ => b'4',
+    }
+}
+
+fn upstream_failed_letter(cause: Cause) -> u8
+    ensures letter { (expanded : Bool) → result ≡ letter_for expanded cause TaskTerm.UpstreamFailed }
+    ensures ascii { result < 128 }
+{
+    match cause {
+        Cause::RuleFails => b'u',
+        Cause::ItemsAreMissing => b'i',
+        _ => b'5',
+    }
+}
+
+fn no_status_letter(cause: Cause) -> u8
+    ensures letter { (expanded : Bool) → result ≡ letter_for expanded cause TaskTerm.NoStatus }
+    ensures ascii { result < 128 }
+{
+    match cause {
+        Cause::BranchIsBlocked => b'q',
+        Cause::UpstreamIsBlocked => b'p',
+        Cause::PastHasNotPassed => b'n',
+        _ => b'6',
+    }
+}
+
+/// Of an unmapped task, by its result.
+fn ran_letter(is_expanded: bool, cause: Cause, ended: &TaskResult) -> u8
+    ensures letter { (instance : InstanceTerm) → instance.result ≡ ended.now →
+        result ≡ letter_for is_expanded cause (TaskTerm.Ran instance) }
+    ensures ascii { result < 128 }
+{
+    if !is_expanded && matches!(cause, Cause::Runs(_)) {
+        return ended_letter(ended);
+    }
+    match ended.outcome {
+        Outcome::Success(_) => b'1',
+        Outcome::Failed => b'2',
+        Outcome::Skipped => b'3',
+    }
+}
+
+fn runs_as(cause: Cause, count: usize) -> bool
+    ensures { result ≡ runs_as_by cause count }
+{
+    match cause {
+        Cause::Runs(instances) => count == instances,
+        _ => false,
+    }
+}
+
+/// Of an expanded task, by the results of its instances.
+fn mapped_letter(is_expanded: bool, cause: Cause, results: &[TaskResult]) -> u8
+    ensures letter { (instances : List InstanceTerm) → results.now ≡ map (λ instance. instance.result) instances →
+        result ≡ letter_for is_expanded cause (TaskTerm.Mapped instances) }
+    ensures ascii { result < 128 }
+{
+    let first = first_letter(results);
+    if is_expanded && runs_as(cause, results.len()) {
+        upper(first)
+    } else {
+        expanded_digit(first)
+    }
+}
+
+/// The letter of a task that the report has so, and of which this would be decided for this cause.
+pub fn letter_by(is_expanded: bool, cause: Cause, settled: &Settled<'_>) -> u8
+    ensures letter { result ≡ letter_for is_expanded cause settled.now }
+    ensures ascii { result < 128 }
+{
+    match (settled.told(), settled.results()) {
+        (TaskReport::NoStatus, _) => no_status_letter(cause),
+        (TaskReport::Skipped, _) => skipped_letter(cause),
+        (TaskReport::UpstreamFailed, _) => upstream_failed_letter(cause),
+        (TaskReport::Ran(_), [ended, ..]) => ran_letter(is_expanded, cause, ended),
+        (TaskReport::Ran(_), []) => b'1',
+        (TaskReport::Mapped(_), results) => mapped_letter(is_expanded, cause, results),
+    }
+}
+
+/// The letter of a task in the run of this number, of which a report has `settled`, and of the run before `before`.
+pub fn letter_at(
+    plan: &Plan,
+    run: usize,
+    settled: &[Settled<'_>],
+    before: &[Settled<'_>],
+    task: u32,
+    told: &Settled<'_>,
+) -> u8
+    requires { task < length plan.now.dag.tasks }
+    ensures letter { (report : ReportTerm) → settled.now ≡ tasks_at report run → before.now ≡ tasks_before report run →
+        result ≡ letter_of plan.now.dag report run task told.now }
+    ensures ascii { result < 128 }
+{
+    let cause = cause_at(plan, run, settled, before, task);
+    letter_by(is_expanded(plan.dag(), task), cause, told)
+}

@@ -1,0 +1,147 @@
+//! What came of the tasks of a run.
+ghost use Rattle.std.specs.Prelude.{◌≡◌, ◌≤◌, All, IfOk, length};
+ghost use Rattle.bf_clear.specs.Entries.{value_in};
+ghost use Rattle.bf_core.specs.Deciding.{counts_of as counts_in, counts_of_results as counts_over, one_of};
+ghost use Rattle.bf_reason.specs.Settled.{IsFewTask, IsFewValue, results_of};
+ghost use Rattle.bf_rule.specs.Verdicts.{total};
+
+use bf_clear::value_of;
+use bf_report::TaskReport;
+use bf_rule::Counts;
+use bf_value::OutOfMemory;
+use bf_xcom::{Outcome, TaskResult, TaskValue};
+use std::alloc::Global;
+use std::marker::Model;
+
+/// What a report has of a task in a run, with the value of the task and its instances counted, so that neither is worked out again
+/// for each task that looks at it. Contracts see what the report has.
+#[derive(Drop)]
+pub struct Settled<'a> {
+    told: &'a TaskReport,
+    value: TaskValue,
+    counts: Counts,
+}
+
+impl<'a> Model for Settled<'a> {
+    ghost use Rattle.std.specs.Coded.{codes};
+    ghost use Rattle.bf_report.specs.contracts.report.TaskReport as t;
+    ghost use Rattle.bf_report.specs.declared.report.TaskReport.{TaskReport};
+    ghost use Rattle.bf_reason.specs.Settled.{IsCounted};
+
+    ghost Value = { TaskReport };
+
+    ghost coded = { Prim.hlevel (codes, t.the_row.coded) };
+
+    ghost view = { λ s. s.told.now };
+
+    ghost invariant = { λ s. IsCounted s.told.now s.value s.counts };
+}
+
+fn counts_of_outcome(outcome: &Outcome) -> Counts
+    ensures { result ≡ one_of outcome.now }
+{
+    let mut counts = Counts::NONE;
+    match outcome {
+        Outcome::Success(_) => counts.success = 1,
+        Outcome::Failed => counts.failed = 1,
+        Outcome::Skipped => counts.skipped = 1,
+    }
+    counts
+}
+
+fn counts_of_results(results: &[TaskResult]) -> Counts
+    requires { length results.now ≤ 1_024 }
+    ensures counts { result ≡ counts_over results.now }
+    ensures few { total result ≤ 1_024 }
+{
+    let mut counts = Counts::NONE;
+    for result in results {
+        counts = counts.plus(counts_of_outcome(&result.outcome));
+    }
+    counts
+}
+
+fn counts_of(value: &TaskValue) -> Counts
+    requires { IsFewValue value.now }
+    ensures counts { result ≡ counts_in value.now }
+    ensures few { total result ≤ 1_024 }
+{
+    match value {
+        TaskValue::Blocked => Counts {
+            blocked: 1,
+            ..Counts::NONE
+        },
+        TaskValue::Skipped => Counts {
+            skipped: 1,
+            ..Counts::NONE
+        },
+        TaskValue::UpstreamFailed => Counts {
+            upstream_failed: 1,
+            ..Counts::NONE
+        },
+        TaskValue::Ran(results) => counts_of_results(results.as_slice()),
+    }
+}
+
+impl<'a> Settled<'a> {
+    /// What a report has of a task in a run. No task has more than 1,024 instances.
+    pub fn new(alloc: Global, told: &'a TaskReport) -> Result<Settled<'a>, OutOfMemory>
+        requires { IsFewTask told.now }
+        ensures { IfOk result (λ settled. settled ≡ told.entry.now) }
+    {
+        let value = value_of(alloc, told)?;
+        let counts = counts_of(&value);
+        Ok(Settled {
+            told,
+            value,
+            counts,
+        })
+    }
+
+    /// What the report has.
+    pub fn told(&self) -> &TaskReport
+        ensures { result.now ≡ self.now }
+    {
+        self.told
+    }
+
+    /// The value of the task.
+    pub fn value(&self) -> &TaskValue
+        ensures { result.now ≡ value_in self.now }
+    {
+        &self.value
+    }
+
+    /// How many instances are in each state; a task without a try counts as one.
+    pub fn counts(&self) -> Counts
+        ensures counts { result ≡ counts_in (value_in self.now) }
+        ensures few { total result ≤ 1_024 }
+    {
+        self.counts
+    }
+
+    /// The results of its instances, by map index.
+    pub fn results(&self) -> &[TaskResult]
+        ensures { result.now ≡ results_of (value_in self.now) }
+    {
+        match &self.value {
+            TaskValue::Ran(results) => results.as_slice(),
+            TaskValue::Blocked | TaskValue::Skipped | TaskValue::UpstreamFailed => &[],
+        }
+    }
+}
+
+/// The tasks of a run, in file order.
+pub fn settled_tasks<'a>(
+    alloc: Global,
+    tasks: &'a [TaskReport],
+) -> Result<Vec<Settled<'a>>, OutOfMemory>
+    requires { All IsFewTask tasks.now }
+    ensures { IfOk result (λ settled. settled.items ≡ tasks.entry.now) }
+{
+    let mut settled = Vec::with_capacity(alloc, tasks.len())?;
+    for told in tasks {
+        settled.push(Settled::new(alloc, told)?)?;
+    }
+    Ok(settled)
+}

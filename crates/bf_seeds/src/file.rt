@@ -1,0 +1,32 @@
+//! Seeds files, as bytes.
+ghost use Rattle.std.specs.Prelude.{IfOk, IfErr};
+ghost use Rattle.bf_seeds.specs.Seeds.{AreSeedsOfFile, IsFaultOfFile};
+
+use crate::fault::SeedsFault;
+use crate::reading::seeds_in;
+use bf_dependents::Seed;
+use bf_interval::Interval;
+use bf_plan::Plan;
+use std::alloc::Global;
+
+/// How many bytes a seeds file may have.
+pub const LONGEST_FILE: usize = 8_388_608;
+
+/// The seeds of a file of these bytes. Refused is a file that is too long or isn't UTF-8, and else what `seeds_in` refuses.
+pub fn read_seeds(
+    alloc: Global,
+    plan: &Plan,
+    intervals: &[Interval],
+    bytes: &[u8],
+) -> Result<Vec<Seed>, SeedsFault>
+    ensures ok { IfOk result (λ seeds. AreSeedsOfFile plan.now.dag intervals.now bytes.now seeds.items) }
+    ensures err { IfErr result (IsFaultOfFile plan.now.dag intervals.now bytes.now) }
+{
+    if bytes.len() > LONGEST_FILE {
+        return Err(SeedsFault::BadFile);
+    }
+    match std::str::from_utf8(bytes) {
+        Ok(text) => seeds_in(alloc, plan, intervals, text),
+        Err(_) => Err(SeedsFault::BadFile),
+    }
+}

@@ -1,0 +1,215 @@
+//! The lines of a report, each added behind a text.
+ghost use Rattle.std.specs.Prelude.{◌≡◌, ◌++◌, ℕ, List, IfOk, OnOk, string_bytes, negsuc};
+ghost use Rattle.std.specs.List.{flat_map, zip};
+ghost use Rattle.json.specs.Print.{quoted};
+ghost use Rattle.serde_json.specs.Data.{unsigned, negative};
+ghost use Rattle.bf_moment.specs.Moment.{moment_text};
+ghost use Rattle.bf_report.specs.Report.{run_state_word as run_state};
+ghost use Rattle.bf_show.specs.JsonLines.{instance_members, untried_members, line, mapped_lines, task_lines, tasks_lines, run_lines, json_lines};
+ghost use Rattle.bf_show.specs.Pieces.{key_text, run_start};
+
+use crate::key::{Key, push_key};
+use crate::members::{push_ended, push_string};
+use bf_moment::Moment;
+use bf_report::{InstanceReport, Report, RunReport, TaskReport};
+use bf_value::{OutOfMemory, Text};
+use bf_xcom::RunState;
+use std::alloc::Global;
+
+/// Adds a moment as a string of JSON.
+fn push_moment(alloc: Global, text: &mut String, moment: Moment) -> Result<(), OutOfMemory>
+    ensures { OnOk result (string_bytes text.new
+        ≡ string_bytes text.old ++ quoted (moment_text moment.at.nanosecond)) }
+{
+    let word = format!(in alloc; "{moment}")?;
+    push_string(alloc, text, word.as_str())
+}
+
+/// The word for the state of a run, as a string of JSON.
+fn run_state_string(state: RunState) -> &'static str
+    ensures { result.now ≡ quoted (run_state state) }
+{
+    match state {
+        RunState::Success => "\"success\"",
+        RunState::Failed => "\"failed\"",
+    }
+}
+
+/// What each line of a run begins with.
+fn start_of(alloc: Global, run: &RunReport) -> Result<String, OutOfMemory>
+    ensures { IfOk result (λ text. string_bytes text ≡ run_start run.now) }
+{
+    let mut text = String::from_str(alloc, "{\"run\":")?;
+    push_moment(alloc, &mut text, Moment::new(run.interval.start))?;
+    push_key(&mut text, Key::End)?;
+    push_moment(alloc, &mut text, Moment::new(run.interval.end))?;
+    push_key(&mut text, Key::RunState)?;
+    text.push_str(run_state_string(run.state))?;
+    Ok(text)
+}
+
+/// A run, and what each of its lines begins with.
+#[derive(Drop)]
+struct RunLines<'a> {
+    run: &'a RunReport,
+    start: String,
+    ghost begins: { string_bytes start ≡ run_start run.now },
+}
+
+impl RunLines<'_> {
+    /// Adds the beginning of a task's line.
+    fn push_start(&self, alloc: Global, text: &mut String, id: &str) -> Result<(), OutOfMemory>
+        ensures { OnOk result (string_bytes text.new
+            ≡ string_bytes text.old ++ (run_start self.now.run.now ++ (key_text Key.Task ++ quoted id.now))) }
+    {
+        text.push_str(self.start.as_str())?;
+        push_key(text, Key::Task)?;
+        push_string(alloc, text, id)
+    }
+
+    /// Adds a task that was decided without a try. The state is a string of JSON.
+    fn push_untried(
+        &self,
+        alloc: Global,
+        text: &mut String,
+        id: &str,
+        state: &str,
+    ) -> Result<(), OutOfMemory>
+        ensures { OnOk result ((word : List ℕ) → state.now ≡ quoted word → string_bytes text.new
+            ≡ string_bytes text.old ++ line (untried_members self.now.run.now id.now word)) }
+    {
+        self.push_start(alloc, text, id)?;
+        push_key(text, Key::State)?;
+        text.push_str(state)?;
+        text.push_str("}\n")?;
+        Ok(())
+    }
+
+    /// Adds the instance of a task that isn't expanded.
+    fn push_unmapped(
+        &self,
+        alloc: Global,
+        text: &mut String,
+        id: &str,
+        instance: &InstanceReport,
+    ) -> Result<(), OutOfMemory>
+        ensures { OnOk result (string_bytes text.new ≡ string_bytes text.old
+            ++ line (instance_members self.now.run.now id.now (negative (negsuc 0)) instance.now)) }
+    {
+        self.push_start(alloc, text, id)?;
+        push_key(text, Key::Index)?;
+        text.push_str("-1")?;
+        push_ended(alloc, text, instance)
+    }
+
+    /// Adds an instance of an expanded task.
+    fn push_instance(
+        &self,
+        alloc: Global,
+        text: &mut String,
+        id: &str,
+        index: usize,
+        instance: &InstanceReport,
+    ) -> Result<(), OutOfMemory>
+        ensures { OnOk result (string_bytes text.new ≡ string_bytes text.old
+            ++ line (instance_members self.now.run.now id.now (unsigned index) instance.now)) }
+    {
+        self.push_start(alloc, text, id)?;
+        push_key(text, Key::Index)?;
+        write!(text, "{index}")?;
+        push_ended(alloc, text, instance)
+    }
+
+    fn push_mapped(
+        &self,
+        alloc: Global,
+        text: &mut String,
+        id: &str,
+        instances: &[InstanceReport],
+    ) -> Result<(), OutOfMemory>
+        ensures { OnOk result (string_bytes text.new ≡ string_bytes text.old
+            ++ mapped_lines self.now.run.now id.now instances.now) }
+    {
+        for (index, instance) in instances.iter().enumerate() {
+            self.push_instance(alloc, text, id, index, instance)?;
+        }
+        Ok(())
+    }
+
+    fn push_task(
+        &self,
+        alloc: Global,
+        text: &mut String,
+        id: &str,
+        task: &TaskReport,
+    ) -> Result<(), OutOfMemory>
+        ensures { OnOk result (string_bytes text.new
+            ≡ string_bytes text.old ++ task_lines self.now.run.now id.now task.now) }
+    {
+        match task {
+            TaskReport::NoStatus => self.push_untried(alloc, text, id, "\"no_status\""),
+            TaskReport::Skipped => self.push_untried(alloc, text, id, "\"skipped\""),
+            TaskReport::UpstreamFailed => {
+                self.push_untried(alloc, text, id, "\"upstream_failed\"")
+            }
+            TaskReport::Ran(instance) => self.push_unmapped(alloc, text, id, instance),
+            TaskReport::Mapped(instances) => {
+                self.push_mapped(alloc, text, id, instances.as_slice())
+            }
+        }
+    }
+
+    fn push_tasks(
+        &self,
+        alloc: Global,
+        text: &mut String,
+        ids: &[Text],
+        tasks: &[TaskReport],
+    ) -> Result<(), OutOfMemory>
+        ensures { OnOk result (string_bytes text.new
+            ≡ string_bytes text.old ++ tasks_lines self.now.run.now ids.now tasks.now) }
+    {
+        for (id, task) in ids.iter().zip(tasks) {
+            self.push_task(alloc, text, id.as_str(), task)?;
+        }
+        Ok(())
+    }
+}
+
+fn push_run(
+    alloc: Global,
+    text: &mut String,
+    ids: &[Text],
+    run: &RunReport,
+) -> Result<(), OutOfMemory>
+    ensures { OnOk result (string_bytes text.new ≡ string_bytes text.old ++ run_lines ids.now run.now) }
+{
+    let start = start_of(alloc, run)?;
+    let lines = RunLines { run, start };
+    lines.push_tasks(alloc, text, ids, run.tasks.as_slice())
+}
+
+fn push_runs(
+    alloc: Global,
+    text: &mut String,
+    ids: &[Text],
+    runs: &[RunReport],
+) -> Result<(), OutOfMemory>
+    ensures { OnOk result (string_bytes text.new
+        ≡ string_bytes text.old ++ flat_map (run_lines ids.now) runs.now) }
+{
+    for run in runs {
+        push_run(alloc, text, ids, run)?;
+    }
+    Ok(())
+}
+
+/// The lines of a report.
+pub(crate) fn text_of_lines(alloc: Global, report: &Report) -> Result<String, OutOfMemory>
+    ensures { IfOk result (λ text. string_bytes text ≡ json_lines report.now) }
+{
+    let mut text = String::new(alloc);
+    let (ids, runs) = (report.tasks.as_slice(), report.runs.as_slice());
+    push_runs(alloc, &mut text, ids, runs)?;
+    Ok(text)
+}

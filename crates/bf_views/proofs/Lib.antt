@@ -1,0 +1,3 @@
+mod MatchingFacts
+mod Alike
+mod PageEnds

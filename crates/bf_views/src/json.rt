@@ -1,0 +1,33 @@
+//! The command `show --json`: a report as lines of JSON.
+ghost use Rattle.std.specs.Prelude.{IfOk, IfErr, string_bytes};
+ghost use Rattle.bf_command_fault.specs.Refusal.{Leaves, Sends};
+ghost use Rattle.bf_command_fault.specs.declared.status.Status.{Status as StatusTerm};
+ghost use Rattle.bf_device.specs.Device.{HasHalted};
+ghost use Rattle.bf_views.specs.Json.{IsJsonAnswer, IsJsonFault};
+
+use bf_command_fault::{CommandFault, Status};
+use bf_device::Write;
+use bf_disk::Source;
+use bf_input::report_in;
+use bf_show::write_json_lines;
+use std::alloc::Global;
+
+/// Reads a report, and writes a line for each task instance that it tells of. No graph is asked for.
+pub fn json_answered<S: Source, W: Write>(
+    alloc: Global,
+    path: String,
+    files: &mut S,
+    out: &mut W,
+) -> Result<Status, CommandFault>
+    ensures answer { IfOk result (λ status. Sends (λ text. IsJsonAnswer (S.file files.old) (string_bytes path) text status)
+        (W.written out.old) (W.written out.new)) }
+    ensures fault { IfErr result (IsJsonFault (S.file files.old) (string_bytes path)) }
+    ensures left { IfErr result (Leaves (HasHalted (W.failures out.old) (W.failures out.new)
+        (W.interruptions out.old) (W.interruptions out.new))
+        (λ text. (status : StatusTerm) × IsJsonAnswer (S.file files.old) (string_bytes path) text status)
+        (W.written out.old) (W.written out.new)) }
+{
+    let report = report_in(alloc, path, files)?;
+    write_json_lines(alloc, &report, out)?;
+    Ok(Status::Success)
+}

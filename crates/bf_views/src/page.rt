@@ -1,0 +1,148 @@
+//! The command `page`: a page that shows a report.
+ghost use Rattle.std.specs.Prelude.{◌≡◌, ◌||◌, ◌<◌, [], IfOk, IfErr, OnOk, option_map, string_bytes, true, unwrap_or};
+ghost use Rattle.bf_command_fault.specs.Refusal.{Leaves, Sends};
+ghost use Rattle.bf_command_fault.specs.declared.status.Status.{Status as StatusTerm};
+ghost use Rattle.bf_device.specs.Device.{HasHalted};
+ghost use Rattle.bf_report_reader.specs.Rules.{IsShownReport};
+ghost use Rattle.bf_views.specs.Matching.{is_of_graph};
+ghost use Rattle.bf_views.specs.PageFaults.{IsPageFault};
+ghost use Rattle.bf_views.specs.Pages.{IsPage, IsPageAnswer, report_shown, words_asked};
+ghost use Rattle.bf_views.specs.Writing.{IsWritingFault};
+
+use crate::matching::refuse_other;
+use crate::planned::plan_asked;
+use crate::report::report_bytes;
+use bf_cells::cells_of;
+use bf_command_fault::{CommandFault, Status};
+use bf_command_line::PageAsked;
+use bf_device::Write;
+use bf_disk::Source;
+use bf_input::report_in;
+use bf_page::{PageTexts, can_be_counted, write_page};
+use bf_plan::Plan;
+use bf_report::Report;
+use bf_value::{OutOfMemory, Text};
+use std::alloc::Global;
+use std::marker::Model;
+
+/// How many bytes of a report stand on a page; a longer one is left out.
+const LONGEST_REPORT: usize = 134_217_728;
+
+/// What a line asks for, kept while its files are read: the paths as they stand there, of which the zone file's is empty where
+/// there is none, and whether only the states are shown.
+#[derive(Drop)]
+struct Words {
+    graph: Text,
+    report: Text,
+    zone_file: Text,
+    states_only: bool,
+}
+
+impl Model for Words {
+    ghost use Rattle.std.specs.Coded.{codes};
+    ghost use Rattle.bf_views.specs.Pages.{PageWords};
+
+    ghost Value = { PageWords };
+
+    ghost coded = { Prim.hlevel codes };
+
+    ghost view = { λ w. record {
+      graph_path = w.graph;
+      report_path = w.report;
+      zone_path = w.zone_file;
+      states_only = w.states_only;
+    } };
+}
+
+fn text_if_named(alloc: Global, path: &Option<String>) -> Result<Text, OutOfMemory>
+    ensures { IfOk result (λ text. text ≡ unwrap_or (option_map string_bytes path.now) []) }
+{
+    match path {
+        Some(path) => Text::copied(alloc, path.as_str()),
+        None => Ok(Text::new(String::new(alloc))),
+    }
+}
+
+impl Words {
+    fn of(alloc: Global, asked: &PageAsked) -> Result<Words, OutOfMemory>
+        ensures { IfOk result (λ words. words ≡ words_asked asked.now) }
+    {
+        Ok(Words {
+            graph: Text::copied(alloc, asked.graph.graph.as_str())?,
+            report: Text::copied(alloc, asked.report.as_str())?,
+            zone_file: text_if_named(alloc, &asked.graph.zone_file)?,
+            states_only: asked.states_only,
+        })
+    }
+
+    /// The bytes of a report as they stand on the page.
+    fn shown<'a>(&self, report: &'a [u8]) -> &'a [u8]
+        ensures { result.now ≡ report_shown self.now.states_only report.entry.now }
+    {
+        if self.states_only || report.len() > LONGEST_REPORT {
+            &[]
+        } else {
+            report
+        }
+    }
+}
+
+/// Writes the page of a plan's graph file and of a report of it.
+fn write_shown<W: Write>(
+    alloc: Global,
+    words: &Words,
+    plan: &Plan,
+    graph: &[u8],
+    report: &Report,
+    out: &mut W,
+) -> Result<(), CommandFault>
+    requires rules { IsShownReport report.now }
+    requires matches { is_of_graph plan.now.dag report.now ≡ true }
+    ensures page { OnOk result (Sends (IsPage words.now graph.now plan.now.dag report.now)
+        (W.written out.old) (W.written out.new)) }
+    ensures fault { IfErr result IsWritingFault }
+    ensures left { IfErr result (Leaves (HasHalted (W.failures out.old) (W.failures out.new)
+        (W.interruptions out.old) (W.interruptions out.new))
+        (IsPage words.now graph.now plan.now.dag report.now)
+        (W.written out.old) (W.written out.new)) }
+{
+    let bytes = report_bytes(alloc, report)?;
+    let cells = cells_of(alloc, plan, report, bytes.len() as u64)?;
+    let texts = PageTexts {
+        graph_path: words.graph.as_str(),
+        report_path: words.report.as_str(),
+        zone_path: words.zone_file.as_str(),
+        cells: cells.as_str(),
+        graph,
+        report: words.shown(&bytes),
+    };
+    if !can_be_counted(&texts) {
+        return Err(CommandFault::OutOfMemory);
+    }
+    write_page(&texts, out)?;
+    Ok(())
+}
+
+/// Reads the graph file, the zone file where one is named, and checks the graph; then reads the report, and writes the page. The
+/// report may be one of `single`, and of any range.
+pub fn page_answered<S: Source, W: Write>(
+    alloc: Global,
+    asked: PageAsked,
+    files: &mut S,
+    out: &mut W,
+) -> Result<Status, CommandFault>
+    ensures answer { IfOk result (λ status. Sends (λ text. IsPageAnswer (S.file files.old) asked text status)
+        (W.written out.old) (W.written out.new)) }
+    ensures fault { IfErr result (IsPageFault (S.file files.old) asked) }
+    ensures left { IfErr result (Leaves (HasHalted (W.failures out.old) (W.failures out.new)
+        (W.interruptions out.old) (W.interruptions out.new))
+        (λ text. (status : StatusTerm) × IsPageAnswer (S.file files.old) asked text status)
+        (W.written out.old) (W.written out.new)) }
+{
+    let words = Words::of(alloc, &asked)?;
+    let planned = plan_asked(alloc, asked.graph, files)?;
+    let report = report_in(alloc, asked.report, files)?;
+    refuse_other(alloc, planned.plan.dag(), &report)?;
+    write_shown(alloc, &words, &planned.plan, &planned.graph, &report, out)?;
+    Ok(Status::Success)
+}
