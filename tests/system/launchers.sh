@@ -1,0 +1,109 @@
+#!/usr/bin/env bash
+# Runs the program with the launchers of examples/launchers, and compares what they keep, end, kill and remember with what stands here.
+# The last line is the sum, and the status is 1 where a row differs.
+set -euo pipefail
+
+source "$(dirname "$(readlink -f "${BASH_SOURCE[0]}")")/../shared/compare.sh"
+launchers=$root/examples/launchers
+
+# Requires that a file has just the lines on standard input.
+has() {
+    rows=$((rows + 1))
+    diff - "$1" || differs "other lines stand in ${1##*/}"
+}
+
+row() {
+    local words=$1
+    shift
+    rows=$((rows + 1))
+    "$@" || differs "$words"
+}
+
+# Each has at most ten lines.
+
+for launcher in "$launchers"/*; do
+    row "${launcher##*/} has more than ten lines" test "$(wc -l < "$launcher")" -le 10
+done
+
+# What each try writes to standard error is kept by itself, and the report is as without.
+
+tasks '{"id":"src","command":["sh","-c","echo \"[1,2]\"; echo looked >&2"]},
+  {"id":"m","upstream":["src"],"expand":"src","retries":1,"command":["sh","-c","echo try $1 of $0 >&2; test $1 = 2",{"item":true},{"context":"try_number"}]}'
+for workers in 1 8; do
+    BACKFILL_LOGS=$work/logs$workers answers 0 run "$graph" "${day[@]}" --workers "$workers" --launcher "$launchers/keep-logs" < <(one_day success <<'LINES'
+src -1 success 1 [1,2]
+m 0 success 2 -
+@item 1
+m 1 success 2 -
+@item 2
+LINES
+    )
+    (cd "$work/logs$workers" && grep -r . d | LC_ALL=C sort) > "$work/kept"
+    has "$work/kept" <<'LINES'
+d/2024-01-01T00:00:00Z/m/index=0,try=1.err:try 1 of 1
+d/2024-01-01T00:00:00Z/m/index=0,try=2.err:try 2 of 1
+d/2024-01-01T00:00:00Z/m/index=1,try=1.err:try 1 of 2
+d/2024-01-01T00:00:00Z/m/index=1,try=2.err:try 2 of 2
+d/2024-01-01T00:00:00Z/src/index=-1,try=1.err:looked
+LINES
+done
+
+# A program that hangs is ended, and its try failed; another goes on.
+
+tasks '{"id":"hangs","command":["sleep","60"]},{"id":"ends","command":["echo","1"]}'
+SECONDS=0
+BACKFILL_SECONDS=1 answers 1 run "$graph" "${day[@]}" --workers 2 --launcher "$launchers/end-what-hangs" < <(one_day failed <<'LINES'
+hangs -1 failed 1 -
+ends -1 success 1 1
+LINES
+)
+row 'a program that hangs was not ended' test "$SECONDS" -lt 30
+
+# A program is killed where the runner is.
+
+mkfifo "$work/began"
+tasks "{\"id\":\"a\",\"command\":[\"sh\",\"-c\",\"echo \$\$ > $work/began; exec sleep 60\"]}"
+timeout 60 "$program" run "$graph" "${day[@]}" --launcher "$launchers/die-with-the-runner" > /dev/null 2>&1 &
+runner=$!
+read -r try < "$work/began"
+row 'its program does not run' kill -0 "$try"
+pkill -KILL -P "$runner"
+wait "$runner" 2> /dev/null || true
+# It has ended where there is no such process, or where nobody has asked yet how it ended.
+has_ended() {
+    ! grep -qs '^State:[[:space:]]*[^Z]' "/proc/$1/status"
+}
+for _ in {1..100}; do
+    ! has_ended "$try" || break
+    sleep 0.1
+done
+row 'its program runs on' has_ended "$try"
+
+# What succeeded is remembered by task, date, index and words: of two days one is made again, since its try failed, and a task that is
+# given something else.
+
+tasks "{\"id\":\"src\",\"command\":[\"sh\",\"-c\",\"echo src \$0 >> $work/starts; cat $work/items\",{\"context\":\"data_interval_start\"}]},
+  {\"id\":\"m\",\"upstream\":[\"src\"],\"expand\":\"src\",\"command\":[\"sh\",\"-c\",\"echo \$0 \$1 >> $work/starts; test -e $work/mended || test \$0\$1 != 22024-01-02T00:00:00Z\",{\"item\":true},{\"context\":\"data_interval_start\"}]}"
+export BACKFILL_DONE=$work/done
+remembered() {
+    : > "$work/starts"
+    timeout 60 "$program" run "$graph" --from 2024-01-01 --to 2024-01-02 --workers 2 --launcher "$launchers/remember" > "$work/out" || true
+    LC_ALL=C sort "$work/starts" > "$work/sorted"
+    has "$work/sorted"
+}
+echo '[1,2]' > "$work/items"
+remembered <<'LINES'
+1 2024-01-01T00:00:00Z
+1 2024-01-02T00:00:00Z
+2 2024-01-01T00:00:00Z
+2 2024-01-02T00:00:00Z
+src 2024-01-01T00:00:00Z
+src 2024-01-02T00:00:00Z
+LINES
+row 'a run did not fail' grep -q 'Z failed$' "$work/out"
+touch "$work/mended"
+remembered <<< '2 2024-01-02T00:00:00Z'
+row 'a run failed' test "$(grep -c 'Z success$' "$work/out")" = 2
+remembered < /dev/null
+
+sum
