@@ -77,13 +77,11 @@ with open(JOURNAL) as file:
 members = json.loads(head)
 write("whole", json.dumps(members[:-1], separators=(",", ":")) + "\n" + records)
 on = ["run", graph, *RANGE, "--journal", f"{work}/whole"]
-dry, dry_8, gone_on, gone_on_8 = in_turn(5, (["dry", graph, table, *RANGE], False), (["dry", graph, table, *RANGE, "--workers", "8"], False),
-                                         (on, False), ([*on, "--workers", "8"], False))
+dry, gone_on, gone_on_8 = in_turn(5, (["dry", graph, table, *RANGE], False), (on, False), ([*on, "--workers", "8"], False))
 told("dry of the same", dry)
 told(f"going on from {count} records", gone_on)
-told("dry of the same by 8 workers", dry_8)
 told("going on by 8 workers", gone_on_8)
-print(f"going on takes {gone_on[0] / dry[0]:.2f} times dry, by 8 workers {gone_on_8[0] / dry_8[0]:.2f} times")
+print(f"going on takes {gone_on[0] / dry[0]:.2f} times dry, by 8 workers {gone_on_8[0] / dry[0]:.2f} times")
 
 # Programs that do nothing.
 trues = {"dag_id": "d", "schedule": "@daily", "tasks": [{"id": f"t{number}", "command": ["true"]} for number in range(TASKS)]}
