@@ -1,0 +1,7 @@
+use Rattle.std.proofs.Common.{◌≡◌, map}
+use Rattle.bf_marks.specs.CellMarks.{column_mark}
+use Rattle.bf_grid.specs.GridRows.{by_column}
+use Rattle.bf_grid.proofs.row.Columns.marks.Given as goal
+
+abbrev pub invariant-loop-place : goal.invariant-loop-place
+invariant-loop-place l = l.marks.items ≡ by_column l.place l.self.each (column_mark l.task) (map (λ run. run.now) l.self.runs.now)

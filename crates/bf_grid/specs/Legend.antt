@@ -1,0 +1,38 @@
+-- What the marks of a grid mean.
+use Rattle.std.specs.Prelude.{ℕ, ◌==◌, if◌then◌else◌, Bool, List, [], ◌∷◌, ◌++◌, length, filter, codes}
+use Rattle.std.specs.List.{list_any}
+use Rattle.bf_report.specs.declared.report.RunReport.{RunReport}
+use Rattle.bf_marks.specs.declared.mark.Mark.{Mark}
+use Rattle.bf_marks.specs.declared.mark.Mark.TheVariants.{Success, Retried, Failed, UpstreamFailed, Skipped, NoStatus}
+use Rattle.bf_marks.specs.CellMarks.{color_code, mark_letter, mark_of, painted, weight}
+use Rattle.bf_grid.specs.GridRows.{line}
+use Rattle.bf_marks.specs.Tallies.{tally_at}
+
+abbrev pub meaning : Mark → List ℕ
+meaning Success = codes "success"
+meaning Retried = codes "retried"
+meaning Failed = codes "failed"
+meaning UpstreamFailed = codes "upstream_failed"
+meaning Skipped = codes "skipped"
+meaning NoStatus = codes "no_status"
+
+abbrev pub all_marks : List Mark
+all_marks = Success ∷ Retried ∷ Failed ∷ UpstreamFailed ∷ Skipped ∷ NoStatus ∷ []
+
+-- a task in a run has this mark
+abbrev pub has_mark : List RunReport → Mark → ℕ → Bool
+has_mark runs mark task = list_any (λ run. weight (mark_of (tally_at task run)) == weight mark) runs
+
+abbrev pub is_seen : List RunReport → List ℕ → Mark → Bool
+is_seen runs tasks mark = list_any (has_mark runs mark) tasks
+
+abbrev pub explained : Bool → Mark → List ℕ
+explained colored mark = painted colored (color_code mark) (mark_letter mark) ++ 32 ∷ meaning mark
+
+-- with two spaces between
+abbrev pub legend : Bool → List Mark → List ℕ
+legend colored [] = []
+legend colored (mark ∷ marks) = explained colored mark ++ ((if length marks == 0 then [] else codes "  ") ++ legend colored marks)
+
+abbrev pub legend_line : Bool → List RunReport → List ℕ → List ℕ
+legend_line colored runs tasks = line (legend colored (filter (is_seen runs tasks) all_marks))

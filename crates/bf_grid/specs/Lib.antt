@@ -1,0 +1,8 @@
+pub mod Selection
+pub mod GridRows
+pub mod Summary
+pub mod Legend
+pub mod FailedTasks
+pub mod FoundTasks
+pub mod Grid
+pub mod GridTables

@@ -1,0 +1,179 @@
+//! The tasks that failed themselves.
+ghost use Rattle.std.specs.Prelude.{◌≡◌, ◌≤◌, ◌++◌, length, map, codes, IfOk, OnOk};
+ghost use Rattle.std.specs.List.{flat_map};
+ghost use Rattle.bf_grid.specs.FailedTasks.{failed_starts as starts_of, failing as failing_of, failing_line, failing_text, further_line, id_width as width_of_ids, placed};
+ghost use Rattle.bf_wording.specs.Numbers.{plural};
+ghost use Rattle.bf_grid.specs.FoundTasks.{first_fewer, pair_of};
+
+use crate::selection::id_of;
+use bf_marks::{push, push_left, push_listed, push_number, push_plural, push_right, tally_at};
+use bf_moment::Moment;
+use bf_plan::Dag;
+use bf_report::RunReport;
+use bf_value::OutOfMemory;
+use std::alloc::Global;
+
+/// How many tasks are told.
+const MOST_TOLD: usize = 20;
+
+/// A task, and where the runs start in which an instance of it failed.
+#[derive(Drop)]
+pub(crate) struct Failing {
+    task: u32,
+    starts: Vec<Moment>,
+}
+
+fn failed_starts(alloc: Global, runs: &[&RunReport], task: u32) -> Result<Vec<Moment>, OutOfMemory>
+    ensures { IfOk result (λ starts. map (λ start. start.at.nanosecond) starts.items
+        ≡ starts_of (map (λ run. run.now) runs.now) task) }
+{
+    let mut starts = Vec::new(alloc);
+    for run in runs {
+        if tally_at(alloc, run, task)?.failed > 0 {
+            starts.push(Moment::new(run.interval.start))?;
+        }
+    }
+    Ok(starts)
+}
+
+/// Where the first stands with fewer runs.
+fn place_of(found: &[Failing], count: usize) -> usize
+    ensures place { result ≡ first_fewer count found.now }
+    ensures within { result ≤ length found.now }
+{
+    for (place, other) in found.iter().enumerate() {
+        if other.starts.len() < count {
+            return place;
+        }
+    }
+    found.len()
+}
+
+/// Puts a task behind those that failed in as many runs or more.
+fn put(found: &mut Vec<Failing>, failing: Failing) -> Result<(), OutOfMemory>
+    ensures { OnOk result (map pair_of found.new.items
+        ≡ placed (pair_of failing) (map pair_of found.old.items)) }
+{
+    let place = place_of(found.as_slice(), failing.starts.len());
+    found.insert(place, failing)?;
+    Ok(())
+}
+
+/// The tasks in which something failed, those with the most such runs first.
+fn failing_among(
+    alloc: Global,
+    runs: &[&RunReport],
+    tasks: &[u32],
+) -> Result<Vec<Failing>, OutOfMemory>
+    ensures { IfOk result (λ found. map pair_of found.items
+        ≡ failing_of (map (λ run. run.now) runs.now) tasks.now) }
+{
+    let mut found = Vec::new(alloc);
+    for task in tasks {
+        let starts = failed_starts(alloc, runs, *task)?;
+        if !starts.is_empty() {
+            put(
+                &mut found,
+                Failing {
+                    task: *task,
+                    starts,
+                },
+            )?;
+        }
+    }
+    Ok(found)
+}
+
+fn id_width(dag: &Dag, found: &[Failing]) -> usize
+    ensures { result ≡ width_of_ids dag.now (map pair_of found.now) }
+{
+    let mut longest = 0;
+    for failing in found {
+        longest = longest.max(id_of(dag, failing.task).len());
+    }
+    longest
+}
+
+/// The length of `1 run` or `2 runs`, with this number.
+fn runs_width(alloc: Global, count: usize) -> Result<usize, OutOfMemory>
+    ensures { IfOk result (λ width. width ≡ length (plural count (codes "run"))) }
+{
+    let mut text = Vec::new(alloc);
+    push_plural(alloc, &mut text, count as u64, "run")?;
+    Ok(text.len())
+}
+
+impl Failing {
+    fn push_line(
+        &self,
+        alloc: Global,
+        text: &mut Vec<u8>,
+        dag: &Dag,
+        longest: usize,
+        widest: usize,
+    ) -> Result<(), OutOfMemory>
+        ensures { OnOk result (text.new.items ≡ text.old.items
+            ++ failing_line dag.now longest widest (pair_of self.now)) }
+    {
+        let mut count = Vec::new(alloc);
+        push_plural(alloc, &mut count, self.starts.len() as u64, "run")?;
+        push(text, b"  ")?;
+        push_left(text, longest, id_of(dag, self.task).as_bytes())?;
+        push(text, b"  ")?;
+        push_right(text, widest, count.as_slice())?;
+        push(text, b"  ")?;
+        push_listed(alloc, text, self.starts.as_slice())?;
+        push(text, b"\n")
+    }
+}
+
+fn push_lines(
+    alloc: Global,
+    text: &mut Vec<u8>,
+    dag: &Dag,
+    widest: usize,
+    found: &[Failing],
+) -> Result<(), OutOfMemory>
+    ensures { OnOk result (text.new.items ≡ text.old.items ++ flat_map
+        (failing_line dag.now (width_of_ids dag.now (map pair_of found.now)) widest) (map pair_of found.now)) }
+{
+    let longest = id_width(dag, found);
+    for failing in found {
+        failing.push_line(alloc, text, dag, longest, widest)?;
+    }
+    Ok(())
+}
+
+/// Adds how many more there are than are told.
+fn push_further(alloc: Global, text: &mut Vec<u8>, count: usize) -> Result<(), OutOfMemory>
+    ensures { OnOk result (text.new.items ≡ text.old.items ++ further_line count) }
+{
+    if count <= MOST_TOLD {
+        return Ok(());
+    }
+    push(text, b"  and ")?;
+    push_number(alloc, text, (count - MOST_TOLD) as u64)?;
+    push(text, b" more\n")
+}
+
+/// Adds the tasks that failed themselves, where there are.
+pub(crate) fn push_failing(
+    alloc: Global,
+    text: &mut Vec<u8>,
+    dag: &Dag,
+    runs: &[&RunReport],
+    tasks: &[u32],
+) -> Result<(), OutOfMemory>
+    ensures { OnOk result (text.new.items ≡ text.old.items
+        ++ failing_text dag.now (failing_of (map (λ run. run.now) runs.now) tasks.now)) }
+{
+    let found = failing_among(alloc, runs, tasks)?;
+    let Some(first) = found.first() else {
+        return Ok(());
+    };
+    let widest = runs_width(alloc, first.starts.len())?;
+    push(text, b"\ntasks that failed themselves\n")?;
+    let told = found.len().min(MOST_TOLD);
+    push_lines(alloc, text, dag, widest, &found[..told])?;
+    push_further(alloc, text, found.len())
+}

@@ -1,0 +1,126 @@
+//! The table of a grid: labels, rows and legend.
+ghost use Rattle.std.specs.Prelude.{◌≡◌, ◌<◌, ◌*◌, ◌++◌, map, slice_get, IfOk, OnOk};
+ghost use Rattle.std.specs.List.{flat_map};
+ghost use Rattle.bf_marks.specs.Labels.{scale_of};
+ghost use Rattle.bf_grid.specs.Grid.{column_starts, label_lines, margin, start_or};
+ghost use Rattle.bf_grid.specs.GridTables.{row_in, text_in};
+
+use crate::legend::push_legend;
+use crate::row::{Columns, Layout, push_line};
+use crate::selection::id_of;
+use bf_marks::{Scale, push, push_digits, push_groups, push_spaces, states_in, tally_in};
+use bf_moment::Moment;
+use bf_plan::Dag;
+use bf_value::OutOfMemory;
+use jiff::Timestamp;
+use std::alloc::Global;
+
+impl Columns<'_> {
+    /// Where a column starts.
+    fn start(self, place: usize) -> Moment
+        requires { place < self.count }
+        ensures { result.at.nanosecond ≡ start_or
+            (slice_get (map (λ run. run.now) self.entry.runs.now) (place * self.entry.each)) }
+    {
+        match self.runs.get(place * self.each) {
+            Some(run) => Moment::new(run.interval.start),
+            None => Moment::new(Timestamp::UNIX_EPOCH),
+        }
+    }
+
+    /// Where each column starts.
+    fn starts(self, alloc: Global) -> Result<Vec<Moment>, OutOfMemory>
+        ensures { IfOk result (λ starts. map (λ start. start.at.nanosecond) starts.items
+            ≡ column_starts self.entry.count self.entry.each (map (λ run. run.now) self.entry.runs.now)) }
+    {
+        let mut starts = Vec::with_capacity(alloc, self.count)?;
+        for place in 0..self.count {
+            starts.push(self.start(place))?;
+        }
+        Ok(starts)
+    }
+}
+
+impl Layout {
+    /// A line that begins where the columns do.
+    fn margin(self, alloc: Global) -> Result<Vec<u8>, OutOfMemory>
+        ensures { IfOk result (λ line. line.items ≡ margin self.names) }
+    {
+        let mut line = Vec::new(alloc);
+        push_spaces(&mut line, self.names + 2)?;
+        Ok(line)
+    }
+
+    /// Adds the lines above the rows.
+    fn push_labels(
+        self,
+        alloc: Global,
+        text: &mut Vec<u8>,
+        starts: &[Moment],
+    ) -> Result<(), OutOfMemory>
+        ensures { OnOk result (text.new.items ≡ text.old.items ++ label_lines self.names self.widths
+            (scale_of (map (λ start. start.at.nanosecond) starts.now))
+            (map (λ start. start.at.nanosecond) starts.now)) }
+    {
+        let scale = Scale::of(starts);
+        let mut groups = self.margin(alloc)?;
+        push_groups(alloc, &mut groups, scale, starts)?;
+        push_line(text, groups.as_slice())?;
+        let mut tens = self.margin(alloc)?;
+        push_digits(&mut tens, scale.unit_place(), starts)?;
+        push_line(text, tens.as_slice())?;
+        let mut ones = self.margin(alloc)?;
+        push_digits(&mut ones, scale.unit_place() + 1, starts)?;
+        push(&mut ones, b"  ")?;
+        self.widths.push_heads(&mut ones)?;
+        push_line(text, ones.as_slice())
+    }
+}
+
+/// What a table is made of.
+#[derive(Clone, Copy)]
+pub(crate) struct Table<'a> {
+    pub(crate) dag: &'a Dag,
+    pub(crate) columns: Columns<'a>,
+    pub(crate) tasks: &'a [u32],
+    pub(crate) layout: Layout,
+}
+
+impl Table<'_> {
+    fn push_task(self, alloc: Global, text: &mut Vec<u8>, task: u32) -> Result<(), OutOfMemory>
+        ensures { OnOk result (text.new.items ≡ text.old.items
+            ++ row_in self.entry task) }
+    {
+        let marks = self.columns.marks(alloc, task)?;
+        let tally = tally_in(alloc, self.columns.runs, task)?;
+        let name = id_of(self.dag, task).as_bytes();
+        self.layout
+            .push_row(alloc, text, name, marks.as_slice(), tally)
+    }
+
+    fn push_tasks(self, alloc: Global, text: &mut Vec<u8>) -> Result<(), OutOfMemory>
+        ensures { OnOk result (text.new.items ≡ text.old.items
+            ++ flat_map (row_in self.entry) self.entry.tasks.now) }
+    {
+        for task in self.tasks {
+            self.push_task(alloc, text, *task)?;
+        }
+        Ok(())
+    }
+
+    /// Adds labels, rows and the legend.
+    pub(crate) fn push(self, alloc: Global, text: &mut Vec<u8>) -> Result<(), OutOfMemory>
+        ensures { OnOk result (text.new.items ≡ text.old.items
+            ++ text_in self.entry) }
+    {
+        let (columns, layout) = (self.columns, self.layout);
+        let starts = columns.starts(alloc)?;
+        layout.push_labels(alloc, text, starts.as_slice())?;
+        let states = columns.states(alloc)?;
+        let tally = states_in(columns.runs);
+        layout.push_row(alloc, text, b"run", states.as_slice(), tally)?;
+        self.push_tasks(alloc, text)?;
+        push(text, b"\n")?;
+        push_legend(alloc, text, layout.colored, columns.runs, self.tasks)
+    }
+}

@@ -1,0 +1,116 @@
+//! What the marks of a grid mean.
+ghost use Rattle.std.specs.Prelude.{◌≡◌, ◌++◌, filter, map, IfOk, OnOk};
+ghost use Rattle.bf_grid.specs.Legend.{explained, has_mark as has, is_seen as seen, legend, legend_line, meaning};
+
+use crate::row::push_line;
+use bf_marks::{Mark, push, push_painted, tally_at};
+use bf_report::RunReport;
+use bf_value::OutOfMemory;
+use std::alloc::Global;
+
+/// The marks, as the legend has them.
+const MARKS: [Mark; 6] = [
+    Mark::Success,
+    Mark::Retried,
+    Mark::Failed,
+    Mark::UpstreamFailed,
+    Mark::Skipped,
+    Mark::NoStatus,
+];
+
+fn meaning_of(mark: Mark) -> &'static str
+    ensures { result.now ≡ meaning mark }
+{
+    match mark {
+        Mark::Success => "success",
+        Mark::Retried => "retried",
+        Mark::Failed => "failed",
+        Mark::UpstreamFailed => "upstream_failed",
+        Mark::Skipped => "skipped",
+        Mark::NoStatus => "no_status",
+    }
+}
+
+/// Whether a task has this mark in one of the runs.
+fn has_mark(alloc: Global, runs: &[&RunReport], mark: Mark, task: u32) -> Result<bool, OutOfMemory>
+    ensures { IfOk result (λ has_it. has_it ≡ has (map (λ run. run.now) runs.now) mark task) }
+{
+    for run in runs {
+        if Mark::of(tally_at(alloc, run, task)?).weight() == mark.weight() {
+            return Ok(true);
+        }
+    }
+    Ok(false)
+}
+
+fn is_seen(
+    alloc: Global,
+    runs: &[&RunReport],
+    tasks: &[u32],
+    mark: Mark,
+) -> Result<bool, OutOfMemory>
+    ensures { IfOk result (λ seen_it. seen_it ≡ seen (map (λ run. run.now) runs.now) tasks.now mark) }
+{
+    for task in tasks {
+        if has_mark(alloc, runs, mark, *task)? {
+            return Ok(true);
+        }
+    }
+    Ok(false)
+}
+
+/// Those of the marks that are there.
+fn seen_among(
+    alloc: Global,
+    runs: &[&RunReport],
+    tasks: &[u32],
+    marks: &[Mark],
+) -> Result<Vec<Mark>, OutOfMemory>
+    ensures { IfOk result (λ found. found.items
+        ≡ filter (seen (map (λ run. run.now) runs.now) tasks.now) marks.now) }
+{
+    let mut found = Vec::new(alloc);
+    for mark in marks {
+        if is_seen(alloc, runs, tasks, *mark)? {
+            found.push(*mark)?;
+        }
+    }
+    Ok(found)
+}
+
+fn push_explained(text: &mut Vec<u8>, colored: bool, mark: Mark) -> Result<(), OutOfMemory>
+    ensures { OnOk result (text.new.items ≡ text.old.items ++ explained colored mark) }
+{
+    push_painted(text, colored, mark.color(), mark.letter().as_bytes())?;
+    push(text, b" ")?;
+    push(text, meaning_of(mark).as_bytes())
+}
+
+fn push_marks(text: &mut Vec<u8>, colored: bool, marks: &[Mark]) -> Result<(), OutOfMemory>
+    ensures { OnOk result (text.new.items ≡ text.old.items ++ legend colored marks.now) }
+{
+    for (place, mark) in marks.iter().enumerate() {
+        push_explained(text, colored, *mark)?;
+        if place + 1 < marks.len() {
+            push(text, b"  ")?;
+        }
+    }
+    Ok(())
+}
+
+/// Adds what the marks mean that are there.
+pub(crate) fn push_legend(
+    alloc: Global,
+    text: &mut Vec<u8>,
+    colored: bool,
+    runs: &[&RunReport],
+    tasks: &[u32],
+) -> Result<(), OutOfMemory>
+    ensures { OnOk result (text.new.items ≡ text.old.items
+        ++ legend_line colored (map (λ run. run.now) runs.now) tasks.now) }
+{
+    let marks = seen_among(alloc, runs, tasks, &MARKS)?;
+    let mut shown = Vec::new(alloc);
+    push_marks(&mut shown, colored, marks.as_slice())?;
+    push_line(text, shown.as_slice())
+}

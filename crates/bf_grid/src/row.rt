@@ -1,0 +1,130 @@
+//! The rows of the grid.
+ghost use Rattle.std.specs.Prelude.{◌≡◌, ◌≤◌, ◌<◌, ◌+◌, ◌*◌, ◌^◌, ◌++◌, map, IfOk, OnOk, length};
+ghost use Rattle.bf_marks.specs.CellMarks.{column_mark};
+ghost use Rattle.bf_grid.specs.GridRows.{by_column, column as column_of, column_state, line, row, state_mark as mark_of_state, trimmed as trimmed_line};
+
+use bf_marks::{Mark, Tally, Widths, mark_in, push, push_cut_name, push_left, push_marks};
+use bf_report::RunReport;
+use bf_value::OutOfMemory;
+use bf_xcom::RunState;
+use std::alloc::Global;
+
+/// A line without the spaces at its end.
+fn trimmed(line: &[u8]) -> &[u8]
+    ensures { result.now ≡ trimmed_line line.now }
+{
+    let mut end = line.len();
+    while end > 0 && line[end - 1] == b' ' {
+        end -= 1;
+    }
+    &line[..end]
+}
+
+/// Adds a line.
+pub(crate) fn push_line(text: &mut Vec<u8>, shown: &[u8]) -> Result<(), OutOfMemory>
+    ensures { OnOk result (text.new.items ≡ text.old.items ++ line shown.now) }
+{
+    push(text, trimmed(shown))?;
+    push(text, b"\n")
+}
+
+fn state_mark(state: RunState) -> Mark
+    ensures { result ≡ mark_of_state state }
+{
+    match state {
+        RunState::Success => Mark::Success,
+        RunState::Failed => Mark::Failed,
+    }
+}
+
+/// The worst state of the runs of a column.
+fn state_in(runs: &[&RunReport]) -> Mark
+    ensures { result ≡ column_state (map (λ run. run.now) runs.now) }
+{
+    let mut worst = Mark::Skipped;
+    for run in runs {
+        worst = worst.worse(state_mark(run.state));
+    }
+    worst
+}
+
+/// The runs that are shown, so many a column.
+#[derive(Clone, Copy)]
+pub(crate) struct Columns<'a> {
+    pub(crate) runs: &'a [&'a RunReport],
+    pub(crate) each: usize,
+    pub(crate) count: usize,
+    ghost all: { count * each < length runs.now + each },
+}
+
+impl<'a> Columns<'a> {
+    /// The runs of a column.
+    pub(crate) fn at(self, place: usize) -> &'a [&'a RunReport]
+        requires { place < self.count }
+        ensures { map (λ run. run.now) result.now
+            ≡ column_of self.entry.each (map (λ run. run.now) self.entry.runs.now) place }
+    {
+        let first = place * self.each;
+        let last = self.runs.len().min(first + self.each);
+        &self.runs[first..last]
+    }
+
+    /// The marks of a task.
+    pub(crate) fn marks(self, alloc: Global, task: u32) -> Result<Vec<Mark>, OutOfMemory>
+        ensures { IfOk result (λ marks. marks.items ≡ by_column self.entry.count self.entry.each
+            (column_mark task) (map (λ run. run.now) self.entry.runs.now)) }
+    {
+        let mut marks = Vec::with_capacity(alloc, self.count)?;
+        for place in 0..self.count {
+            marks.push(mark_in(alloc, self.at(place), task)?)?;
+        }
+        Ok(marks)
+    }
+
+    /// The marks of the runs themselves.
+    pub(crate) fn states(self, alloc: Global) -> Result<Vec<Mark>, OutOfMemory>
+        ensures { IfOk result (λ marks. marks.items ≡ by_column self.entry.count self.entry.each
+            column_state (map (λ run. run.now) self.entry.runs.now)) }
+    {
+        let mut marks = Vec::with_capacity(alloc, self.count)?;
+        for place in 0..self.count {
+            marks.push(state_in(self.at(place)))?;
+        }
+        Ok(marks)
+    }
+}
+
+/// How wide names and sums are, and whether marks have colours.
+#[derive(Clone, Copy)]
+pub(crate) struct Layout {
+    pub(crate) names: usize,
+    pub(crate) widths: Widths,
+    pub(crate) colored: bool,
+    ghost room: { 2 ≤ names },
+    ghost few: { names + 2 < 2 ^ 64 },
+}
+
+impl Layout {
+    /// Adds a row.
+    pub(crate) fn push_row(
+        self,
+        alloc: Global,
+        text: &mut Vec<u8>,
+        name: &[u8],
+        marks: &[Mark],
+        tally: Tally,
+    ) -> Result<(), OutOfMemory>
+        ensures { OnOk result (text.new.items ≡ text.old.items
+            ++ row self.names self.widths self.colored name.now marks.now tally) }
+    {
+        let mut shown = Vec::new(alloc);
+        push_cut_name(&mut shown, self.names, name)?;
+        let mut line = Vec::new(alloc);
+        push_left(&mut line, self.names, shown.as_slice())?;
+        push(&mut line, b"  ")?;
+        push_marks(&mut line, self.colored, marks)?;
+        push(&mut line, b"  ")?;
+        self.widths.push_sums(alloc, &mut line, tally)?;
+        push_line(text, line.as_slice())
+    }
+}

@@ -1,0 +1,119 @@
+//! Which runs and tasks a grid shows.
+ghost use Rattle.std.specs.Prelude.{◌≡◌, ◌≤◌, ◌<◌, ◌+◌, ◌^◌, map, IfOk};
+ghost use Rattle.bf_plan.specs.Plans.{task_of};
+ghost use Rattle.bf_grid.specs.Selection.{is_shown_run as shows_run, is_shown_task as shows_task, longest as longest_of, names_of, name_width as width_of_names, shown_runs as runs_shown, shown_tasks as tasks_shown};
+ghost use Rattle.bf_grid.specs.Grid.{total_of};
+
+use bf_marks::{Tally, View, run_tally, tally_in};
+use bf_plan::Dag;
+use bf_report::RunReport;
+use bf_value::OutOfMemory;
+use std::alloc::Global;
+
+fn is_shown_run(alloc: Global, view: &View, run: &RunReport) -> Result<bool, OutOfMemory>
+    ensures { IfOk result (λ shown. shown ≡ shows_run view.now run.now) }
+{
+    if !view.has(run.interval.start) {
+        return Ok(false);
+    }
+    if !view.failed {
+        return Ok(true);
+    }
+    Ok(run_tally(alloc, run)?.is_bad())
+}
+
+/// The runs that are shown.
+pub(crate) fn shown_runs<'a>(
+    alloc: Global,
+    view: &View,
+    runs: &'a [RunReport],
+) -> Result<Vec<&'a RunReport>, OutOfMemory>
+    ensures { IfOk result (λ found. map (λ run. run.now) found.items ≡ runs_shown view.now runs.now) }
+{
+    let mut found = Vec::with_capacity(alloc, runs.len())?;
+    for run in runs {
+        if is_shown_run(alloc, view, run)? {
+            found.push(run)?;
+        }
+    }
+    Ok(found)
+}
+
+fn is_shown_task(
+    alloc: Global,
+    view: &View,
+    runs: &[&RunReport],
+    task: u32,
+) -> Result<bool, OutOfMemory>
+    ensures { IfOk result (λ shown. shown ≡ shows_task view.now (map (λ run. run.now) runs.now) task) }
+{
+    if !view.failed {
+        return Ok(true);
+    }
+    Ok(tally_in(alloc, runs, task)?.is_bad())
+}
+
+/// Those of the tasks that are shown beside these runs.
+pub(crate) fn shown_tasks(
+    alloc: Global,
+    view: &View,
+    runs: &[&RunReport],
+    tasks: &[u32],
+) -> Result<Vec<u32>, OutOfMemory>
+    ensures { IfOk result (λ found. found.items
+        ≡ tasks_shown view.now (map (λ run. run.now) runs.now) tasks.now) }
+{
+    let mut found = Vec::with_capacity(alloc, tasks.len())?;
+    for task in tasks {
+        if is_shown_task(alloc, view, runs, *task)? {
+            found.push(*task)?;
+        }
+    }
+    Ok(found)
+}
+
+/// The sums of all tasks in these runs.
+pub(crate) fn total_in(
+    alloc: Global,
+    runs: &[&RunReport],
+    tasks: &[u32],
+) -> Result<Tally, OutOfMemory>
+    ensures { IfOk result (λ total. total ≡ total_of (map (λ run. run.now) runs.now) tasks.now) }
+{
+    let mut total = Tally::nothing();
+    for task in tasks {
+        total = total.add(tally_in(alloc, runs, *task)?);
+    }
+    Ok(total)
+}
+
+/// The id of a task.
+pub(crate) fn id_of(dag: &Dag, task: u32) -> &str
+    ensures { result.now ≡ (task_of dag.now task).id }
+{
+    match dag.tasks.get(task as usize) {
+        Some(task) => task.id.as_str(),
+        None => "",
+    }
+}
+
+/// The length of the longest id, and at least 3.
+fn longest(dag: &Dag, tasks: &[u32]) -> usize
+    ensures longest { result ≡ longest_of (names_of dag.now tasks.now) }
+    ensures some { 3 ≤ result }
+{
+    let mut longest = 3;
+    for task in tasks {
+        longest = longest.max(id_of(dag, *task).len());
+    }
+    longest
+}
+
+/// How wide names are.
+pub(crate) fn name_width(dag: &Dag, tasks: &[u32], width: usize) -> usize
+    ensures width { result ≡ width_of_names width (names_of dag.now tasks.now) }
+    ensures some { 2 ≤ result }
+    ensures few { result + 2 < 2 ^ 64 }
+{
+    longest(dag, tasks).min((width / 3).max(12))
+}

@@ -1,0 +1,112 @@
+//! What stands above a grid.
+ghost use Rattle.std.specs.Prelude.{◌≡◌, ◌++◌, OnOk};
+ghost use Rattle.bf_grid.specs.Summary.{dates, each_line, head_line, left_out_line, many_line, shown_line, shown_of};
+
+use bf_marks::{push, push_moment, push_number, push_painted, push_plural, states_of};
+use bf_report::RunReport;
+use bf_value::OutOfMemory;
+use std::alloc::Global;
+
+/// Adds the first and the last start, where there are runs.
+fn push_dates(text: &mut Vec<u8>, runs: &[RunReport]) -> Result<(), OutOfMemory>
+    ensures { OnOk result (text.new.items ≡ text.old.items ++ dates runs.now) }
+{
+    let (Some(first), Some(last)) = (runs.first(), runs.last()) else {
+        return Ok(());
+    };
+    push(text, b"  ")?;
+    push_moment(text, first.interval.start)?;
+    push(text, b" to ")?;
+    push_moment(text, last.interval.start)
+}
+
+/// Adds the first line: the dag id, the first and the last start, how many runs there are, and how many failed.
+pub(crate) fn push_head(
+    alloc: Global,
+    text: &mut Vec<u8>,
+    colored: bool,
+    dag_id: &str,
+    runs: &[RunReport],
+) -> Result<(), OutOfMemory>
+    ensures { OnOk result (text.new.items ≡ text.old.items ++ head_line colored dag_id.now runs.now) }
+{
+    push_painted(text, colored, "1", dag_id.as_bytes())?;
+    push_dates(text, runs)?;
+    push(text, b"  ")?;
+    push_plural(alloc, text, runs.len() as u64, "run")?;
+    push(text, b", ")?;
+    push_number(alloc, text, states_of(runs).failed)?;
+    push(text, b" failed\n")
+}
+
+/// How many there are, and how many of them are shown.
+#[derive(Clone, Copy)]
+pub(crate) struct Shown {
+    pub(crate) shown: usize,
+    pub(crate) all: usize,
+}
+
+fn push_shown_of(
+    alloc: Global,
+    text: &mut Vec<u8>,
+    shown: Shown,
+    noun: &str,
+) -> Result<(), OutOfMemory>
+    ensures { OnOk result (text.new.items ≡ text.old.items
+        ++ shown_of shown.shown shown.all noun.now) }
+{
+    push_number(alloc, text, shown.shown as u64)?;
+    push(text, b" of ")?;
+    push_plural(alloc, text, shown.all as u64, noun)
+}
+
+fn push_shown(
+    alloc: Global,
+    text: &mut Vec<u8>,
+    runs: Shown,
+    tasks: Shown,
+) -> Result<(), OutOfMemory>
+    ensures { OnOk result (text.new.items ≡ text.old.items
+        ++ shown_line runs.shown runs.all tasks.shown tasks.all) }
+{
+    push(text, b"shown: ")?;
+    push_shown_of(alloc, text, runs, "run")?;
+    push(text, b", ")?;
+    push_shown_of(alloc, text, tasks, "task")?;
+    push(text, b"\n")
+}
+
+/// Adds how many runs and tasks are shown, where some are left out.
+pub(crate) fn push_left_out(
+    alloc: Global,
+    text: &mut Vec<u8>,
+    runs: Shown,
+    tasks: Shown,
+) -> Result<(), OutOfMemory>
+    ensures { OnOk result (text.new.items ≡ text.old.items
+        ++ left_out_line runs.shown runs.all tasks.shown tasks.all) }
+{
+    if runs.shown == runs.all && tasks.shown == tasks.all {
+        return Ok(());
+    }
+    push_shown(alloc, text, runs, tasks)
+}
+
+fn push_many(alloc: Global, text: &mut Vec<u8>, each: usize) -> Result<(), OutOfMemory>
+    ensures { OnOk result (text.new.items ≡ text.old.items ++ many_line each) }
+{
+    let number = format!(in alloc; "{each}")?;
+    push(text, b"a column is ")?;
+    push(text, number.as_bytes())?;
+    push(text, b" runs, and shows the worst of them\n")
+}
+
+/// Adds how many runs a column is, where that is more than one.
+pub(crate) fn push_each(alloc: Global, text: &mut Vec<u8>, each: usize) -> Result<(), OutOfMemory>
+    ensures { OnOk result (text.new.items ≡ text.old.items ++ each_line each) }
+{
+    if each > 1 {
+        return push_many(alloc, text, each);
+    }
+    Ok(())
+}

@@ -1,0 +1,5 @@
+pub mod OrderFacts
+pub mod LabelFacts
+mod BehindFacts
+mod OnceFacts
+mod AllFacts

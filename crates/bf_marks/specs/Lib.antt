@@ -1,0 +1,9 @@
+pub mod Phrases
+pub mod Tallies
+pub mod CellMarks
+pub mod RowOrder
+pub mod Walk
+pub mod Behind
+pub mod Labels
+pub mod Widths
+pub mod GridViews

@@ -1,0 +1,219 @@
+//! What columns are labelled by.
+ghost use Rattle.std.specs.Prelude.{◌≡◌, ◌≤◌, ◌<◌, ◌+◌, ◌==◌, ◌++◌, max, length, map, replicate, if◌then◌else◌, OnOk};
+ghost use Rattle.bf_marks.specs.Labels.{same_first, are_apart as apart, seconds as nanoseconds, is_behind, scale_of, group_size as group_size_of, unit_place as unit_place_of, fitted as fitted_label, digits_at, group_label, groups_of, groups_text, counted, left, right};
+
+use crate::phrases::push;
+use bf_moment::{Moment, moment_bytes};
+use bf_value::OutOfMemory;
+use std::alloc::Global;
+
+/// What stands in two digits above a column, in a group that stands above that: a year in its decade, a month in its year,
+/// and so on.
+#[derive(Clone, Copy, Debug, PartialEq, Eq)]
+pub enum Scale {
+    Years,
+    Months,
+    Days,
+    Hours,
+    Minutes,
+}
+
+fn are_two_apart(first: Moment, second: Moment, seconds: u32) -> bool
+    ensures { result ≡ is_behind (nanoseconds seconds) first.at.nanosecond second.at.nanosecond }
+{
+    let least = i128::from(seconds) * 1_000_000_000;
+    second.at.as_nanosecond() >= first.at.as_nanosecond() + least
+}
+
+/// Whether each moment is at least so many seconds behind the one before.
+fn are_apart(starts: &[Moment], seconds: u32) -> bool
+    ensures { result ≡ apart (nanoseconds seconds) (map (λ start. start.at.nanosecond) starts.now) }
+{
+    let Some((first, rest)) = starts.split_first() else {
+        return true;
+    };
+    let mut before = *first;
+    for start in rest {
+        if !are_two_apart(before, *start, seconds) {
+            return false;
+        }
+        before = *start;
+    }
+    true
+}
+
+impl Scale {
+    /// By the least time between two columns.
+    pub fn of(starts: &[Moment]) -> Scale
+        ensures { result ≡ scale_of (map (λ start. start.at.nanosecond) starts.now) }
+    {
+        if starts.len() < 2 {
+            return Scale::Days;
+        }
+        if are_apart(starts, 25_920_000) {
+            return Scale::Years;
+        }
+        if are_apart(starts, 2_419_200) {
+            return Scale::Months;
+        }
+        if are_apart(starts, 21_600) {
+            return Scale::Days;
+        }
+        if are_apart(starts, 900) {
+            Scale::Hours
+        } else {
+            Scale::Minutes
+        }
+    }
+
+    /// How many bytes of a moment's text say its group.
+    pub fn group_size(self) -> usize
+        ensures { result ≡ group_size_of self }
+    {
+        match self {
+            Scale::Years => 3,
+            Scale::Months => 4,
+            Scale::Days => 7,
+            Scale::Hours => 10,
+            Scale::Minutes => 13,
+        }
+    }
+
+    /// Where the two digits stand in the text of a moment.
+    pub fn unit_place(self) -> usize
+        ensures { result ≡ unit_place_of self }
+    {
+        match self {
+            Scale::Years => 2,
+            Scale::Months => 5,
+            Scale::Days => 8,
+            Scale::Hours => 11,
+            Scale::Minutes => 14,
+        }
+    }
+
+    /// Adds the label of a group.
+    pub fn push_label(self, label: &mut Vec<u8>, group: &[u8]) -> Result<(), OutOfMemory>
+        ensures { OnOk result (label.new.items ≡ label.old.items ++ group_label self group.now) }
+    {
+        push(label, group)?;
+        if self == Scale::Years {
+            push(label, b"0s")?;
+        }
+        Ok(())
+    }
+}
+
+/// A label, or its last three bytes, or nothing, as there is room before the next one.
+pub fn fitted(label: &[u8], room: usize) -> &[u8]
+    ensures { result.now ≡ fitted_label room label.now }
+{
+    if label.len() < room {
+        return label;
+    }
+    if label.len() > 5 && room > 3 {
+        return &label[label.len() - 3..];
+    }
+    &[]
+}
+
+/// How many groups at the front are this one.
+fn same_at_front(scale: Scale, group: &[u8], starts: &[Moment]) -> usize
+    ensures count { result ≡ same_first group.now
+        (groups_of scale (map (λ start. start.at.nanosecond) starts.now)) }
+    ensures within { result ≤ length starts.now }
+{
+    for (place, start) in starts.iter().enumerate() {
+        if &moment_bytes(start.at)[..scale.group_size()] != group {
+            return place;
+        }
+    }
+    starts.len()
+}
+
+/// Adds the label of a group of so many columns.
+fn push_group(
+    alloc: Global,
+    text: &mut Vec<u8>,
+    scale: Scale,
+    group: &[u8],
+    count: usize,
+    room: usize,
+) -> Result<(), OutOfMemory>
+    ensures { OnOk result (text.new.items ≡ text.old.items
+        ++ left count (fitted_label room (group_label scale group.now))) }
+{
+    let mut label = Vec::new(alloc);
+    scale.push_label(&mut label, group)?;
+    push_left(text, count, fitted(label.as_slice(), room))
+}
+
+/// Adds spaces.
+pub fn push_spaces(text: &mut Vec<u8>, count: usize) -> Result<(), OutOfMemory>
+    ensures { OnOk result (text.new.items ≡ text.old.items ++ replicate count 32) }
+{
+    for _ in 0..count {
+        text.push(b' ')?;
+    }
+    Ok(())
+}
+
+/// Adds a text and spaces behind it, up to a width.
+pub fn push_left(text: &mut Vec<u8>, width: usize, shown: &[u8]) -> Result<(), OutOfMemory>
+    ensures { OnOk result (text.new.items ≡ text.old.items ++ left width shown.now) }
+{
+    push(text, shown)?;
+    push_spaces(text, width.saturating_sub(shown.len()))
+}
+
+/// Adds a text and spaces before it, up to a width.
+pub fn push_right(text: &mut Vec<u8>, width: usize, shown: &[u8]) -> Result<(), OutOfMemory>
+    ensures { OnOk result (text.new.items ≡ text.old.items ++ right width shown.now) }
+{
+    push_spaces(text, width.saturating_sub(shown.len()))?;
+    push(text, shown)
+}
+
+/// How much room the label of so many columns has, the last one as much as it needs.
+fn room_of(count: usize, further: &[Moment]) -> usize
+    ensures { result ≡ (if length further.now == 0 then max count 99 else count) }
+{
+    if further.is_empty() {
+        count.max(99)
+    } else {
+        count
+    }
+}
+
+/// Adds the labels of groups, each at its first column.
+pub fn push_groups(
+    alloc: Global,
+    text: &mut Vec<u8>,
+    scale: Scale,
+    starts: &[Moment],
+) -> Result<(), OutOfMemory>
+    ensures { OnOk result (text.new.items ≡ text.old.items ++ groups_text scale
+        (counted (groups_of scale (map (λ start. start.at.nanosecond) starts.now)))) }
+{
+    let mut rest = starts;
+    while let Some((first, further)) = rest.split_first() {
+        let moment = moment_bytes(first.at);
+        let group = &moment[..scale.group_size()];
+        let same = same_at_front(scale, group, further);
+        rest = &further[same..];
+        push_group(alloc, text, scale, group, same + 1, room_of(same + 1, rest))?;
+    }
+    Ok(())
+}
+
+/// Adds a digit of each column.
+pub fn push_digits(text: &mut Vec<u8>, place: usize, starts: &[Moment]) -> Result<(), OutOfMemory>
+    requires { place < 20 }
+    ensures { OnOk result (text.new.items ≡ text.old.items
+        ++ digits_at place (map (λ start. start.at.nanosecond) starts.now)) }
+{
+    for start in starts {
+        text.push(moment_bytes(start.at)[place])?;
+    }
+    Ok(())
+}

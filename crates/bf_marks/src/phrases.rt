@@ -1,0 +1,96 @@
+//! Numbers, moments and lists of moments as people read them, each added behind a text.
+ghost use Rattle.std.specs.Prelude.{◌≡◌, ◌≤◌, ◌++◌, IfOk, OnOk, length};
+ghost use Rattle.std.specs.Str.{IsAscii};
+ghost use Rattle.bf_moment.specs.Moment.{IsShown};
+ghost use Rattle.bf_wording.specs.Lists.{listed};
+ghost use Rattle.bf_wording.specs.Numbers.{number_text, plural};
+ghost use Rattle.bf_marks.specs.Phrases.{short_moment as short, short_moments, without_midnight};
+
+use bf_moment::{Moment, moment_bytes};
+use bf_value::{OutOfMemory, Text};
+use jiff::Timestamp;
+use std::alloc::Global;
+
+/// Adds bytes.
+pub fn push(text: &mut Vec<u8>, bytes: &[u8]) -> Result<(), OutOfMemory>
+    ensures { OnOk result (text.new.items ≡ text.old.items ++ bytes.now) }
+{
+    text.extend_from_slice(bytes)?;
+    Ok(())
+}
+
+/// Adds a number, as 1,234.
+pub fn push_number(alloc: Global, text: &mut Vec<u8>, number: u64) -> Result<(), OutOfMemory>
+    ensures { OnOk result (text.new.items ≡ text.old.items ++ number_text number) }
+{
+    let mut shown = String::new(alloc);
+    bf_wording::push_number(alloc, &mut shown, number)?;
+    push(text, shown.as_bytes())
+}
+
+/// Adds how many there are, as `1 run` or `2 runs`.
+pub fn push_plural(
+    alloc: Global,
+    text: &mut Vec<u8>,
+    number: u64,
+    noun: &str,
+) -> Result<(), OutOfMemory>
+    ensures { OnOk result (text.new.items ≡ text.old.items ++ plural number noun.now) }
+{
+    let mut shown = String::new(alloc);
+    bf_wording::push_plural(alloc, &mut shown, number, noun)?;
+    push(text, shown.as_bytes())
+}
+
+/// A moment, of which midnight in UTC is left out.
+fn short_moment(moment: &[u8]) -> &[u8]
+    requires long { 10 ≤ length moment.now }
+    requires ascii { IsAscii moment.now }
+    ensures short { result.now ≡ without_midnight moment.now }
+    ensures ascii { IsAscii result.now }
+{
+    if &moment[10..] == b"T00:00:00Z".as_slice() {
+        return &moment[..10];
+    }
+    moment
+}
+
+/// Adds a moment, as short as it is written on a line.
+pub fn push_moment(text: &mut Vec<u8>, moment: Timestamp) -> Result<(), OutOfMemory>
+    requires { IsShown moment.nanosecond }
+    ensures { OnOk result (text.new.items ≡ text.old.items ++ short moment.nanosecond) }
+{
+    push(text, short_moment(&moment_bytes(moment)))
+}
+
+/// The text of a moment, as short as it is written on a line.
+fn short_name(alloc: Global, moment: Moment) -> Result<Text, OutOfMemory>
+    ensures { IfOk result (λ name. name ≡ short moment.at.nanosecond) }
+{
+    let bytes = moment_bytes(moment.at);
+    let Ok(text) = std::str::from_utf8(short_moment(&bytes)) else {
+        unreachable!();
+    };
+    Text::copied(alloc, text)
+}
+
+fn short_names(alloc: Global, moments: &[Moment]) -> Result<Vec<Text>, OutOfMemory>
+    ensures { IfOk result (λ names. names.items ≡ short_moments moments.now) }
+{
+    let mut names = Vec::with_capacity(alloc, moments.len())?;
+    for moment in moments {
+        names.push(short_name(alloc, *moment)?)?;
+    }
+    Ok(names)
+}
+
+/// Adds moments, as `2024-01-25, 2024-01-31 and 2024-02-05`; of more than four three, and how many more there are.
+pub fn push_listed(alloc: Global, text: &mut Vec<u8>, moments: &[Moment]) -> Result<(), OutOfMemory>
+    ensures { OnOk result (text.new.items
+        ≡ text.old.items ++ listed 3 (short_moments moments.now)) }
+{
+    let names = short_names(alloc, moments)?;
+    let mut shown = String::new(alloc);
+    bf_wording::push_listed(alloc, &mut shown, names.as_slice(), 3)?;
+    push(text, shown.as_bytes())
+}

@@ -1,0 +1,194 @@
+//! How many instances came to each state.
+ghost use Rattle.std.specs.Prelude.{◌≡◌, IfOk, map};
+ghost use Rattle.bf_marks.specs.Tallies.{add, instance_tally, is_bad, nothing, one_ended, plus as plus_up, sum, task_tally, run_tally as tally_of_tasks, runs_tally, state_tally as tally_of_state, states_tally, tally_at as tally_of_run};
+
+use bf_report::{InstanceReport, RunReport, TaskReport};
+use bf_value::OutOfMemory;
+use bf_xcom::{Outcome, RunState, TaskResult};
+use std::alloc::Global;
+
+/// How many instances of tasks in runs came to each state, where what was decided without a try counts as one; and whether
+/// one of them took more than one try.
+#[derive(Clone, Copy, Debug, PartialEq, Eq)]
+pub struct Tally {
+    pub success: u64,
+    pub failed: u64,
+    pub upstream_failed: u64,
+    pub skipped: u64,
+    pub no_status: u64,
+    pub retried: bool,
+}
+
+impl Tally {
+    /// Of no instance.
+    pub fn nothing() -> Tally
+        ensures { result ≡ nothing }
+    {
+        Tally {
+            success: 0,
+            failed: 0,
+            upstream_failed: 0,
+            skipped: 0,
+            no_status: 0,
+            retried: false,
+        }
+    }
+
+    /// Of an instance that ended so.
+    fn ended(instance: &TaskResult) -> Tally
+        ensures { result ≡ one_ended instance.now.outcome instance.now.tries }
+    {
+        let retried = instance.tries > 1;
+        let nothing = Tally::nothing();
+        match instance.outcome {
+            Outcome::Success(_) => Tally {
+                success: 1,
+                retried,
+                ..nothing
+            },
+            Outcome::Failed => Tally {
+                failed: 1,
+                retried,
+                ..nothing
+            },
+            Outcome::Skipped => Tally {
+                skipped: 1,
+                retried,
+                ..nothing
+            },
+        }
+    }
+
+    /// Of both.
+    pub fn add(self, other: Tally) -> Tally
+        ensures { result ≡ add self other }
+    {
+        Tally {
+            success: self.success.saturating_add(other.success),
+            failed: self.failed.saturating_add(other.failed),
+            upstream_failed: self.upstream_failed.saturating_add(other.upstream_failed),
+            skipped: self.skipped.saturating_add(other.skipped),
+            no_status: self.no_status.saturating_add(other.no_status),
+            retried: self.retried || other.retried,
+        }
+    }
+
+    /// Whether something failed, is upstream_failed or has no status.
+    pub fn is_bad(self) -> bool
+        ensures { result ≡ is_bad self }
+    {
+        self.failed > 0 || self.upstream_failed > 0 || self.no_status > 0
+    }
+}
+
+fn tally_of_instance(alloc: Global, instance: &InstanceReport) -> Result<Tally, OutOfMemory>
+    ensures { IfOk result (λ tally. tally ≡ instance_tally instance.now) }
+{
+    let ended = instance.result(alloc)?;
+    Ok(Tally::ended(&ended))
+}
+
+fn tally_of_instances(alloc: Global, instances: &[InstanceReport]) -> Result<Tally, OutOfMemory>
+    ensures { IfOk result (λ tally. tally ≡ sum (map instance_tally instances.now)) }
+{
+    let mut tally = Tally::nothing();
+    for instance in instances {
+        tally = tally.add(tally_of_instance(alloc, instance)?);
+    }
+    Ok(tally)
+}
+
+fn tally_of_task(alloc: Global, task: &TaskReport) -> Result<Tally, OutOfMemory>
+    ensures { IfOk result (λ tally. tally ≡ task_tally task.now) }
+{
+    let nothing = Tally::nothing();
+    match task {
+        TaskReport::NoStatus => Ok(Tally {
+            no_status: 1,
+            ..nothing
+        }),
+        TaskReport::Skipped => Ok(Tally {
+            skipped: 1,
+            ..nothing
+        }),
+        TaskReport::UpstreamFailed => Ok(Tally {
+            upstream_failed: 1,
+            ..nothing
+        }),
+        TaskReport::Ran(instance) => tally_of_instance(alloc, instance),
+        TaskReport::Mapped(instances) => tally_of_instances(alloc, instances.as_slice()),
+    }
+}
+
+/// Of the task in this place of a run. A place that a run doesn't have counts as no_status.
+pub fn tally_at(alloc: Global, run: &RunReport, task: u32) -> Result<Tally, OutOfMemory>
+    ensures { IfOk result (λ tally. tally ≡ tally_of_run task run.now) }
+{
+    match run.tasks.get(task as usize) {
+        Some(task) => tally_of_task(alloc, task),
+        None => Ok(Tally {
+            no_status: 1,
+            ..Tally::nothing()
+        }),
+    }
+}
+
+/// Of a task in all runs.
+pub fn tally_in(alloc: Global, runs: &[&RunReport], task: u32) -> Result<Tally, OutOfMemory>
+    ensures { IfOk result (λ tally. tally ≡ runs_tally task (map (λ run. run.now) runs.now)) }
+{
+    let mut tally = Tally::nothing();
+    for run in runs {
+        tally = tally.add(tally_at(alloc, run, task)?);
+    }
+    Ok(tally)
+}
+
+fn state_tally(state: RunState) -> Tally
+    ensures { result ≡ tally_of_state state }
+{
+    let nothing = Tally::nothing();
+    match state {
+        RunState::Success => Tally {
+            success: 1,
+            ..nothing
+        },
+        RunState::Failed => Tally {
+            failed: 1,
+            ..nothing
+        },
+    }
+}
+
+/// Of the runs themselves.
+pub fn states_of(runs: &[RunReport]) -> Tally
+    ensures { result ≡ states_tally runs.now }
+{
+    let mut tally = Tally::nothing();
+    for run in runs {
+        tally = tally.add(state_tally(run.state));
+    }
+    tally
+}
+
+/// The same of some runs.
+pub fn states_in(runs: &[&RunReport]) -> Tally
+    ensures { result ≡ states_tally (map (λ run. run.now) runs.now) }
+{
+    let mut tally = Tally::nothing();
+    for run in runs {
+        tally = tally.add(state_tally(run.state));
+    }
+    tally
+}
+
+/// Of all tasks in a run.
+pub fn run_tally(alloc: Global, run: &RunReport) -> Result<Tally, OutOfMemory>
+    ensures { IfOk result (λ tally. tally ≡ tally_of_tasks run.now) }
+{
+    let mut tally = Tally::nothing();
+    for task in run.tasks.as_slice() {
+        tally = tally.add(tally_of_task(alloc, task)?);
+    }
+    Ok(tally)
+}

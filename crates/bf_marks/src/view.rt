@@ -1,0 +1,43 @@
+//! What is asked of a grid.
+ghost use Rattle.std.specs.Prelude.{◌≡◌};
+ghost use Rattle.bf_marks.specs.GridViews.{in_range, is_from as from_holds, is_to as to_holds};
+
+use jiff::Timestamp;
+
+/// What is asked of a grid: the moments from and up to which runs are shown, where there are such; whether only tasks and runs are
+/// shown with something that failed, is upstream_failed or has no status; its width in characters; and whether it has colours.
+#[derive(Clone, Copy, Debug)]
+pub struct View {
+    pub from: Option<Timestamp>,
+    pub to: Option<Timestamp>,
+    pub failed: bool,
+    pub width: u32,
+    pub colored: bool,
+}
+
+impl View {
+    /// Whether a run that starts then lies in the range.
+    pub fn has(&self, start: Timestamp) -> bool
+        ensures { result ≡ in_range self.now start.nanosecond }
+    {
+        is_from(self.from, start) && is_to(self.to, start)
+    }
+}
+
+fn is_from(from: Option<Timestamp>, start: Timestamp) -> bool
+    ensures { result ≡ from_holds from start.nanosecond }
+{
+    match from {
+        Some(from) => from.as_nanosecond() <= start.as_nanosecond(),
+        None => true,
+    }
+}
+
+fn is_to(to: Option<Timestamp>, start: Timestamp) -> bool
+    ensures { result ≡ to_holds to start.nanosecond }
+{
+    match to {
+        Some(to) => start.as_nanosecond() <= to.as_nanosecond(),
+        None => true,
+    }
+}

@@ -1,0 +1,22 @@
+-- Names in a sentence.
+use Rattle.std.specs.Prelude.{ℕ, ◌+◌, ◌-◌, nat_lt, if◌then◌else◌, List, [], ◌∷◌, ◌++◌, codes, length, take}
+use Rattle.bf_wording.specs.Numbers.{number_text}
+
+-- the names behind the first, as `, b and c`
+abbrev pub behind_first : List (List ℕ) → List ℕ
+behind_first [] = []
+behind_first (last ∷ []) = codes " and " ++ last
+behind_first (name ∷ next ∷ rest) = codes ", " ++ (name ++ behind_first (next ∷ rest))
+
+-- as `a`, `a and b`, `a, b and c`
+abbrev pub joined : List (List ℕ) → List ℕ
+joined [] = []
+joined (first ∷ rest) = first ++ behind_first rest
+
+-- of two or more above so many just these, and how many more there are
+abbrev pub shortened : ℕ → List (List ℕ) → List (List ℕ)
+shortened most names =
+    if nat_lt (most + 1) (length names) then take most names ++ (number_text (length names - most) ++ codes " more") ∷ [] else names
+
+abbrev pub listed : ℕ → List (List ℕ) → List ℕ
+listed most names = joined (shortened most names)
