@@ -7,3 +7,5 @@ pub mod Within
 pub mod Own
 pub mod Sharing
 pub mod Failures
+pub mod Aligned
+pub mod SameRuns

@@ -35,7 +35,7 @@ same-bytes b = (bytes_decides b b).1 refl
 same-moment : (n : _) → int_eq n n ≡ true
 same-moment n = (Decides-int_eq n n).1 refl
 
-same-interval : (i : Interval) → is_same_interval i i ≡ true
+pub same-interval : (i : Interval) → is_same_interval i i ≡ true
 same-interval i = and_from _ _ (same-moment i.start.nanosecond) (same-moment i.end.nanosecond)
 
 -- ---- ids

@@ -29,9 +29,25 @@ each-run v dag (r ∷ rs) (i ∷ is) len all (suc k) run e =
     let rest : _ = and_parts (is_run_of v dag r i) (list_all (λ p. is_run_of v dag p.0 p.1) (zip rs is)) all in
     each-run v dag rs is (omega (arith, len)) rest.1 k run e
 
+-- a report with so many runs, each of which tells of each task, is of what is there
+pub sized-within : (dag : Dag) (runs : ℕ) (report : Report) → length report.runs ≡ runs → ((k : ℕ) (run : RunReport) → slice_get report.runs k ≡ Some run → length run.tasks ≡ length dag.tasks) → IsWithin dag runs report
+sized-within dag runs report len each k t index x e = at (slice_get report.runs k) refl e
+  where
+    in-run : (run : RunReport) → slice_get report.runs k ≡ Some run → (task : Option TaskReport) → slice_get run.tasks t ≡ task → option_and_then (λ x. instance_at x index) task ≡ Some x → (k < runs) × (t < length dag.tasks)
+    in-run run there None h f = cc
+    in-run run there (Some task) h f =
+        let low : k < length report.runs = slice_get_within report.runs k run there in
+        let below : t < length run.tasks = slice_get_within run.tasks t task h in
+        let size : length run.tasks ≡ length dag.tasks = each k run there in
+        (omega (arith, low, len), omega (arith, below, size))
+
+    at : (o : Option RunReport) → slice_get report.runs k ≡ o → option_and_then (λ x. instance_at x index) (option_and_then (λ run. slice_get run.tasks t) o) ≡ Some x → (k < runs) × (t < length dag.tasks)
+    at None h f = cc
+    at (Some run) h f = in-run run h (slice_get run.tasks t) refl f
+
 pub matches-within : (dag : Dag) (intervals : List Interval) (report : Report) → is_report_of dag intervals report ≡ true → IsWithin dag (length intervals) report
 unfolding is_report_of
-matches-within dag intervals report is k t index x e = at (slice_get report.runs k) refl e
+matches-within dag intervals report is = sized-within dag (length intervals) report len (each-run report.version dag report.runs intervals len parts.1)
   where
     runs : are_runs_of report.version dag report.runs intervals ≡ true
     runs = (and_parts (length intervals == 0 || are_ids_of report.tasks dag.tasks) _ (and_parts (bytes_eq report.dag_id dag.id) _ is).1).1
@@ -41,15 +57,3 @@ matches-within dag intervals report is k t index x e = at (slice_get report.runs
 
     len : length report.runs ≡ length intervals
     len = eqb-true (length report.runs) (length intervals) parts.0
-
-    in-run : (run : RunReport) → slice_get report.runs k ≡ Some run → (task : Option TaskReport) → slice_get run.tasks t ≡ task → option_and_then (λ x. instance_at x index) task ≡ Some x → (k < length intervals) × (t < length dag.tasks)
-    in-run run there None h f = cc
-    in-run run there (Some task) h f =
-        let low : k < length report.runs = slice_get_within report.runs k run there in
-        let below : t < length run.tasks = slice_get_within run.tasks t task h in
-        let size : length run.tasks ≡ length dag.tasks = each-run report.version dag report.runs intervals len parts.1 k run there in
-        (omega (arith, low, len), omega (arith, below, size))
-
-    at : (o : Option RunReport) → slice_get report.runs k ≡ o → option_and_then (λ x. instance_at x index) (option_and_then (λ run. slice_get run.tasks t) o) ≡ Some x → (k < length intervals) × (t < length dag.tasks)
-    at None h f = cc
-    at (Some run) h f = in-run run h (slice_get run.tasks t) refl f

@@ -2,3 +2,4 @@ pub mod Entries
 pub mod Keeping
 pub mod Failing
 pub mod Matching
+pub mod Aligning

@@ -17,7 +17,7 @@ use std::marker::Model;
 #[derive(Drop)]
 pub struct Cleared<'a> {
     plan: &'a Plan,
-    report: &'a Report,
+    report: Report,
     cleared: Followers,
 }
 
@@ -32,13 +32,13 @@ impl<'a> Model for Cleared<'a> {
 
     ghost coded = { Prim.hlevel (codes, d.the_row.coded, f.the_row.coded, r.the_row.coded) };
 
-    ghost view = { λ c. record { dag = c.plan.now.dag; cleared = c.cleared; report = c.report.now } };
+    ghost view = { λ c. record { dag = c.plan.now.dag; cleared = c.cleared; report = c.report } };
 }
 
 impl<'a> Cleared<'a> {
     /// What is kept of a report, by what is cleared.
-    pub(crate) fn new(plan: &'a Plan, report: &'a Report, cleared: Followers) -> Cleared<'a>
-        ensures { result ≡ record { dag = plan.entry.now.dag; cleared = cleared; report = report.entry.now } }
+    pub(crate) fn new(plan: &'a Plan, report: Report, cleared: Followers) -> Cleared<'a>
+        ensures { result ≡ record { dag = plan.entry.now.dag; cleared = cleared; report = report } }
     {
         Cleared {
             plan,
@@ -71,9 +71,9 @@ impl KeptTries for Cleared<'_> {
         if !is_task || self.cleared.has(dag, name.run, name.task, name.index) {
             return Ok(None);
         }
-        match instance_at(self.report, name) {
+        match instance_at(&self.report, name) {
             Some(instance) => {
-                answer_of_instance(alloc, self.plan, self.report, name, instance, given)
+                answer_of_instance(alloc, self.plan, &self.report, name, instance, given)
             }
             None => Ok(None),
         }

@@ -1,10 +1,11 @@
 //! What holds of every backfill that goes on from a report. These functions do nothing: their contracts are the laws, over the
 //! definitions alone.
-ghost use Rattle.std.specs.Prelude.{◌≡◌, true, List, length};
+ghost use Rattle.std.specs.Prelude.{◌≡◌, ℕ, true, List, Some, length, slice_get};
 ghost use Rattle.bf_value.specs.declared.name.JobName.{JobName as JobNameTerm};
 ghost use Rattle.bf_interval.specs.declared.interval.Interval.{Interval as IntervalTerm};
+ghost use Rattle.bf_interval.specs.Runs.{AreOfRuns};
 ghost use Rattle.bf_plan.specs.declared.plan.Dag.{Dag as DagTerm};
-ghost use Rattle.bf_plan.specs.Sound.{IsSound};
+ghost use Rattle.bf_plan.specs.Sound.{IsNamed, IsSound};
 ghost use Rattle.bf_try.specs.Tries.{Look, AreAlike};
 ghost use Rattle.bf_core.specs.Agreement.{HoldsItsTries};
 ghost use Rattle.bf_report.specs.declared.report.Report.{Report as ReportTerm};
@@ -12,6 +13,7 @@ ghost use Rattle.bf_report.specs.Dated.{IsDated};
 ghost use Rattle.bf_kept.specs.Kept.{AreFit};
 ghost use Rattle.bf_dependents.specs.declared.place.Place.{Place};
 ghost use Rattle.bf_dependents.specs.Dependents.{IsBeside};
+ghost use Rattle.bf_clear.specs.Aligning.{IsAligned};
 ghost use Rattle.bf_clear.specs.Entries.{told};
 ghost use Rattle.bf_clear.specs.Keeping.{AreKept};
 ghost use Rattle.bf_clear.specs.Matching.{is_report_of};
@@ -34,4 +36,13 @@ pub fn resumed_backfills_keep_the_rest()
 pub fn own_reports_match()
     ensures { (dag : DagTerm) → IsSound dag → (intervals : List IntervalTerm) (ledger : Look) (report : ReportTerm) →
         IsDated dag intervals ledger report → is_report_of dag intervals report ≡ true }
+{}
+
+/// What a report of a backfill of the plan tells by ids and data intervals are the entries of its ledger, in each run over a data interval that was one
+/// of its own.
+pub fn kept_reports_tell_ledgers()
+    ensures { (dag : DagTerm) → IsNamed dag → (before intervals : List IntervalTerm) → AreOfRuns before → (ledger : Look) → HoldsItsTries dag (length before) ledger →
+        (report aligned : ReportTerm) → IsDated dag before ledger report → IsAligned dag intervals report aligned →
+        (interval : IntervalTerm) (j : ℕ) (n : JobNameTerm) → slice_get before j ≡ Some interval → slice_get intervals n.run ≡ Some interval →
+        told dag aligned n ≡ ledger (record n { run = j }) }
 {}

@@ -1,11 +1,13 @@
 //! Clearing tasks of a backfill that has ended, by its report: which tries are kept, and the law that all that isn't cleared
 //! stays as it was.
 //!
-//! Nothing is copied out of a report. What is kept of it is looked up when a ticket comes: where the report tells of such a
-//! try, its task in the run isn't cleared, and its outcome is one that the plan allows, then it is answered so that it ends
-//! as it did.
+//! No value is copied out of a report. One of a graph that had another shape, or of other runs, is first put into the shape of the
+//! plan and its runs, by ids and data intervals; to clear in a report takes one of this plan and these runs. What is kept of it is
+//! looked up when a ticket comes: where the report tells of such a try, its task in the run isn't cleared, and its outcome is one
+//! that the plan allows, then it is answered so that it ends as it did.
 #![tactic(auto)]
 
+mod aligning;
 mod cleared;
 mod clearing;
 mod failing;
@@ -16,9 +18,12 @@ mod telling;
 mod working;
 
 pub use cleared::Cleared;
-pub use clearing::clear_places;
+pub use clearing::{clear_places, keep_places};
 pub use failing::failed_places;
-pub use laws::{own_reports_match, reports_tell_ledgers, resumed_backfills_keep_the_rest};
+pub use laws::{
+    kept_reports_tell_ledgers, own_reports_match, reports_tell_ledgers,
+    resumed_backfills_keep_the_rest,
+};
 pub use looking::task_at;
 pub use matching::is_report_of;
 pub use working::value_of;

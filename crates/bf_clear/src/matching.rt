@@ -1,6 +1,7 @@
 //! Whether a report is one of a plan over data intervals.
 ghost use Rattle.std.specs.Prelude.{◌≡◌, Some, option_copied};
 ghost use Rattle.std.specs.List.{list_all, zip};
+ghost use Rattle.std.specs.Str.{bytes_eq};
 ghost use Rattle.bf_clear.specs.Matching.{are_ids_of as ids_of, are_runs_of as runs_of, are_tasks_of as tasks_of, has_id as id_is, has_pulls_of as instance_of, is_pull_of as pull_is, is_report_of as report_of, is_run_of as run_of, is_same_interval as same_interval, is_task_of as task_of};
 
 use bf_interval::Interval;
@@ -90,7 +91,7 @@ fn are_tasks_of(version: Version, dag: &Dag, reports: &[TaskReport]) -> bool
     reports.len() == tasks.len() && each_is_task_of(version, dag, reports, tasks)
 }
 
-fn is_same_interval(one: &Interval, other: &Interval) -> bool
+pub(crate) fn is_same_interval(one: &Interval, other: &Interval) -> bool
     ensures { result ≡ same_interval one.now other.now }
 {
     one.start == other.start && one.end == other.end
@@ -116,6 +117,13 @@ fn are_runs_of(version: Version, dag: &Dag, runs: &[RunReport], intervals: &[Int
     runs.len() == intervals.len() && each_is_run_of(version, dag, runs, intervals)
 }
 
+/// Whether a report is one of a graph, whatever shape that had.
+pub(crate) fn has_dag_id(dag: &Dag, report: &Report) -> bool
+    ensures { result ≡ bytes_eq report.now.dag_id dag.now.id }
+{
+    report.dag_id.as_str() == dag.id.as_str()
+}
+
 /// Whether a report has the dag id, the data intervals and the tasks of a plan, and in version 2 the pulls of each instance.
 /// One without runs has no tasks.
 #[tactic(auto, unfolding(crate::specs::Matching::is_report_of))]
@@ -123,7 +131,7 @@ pub fn is_report_of(dag: &Dag, intervals: &[Interval], report: &Report) -> bool
     ensures { result ≡ report_of dag.now intervals.now report.now }
 {
     let tasks = dag.tasks.as_slice();
-    report.dag_id.as_str() == dag.id.as_str()
+    has_dag_id(dag, report)
         && (intervals.is_empty() || are_ids_of(report.tasks.as_slice(), tasks))
         && are_runs_of(report.version, dag, report.runs.as_slice(), intervals)
 }

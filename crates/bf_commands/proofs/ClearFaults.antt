@@ -1,5 +1,5 @@
 -- The faults of a backfill that goes on from a report.
-use Rattle.std.proofs.Common.{◌≡◌, ℕ, ℤ, Bool, List, [], Option, Some, None, Result, Ok, IfErr, option_map, refl, ◌∙◌, ap, inl, inr}
+use Rattle.std.proofs.Common.{◌≡◌, ℕ, ℤ, Bool, List, Option, Some, None, Result, Ok, IfErr, option_map, refl, ◌∙◌, ap, inl, inr}
 use Rattle.std.proofs.lemmas.Result.{IfErr-weaker}
 use Rattle.bf_plan.specs.Checked.{Checked}
 use Rattle.bf_plan.specs.declared.plan.Dag.{Dag}
@@ -12,13 +12,13 @@ use Rattle.bf_kept.specs.Kept.{MayGiveUpAnew}
 use Rattle.bf_report.specs.declared.report.Report.{Report}
 use Rattle.bf_dependents.specs.declared.fault.ClearFault.{ClearFault}
 use Rattle.bf_dependents.specs.declared.place.Place.{Place}
-use Rattle.bf_clear.specs.Matching.{clear_fault, refusal}
+use Rattle.bf_clear.specs.Matching.{refusal}
 use Rattle.bf_command_fault.specs.Refusal.{of_clear}
 use Rattle.bf_command_fault.specs.declared.fault.CommandFault.{CommandFault}
 use Rattle.bf_command_fault.specs.declared.fault.CommandFault.TheVariants.{Clear as NotCleared, OutOfMemory, Seeds as BadSeeds}
 use Rattle.bf_commands.specs.declared.cleared.ToClear.{ToClear}
 use Rattle.bf_planning.specs.declared.range.RunRange.{RunRange}
-use Rattle.bf_commands.specs.Cleared.{AreAnswersIn, AreCleared, IsFaultAgain, IsFaultBefore, IsFaultOfNamed, IsKeptOf, IsPrepared, IsStopOrWantingFrom, IsUncleared, IsUnknown}
+use Rattle.bf_commands.specs.Cleared.{report_fault, AreAnswersIn, AreCleared, IsFaultAgain, IsFaultBefore, IsFaultOfNamed, IsKeptOf, IsPrepared, IsStopOrWantingFrom, IsUncleared, IsUnknown}
 use Rattle.bf_planning.specs.Graphs.{IsPlanOf}
 use Rattle.bf_planning.specs.Lists.{HasListing, IsRangeFault}
 use Rattle.bf_planning.specs.Clocks.{AreClocksOf}
@@ -46,7 +46,7 @@ module _ (dag : Dag) (intervals : List Interval) (was : Report) (what : ToClear)
   unknown_uncleared (NotCleared fault) is = inl is
   unknown_uncleared _ is = is
 
-  pub mismatch_uncleared : (places : List Place) → AreCleared dag intervals was what places → (fault : ClearFault) → clear_fault dag intervals was [] ≡ refusal fault → IsUncleared dag intervals was what (of_clear fault)
+  pub mismatch_uncleared : (places : List Place) → AreCleared dag intervals was what places → (fault : ClearFault) → report_fault what dag intervals was ≡ refusal fault → IsUncleared dag intervals was what (of_clear fault)
   mismatch_uncleared places are ClearFault.UnknownTask is = inr (places, are, is)
   mismatch_uncleared places are ClearFault.UnknownRun is = inr (places, are, is)
   mismatch_uncleared places are ClearFault.ReportMismatch is = inr (places, are, is)

@@ -6,4 +6,4 @@ use Rattle.bf_plan.proofs.plan.Plan.TheSendSync as plan
 use Rattle.bf_dependents.proofs.found.Followers.TheSendSync as followers
 use Rattle.bf_clear.proofs.Sharing as sharing
 
-pub ruleset shared = (sendable, crosses, sequence.the_sync, plan.the_sync, followers.the_sync, sharing.report)
+pub ruleset shared = (sendable, crosses, sequence.the_sync, plan.the_sync, followers.the_sync, sharing.cleared)

@@ -21,6 +21,7 @@ use Rattle.bf_dependents.specs.Seeds.{places_of, seed_fault}
 use Rattle.bf_seeds.specs.declared.fault.SeedsFault.{SeedsFault}
 use Rattle.bf_seeds.specs.declared.fault.SeedsFault.TheVariants.{Unknown}
 use Rattle.bf_seeds.specs.Seeds.{AreSeedsOfFile, IsFaultOfFile}
+use Rattle.bf_clear.specs.Aligning.{AreKeptByIds, keep_fault}
 use Rattle.bf_clear.specs.Failing.{AreFailed}
 use Rattle.bf_clear.specs.Keeping.{AreKept}
 use Rattle.bf_clear.specs.Matching.{clear_fault}
@@ -49,13 +50,24 @@ abbrev pub AreCleared : Dag → List Interval → Report → ToClear → List Pl
 AreCleared dag intervals was (to_clear.Seeds seeds) places = (seed_fault dag intervals seeds.items ≡ None) × (places ≡ places_of dag intervals seeds.items)
 AreCleared dag intervals was (to_clear.File bytes) places = (seeds : List Seed) × AreSeedsOfFile dag intervals bytes.items seeds × (places ≡ places_of dag intervals seeds)
 AreCleared dag intervals was to_clear.Failed places = AreFailed dag intervals was places
+AreCleared dag intervals was to_clear.Nothing places = places ≡ []
 
--- the report is one of the plan over these data intervals, what is cleared is known there, and this is what is kept
+-- why the report is refused: it is none of the plan over these data intervals; or where nothing is cleared, none of the graph
+abbrev pub report_fault : ToClear → Dag → List Interval → Report → Option ClearFault
+report_fault to_clear.Nothing dag intervals was = keep_fault dag was
+report_fault what dag intervals was = clear_fault dag intervals was []
+
+-- this is kept of the report where these places are cleared; where nothing is, of what it tells by ids and data intervals
+abbrev pub AreKeptFor : ToClear → Dag → List Interval → List Place → Report → Look → Type 0
+AreKeptFor to_clear.Nothing dag intervals places was kept = AreKeptByIds dag intervals places was kept
+AreKeptFor what dag intervals places was kept = AreKept dag places was kept
+
+-- the report isn't refused, what is cleared is known, and this is what is kept
 pub record IsKeptOf (dag : Dag) (intervals : List Interval) (was : Report) (what : ToClear) (kept : Look) : Type 0 where
   pub places : List Place
   pub are_cleared : AreCleared dag intervals was what places
-  pub not_refused : clear_fault dag intervals was [] ≡ None
-  pub are_kept : AreKept dag places was kept
+  pub not_refused : report_fault what dag intervals was ≡ None
+  pub are_kept : AreKeptFor what dag intervals places was kept
 
 -- the text is the report of the backfill that goes on from what is kept of this report where this is cleared
 pub record IsReportAfter (may_hear : HearingTries) (answers : Option (List TableEntry)) (dag : Dag) (intervals : List Interval) (was : Report) (what : ToClear) (text : List ℕ) (success : Bool) : Type 0 where
@@ -112,7 +124,7 @@ IsFaultBefore graph file table range fault = IsFaultIn graph file fault
 abbrev pub IsUnknownSeed : Dag → List Interval → ToClear → ClearFault → Type 0
 IsUnknownSeed dag intervals (to_clear.Seeds seeds) fault = seed_fault dag intervals seeds.items ≡ Some fault
 IsUnknownSeed dag intervals (to_clear.File bytes) fault = IsFaultOfFile dag intervals bytes.items (Unknown fault)
-IsUnknownSeed dag intervals to_clear.Failed fault = ⊥
+IsUnknownSeed dag intervals _ fault = ⊥
 
 -- the file is refused for this
 abbrev pub IsBadFile : Dag → List Interval → ToClear → SeedsFault → Type 0
@@ -126,9 +138,9 @@ IsUnknown dag intervals what (BadSeeds fault) = IsBadFile dag intervals what fau
 IsUnknown dag intervals what OutOfMemory = Unit {0}
 IsUnknown dag intervals what fault = ⊥
 
--- it is known, and the report is none of the plan over these data intervals
+-- it is known, and the report is refused for this
 abbrev pub IsMismatch : Dag → List Interval → Report → ToClear → ClearFault → Type 0
-IsMismatch dag intervals was what fault = (places : List Place) × AreCleared dag intervals was what places × (clear_fault dag intervals was [] ≡ Some fault)
+IsMismatch dag intervals was what fault = (places : List Place) × AreCleared dag intervals was what places × (report_fault what dag intervals was ≡ Some fault)
 
 -- nothing is cleared for this; or memory is wanting
 abbrev pub IsUncleared : Dag → List Interval → Report → ToClear → CommandFault → Type 0

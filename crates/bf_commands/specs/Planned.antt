@@ -10,11 +10,10 @@ use Rattle.bf_dependents.specs.declared.place.Place.{Place}
 use Rattle.bf_dependents.specs.Dependents.{AreDependents, Following}
 use Rattle.bf_dependents.specs.Listing.{places_in}
 use Rattle.bf_report.specs.declared.report.Report.{Report}
-use Rattle.bf_clear.specs.Matching.{clear_fault}
 use Rattle.bf_command_fault.specs.declared.fault.CommandFault.{CommandFault}
 use Rattle.bf_command_fault.specs.declared.fault.CommandFault.TheVariants.{CannotWrite}
 use Rattle.bf_commands.specs.declared.cleared.ToClear.{ToClear}
-use Rattle.bf_commands.specs.Cleared.{AreCleared, IsUncleared}
+use Rattle.bf_commands.specs.Cleared.{report_fault, AreCleared, IsUncleared}
 use Rattle.bf_commands.specs.Journaled.{Heading, TellsOf}
 
 abbrev pub index_words : Option ℤ → List ℕ
@@ -65,7 +64,7 @@ sum_line places = decimal (tasks_in places) ++ (codes " tasks in " ++ (decimal (
 pub record IsClearPlan (dag : Dag) (intervals : List Interval) (was : Report) (what : ToClear) (text : List ℕ) : Type 0 where
   pub seeds : List Place
   pub are_cleared : AreCleared dag intervals was what seeds
-  pub not_refused : clear_fault dag intervals was [] ≡ None
+  pub not_refused : report_fault what dag intervals was ≡ None
   pub following : Following
   pub follows : AreDependents dag seeds (length intervals) following
   pub cleared : Heading

@@ -14,12 +14,12 @@ ghost use Rattle.bf_planning.specs.Clocks.{clocks_in};
 ghost use Rattle.bf_commands.specs.Programs.{launched_in, with_clocks};
 
 use crate::backfill::write_backfill;
-use crate::cleared::{ToClear, places_to_clear};
+use crate::cleared::{ToClear, kept_of, places_to_clear};
 use crate::crew::Crew;
 use crate::heading::headings_of;
 use crate::journal::Journal;
 use crate::journaled::{Backfill, Recorded, record_backfill};
-use bf_clear::{Cleared, clear_places};
+use bf_clear::Cleared;
 use bf_command_fault::CommandFault;
 use bf_device::Write;
 use bf_journal::{ClearedTask, Cuttable};
@@ -86,16 +86,16 @@ pub struct Clearing<'a> {
 pub fn clear_in<'a>(
     alloc: Global,
     dated: &'a DatedPlan,
-    report: &'a Report,
+    report: Report,
     what: ToClear,
 ) -> Result<Clearing<'a>, CommandFault>
     ensures dated { IfOk result (λ c. c.dated ≡ dated.entry) }
-    ensures cleared { IfOk result (λ c. IsClearedBy dated.entry.now.plan.dag dated.entry.now.runs report.entry.now what (kept_in c.kept) c.cleared.items) }
+    ensures cleared { IfOk result (λ c. IsClearedBy dated.entry.now.plan.dag dated.entry.now.runs report what (kept_in c.kept) c.cleared.items) }
     ensures fit { IfOk result (λ c. AreFit dated.entry.now.plan.dag (kept_in c.kept)) }
-    ensures fault { IfErr result (IsUncleared dated.entry.now.plan.dag dated.entry.now.runs report.entry.now what) }
+    ensures fault { IfErr result (IsUncleared dated.entry.now.plan.dag dated.entry.now.runs report what) }
 {
-    let places = places_to_clear(alloc, dated, report, &what)?;
-    let kept = clear_places(alloc, &dated.plan, &dated.runs, report, places.as_slice())?;
+    let places = places_to_clear(alloc, dated, &report, &what)?;
+    let kept = kept_of(alloc, dated, report, &what, places.as_slice())?;
     let cleared = headings_of(alloc, &dated.plan, &dated.runs, places.as_slice())?;
     Ok(Clearing {
         dated,
@@ -104,25 +104,25 @@ pub fn clear_in<'a>(
     })
 }
 
-/// Writes the report of a backfill that goes on from a report where this is cleared, with all that follows from it.
+/// Writes the report of a backfill that goes on from a report where this is cleared, with all that follows from it, or nothing is.
 /// Says whether every run is a success.
 pub fn run_again<RT: Starter + Screen + Threads + Wait + Clock + Sync, W: Write>(
     crew: &Crew<'_, RT>,
     prepared: Prepared,
-    report: &Report,
+    report: Report,
     what: ToClear,
     out: &mut W,
 ) -> Result<bool, CommandFault>
     ensures ok { IfOk result (λ success. Sends (λ text. IsReportAfter (launched_in prepared.dated (launching_of crew.now.launching) (RT.may_hear crew.now.rt.now))
-        prepared.answers prepared.dated.plan.dag prepared.dated.runs report.now what text success)
+        prepared.answers prepared.dated.plan.dag prepared.dated.runs report what text success)
         (W.written out.old) (W.written out.new)) }
     ensures fault { IfErr result (IsFaultAgain (is_alone crew.now.progress)
         (with_clocks (launching_of crew.now.launching) (clocks_in prepared.dated)) (RT.may_lose crew.now.rt.now)
-        prepared.answers prepared.dated.plan.dag prepared.dated.runs report.now what) }
+        prepared.answers prepared.dated.plan.dag prepared.dated.runs report what) }
     ensures left { IfErr result (Leaves (HasHalted (W.failures out.old) (W.failures out.new)
         (W.interruptions out.old) (W.interruptions out.new))
         (λ text. (success : Bool) × IsReportAfter (launched_in prepared.dated (launching_of crew.now.launching) (RT.may_hear crew.now.rt.now))
-        prepared.answers prepared.dated.plan.dag prepared.dated.runs report.now what text success)
+        prepared.answers prepared.dated.plan.dag prepared.dated.runs report what text success)
         (W.written out.old) (W.written out.new)) }
 {
     let Prepared { dated, answers } = prepared;

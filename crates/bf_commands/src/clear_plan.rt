@@ -6,9 +6,8 @@ ghost use Rattle.bf_device.specs.Device.{HasHalted};
 ghost use Rattle.bf_commands.specs.Cleared.{IsUncleared};
 ghost use Rattle.bf_commands.specs.Planned.{begins_run as run_begins, begins_task as task_begins, cleared_line, place_before as before, runs_in, sum_line, tasks_in, IsClearPlan, IsFaultOfClearPlan};
 
-use crate::cleared::{ToClear, places_to_clear};
+use crate::cleared::{ToClear, kept_of, places_to_clear};
 use crate::heading::headings_of;
-use bf_clear::clear_places;
 use bf_command_fault::CommandFault;
 use bf_dependents::{Place, dependents};
 use bf_device::{Write, send};
@@ -98,14 +97,14 @@ fn push_sum(text: &mut String, places: &[Place]) -> Result<(), OutOfMemory>
 fn plan_text(
     alloc: Global,
     dated: &DatedPlan,
-    report: &Report,
+    report: Report,
     what: &ToClear,
 ) -> Result<String, CommandFault>
-    ensures ok { IfOk result (λ text. IsClearPlan dated.now.plan.dag dated.now.runs report.now what.now (string_bytes text)) }
-    ensures fault { IfErr result (IsUncleared dated.now.plan.dag dated.now.runs report.now what.now) }
+    ensures ok { IfOk result (λ text. IsClearPlan dated.now.plan.dag dated.now.runs report what.now (string_bytes text)) }
+    ensures fault { IfErr result (IsUncleared dated.now.plan.dag dated.now.runs report what.now) }
 {
-    let seeds = places_to_clear(alloc, dated, report, what)?;
-    let kept = clear_places(alloc, &dated.plan, &dated.runs, report, seeds.as_slice())?;
+    let seeds = places_to_clear(alloc, dated, &report, what)?;
+    let kept = kept_of(alloc, dated, report, what, seeds.as_slice())?;
     let runs = dated.runs.intervals().len() as u32;
     let places = kept.followers().places(alloc, &dated.plan, runs)?;
     let cleared = headings_of(alloc, &dated.plan, &dated.runs, places.as_slice())?;
@@ -119,16 +118,16 @@ fn plan_text(
 pub fn write_clear_plan<W: Write>(
     alloc: Global,
     dated: &DatedPlan,
-    report: &Report,
+    report: Report,
     what: &ToClear,
     out: &mut W,
 ) -> Result<(), CommandFault>
-    ensures ok { OnOk result (Sends (IsClearPlan dated.now.plan.dag dated.now.runs report.now what.now)
+    ensures ok { OnOk result (Sends (IsClearPlan dated.now.plan.dag dated.now.runs report what.now)
         (W.written out.old) (W.written out.new)) }
-    ensures fault { IfErr result (IsFaultOfClearPlan dated.now.plan.dag dated.now.runs report.now what.now) }
+    ensures fault { IfErr result (IsFaultOfClearPlan dated.now.plan.dag dated.now.runs report what.now) }
     ensures left { IfErr result (Leaves (HasHalted (W.failures out.old) (W.failures out.new)
         (W.interruptions out.old) (W.interruptions out.new))
-        (IsClearPlan dated.now.plan.dag dated.now.runs report.now what.now)
+        (IsClearPlan dated.now.plan.dag dated.now.runs report what.now)
         (W.written out.old) (W.written out.new)) }
 {
     let text = plan_text(alloc, dated, report, what)?;

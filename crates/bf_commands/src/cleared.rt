@@ -1,11 +1,15 @@
 //! What is cleared.
-ghost use Rattle.std.specs.Prelude.{◌≡◌, None, IfErr, IfOk};
+ghost use Rattle.std.specs.Prelude.{◌≡◌, None, IfErr, IfOk, length};
+ghost use Rattle.bf_kept.specs.Kept.{AreFit};
+ghost use Rattle.bf_dependents.specs.Dependents.{AreDependents};
 ghost use Rattle.bf_dependents.specs.Seeds.{places_of as places_in, seed_fault};
-ghost use Rattle.bf_commands.specs.Cleared.{AreCleared, IsUnknown, IsUnknownNamed};
+ghost use Rattle.bf_clear.specs.Keeping.{kept_in};
+ghost use Rattle.bf_clear.specs.Matching.{refusal};
+ghost use Rattle.bf_commands.specs.Cleared.{report_fault, AreCleared, AreKeptFor, IsUnknown, IsUnknownNamed};
 
-use bf_clear::failed_places;
+use bf_clear::{Cleared, clear_places, failed_places, keep_places};
 use bf_command_fault::CommandFault;
-use bf_dependents::{Place, Seed, places_of, refuse_seeds};
+use bf_dependents::{ClearFault, Place, Seed, places_of, refuse_seeds};
 use bf_planning::DatedPlan;
 use bf_report::Report;
 use bf_seeds::read_seeds;
@@ -20,6 +24,8 @@ pub enum ToClear {
     File(Vec<u8>),
     /// Each instance that failed.
     Failed,
+    /// Nothing. So the report is kept of a backfill whatever shape its graph had, and whatever runs there were.
+    Nothing,
 }
 
 fn places_of_seeds(
@@ -54,5 +60,26 @@ pub(crate) fn places_to_clear(
             Ok(places_of(alloc, &dated.plan, intervals, seeds.as_slice())?)
         }
         ToClear::Failed => Ok(failed_places(alloc, &dated.plan, &dated.runs, report)?),
+        ToClear::Nothing => Ok(Vec::new(alloc)),
+    }
+}
+
+/// What is kept of a report where these places are cleared.
+pub(crate) fn kept_of<'a>(
+    alloc: Global,
+    dated: &'a DatedPlan,
+    report: Report,
+    what: &ToClear,
+    places: &[Place],
+) -> Result<Cleared<'a>, ClearFault>
+    ensures ok { IfOk result (λ kept. report_fault what.now dated.entry.now.plan.dag dated.entry.now.runs report ≡ None) }
+    ensures kept { IfOk result (λ kept. AreKeptFor what.now dated.entry.now.plan.dag dated.entry.now.runs places.now report (kept_in kept)) }
+    ensures follows { IfOk result (λ kept. AreDependents dated.entry.now.plan.dag places.now (length dated.entry.now.runs) kept.cleared) }
+    ensures fit { IfOk result (λ kept. AreFit dated.entry.now.plan.dag (kept_in kept)) }
+    ensures err { IfErr result (λ fault. report_fault what.now dated.entry.now.plan.dag dated.entry.now.runs report ≡ refusal fault) }
+{
+    match what {
+        ToClear::Nothing => keep_places(alloc, &dated.plan, &dated.runs, report, places),
+        _ => clear_places(alloc, &dated.plan, &dated.runs, report, places),
     }
 }

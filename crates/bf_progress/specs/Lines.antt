@@ -1,5 +1,5 @@
 -- The lines that are told of progress.
-use Rattle.std.specs.Prelude.{ℕ, ◌-◌, Bool, true, false, List, [], ◌∷◌, ◌++◌, codes, decimal}
+use Rattle.std.specs.Prelude.{ℕ, ◌-◌, Bool, true, false, List, ◌∷◌, ◌++◌, codes, decimal}
 use Rattle.bf_words.specs.declared.context.JobContext.{JobContext}
 use Rattle.bf_failure.specs.Tried.{try_text}
 use Rattle.bf_progress.specs.declared.counts.Counts.{Counts}

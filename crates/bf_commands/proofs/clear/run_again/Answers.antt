@@ -15,7 +15,7 @@ write_backfill-requires-sync-K g c κs = search shared depth 40 fits 20000
 
 pub returns-in_err-clearing-clause-fault : goal.returns-in_err-clearing-clause-fault
 returns-in_err-clearing-clause-fault g c =
-    handed_on _ _ c.from_residual.ensures.1 (uncleared_again c.args.prepared.dated.plan.dag c.args.prepared.dated.runs c.args.report.now c.args.what
+    handed_on _ _ c.from_residual.ensures.1 (uncleared_again c.args.prepared.dated.plan.dag c.args.prepared.dated.runs c.args.report c.args.what
     (is_alone c.args.crew.now.progress) (with_clocks (launching_of c.args.crew.now.launching) (clocks_in c.args.prepared.dated)) (g.RT.Starter.may_lose c.args.crew.now.rt.now)
     c.args.prepared.answers _ c.in_err-clearing.ensures.fault)
 
@@ -33,5 +33,5 @@ pub returns-clause-fault : goal.returns-clause-fault
 returns-clause-fault g c =
     let stop : _ = rw (c.at-crew.ensures.machine, c.at-crew.ensures.progress, c.at-crew.ensures.launching, c.deref.ensures.value) at c.write_backfill.ensures.stop in
     again_stop_in (is_alone c.args.crew.now.progress) (with_clocks (launching_of c.args.crew.now.launching) (clocks_in c.args.prepared.dated)) (g.RT.Starter.may_lose c.args.crew.now.rt.now)
-    c.args.prepared.dated.plan.dag c.args.prepared.dated.runs c.args.report.now c.args.what (kept_in c.in_ok-clearing.clearing.kept)
+    c.args.prepared.dated.plan.dag c.args.prepared.dated.runs c.args.report c.args.what (kept_in c.in_ok-clearing.clearing.kept)
     c.in_ok-clearing.ensures.cleared.kept_is c.args.prepared.answers _ stop

@@ -12,7 +12,7 @@ use Rattle.bf_clear.proofs.cleared.ClearedKeptTries.answer.Goals as goal
 pub returns-in-Some : goal.returns-in-Some
 returns-in-Some c =
     let few : _ = ap (λ (d : Dag). length d.tasks) c.dag-dag.ensures.dag in
-    let inside : Clearance = record { dag = c.self.inside.plan.now.dag; cleared = c.self.inside.cleared; report = c.self.inside.report.now } in
+    let inside : Clearance = record { dag = c.self.inside.plan.now.dag; cleared = c.self.inside.cleared; report = c.self.inside.report } in
     let fits : SFits w32 c.args.name.index = search rules in
     let index : to_z w32 (of_z w32 c.args.name.index) ≡ c.args.name.index = to_z-of_z w32 c.args.name.index fits in
     IfOk-weaker c.answer_of_instance.result _ _ (λ o is.
@@ -25,6 +25,6 @@ returns-in-Some c =
 
 pub returns-in-None : goal.returns-in-None
 returns-in-None c =
-    let inside : Clearance = record { dag = c.self.inside.plan.now.dag; cleared = c.self.inside.cleared; report = c.self.inside.report.now } in
+    let inside : Clearance = record { dag = c.self.inside.plan.now.dag; cleared = c.self.inside.cleared; report = c.self.inside.report } in
     subst (λ (k : Clearance). IsAnsweredBy (kept_in k) c.args.name c.args.given.now None) c.self.view_is
     (answers-none inside c.args.name c.args.given.now (sym c.instance_at.ensures ∙ ap option_copied c.in-None.is))

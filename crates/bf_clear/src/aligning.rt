@@ -1,0 +1,144 @@
+//! What a report tells of the tasks of a plan and of its runs, where it is one of another shape or of other runs.
+ghost use Rattle.std.specs.Prelude.{◌≡◌, ◌≢◌, ℕ, Option, None, All, AllPairs, IfOk, map};
+ghost use Rattle.std.specs.List.{position};
+ghost use Rattle.std.specs.Str.{bytes_eq};
+ghost use Rattle.bf_interval.specs.Intervals.{IsShownInterval};
+ghost use Rattle.bf_interval.specs.Runs.{AreOfRuns};
+ghost use Rattle.bf_interval.specs.declared.interval.Interval.{Interval as IntervalTerm};
+ghost use Rattle.bf_clear.specs.Aligning.{AreAlignedBy, AreApart, IsAligned, is_over, tasks_at, told_at};
+
+use crate::matching::is_same_interval;
+use bf_interval::{Interval, Runs};
+use bf_plan::{Plan, Task};
+use bf_report::{Report, RunReport, TaskReport};
+use bf_value::{OutOfMemory, Sequence, Text};
+use bf_xcom::RunState;
+use std::alloc::Global;
+use std::mem;
+
+fn place_of(ids: &[Text], task: &Task) -> Option<usize>
+    ensures { result ≡ position (bytes_eq task.now.id) ids.now }
+{
+    let id = task.id.as_str();
+    ids.iter().position(|known| id == known.as_str())
+}
+
+/// Where each task's id stands among these.
+fn places_of(alloc: Global, ids: &[Text], tasks: &[Task]) -> Result<Vec<Option<usize>>, OutOfMemory>
+    ensures { IfOk result (λ places. places.items ≡ map (λ task. position (bytes_eq task.id) ids.now) tasks.now) }
+{
+    let mut places = Vec::with_capacity(alloc, tasks.len())?;
+    for task in tasks {
+        places.push(place_of(ids, task))?;
+    }
+    Ok(places)
+}
+
+fn ids_of(alloc: Global, tasks: &[Task]) -> Result<Sequence<Text>, OutOfMemory>
+    ensures { IfOk result (λ ids. ids ≡ map (λ task. task.id) tasks.now) }
+{
+    let mut ids = Vec::with_capacity(alloc, tasks.len())?;
+    for task in tasks {
+        ids.push(task.id.copy(alloc)?)?;
+    }
+    Ok(Sequence::from_vec(ids))
+}
+
+/// Takes what is told at a place.
+fn take_at(tasks: &mut Sequence<TaskReport>, place: Option<usize>) -> TaskReport
+    ensures told { result ≡ told_at tasks.old place }
+    ensures others { (other : Option ℕ) → (place ≡ other → place ≡ None)
+        → told_at tasks.new other ≡ told_at tasks.old other }
+{
+    match place {
+        Some(place) if place < tasks.len() => tasks.replace(place, TaskReport::NoStatus),
+        _ => TaskReport::NoStatus,
+    }
+}
+
+/// What is told of each task, by the places of all.
+fn tasks_by(
+    alloc: Global,
+    places: &[Option<usize>],
+    mut told: Sequence<TaskReport>,
+) -> Result<Sequence<TaskReport>, OutOfMemory>
+    requires { AreApart places.now }
+    ensures { IfOk result (λ tasks. tasks ≡ map (told_at told) places.now) }
+{
+    let mut tasks = Vec::with_capacity(alloc, places.len())?;
+    for i in 0..places.len() {
+        tasks.push(take_at(&mut told, places[i]))?;
+    }
+    Ok(Sequence::from_vec(tasks))
+}
+
+fn place_at(runs: &[RunReport], interval: &Interval) -> Option<usize>
+    ensures { result ≡ position (is_over interval.now) runs.now }
+{
+    runs.iter()
+        .position(|run| is_same_interval(&run.interval, interval))
+}
+
+/// Takes what is told of the run over a data interval.
+fn take_tasks(alloc: Global, runs: &mut Vec<RunReport>, interval: &Interval) -> Sequence<TaskReport>
+    ensures told { result ≡ tasks_at runs.old.items interval.now }
+    ensures others { (other : IntervalTerm) → other.start.nanosecond ≢ interval.now.start.nanosecond
+        → tasks_at runs.new.items other ≡ tasks_at runs.old.items other }
+{
+    match place_at(runs.as_slice(), interval) {
+        Some(place) => mem::replace(&mut runs[place].tasks, Sequence::new(alloc)),
+        None => Sequence::new(alloc),
+    }
+}
+
+/// What is told of each run.
+fn runs_by(
+    alloc: Global,
+    places: &[Option<usize>],
+    mut told: Vec<RunReport>,
+    intervals: &[Interval],
+) -> Result<Sequence<RunReport>, OutOfMemory>
+    requires apart { AreApart places.now }
+    requires shown { All IsShownInterval intervals.now }
+    requires of_runs { AreOfRuns intervals.now }
+    ensures { IfOk result (AreAlignedBy places.now told.items intervals.now) }
+{
+    let mut runs = Vec::with_capacity(alloc, intervals.len())?;
+    for i in 0..intervals.len() {
+        let interval = intervals[i];
+        let tasks = take_tasks(alloc, &mut told, &interval);
+        runs.push(RunReport {
+            interval,
+            state: RunState::Failed,
+            tasks: tasks_by(alloc, places, tasks)?,
+        })?;
+    }
+    Ok(Sequence::from_vec(runs))
+}
+
+/// What a report tells of the tasks of a plan, by their ids, and of these runs, by their data intervals: a report of what is there now,
+/// whatever shape the backfill had that it is of. The states of runs aren't told. No value is copied.
+pub(crate) fn align(
+    alloc: Global,
+    plan: &Plan,
+    runs: &Runs,
+    report: Report,
+) -> Result<Report, OutOfMemory>
+    ensures { IfOk result (IsAligned plan.now.dag runs.now report) }
+{
+    let dag = plan.dag();
+    let tasks = dag.tasks.as_slice();
+    let places = places_of(alloc, report.tasks.as_slice(), tasks)?;
+    let runs = runs_by(
+        alloc,
+        places.as_slice(),
+        report.runs.into_vec(),
+        runs.intervals(),
+    )?;
+    Ok(Report {
+        version: report.version,
+        dag_id: report.dag_id,
+        tasks: ids_of(alloc, tasks)?,
+        runs,
+    })
+}
