@@ -1,19 +1,23 @@
 -- What the matches of a command line ask for.
-use Rattle.std.specs.Prelude.{◌≡◌, ◌&&◌, ◌||◌, ◌==◌, ℕ, ℤ, Bool, true, false, not, List, [], length, slice_get, Option, None, Some, Ok, codes, bytes_eq, option_map, unwrap_or, String, string_bytes}
+use Rattle.std.specs.Prelude.{◌≡◌, ◌&&◌, ◌||◌, ◌==◌, ℕ, ℤ, Bool, true, false, not, List, [], length, slice_get, Option, None, Some, Ok, codes, bytes_eq, is_some, option_map, unwrap_or, String, string_bytes}
 use Rattle.std.specs.Int.{w32}
 use Rattle.std.specs.declared.alloc.Global.{Global}
 use Rattle.std.specs.Str.Parse.{ParsesSigned, ParsesUnsigned}
 use Rattle.clap.specs.Words.{Row, Text, all_of, first_of}
 use Rattle.bf_command_line.specs.declared.forms.Asked.{Asked}
-use Rattle.bf_command_line.specs.declared.forms.Asked.TheVariants.{Check, Clear, ClearPlan, Completions, Dry, List as Intervals, Page, Run, Schema, ShowJson, Single}
+use Rattle.bf_command_line.specs.declared.forms.Asked.TheVariants.{Check, Clear, ClearPlan, Completions, Dry, Keep, List as Intervals, Page, Run, Schema, Show, ShowJson, Single}
+use Rattle.bf_command_line.specs.declared.forms.ClearAsked.{ClearAsked}
 use Rattle.bf_command_line.specs.declared.forms.ClearedAsked.{ClearedAsked}
 use Rattle.bf_command_line.specs.declared.forms.ClearedAsked.TheVariants as cleared
+use Rattle.bf_command_line.specs.declared.forms.Color.{Color}
+use Rattle.bf_command_line.specs.declared.forms.Color.TheVariants as color
 use Rattle.bf_command_line.specs.declared.forms.CommandLine.{CommandLine}
 use Rattle.bf_command_line.specs.declared.forms.Format.{Format}
 use Rattle.bf_command_line.specs.declared.forms.Format.TheVariants as format
 use Rattle.bf_command_line.specs.declared.forms.GraphAsked.{GraphAsked}
 use Rattle.bf_command_line.specs.declared.forms.JournalAsked.{JournalAsked}
 use Rattle.bf_command_line.specs.declared.forms.RangeAsked.{RangeAsked}
+use Rattle.bf_command_line.specs.declared.forms.RunAsked.{RunAsked}
 use Rattle.bf_command_line.specs.declared.forms.SeedAsked.{SeedAsked}
 use Rattle.bf_command_line.specs.declared.forms.Shell.{Shell}
 use Rattle.bf_command_line.specs.declared.forms.Shell.TheVariants.{Bash, Fish, Zsh}
@@ -29,6 +33,20 @@ IsGraphBy rows g = (first_of (codes "graph") rows ≡ Some (string_bytes g.graph
 abbrev pub says_true : Option Text → Bool
 says_true None = false
 says_true (Some text) = bytes_eq text (codes "true")
+
+-- the text is this one
+abbrev pub says : Option Text → Text → Bool
+says None words = false
+says (Some text) words = bytes_eq text words
+
+-- the path is that of a graph, a table, a zone file, seeds or a journal
+abbrev pub is_overwritten : List Row → Option Text → Bool
+is_overwritten rows None = false
+is_overwritten rows (Some path) = says (first_of (codes "graph") rows) path
+    || (says (first_of (codes "table") rows) path
+    || (says (first_of (codes "zone_file") rows) path
+    || (says (first_of (codes "seeds") rows) path
+    || says (first_of (codes "journal") rows) path)))
 
 -- where data intervals start: the first and the last moment of a range, or days
 abbrev pub IsStartsBy : List Row → StartsAsked → Type 0
@@ -82,6 +100,7 @@ IsClearedBy rows (cleared.File path) = (first_of (codes "seeds") rows ≡ Some (
 IsClearedBy rows cleared.Failed = (first_of (codes "seeds") rows ≡ None)
     × (says_true (first_of (codes "failed") rows) ≡ true)
     × (has_seeds rows ≡ false)
+IsClearedBy rows cleared.Nothing = ⊥
 
 -- the number that the text says in decimal digits, or one where there is no text
 abbrev pub IsNumberOr1 : Option Text → ℕ → Type 0
@@ -125,6 +144,27 @@ IsJournalBy rows (Some j) = (first_of (codes "journal") rows ≡ Some (string_by
     × IsNumberIfGiven (first_of (codes "stop_after") rows) j.stop_after
     × (j.retry_failed ≡ says_true (first_of (codes "retry_failed") rows))
 
+-- an argument has a value
+abbrev pub is_given : Text → List Row → Bool
+is_given id rows = is_some (first_of id rows)
+
+-- something is told of a grid
+abbrev pub has_grid : List Row → Bool
+has_grid rows = is_given (codes "graph") rows || (is_given (codes "report") rows || (is_given (codes "zone_file") rows
+    || (is_given (codes "from") rows || (is_given (codes "to") rows || (is_given (codes "width") rows
+    || (is_given (codes "color") rows || says_true (first_of (codes "failed") rows)))))))
+
+-- the word for when text is coloured
+abbrev pub color_word : Color → Text
+color_word color.Auto = codes "auto"
+color_word color.Always = codes "always"
+color_word color.Never = codes "never"
+
+-- when text is coloured: automatically where that isn't told
+abbrev pub IsColorBy : Option Text → Color → Type 0
+IsColorBy None when = when ≡ color.Auto
+IsColorBy (Some text) when = text ≡ color_word when
+
 -- the word of a format
 abbrev pub format_word : Format → Text
 format_word format.Graph = codes "graph"
@@ -143,6 +183,33 @@ shell_word Fish = codes "fish"
 -- the shell whose completions are printed
 abbrev pub IsShellBy : List Row → Shell → Type 0
 IsShellBy rows shell = first_of (codes "shell") rows ≡ Some (shell_word shell)
+
+-- what a command that starts programs asks for beside its files
+abbrev pub IsProgramsBy : List Row → RunAsked → Type 0
+IsProgramsBy rows r = IsGraphBy rows r.graph
+    × IsRangeBy rows r.range
+    × IsWorkersBy rows r.workers
+    × IsProgressUnlessQuietBy rows r.progress
+    × IsQuietBy rows r.quiet
+    × IsLauncherBy rows r.launcher
+    × IsLogsBy rows r.logs
+    × IsJournalBy rows r.journal
+
+-- `run` that keeps a report; or where there is a table `dry`, which starts no program
+abbrev pub IsKeepingBy : Text → List Row → Option (String Global) → ClearAsked → Type 0
+IsKeepingBy name rows None c = (name ≡ codes "run")
+    × IsProgressUnlessQuietBy rows c.progress
+    × IsQuietBy rows c.quiet
+    × IsLauncherBy rows c.launcher
+    × IsLogsBy rows c.logs
+    × IsJournalBy rows c.journal
+IsKeepingBy name rows (Some table) c = (name ≡ codes "dry")
+    × (first_of (codes "table") rows ≡ Some (string_bytes table))
+    × IsProgressBy rows c.progress
+    × (c.quiet ≡ false)
+    × (c.launcher ≡ None)
+    × (c.logs ≡ None)
+    × (c.journal ≡ None)
 
 -- the subcommand's name, and the value of each of its arguments
 abbrev pub IsAskedBy : Option (Text × List Row) → Asked → Type 0
@@ -163,15 +230,16 @@ IsAskedBy (Some (name, rows)) (Dry d) = (name ≡ codes "dry")
     × IsRangeBy rows d.range
     × IsWorkersBy rows d.workers
     × IsProgressBy rows d.progress
+    × (first_of (codes "keep") rows ≡ None)
 IsAskedBy (Some (name, rows)) (Run r) = (name ≡ codes "run")
-    × IsGraphBy rows r.graph
-    × IsRangeBy rows r.range
-    × IsWorkersBy rows r.workers
-    × IsProgressUnlessQuietBy rows r.progress
-    × IsQuietBy rows r.quiet
-    × IsLauncherBy rows r.launcher
-    × IsLogsBy rows r.logs
-    × IsJournalBy rows r.journal
+    × IsProgramsBy rows r
+    × (first_of (codes "keep") rows ≡ None)
+IsAskedBy (Some (name, rows)) (Keep c) = (first_of (codes "keep") rows ≡ Some (string_bytes c.report))
+    × IsGraphBy rows c.graph
+    × IsRangeBy rows c.range
+    × (c.cleared ≡ cleared.Nothing)
+    × IsWorkersBy rows c.workers
+    × IsKeepingBy name rows c.table c
 IsAskedBy (Some (name, rows)) (Clear c) = (name ≡ codes "clear")
     × IsGraphBy rows c.graph
     × (first_of (codes "report") rows ≡ Some (string_bytes c.report))
@@ -191,7 +259,18 @@ IsAskedBy (Some (name, rows)) (ClearPlan c) = (name ≡ codes "clear")
     × IsRangeBy rows c.range
     × IsClearedBy rows c.cleared
     × (says_true (first_of (codes "plan") rows) ≡ true)
-IsAskedBy (Some (name, rows)) (ShowJson report) = (name ≡ codes "show") × (first_of (codes "json") rows ≡ Some (string_bytes report))
+IsAskedBy (Some (name, rows)) (Show s) = (name ≡ codes "show")
+    × (first_of (codes "json") rows ≡ None)
+    × IsGraphBy rows s.graph
+    × (first_of (codes "report") rows ≡ Some (string_bytes s.report))
+    × (first_of (codes "from") rows ≡ option_map string_bytes s.from)
+    × (first_of (codes "to") rows ≡ option_map string_bytes s.to)
+    × (s.failed ≡ says_true (first_of (codes "failed") rows))
+    × IsNumberIfGiven (first_of (codes "width") rows) s.width
+    × IsColorBy (first_of (codes "color") rows) s.color
+IsAskedBy (Some (name, rows)) (ShowJson report) = (name ≡ codes "show")
+    × (first_of (codes "json") rows ≡ Some (string_bytes report))
+    × (has_grid rows ≡ false)
 IsAskedBy (Some (name, rows)) (Page p) = (name ≡ codes "page")
     × IsGraphBy rows p.graph
     × (first_of (codes "report") rows ≡ Some (string_bytes p.report))

@@ -1,4 +1,2 @@
-pub mod CommandLine
 pub mod Asked
 pub mod Wrongs
-pub mod Drafts

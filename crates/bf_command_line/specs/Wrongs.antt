@@ -4,8 +4,9 @@ use Rattle.std.specs.List.{list_any}
 use Rattle.clap.specs.Kinds.{or_else}
 use Rattle.clap.specs.Words.{Kinds, Row, Text, fault_of, first_of, subcommand_of}
 use Rattle.clap.specs.declared.error.kind.ErrorKind.TheVariants.{ArgumentConflict, InvalidValue, MissingRequiredArgument, WrongNumberOfValues}
-use Rattle.bf_command_line.specs.Asked.{format_word, has_seeds, has_some, says_true, shell_word, texts_of}
-use Rattle.bf_command_line.specs.CommandLine.{backfill_app}
+use Rattle.bf_command_line.specs.Asked.{color_word, format_word, has_grid, has_seeds, has_some, is_given, is_overwritten, says_true, shell_word, texts_of}
+use Rattle.bf_grammar.specs.Grammar.{backfill_app}
+use Rattle.bf_command_line.specs.declared.forms.Color.TheVariants.{Always, Auto, Never}
 use Rattle.bf_command_line.specs.declared.forms.Format.TheVariants.{Graph, Table}
 use Rattle.bf_command_line.specs.declared.forms.Shell.TheVariants.{Bash, Fish, Zsh}
 
@@ -14,6 +15,9 @@ format_words = format_word Graph ∷ format_word Table ∷ []
 
 abbrev pub shell_words : List Text
 shell_words = shell_word Bash ∷ shell_word Zsh ∷ shell_word Fish ∷ []
+
+abbrev pub color_words : List Text
+color_words = color_word Auto ∷ color_word Always ∷ color_word Never ∷ []
 
 -- the value is none of the words that are possible
 abbrev pub value_wrongs : List Text → Option Text → Kinds
@@ -36,9 +40,14 @@ journal_wrongs rows =
     if not (is_some (first_of (codes "journal") rows)) && (is_some (first_of (codes "stop_after") rows) || says_true (first_of (codes "retry_failed") rows))
     then MissingRequiredArgument ∷ [] else []
 
--- the range comes before the journal
+-- a path of no byte
+abbrev pub empty_wrongs : Option Text → Kinds
+empty_wrongs (Some []) = InvalidValue ∷ []
+empty_wrongs path = []
+
+-- the range comes before the journal, and that before the folder of logs
 abbrev pub programs_wrongs : List Row → Kinds
-programs_wrongs rows = or_else (range_wrongs rows) (journal_wrongs rows)
+programs_wrongs rows = or_else (range_wrongs rows) (or_else (journal_wrongs rows) (empty_wrongs (first_of (codes "logs") rows)))
 
 -- there are as many runs as tasks, and as many indexes where there are some
 abbrev pub pair_wrongs : List Text → List Text → List Text → Kinds
@@ -65,14 +74,30 @@ cleared_wrongs rows = choice_wrongs (first_of (codes "seeds") rows) (has_seeds r
 abbrev pub clear_wrongs : List Row → Kinds
 clear_wrongs rows = or_else (cleared_wrongs rows) (programs_wrongs rows)
 
--- of the subcommand's arguments, those that `clap` doesn't look at
-abbrev pub found_wrongs : Option (Text × List Row) → Kinds
-found_wrongs None = []
-found_wrongs (Some (name, rows)) = if bytes_eq name (codes "schema") then value_wrongs format_words (first_of (codes "format") rows)
+-- a report stands beside a graph, or alone behind `--json`
+abbrev pub show_wrongs : List Row → Kinds
+show_wrongs rows =
+    if is_given (codes "json") rows then (if has_grid rows then ArgumentConflict ∷ [] else [])
+    else (if is_given (codes "graph") rows && is_given (codes "report") rows then value_wrongs color_words (first_of (codes "color") rows)
+    else MissingRequiredArgument ∷ [])
+
+-- of the arguments of the command of this name, those that `clap` doesn't look at
+abbrev pub command_wrongs : Text → List Row → Kinds
+command_wrongs name rows = if bytes_eq name (codes "schema") then value_wrongs format_words (first_of (codes "format") rows)
     else (if bytes_eq name (codes "completions") then value_wrongs shell_words (first_of (codes "shell") rows)
     else (if bytes_eq name (codes "run") then programs_wrongs rows
     else (if bytes_eq name (codes "clear") then clear_wrongs rows
-    else (if bytes_eq name (codes "list") || bytes_eq name (codes "dry") then range_wrongs rows else []))))
+    else (if bytes_eq name (codes "show") then show_wrongs rows
+    else (if bytes_eq name (codes "list") || bytes_eq name (codes "dry") then range_wrongs rows else [])))))
+
+-- a report is written over no file that the command reads, but the report that it goes on from, and not over its journal
+abbrev pub out_wrongs : List Row → Kinds
+out_wrongs rows = if is_overwritten rows (first_of (codes "out") rows) then ArgumentConflict ∷ [] else []
+
+-- the path of the report comes before the command's other arguments
+abbrev pub found_wrongs : Option (Text × List Row) → Kinds
+found_wrongs None = []
+found_wrongs (Some (name, rows)) = or_else (out_wrongs rows) (command_wrongs name rows)
 
 -- what `clap` finds, and else a value that isn't possible
 abbrev pub wrongs_of : List Text → Kinds

@@ -99,6 +99,8 @@ pub enum ClearedAsked {
     File(String),
     /// `--failed`: each instance that failed.
     Failed,
+    /// Nothing, with `--keep`.
+    Nothing,
 }
 
 /// `clear GRAPH REPORT RANGE CLEARED [--table PATH] [--workers N] [--progress] [--launcher PATH] [--logs FOLDER]
@@ -127,6 +129,28 @@ pub struct ClearPlanAsked {
     pub report: String,
     pub range: RangeAsked,
     pub cleared: ClearedAsked,
+}
+
+/// When text is coloured.
+#[derive(Clone, Copy, PartialEq, Eq)]
+pub enum Color {
+    /// On a terminal, unless its variables say otherwise.
+    Auto,
+    Always,
+    Never,
+}
+
+/// `show GRAPH REPORT [--from T] [--to T] [--failed] [--width N] [--color WHEN]`: a report of a graph as a grid, of which the runs
+/// from a moment on or up to one may be shown, and only what failed; its width in characters, 20 to 10,000, and its colours.
+#[derive(Drop)]
+pub struct ShowAsked {
+    pub graph: GraphAsked,
+    pub report: String,
+    pub from: Option<String>,
+    pub to: Option<String>,
+    pub failed: bool,
+    pub width: Option<u32>,
+    pub color: Color,
 }
 
 /// `page GRAPH REPORT [--states-only]`: the page that shows a report, from which its values are left out where only the states
@@ -162,9 +186,13 @@ pub enum Asked {
     Single(SingleAsked),
     Dry(DryAsked),
     Run(RunAsked),
+    /// `run GRAPH RANGE --keep REPORT ..` and `dry GRAPH TABLE RANGE --keep REPORT ..`: a backfill that goes on from the report of one of the
+    /// same graph, whatever shape that had and whatever runs there were; in the form that `clear` has.
+    Keep(ClearAsked),
     Clear(ClearAsked),
     /// What `Clear` would clear.
     ClearPlan(ClearPlanAsked),
+    Show(ShowAsked),
     /// `show --json REPORT`: the task instances of a report, as lines of JSON.
     ShowJson(String),
     Page(PageAsked),

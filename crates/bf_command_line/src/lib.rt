@@ -1,17 +1,24 @@
-//! The command line: what it may say, as `clap` reads it, and what its words ask for.
+//! What the words of a command line ask for. bf_grammar says which words there are, and `clap` takes
+//! them apart; what it finds is read here into one form for each command, and what it can't look at
+//! is refused in its manner: a range that is told twice or not at all, options that need another,
+//! words that aren't among the few that are possible.
 #![tactic(auto)]
 
-mod argument;
-mod command;
-mod draft;
+mod choice;
+mod clearing;
 mod forms;
+mod keeping;
+mod programs;
+mod range;
 mod reading;
 mod refusal;
+mod showing;
+mod value;
 mod viewing;
 
 pub use forms::{
-    Asked, CheckAsked, ClearAsked, ClearPlanAsked, ClearedAsked, CommandLine, DryAsked, Format,
-    GraphAsked, JournalAsked, ListAsked, PageAsked, RangeAsked, RunAsked, SeedAsked, Shell,
-    SingleAsked, StartsAsked,
+    Asked, CheckAsked, ClearAsked, ClearPlanAsked, ClearedAsked, Color, CommandLine, DryAsked,
+    Format, GraphAsked, JournalAsked, ListAsked, PageAsked, RangeAsked, RunAsked, SeedAsked, Shell,
+    ShowAsked, SingleAsked, StartsAsked,
 };
 pub use reading::asked;

@@ -2,8 +2,7 @@
 ghost use Rattle.std.specs.Prelude.{◌≡◌, IfOk};
 ghost use Rattle.clap.specs.Words.{kind_of};
 
-use crate::command::{clear, completions, dry, list, run, schema};
-use crate::draft::Draft;
+use bf_grammar::refuse;
 use clap::Error;
 use clap::error::ErrorKind;
 use std::alloc::{AllocError, Global};
@@ -14,11 +13,16 @@ const NO_FORMAT: &str = "invalid value for '<FORMAT>'\n\
 const NO_JOURNAL: &str = "the following required arguments were not provided:\n\
     \x20 --journal <PATH>";
 
+const NO_FOLDER: &str = "a value is required for '--logs <FOLDER>' but none was supplied";
+
 const NO_RANGE: &str = "the following required arguments were not provided:\n\
     \x20 --from <T> and --to <T>, or --on <DAYS>";
 
 const TWO_RANGES: &str =
     "the argument '--on <DAYS>' cannot be used with '--from <T>' or '--to <T>'";
+
+const OVERWRITING: &str =
+    "the argument '--out <PATH>' cannot name a file that the command reads, or its journal";
 
 const NOTHING_CLEARED: &str = "the following required arguments were not provided:\n\
     \x20 --task <ID> and --run <T>, or --seeds <PATH>, or --failed";
@@ -31,61 +35,59 @@ const UNPAIRED: &str =
 
 const ODD_INDEXES: &str = "as many '--index <N>' are needed as '--task <ID>', or none";
 
+const NO_REPORT: &str = "the following required arguments were not provided:\n\
+    \x20 <GRAPH> and <REPORT>, or --json <REPORT>";
+
+const JSON_WITH_MORE: &str = "the argument '--json <REPORT>' cannot be used with another";
+
+const NO_COLOR_WORD: &str = "invalid value for '--color <WHEN>'\n\
+    \x20 [possible values: auto, always, never]";
+
 const NO_SHELL: &str = "invalid value for '<SHELL>'\n\
     \x20 [possible values: bash, zsh, fish]";
-
-/// What is said of words that a command doesn't take.
-fn refusal(command: Draft<'_>, name: &str, kind: ErrorKind, text: &str) -> Result<Error, AllocError>
-    ensures { IfOk result (λ e. kind_of e ≡ kind) }
-{
-    command.command?.bin_name(name)?.error(kind, text)
-}
-
-/// What is said of words that the command of this name doesn't take, which goes over a range.
-fn ranged_refusal(
-    alloc: Global,
-    name: &str,
-    kind: ErrorKind,
-    text: &str,
-) -> Result<Error, AllocError>
-    ensures { IfOk result (λ e. kind_of e ≡ kind) }
-{
-    match name {
-        "list" => refusal(list(alloc), "backfill list", kind, text),
-        "dry" => refusal(dry(alloc), "backfill dry", kind, text),
-        "run" => refusal(run(alloc), "backfill run", kind, text),
-        _ => refusal(clear(alloc), "backfill clear", kind, text),
-    }
-}
 
 /// What is said where it isn't told where data intervals start.
 pub(crate) fn no_range(alloc: Global, name: &str) -> Result<Error, AllocError>
     ensures { IfOk result (λ e. kind_of e ≡ ErrorKind.MissingRequiredArgument) }
 {
-    ranged_refusal(alloc, name, ErrorKind::MissingRequiredArgument, NO_RANGE)
+    refuse(alloc, name, ErrorKind::MissingRequiredArgument, NO_RANGE)
 }
 
 /// What is said where that is told twice.
 pub(crate) fn two_ranges(alloc: Global, name: &str) -> Result<Error, AllocError>
     ensures { IfOk result (λ e. kind_of e ≡ ErrorKind.ArgumentConflict) }
 {
-    ranged_refusal(alloc, name, ErrorKind::ArgumentConflict, TWO_RANGES)
+    refuse(alloc, name, ErrorKind::ArgumentConflict, TWO_RANGES)
 }
 
 /// What is said of `--stop-after` and `--retry-failed` without a journal.
 pub(crate) fn no_journal(alloc: Global, name: &str) -> Result<Error, AllocError>
     ensures { IfOk result (λ e. kind_of e ≡ ErrorKind.MissingRequiredArgument) }
 {
-    ranged_refusal(alloc, name, ErrorKind::MissingRequiredArgument, NO_JOURNAL)
+    refuse(alloc, name, ErrorKind::MissingRequiredArgument, NO_JOURNAL)
+}
+
+/// What is said of a folder of logs without a name.
+pub(crate) fn no_folder(alloc: Global, name: &str) -> Result<Error, AllocError>
+    ensures { IfOk result (λ e. kind_of e ≡ ErrorKind.InvalidValue) }
+{
+    refuse(alloc, name, ErrorKind::InvalidValue, NO_FOLDER)
+}
+
+/// What is said of a report that would take the place of another file.
+pub(crate) fn overwriting(alloc: Global, name: &str) -> Result<Error, AllocError>
+    ensures { IfOk result (λ e. kind_of e ≡ ErrorKind.ArgumentConflict) }
+{
+    refuse(alloc, name, ErrorKind::ArgumentConflict, OVERWRITING)
 }
 
 /// What is said where it isn't told what is cleared.
 pub(crate) fn nothing_cleared(alloc: Global) -> Result<Error, AllocError>
     ensures { IfOk result (λ e. kind_of e ≡ ErrorKind.MissingRequiredArgument) }
 {
-    refusal(
-        clear(alloc),
-        "backfill clear",
+    refuse(
+        alloc,
+        "clear",
         ErrorKind::MissingRequiredArgument,
         NOTHING_CLEARED,
     )
@@ -95,58 +97,54 @@ pub(crate) fn nothing_cleared(alloc: Global) -> Result<Error, AllocError>
 pub(crate) fn cleared_twice(alloc: Global) -> Result<Error, AllocError>
     ensures { IfOk result (λ e. kind_of e ≡ ErrorKind.ArgumentConflict) }
 {
-    refusal(
-        clear(alloc),
-        "backfill clear",
-        ErrorKind::ArgumentConflict,
-        CLEARED_TWICE,
-    )
+    refuse(alloc, "clear", ErrorKind::ArgumentConflict, CLEARED_TWICE)
 }
 
 /// What is said of more tasks than runs, or fewer.
 pub(crate) fn unpaired(alloc: Global) -> Result<Error, AllocError>
     ensures { IfOk result (λ e. kind_of e ≡ ErrorKind.MissingRequiredArgument) }
 {
-    refusal(
-        clear(alloc),
-        "backfill clear",
-        ErrorKind::MissingRequiredArgument,
-        UNPAIRED,
-    )
+    refuse(alloc, "clear", ErrorKind::MissingRequiredArgument, UNPAIRED)
 }
 
 /// What is said of more map indexes than tasks, or fewer.
 pub(crate) fn odd_indexes(alloc: Global) -> Result<Error, AllocError>
     ensures { IfOk result (λ e. kind_of e ≡ ErrorKind.WrongNumberOfValues) }
 {
-    refusal(
-        clear(alloc),
-        "backfill clear",
-        ErrorKind::WrongNumberOfValues,
-        ODD_INDEXES,
-    )
+    refuse(alloc, "clear", ErrorKind::WrongNumberOfValues, ODD_INDEXES)
+}
+
+/// What is said where it isn't told which report is shown.
+pub(crate) fn no_report(alloc: Global) -> Result<Error, AllocError>
+    ensures { IfOk result (λ e. kind_of e ≡ ErrorKind.MissingRequiredArgument) }
+{
+    refuse(alloc, "show", ErrorKind::MissingRequiredArgument, NO_REPORT)
+}
+
+/// What is said of `--json` beside what a grid has.
+pub(crate) fn json_with_more(alloc: Global) -> Result<Error, AllocError>
+    ensures { IfOk result (λ e. kind_of e ≡ ErrorKind.ArgumentConflict) }
+{
+    refuse(alloc, "show", ErrorKind::ArgumentConflict, JSON_WITH_MORE)
+}
+
+/// What is said of a word that doesn't tell when to colour.
+pub(crate) fn no_color_word(alloc: Global) -> Result<Error, AllocError>
+    ensures { IfOk result (λ e. kind_of e ≡ ErrorKind.InvalidValue) }
+{
+    refuse(alloc, "show", ErrorKind::InvalidValue, NO_COLOR_WORD)
 }
 
 /// What is said of a word that is no format.
 pub(crate) fn no_format(alloc: Global) -> Result<Error, AllocError>
     ensures { IfOk result (λ e. kind_of e ≡ ErrorKind.InvalidValue) }
 {
-    refusal(
-        schema(alloc),
-        "backfill schema",
-        ErrorKind::InvalidValue,
-        NO_FORMAT,
-    )
+    refuse(alloc, "schema", ErrorKind::InvalidValue, NO_FORMAT)
 }
 
 /// What is said of a word that is no shell.
 pub(crate) fn no_shell(alloc: Global) -> Result<Error, AllocError>
     ensures { IfOk result (λ e. kind_of e ≡ ErrorKind.InvalidValue) }
 {
-    refusal(
-        completions(alloc),
-        "backfill completions",
-        ErrorKind::InvalidValue,
-        NO_SHELL,
-    )
+    refuse(alloc, "completions", ErrorKind::InvalidValue, NO_SHELL)
 }

@@ -1,6 +1,6 @@
 use Rattle.std.proofs.Common.{rules, map, string_bytes, List}
 use Rattle.clap.specs.Words.{Text, fault_of, subcommand_of}
-use Rattle.bf_command_line.specs.CommandLine.{backfill_app}
+use Rattle.bf_grammar.specs.Grammar.{backfill_app}
 use Rattle.bf_command_line.specs.Wrongs.{found_wrongs}
 use Rattle.bf_command_line.proofs.Words.{of_first}
 use Rattle.bf_command_line.proofs.reading.asked.Goals as goal

@@ -1,7 +1,7 @@
 use Rattle.std.proofs.Common.{◌≡◌, true, refl, ap, ◌∙◌, subst, List, map, string_bytes}
 use Rattle.std.proofs.lemmas.Result.{IfOk-weaker}
 use Rattle.clap.specs.Words.{App, FailsBy, Text, fault_of, is_simple, is_simple_and_free, subcommand_of}
-use Rattle.bf_command_line.specs.CommandLine.{backfill_app}
+use Rattle.bf_grammar.specs.Grammar.{backfill_app}
 use Rattle.bf_command_line.proofs.reading.matches_of.Goals as goal
 
 simple : is_simple backfill_app ≡ true

@@ -1,0 +1,125 @@
+//! Reads the words of `clear`.
+ghost use Rattle.std.specs.Prelude.{◌≡◌, IfOk, slice_get, Some, codes};
+ghost use Rattle.clap.specs.Words.{FailsBy, found_of, rows_of};
+ghost use Rattle.bf_command_line.specs.Wrongs.{cleared_wrongs, clear_wrongs, seeds_wrongs};
+ghost use Rattle.bf_command_line.specs.Asked.{has_seeds as has_seeds_in, texts_of as texts_in, AreSeedsBy, IsAskedBy, IsClearedBy, IsIntegerIfGiven, IsSeedAt};
+
+use crate::forms::{Asked, ClearAsked, ClearPlanAsked, ClearedAsked, SeedAsked};
+use crate::programs::programs_asked;
+use crate::refusal::{cleared_twice, nothing_cleared, odd_indexes, unpaired};
+use crate::value::{count_of, is_told, optional, required, required_at, text_at};
+use clap::{ArgMatches, Error};
+use std::alloc::{AllocError, Global};
+
+fn index_at(matches: &ArgMatches<'_>, place: usize) -> Result<Option<i32>, AllocError>
+    ensures { IfOk result (IsIntegerIfGiven (slice_get (texts_in (codes "index") (rows_of (found_of matches.now))) place)) }
+{
+    let Some(text) = text_at(matches, "index", place) else {
+        return Ok(None);
+    };
+    match text.parse::<i32>() {
+        Ok(index) => Ok(Some(index)),
+        Err(_) => Err(AllocError),
+    }
+}
+
+fn seed_at(alloc: Global, matches: &ArgMatches<'_>, place: usize) -> Result<SeedAsked, AllocError>
+    ensures { IfOk result (IsSeedAt (rows_of (found_of matches.now)) place) }
+{
+    Ok(SeedAsked {
+        task: required_at(alloc, matches, "task", place)?,
+        run: required_at(alloc, matches, "run", place)?,
+        index: index_at(matches, place)?,
+    })
+}
+
+fn seeds_asked(alloc: Global, matches: &ArgMatches<'_>) -> Result<Vec<SeedAsked>, AllocError>
+    ensures { IfOk result (λ seeds. AreSeedsBy (rows_of (found_of matches.now)) seeds.items) }
+{
+    let mut seeds = Vec::new(alloc);
+    for place in 0..count_of(matches, "task") {
+        let seed = seed_at(alloc, matches, place)?;
+        seeds.push(seed)?;
+    }
+    Ok(seeds)
+}
+
+fn has_seeds(matches: &ArgMatches<'_>) -> bool
+    ensures { result ≡ has_seeds_in (rows_of (found_of matches.now)) }
+{
+    count_of(matches, "task") != 0
+        || count_of(matches, "run") != 0
+        || count_of(matches, "index") != 0
+}
+
+fn refuse_unpaired(alloc: Global, matches: &ArgMatches<'_>) -> Result<(), Error>
+    ensures { FailsBy (seeds_wrongs (rows_of (found_of matches.now))) result }
+{
+    let tasks = count_of(matches, "task");
+    let runs = count_of(matches, "run");
+    let indexes = count_of(matches, "index");
+    if tasks != runs {
+        return Err(unpaired(alloc)?);
+    }
+    if indexes != 0 && indexes != tasks {
+        return Err(odd_indexes(alloc)?);
+    }
+    Ok(())
+}
+
+/// What is cleared.
+fn cleared_asked(alloc: Global, matches: &ArgMatches<'_>) -> Result<ClearedAsked, Error>
+    ensures ok { IfOk result (IsClearedBy (rows_of (found_of matches.now))) }
+    ensures err { FailsBy (cleared_wrongs (rows_of (found_of matches.now))) result }
+{
+    let file = optional(alloc, matches, "seeds")?;
+    let seeds = has_seeds(matches);
+    let failed = is_told(matches, "failed");
+    match (file, seeds, failed) {
+        (None, true, false) => {
+            refuse_unpaired(alloc, matches)?;
+            let seeds = seeds_asked(alloc, matches)?;
+            Ok(ClearedAsked::Seeds(seeds))
+        }
+        (Some(path), false, false) => Ok(ClearedAsked::File(path)),
+        (None, false, true) => Ok(ClearedAsked::Failed),
+        (None, false, false) => Err(nothing_cleared(alloc)?),
+        (None, true, true) => Err(cleared_twice(alloc)?),
+        (Some(_), _, _) => Err(cleared_twice(alloc)?),
+    }
+}
+
+pub(crate) fn clear_asked(
+    alloc: Global,
+    name: &str,
+    matches: &ArgMatches<'_>,
+) -> Result<Asked, Error>
+    ensures ok { IfOk result (IsAskedBy (Some (codes "clear", rows_of (found_of matches.now)))) }
+    ensures err { FailsBy (clear_wrongs (rows_of (found_of matches.now))) result }
+{
+    let cleared = cleared_asked(alloc, matches)?;
+    let run = programs_asked(alloc, name, matches)?;
+    let report = required(alloc, matches, "report")?;
+    let table = optional(alloc, matches, "table")?;
+    if is_told(matches, "plan") {
+        return Ok(Asked::ClearPlan(ClearPlanAsked {
+            graph: run.graph,
+            report,
+            range: run.range,
+            cleared,
+        }));
+    }
+    Ok(Asked::Clear(ClearAsked {
+        graph: run.graph,
+        report,
+        range: run.range,
+        cleared,
+        table,
+        workers: run.workers,
+        progress: run.progress,
+        quiet: run.quiet,
+        launcher: run.launcher,
+        logs: run.logs,
+        journal: run.journal,
+    }))
+}

@@ -1,0 +1,84 @@
+//! What the commands that start programs ask for.
+ghost use Rattle.std.specs.Prelude.{IfOk, codes};
+ghost use Rattle.clap.specs.Words.{FailsBy, first_of, found_of, rows_of};
+ghost use Rattle.bf_command_line.specs.Wrongs.{empty_wrongs, journal_wrongs, programs_wrongs};
+ghost use Rattle.bf_command_line.specs.Asked.{IsJournalBy, IsLogsBy, IsProgramsBy, IsWorkersBy};
+
+use crate::forms::{JournalAsked, RunAsked};
+use crate::range::{graph_asked, range_asked};
+use crate::refusal::{no_folder, no_journal};
+use crate::value::{is_told, number_asked, optional};
+use bf_workers::Workers;
+use clap::{ArgMatches, Error};
+use std::alloc::{AllocError, Global};
+
+#[tactic(auto, using(crate::proofs::Rows::first_rows))]
+pub(crate) fn workers_asked(matches: &ArgMatches<'_>) -> Result<Workers, AllocError>
+    ensures { IfOk result (IsWorkersBy (rows_of (found_of matches.now))) }
+{
+    let Some(text) = matches.get_str("workers") else {
+        return Ok(Workers::one());
+    };
+    match text.parse::<u32>() {
+        Ok(count) => Workers::new(count).ok_or(AllocError),
+        Err(_) => Err(AllocError),
+    }
+}
+
+/// The journal of a command of this name, where it names one.
+fn journal_asked(
+    alloc: Global,
+    name: &str,
+    matches: &ArgMatches<'_>,
+) -> Result<Option<JournalAsked>, Error>
+    ensures ok { IfOk result (IsJournalBy (rows_of (found_of matches.now))) }
+    ensures err { FailsBy (journal_wrongs (rows_of (found_of matches.now))) result }
+{
+    let stop_after = number_asked(matches, "stop_after")?;
+    let retry_failed = is_told(matches, "retry_failed");
+    match optional(alloc, matches, "journal")? {
+        Some(path) => Ok(Some(JournalAsked {
+            path,
+            stop_after,
+            retry_failed,
+        })),
+        None if stop_after.is_some() || retry_failed => Err(no_journal(alloc, name)?),
+        None => Ok(None),
+    }
+}
+
+/// The folder of logs of a command of this name, where it names one.
+fn logs_asked(alloc: Global, name: &str, matches: &ArgMatches<'_>) -> Result<Option<String>, Error>
+    ensures ok { IfOk result (IsLogsBy (rows_of (found_of matches.now))) }
+    ensures err { FailsBy (empty_wrongs (first_of (codes "logs") (rows_of (found_of matches.now)))) result }
+{
+    match optional(alloc, matches, "logs")? {
+        Some(folder) if folder.is_empty() => Err(no_folder(alloc, name)?),
+        folder => Ok(folder),
+    }
+}
+
+/// What a command of this name that starts programs asks for, in the form that `run` has.
+pub(crate) fn programs_asked(
+    alloc: Global,
+    name: &str,
+    matches: &ArgMatches<'_>,
+) -> Result<RunAsked, Error>
+    ensures ok { IfOk result (IsProgramsBy (rows_of (found_of matches.now))) }
+    ensures err { FailsBy (programs_wrongs (rows_of (found_of matches.now))) result }
+{
+    let range = range_asked(alloc, name, matches)?;
+    let workers = workers_asked(matches)?;
+    let journal = journal_asked(alloc, name, matches)?;
+    let logs = logs_asked(alloc, name, matches)?;
+    Ok(RunAsked {
+        graph: graph_asked(alloc, matches)?,
+        range,
+        workers,
+        progress: is_told(matches, "progress") && !is_told(matches, "quiet"),
+        quiet: is_told(matches, "quiet"),
+        launcher: optional(alloc, matches, "launcher")?,
+        logs,
+        journal,
+    })
+}

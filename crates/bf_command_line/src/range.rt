@@ -1,0 +1,49 @@
+//! Where the data intervals of a command start, and over which graph.
+ghost use Rattle.std.specs.Prelude.{IfOk};
+ghost use Rattle.clap.specs.Words.{FailsBy, found_of, rows_of};
+ghost use Rattle.bf_command_line.specs.Wrongs.{range_wrongs};
+ghost use Rattle.bf_command_line.specs.Asked.{IsGraphBy, IsRangeBy, IsStartsBy};
+
+use crate::forms::{GraphAsked, RangeAsked, StartsAsked};
+use crate::refusal::{no_range, two_ranges};
+use crate::value::{is_told, optional, required};
+use clap::{ArgMatches, Error};
+use std::alloc::{AllocError, Global};
+
+pub(crate) fn graph_asked(alloc: Global, matches: &ArgMatches<'_>) -> Result<GraphAsked, AllocError>
+    ensures { IfOk result (IsGraphBy (rows_of (found_of matches.now))) }
+{
+    Ok(GraphAsked {
+        graph: required(alloc, matches, "graph")?,
+        zone_file: optional(alloc, matches, "zone_file")?,
+    })
+}
+
+/// Where the data intervals of a command of this name start.
+fn starts_asked(alloc: Global, name: &str, matches: &ArgMatches<'_>) -> Result<StartsAsked, Error>
+    ensures ok { IfOk result (IsStartsBy (rows_of (found_of matches.now))) }
+    ensures err { FailsBy (range_wrongs (rows_of (found_of matches.now))) result }
+{
+    let days = optional(alloc, matches, "on")?;
+    let from = optional(alloc, matches, "from")?;
+    let to = optional(alloc, matches, "to")?;
+    match (days, from, to) {
+        (None, Some(from), Some(to)) => Ok(StartsAsked::Between { from, to }),
+        (Some(days), None, None) => Ok(StartsAsked::On(days)),
+        (None, _, _) => Err(no_range(alloc, name)?),
+        (Some(_), _, _) => Err(two_ranges(alloc, name)?),
+    }
+}
+
+pub(crate) fn range_asked(
+    alloc: Global,
+    name: &str,
+    matches: &ArgMatches<'_>,
+) -> Result<RangeAsked, Error>
+    ensures ok { IfOk result (IsRangeBy (rows_of (found_of matches.now))) }
+    ensures err { FailsBy (range_wrongs (rows_of (found_of matches.now))) result }
+{
+    let starts = starts_asked(alloc, name, matches)?;
+    let some = is_told(matches, "some");
+    Ok(RangeAsked { starts, some })
+}

@@ -1,0 +1,62 @@
+//! Reads the words of `show`.
+ghost use Rattle.std.specs.Prelude.{◌≡◌, IfOk, Some, codes, false};
+ghost use Rattle.clap.specs.Words.{FailsBy, first_of, found_of, rows_of};
+ghost use Rattle.bf_command_line.specs.Wrongs.{color_words, show_wrongs, value_wrongs};
+ghost use Rattle.bf_command_line.specs.Asked.{is_given as is_given_in, has_grid as has_grid_in, IsAskedBy};
+
+use crate::choice::color_asked;
+use crate::forms::{Asked, ShowAsked};
+use crate::range::graph_asked;
+use crate::refusal::{json_with_more, no_report};
+use crate::value::{is_given, is_told, number_asked, optional, required};
+use clap::{ArgMatches, Error};
+use std::alloc::Global;
+
+/// Whether something is told of a grid.
+fn has_grid(matches: &ArgMatches<'_>) -> bool
+    ensures { result ≡ has_grid_in (rows_of (found_of matches.now)) }
+{
+    is_given(matches, "graph")
+        || is_given(matches, "report")
+        || is_given(matches, "zone_file")
+        || is_given(matches, "from")
+        || is_given(matches, "to")
+        || is_given(matches, "width")
+        || is_given(matches, "color")
+        || is_told(matches, "failed")
+}
+
+/// A grid of a report beside its graph.
+fn grid_asked(alloc: Global, matches: &ArgMatches<'_>) -> Result<Asked, Error>
+    requires { is_given_in (codes "json") (rows_of (found_of matches.now)) ≡ false }
+    ensures ok { IfOk result (IsAskedBy (Some (codes "show", rows_of (found_of matches.now)))) }
+    ensures err { FailsBy (value_wrongs color_words (first_of (codes "color") (rows_of (found_of matches.now)))) result }
+{
+    let color = color_asked(alloc, matches)?;
+    Ok(Asked::Show(ShowAsked {
+        graph: graph_asked(alloc, matches)?,
+        report: required(alloc, matches, "report")?,
+        from: optional(alloc, matches, "from")?,
+        to: optional(alloc, matches, "to")?,
+        failed: is_told(matches, "failed"),
+        width: number_asked(matches, "width")?,
+        color,
+    }))
+}
+
+/// What `show` asks for: a grid, or lines of JSON.
+pub(crate) fn show_asked(alloc: Global, matches: &ArgMatches<'_>) -> Result<Asked, Error>
+    ensures ok { IfOk result (IsAskedBy (Some (codes "show", rows_of (found_of matches.now)))) }
+    ensures err { FailsBy (show_wrongs (rows_of (found_of matches.now))) result }
+{
+    if is_given(matches, "json") {
+        if has_grid(matches) {
+            return Err(json_with_more(alloc)?);
+        }
+        return Ok(Asked::ShowJson(required(alloc, matches, "json")?));
+    }
+    if !is_given(matches, "graph") || !is_given(matches, "report") {
+        return Err(no_report(alloc)?);
+    }
+    grid_asked(alloc, matches)
+}

@@ -1,0 +1,113 @@
+//! The values of a command's arguments.
+ghost use Rattle.std.specs.Prelude.{◌≡◌, IfOk, length, slice_get, option_map, string_bytes, Some};
+ghost use Rattle.clap.specs.Words.{first_of, found_of, rows_of};
+ghost use Rattle.bf_command_line.specs.Asked.{texts_of as texts_in, is_given as is_given_in, IsNumberIfGiven, says as says_in, says_true};
+
+use clap::ArgMatches;
+use std::alloc::{AllocError, Global};
+
+/// How many values an argument has.
+pub(crate) fn count_of(matches: &ArgMatches<'_>, id: &str) -> usize
+    ensures { result ≡ length (texts_in id.now (rows_of (found_of matches.now))) }
+{
+    match matches.get_strs(id) {
+        Some(texts) => texts.len(),
+        None => 0,
+    }
+}
+
+/// The value of an argument in this place of its values.
+pub(crate) fn text_at<'a>(matches: &ArgMatches<'a>, id: &str, place: usize) -> Option<&'a str>
+    ensures { option_map (λ t. t.now) result ≡ slice_get (texts_in id.now (rows_of (found_of matches.now))) place }
+{
+    match matches.get_strs(id) {
+        Some(texts) => texts.get(place).copied(),
+        None => None,
+    }
+}
+
+pub(crate) fn required_at(
+    alloc: Global,
+    matches: &ArgMatches<'_>,
+    id: &str,
+    place: usize,
+) -> Result<String, AllocError>
+    ensures { IfOk result (λ t. slice_get (texts_in id.now (rows_of (found_of matches.now))) place ≡ Some (string_bytes t)) }
+{
+    match text_at(matches, id, place) {
+        Some(value) => String::from_str(alloc, value),
+        None => Err(AllocError),
+    }
+}
+
+#[tactic(auto, using(crate::proofs::Rows::first_rows))]
+pub(crate) fn optional(
+    alloc: Global,
+    matches: &ArgMatches<'_>,
+    id: &str,
+) -> Result<Option<String>, AllocError>
+    ensures { IfOk result (λ t. first_of id.now (rows_of (found_of matches.now)) ≡ option_map string_bytes t) }
+{
+    match matches.get_str(id) {
+        Some(value) => Ok(Some(String::from_str(alloc, value)?)),
+        None => Ok(None),
+    }
+}
+
+#[tactic(auto, using(crate::proofs::Rows::first_rows))]
+pub(crate) fn required(
+    alloc: Global,
+    matches: &ArgMatches<'_>,
+    id: &str,
+) -> Result<String, AllocError>
+    ensures { IfOk result (λ t. first_of id.now (rows_of (found_of matches.now)) ≡ Some (string_bytes t)) }
+{
+    match matches.get_str(id) {
+        Some(value) => String::from_str(alloc, value),
+        None => Err(AllocError),
+    }
+}
+
+/// Whether a flag was given.
+#[tactic(auto, using(crate::proofs::Rows::first_rows))]
+pub(crate) fn is_told(matches: &ArgMatches<'_>, id: &str) -> bool
+    ensures { result ≡ says_true (first_of id.now (rows_of (found_of matches.now))) }
+{
+    match matches.get_str(id) {
+        Some(text) => text == "true",
+        None => false,
+    }
+}
+
+/// Whether an argument says this.
+#[tactic(auto, using(crate::proofs::Rows::first_rows))]
+pub(crate) fn says(matches: &ArgMatches<'_>, id: &str, words: &str) -> bool
+    ensures { result ≡ says_in (first_of id.now (rows_of (found_of matches.now))) words.now }
+{
+    match matches.get_str(id) {
+        Some(text) => text == words,
+        None => false,
+    }
+}
+
+/// The number that an option says, where it is given.
+#[tactic(auto, using(crate::proofs::Rows::first_rows))]
+pub(crate) fn number_asked(matches: &ArgMatches<'_>, id: &str) -> Result<Option<u32>, AllocError>
+    ensures { IfOk result (IsNumberIfGiven (first_of id.now (rows_of (found_of matches.now)))) }
+{
+    let Some(text) = matches.get_str(id) else {
+        return Ok(None);
+    };
+    match text.parse::<u32>() {
+        Ok(count) => Ok(Some(count)),
+        Err(_) => Err(AllocError),
+    }
+}
+
+/// Whether an argument has a value.
+#[tactic(auto, using(crate::proofs::Rows::first_rows))]
+pub(crate) fn is_given(matches: &ArgMatches<'_>, id: &str) -> bool
+    ensures { result ≡ is_given_in id.now (rows_of (found_of matches.now)) }
+{
+    matches.get_str(id).is_some()
+}
