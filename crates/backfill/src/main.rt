@@ -5,6 +5,8 @@ use bf_command_fault::Status;
 use bf_device::Output;
 use bf_disk::Disk;
 use bf_program::{answer, explain};
+use bf_views::Canvas;
+use std::io::IsTerminal;
 use std::process::ExitCode;
 use std::{env, io};
 
@@ -27,6 +29,7 @@ fn main(rt: HostRuntime) -> ExitCode {
         &rt,
         rt.alloc(),
         &words,
+        canvas(&rt),
         &mut files,
         &journals,
         &mut folder,
@@ -43,6 +46,19 @@ fn main(rt: HostRuntime) -> ExitCode {
 /// The words of the command line, the program's own name first.
 fn words(rt: &HostRuntime) -> io::Result<Vec<String>> {
     Ok(env::args(rt)?.collect(rt.alloc())?)
+}
+
+/// What standard output shows a grid on.
+fn canvas(rt: &HostRuntime) -> Canvas {
+    let columns = env::var(rt, "COLUMNS").ok();
+    let no_color = env::var(rt, "NO_COLOR").ok();
+    let term = env::var(rt, "TERM").ok();
+    Canvas::of(
+        rt.stdout().is_terminal(),
+        columns.as_deref(),
+        no_color.as_deref(),
+        term.as_deref(),
+    )
 }
 
 /// Tells why the words can't be read. Where standard error fails, nothing is left to say so on.

@@ -21,6 +21,7 @@ use Rattle.bf_command_fault.proofs.Leaving.{leaves_due, refusal_leaves, send_lea
 use Rattle.bf_planning.proofs.Faults.{write_wanting}
 use Rattle.bf_commands.specs.Programs.{Hearing, Losing}
 use Rattle.bf_disk.specs.Files.{Files}
+use Rattle.bf_views.specs.declared.canvas.Canvas.{Canvas}
 use Rattle.bf_program.specs.Commands.{HasGone, IsAnswer, IsDone, Machine, Outputs, out_of, outputs}
 use Rattle.bf_program.specs.CommandFaults.{IsFault, IsFaultBy, LeavesBy, MayBeFaulted, MayTell, Tells}
 use Rattle.bf_file.specs.Replacing.{HasReplaced}
@@ -80,16 +81,16 @@ both : (before after : Outputs) → after.written ≡ before.written → after.p
 both before after written placed = ap (λ w. outputs w after.placed) written ∙ ap (λ p. outputs before.written p) placed
 
 -- where `clap` finds nothing wrong, memory was wanting
-pub shown_may : (may_hear : Hearing) (may_lose : Losing) (files : Files) (machine : Machine) (matched : Option (Text × List Row))
+pub shown_may : (may_hear : Hearing) (may_lose : Losing) (canvas : Canvas) (files : Files) (machine : Machine) (matched : Option (Text × List Row))
     (Halted HasFailed : Type 0) (before after : Outputs) (kinds : Kinds) (e : Error) (r : Result Status CommandFault)
     → HasKind kinds e → kinds ≡ [] → (kind_of e ≡ kind.OutOfMemory → IfErr r (λ f. f ≡ OutOfMemory))
     → (kind_of e ≡ kind.OutOfMemory → after.written ≡ before.written) → after.placed ≡ before.placed
-    → IfErr r (MayBeFaulted may_hear may_lose files machine matched Halted HasFailed before after)
-shown_may may_hear may_lose files machine matched Halted HasFailed before after kinds e (Ok s) has none wanting kept same = tt
-shown_may may_hear may_lose files machine matched Halted HasFailed before after kinds e (Err f) (inl memory) none wanting kept same =
-    subst (λ (x : CommandFault). MayBeFaulted may_hear may_lose files machine matched Halted HasFailed before after x)
+    → IfErr r (MayBeFaulted may_hear may_lose canvas files machine matched Halted HasFailed before after)
+shown_may may_hear may_lose canvas files machine matched Halted HasFailed before after kinds e (Ok s) has none wanting kept same = tt
+shown_may may_hear may_lose canvas files machine matched Halted HasFailed before after kinds e (Err f) (inl memory) none wanting kept same =
+    subst (λ (x : CommandFault). MayBeFaulted may_hear may_lose canvas files machine matched Halted HasFailed before after x)
     (sym (wanting memory)) (both before after (kept memory) same)
-shown_may may_hear may_lose files machine matched Halted HasFailed before after kinds e (Err f) (inr among) none wanting kept same =
+shown_may may_hear may_lose canvas files machine matched Halted HasFailed before after kinds e (Err f) (inr among) none wanting kept same =
     absurd (among_none kinds (kind_of e) none among)
 
 -- ---- answers
@@ -99,27 +100,28 @@ runs_low true = omega arith
 runs_low false = omega arith
 
 -- a command that answers ends with 0 or 1
-answer_low : (may_hear : Hearing) (files : Files) (machine : Machine) (asked : Asked) (text : List ℕ) (status : Status) → IsAnswer may_hear files machine asked text status → code_of status ≤ 1
-answer_low may_hear files machine (asked.Check a) text status is = rw is.success (omega arith)
-answer_low may_hear files machine (asked.List a) text status is = rw is.success (omega arith)
-answer_low may_hear files machine (asked.ClearPlan a) text status is = rw is.success (omega arith)
-answer_low may_hear files machine (asked.ShowJson path) text status is = rw is.success (omega arith)
-answer_low may_hear files machine (asked.Page a) text status is = rw is.success (omega arith)
-answer_low may_hear files machine (asked.Schema format) text status is = rw is.0 (omega arith)
-answer_low may_hear files machine (asked.Completions shell) text status is = rw is.0 (omega arith)
-answer_low may_hear files machine a text status is = rw is.status_is (runs_low is.succeeded)
+answer_low : (may_hear : Hearing) (canvas : Canvas) (files : Files) (machine : Machine) (asked : Asked) (text : List ℕ) (status : Status) → IsAnswer may_hear canvas files machine asked text status → code_of status ≤ 1
+answer_low may_hear canvas files machine (asked.Check a) text status is = rw is.success (omega arith)
+answer_low may_hear canvas files machine (asked.List a) text status is = rw is.success (omega arith)
+answer_low may_hear canvas files machine (asked.ClearPlan a) text status is = rw is.success (omega arith)
+answer_low may_hear canvas files machine (asked.Show a) text status is = rw is.success (omega arith)
+answer_low may_hear canvas files machine (asked.ShowJson path) text status is = rw is.success (omega arith)
+answer_low may_hear canvas files machine (asked.Page a) text status is = rw is.success (omega arith)
+answer_low may_hear canvas files machine (asked.Schema format) text status is = rw is.0 (omega arith)
+answer_low may_hear canvas files machine (asked.Completions shell) text status is = rw is.0 (omega arith)
+answer_low may_hear canvas files machine a text status is = rw is.status_is (runs_low is.succeeded)
 
-pub done_low : (may_hear : Hearing) (files : Files) (machine : Machine) (matched : Option (Text × List Row)) (before after : Outputs) (code : ℕ) → IsDone may_hear files machine matched before after code → code ≤ 1
-done_low may_hear files machine matched before after code is = rw is.code_is (answer_low may_hear files machine is.line.command is.text is.status is.answer)
+pub done_low : (may_hear : Hearing) (canvas : Canvas) (files : Files) (machine : Machine) (matched : Option (Text × List Row)) (before after : Outputs) (code : ℕ) → IsDone may_hear canvas files machine matched before after code → code ≤ 1
+done_low may_hear canvas files machine matched before after code is = rw is.code_is (answer_low may_hear canvas files machine is.line.command is.text is.status is.answer)
 
 -- and with nothing else
 low_other : (s t : Status) → code_of s ≤ 1 → 2 ≤ code_of t → s ≢ t
 low_other s t low high = λ same. (let is : code_of s ≡ code_of t = ap code_of same in omega arith)
 
 -- what a line comes to with which nothing is wrong
-abbrev pub LineEnds : {E : Type 0} → Hearing → Losing → Files → Machine → Option (Text × List Row) → Type 0 → Type 0
+abbrev pub LineEnds : {E : Type 0} → Hearing → Losing → Canvas → Files → Machine → Option (Text × List Row) → Type 0 → Type 0
     → Outputs → Outputs → Kinds → Option (List ℕ) → E → Result Status CommandFault → Type 0
-LineEnds may_hear may_lose files machine matched Halted HasFailed before after kinds told err r = record {
+LineEnds may_hear may_lose canvas files machine matched Halted HasFailed before after kinds told err r = record {
   range : IfOk r (λ s. s ≢ Status.Fault);
   answered : IfOk r (λ s. s ≢ Status.Refused → told ≡ told);
   wrong : IfOk r (λ s. s ≡ Status.Refused → after.written ≡ before.written);
@@ -128,22 +130,22 @@ LineEnds may_hear may_lose files machine matched Halted HasFailed before after k
   line : kinds ≢ [] → IfOk r (λ s. EndsAs kinds (code_of s));
   fault : kinds ≢ [] → IfErr r (λ f. number_of f ≡ None);
   unshown : kinds ≢ [] → IfErr r (IsUnshown (ShowsHelp kinds) Halted before.written after.written);
-  done : kinds ≡ [] → IfOk r (λ s. IsDone may_hear files machine matched before after (code_of s));
+  done : kinds ≡ [] → IfOk r (λ s. IsDone may_hear canvas files machine matched before after (code_of s));
   kept : kinds ≢ [] → after.placed ≡ before.placed;
-  why : kinds ≡ [] → IfErr r (λ f. MayBeFaulted may_hear may_lose files machine matched Halted HasFailed before after f);
+  why : kinds ≡ [] → IfErr r (λ f. MayBeFaulted may_hear may_lose canvas files machine matched Halted HasFailed before after f);
 }
 
 -- it comes to what the command comes to that it asks for
-module _ (may_hear : Hearing) (may_lose : Losing) (files : Files) (machine : Machine) (matched : Option (Text × List Row))
+module _ (may_hear : Hearing) (may_lose : Losing) (canvas : Canvas) (files : Files) (machine : Machine) (matched : Option (Text × List Row))
     (Halted HasFailed : Type 0) (before after : Outputs) (line : CommandLine) where
   abbrev IsDue : List ℕ → Type 0
-  IsDue text = (status : Status) × IsAnswer may_hear files machine line.command text status
+  IsDue text = (status : Status) × IsAnswer may_hear canvas files machine line.command text status
 
   abbrev IsLeft : CommandFault → Type 0
   IsLeft = LeavesBy (out_of line) Halted IsDue before after
 
   abbrev Goes : Option (List ℕ) → Status → Type 0
-  Goes path s = (text : List ℕ) × IsAnswer may_hear files machine line.command text s × HasGone path text before after
+  Goes path s = (text : List ℕ) × IsAnswer may_hear canvas files machine line.command text s × HasGone path text before after
 
   memory_leaves : (path : Option (List ℕ)) → LeavesBy path Halted IsDue before after OutOfMemory → after ≡ before
   memory_leaves None left = both before after left.0 left.1
@@ -155,16 +157,16 @@ module _ (may_hear : Hearing) (may_lose : Losing) (files : Files) (machine : Mac
 
   may : IsLineBy matched line → (fault : CommandFault)
       → IsFaultBy (out_of line) HasFailed may_lose files machine line.command fault → IsLeft fault
-      → MayBeFaulted may_hear may_lose files machine matched Halted HasFailed before after fault
+      → MayBeFaulted may_hear may_lose canvas files machine matched Halted HasFailed before after fault
   may asks OutOfMemory is left = memory_leaves (out_of line) left
   may asks fault is left = record { line = line; asks = asks; is_fault = is; left = left }
 
   own_line_ends : {E : Type 0} (kinds : Kinds) (told : Option (List ℕ)) (err : E) → IsLineBy matched line → kinds ≡ []
       → (r : Result Status CommandFault) → IfOk r (Goes (out_of line))
       → IfErr r (IsFaultBy (out_of line) HasFailed may_lose files machine line.command) → IfErr r IsLeft
-      → LineEnds may_hear may_lose files machine matched Halted HasFailed before after kinds told err r
+      → LineEnds may_hear may_lose canvas files machine matched Halted HasFailed before after kinds told err r
   own_line_ends kinds told err asks none (Ok s) sends is left =
-      let low = answer_low may_hear files machine line.command sends.0 s sends.1 in
+      let low = answer_low may_hear canvas files machine line.command sends.0 s sends.1 in
       record {
         range = low_other s Status.Fault low (omega arith);
         answered = λ other. refl;
@@ -197,7 +199,7 @@ module _ (may_hear : Hearing) (may_lose : Losing) (files : Files) (machine : Mac
       → (path : Option (List ℕ)) → out_of line ≡ path → (r : Result Status CommandFault)
       → IfOk r (Goes path) → IfErr r (IsFaultBy path HasFailed may_lose files machine line.command)
       → IfErr r (LeavesBy path Halted IsDue before after)
-      → LineEnds may_hear may_lose files machine matched Halted HasFailed before after kinds told err r
+      → LineEnds may_hear may_lose canvas files machine matched Halted HasFailed before after kinds told err r
   line_ends kinds told err asks none path named r sends is left = own_line_ends kinds told err asks none r
       (subst (λ (p : Option (List ℕ)). IfOk r (Goes p)) (sym named) sends)
       (subst (λ (p : Option (List ℕ)). IfErr r (IsFaultBy p HasFailed may_lose files machine line.command)) (sym named) is)
@@ -206,9 +208,9 @@ module _ (may_hear : Hearing) (may_lose : Losing) (files : Files) (machine : Mac
   -- where none is, and the text goes to standard output
   pub printed_ends : {E : Type 0} (kinds : Kinds) (told : Option (List ℕ)) (err : E) → IsLineBy matched line → kinds ≡ []
       → out_of line ≡ None → after.placed ≡ before.placed → (r : Result Status CommandFault)
-      → IfOk r (λ s. Sends (λ text. IsAnswer may_hear files machine line.command text s) before.written after.written)
+      → IfOk r (λ s. Sends (λ text. IsAnswer may_hear canvas files machine line.command text s) before.written after.written)
       → IfErr r (IsFault may_lose files machine line.command) → IfErr r (Leaves Halted IsDue before.written after.written)
-      → LineEnds may_hear may_lose files machine matched Halted HasFailed before after kinds told err r
+      → LineEnds may_hear may_lose canvas files machine matched Halted HasFailed before after kinds told err r
   printed_ends kinds told err asks none named same (Ok s) sends is left =
       line_ends kinds told err asks none None named (Ok s) (sends.0, sends.1, (sends.2, same)) tt tt
   printed_ends kinds told err asks none named same (Err f) sends is left =
@@ -217,9 +219,9 @@ module _ (may_hear : Hearing) (may_lose : Losing) (files : Files) (machine : Mac
   -- and where it goes to a file
   pub filed_ends : {E : Type 0} (kinds : Kinds) (told : Option (List ℕ)) (err : E) → IsLineBy matched line → kinds ≡ []
       → (path : List ℕ) → out_of line ≡ Some path → after.written ≡ before.written → (r : Result Status CommandFault)
-      → IfOk r (λ s. (text : List ℕ) × IsAnswer may_hear files machine line.command text s × HasReplaced before.placed after.placed path text)
+      → IfOk r (λ s. (text : List ℕ) × IsAnswer may_hear canvas files machine line.command text s × HasReplaced before.placed after.placed path text)
       → IfErr r (IsFaultBy (Some path) HasFailed may_lose files machine line.command) → OnErr r (after.placed ≡ before.placed)
-      → LineEnds may_hear may_lose files machine matched Halted HasFailed before after kinds told err r
+      → LineEnds may_hear may_lose canvas files machine matched Halted HasFailed before after kinds told err r
   filed_ends kinds told err asks none path named silent (Ok s) filed is same =
       line_ends kinds told err asks none (Some path) named (Ok s) (filed.0, filed.1, (silent, filed.2)) tt tt
   filed_ends kinds told err asks none path named silent (Err f) filed is same =

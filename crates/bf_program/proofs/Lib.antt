@@ -3,6 +3,7 @@ pub mod Ends
 pub mod Alike
 pub mod CommandFacts
 pub mod CommandEnds
+pub mod ClearInputs
 pub mod ClearEnds
 pub mod FiledReports
 mod Recorded

@@ -4,7 +4,7 @@ use Rattle.clap.specs.Words.{Row, Text}
 use Rattle.jiff.specs.declared.timestamp.Timestamp.{Timestamp}
 use Rattle.bf_device.specs.Device.{sent}
 use Rattle.bf_command_line.specs.declared.forms.Asked.{Asked}
-use Rattle.bf_command_line.specs.declared.forms.Asked.TheVariants.{Check, Clear, ClearPlan, Completions, Dry, List as Intervals, Page, Run, Schema, ShowJson, Single}
+use Rattle.bf_command_line.specs.declared.forms.Asked.TheVariants.{Check, Clear, ClearPlan, Completions, Dry, Keep, List as Intervals, Page, Run, Schema, Show, ShowJson, Single}
 use Rattle.bf_command_line.specs.declared.forms.ClearAsked.{ClearAsked}
 use Rattle.bf_command_line.specs.declared.forms.ClearPlanAsked.{ClearPlanAsked}
 use Rattle.bf_command_line.specs.declared.forms.CommandLine.{CommandLine}
@@ -35,6 +35,8 @@ use Rattle.bf_commands.specs.OneRun.{IsFaultOfSingle}
 use Rattle.bf_commands.specs.OverTable.{is_alone}
 use Rattle.bf_process.specs.Words.{LaunchingOf}
 use Rattle.bf_commands.specs.Programs.{Hearing, Losing, IsFaultOfRun}
+use Rattle.bf_views.specs.declared.canvas.Canvas.{Canvas}
+use Rattle.bf_views.specs.GridFaults.{IsGridFault}
 use Rattle.bf_views.specs.Json.{IsJsonFault}
 use Rattle.bf_views.specs.PageFaults.{IsPageFault}
 use Rattle.bf_program.specs.Texts.{IsDeviceFault}
@@ -203,7 +205,9 @@ IsFault may_lose files machine (Single asked) fault = IsSingleFault files asked 
 IsFault may_lose files machine (Dry asked) fault = IsDryFault files asked fault
 IsFault may_lose files machine (Run asked) fault = IsRunFault may_lose files machine asked fault
 IsFault may_lose files machine (Clear asked) fault = IsClearFault may_lose files machine asked fault
+IsFault may_lose files machine (Keep asked) fault = IsClearFault may_lose files machine asked fault
 IsFault may_lose files machine (ClearPlan asked) fault = IsClearPlanFault files asked fault
+IsFault may_lose files machine (Show asked) fault = IsGridFault files asked fault
 IsFault may_lose files machine (ShowJson path) fault = IsJsonFault files (string_bytes path) fault
 IsFault may_lose files machine (Page asked) fault = IsPageFault files asked fault
 IsFault may_lose files machine (Schema format) fault = IsDeviceFault fault
@@ -224,20 +228,20 @@ LeavesBy None Halted IsDue before after fault = Leaves Halted IsDue before.writt
 LeavesBy (Some path) Halted IsDue before after fault = after ≡ before
 
 -- the fault is one of the line that was found, and this is what it leaves
-pub record IsFaulted (may_hear : Hearing) (may_lose : Losing) (files : Files) (machine : Machine)
+pub record IsFaulted (may_hear : Hearing) (may_lose : Losing) (canvas : Canvas) (files : Files) (machine : Machine)
     (matched : Option (Text × List Row)) (Halted HasFailed : Type 0) (before after : Outputs)
     (fault : CommandFault) : Type 0 where
   pub line : CommandLine
   pub asks : IsLineBy matched line
   pub is_fault : IsFaultBy (out_of line) HasFailed may_lose files machine line.command fault
-  pub left : LeavesBy (out_of line) Halted (λ text. (status : Status) × IsAnswer may_hear files machine line.command text status) before after fault
+  pub left : LeavesBy (out_of line) Halted (λ text. (status : Status) × IsAnswer may_hear canvas files machine line.command text status) before after fault
 
 -- so it is, or memory was wanting before anything was written
-abbrev pub MayBeFaulted : Hearing → Losing → Files → Machine → Option (Text × List Row)
+abbrev pub MayBeFaulted : Hearing → Losing → Canvas → Files → Machine → Option (Text × List Row)
     → Type 0 → Type 0 → Outputs → Outputs → CommandFault → Type 0
-MayBeFaulted may_hear may_lose files machine matched Halted HasFailed before after OutOfMemory = after ≡ before
-MayBeFaulted may_hear may_lose files machine matched Halted HasFailed before after fault =
-    IsFaulted may_hear may_lose files machine matched Halted HasFailed before after fault
+MayBeFaulted may_hear may_lose canvas files machine matched Halted HasFailed before after OutOfMemory = after ≡ before
+MayBeFaulted may_hear may_lose canvas files machine matched Halted HasFailed before after fault =
+    IsFaulted may_hear may_lose canvas files machine matched Halted HasFailed before after fault
 
 -- ---- what is told on standard error
 

@@ -7,7 +7,7 @@ use Rattle.bf_device.specs.Device.{sent}
 use Rattle.bf_file.specs.declared.call.Placed.{Placed}
 use Rattle.bf_file.specs.Replacing.{HasReplaced}
 use Rattle.bf_command_line.specs.declared.forms.Asked.{Asked}
-use Rattle.bf_command_line.specs.declared.forms.Asked.TheVariants.{Check, Clear, ClearPlan, Completions, Dry, List as Intervals, Page, Run, Schema, ShowJson, Single}
+use Rattle.bf_command_line.specs.declared.forms.Asked.TheVariants.{Check, Clear, ClearPlan, Completions, Dry, Keep, List as Intervals, Page, Run, Schema, Show, ShowJson, Single}
 use Rattle.bf_command_line.specs.declared.forms.ClearAsked.{ClearAsked}
 use Rattle.bf_command_line.specs.declared.forms.ClearPlanAsked.{ClearPlanAsked}
 use Rattle.bf_command_line.specs.declared.forms.ClearedAsked.{ClearedAsked}
@@ -29,7 +29,7 @@ use Rattle.bf_dependents.specs.declared.seeds.Seed.{Seed}
 use Rattle.bf_commands.specs.declared.cleared.ToClear.{ToClear}
 use Rattle.bf_commands.specs.declared.cleared.ToClear.TheVariants as to_clear
 use Rattle.bf_command_line.specs.Asked.{IsLineBy}
-use Rattle.bf_command_line.specs.CommandLine.{backfill_app}
+use Rattle.bf_grammar.specs.Grammar.{backfill_app}
 use Rattle.bf_command_line.specs.Wrongs as line
 use Rattle.bf_command_fault.specs.declared.status.Status.{Status}
 use Rattle.bf_command_fault.specs.Status.{code_of, of_runs}
@@ -51,6 +51,8 @@ use Rattle.bf_planning.specs.Lists.{HasListing, IsListIn}
 use Rattle.bf_commands.specs.OneRun.{IsReportAt}
 use Rattle.bf_process.specs.Words.{LaunchingOf}
 use Rattle.bf_commands.specs.Programs.{Hearing, IsRunReport}
+use Rattle.bf_views.specs.declared.canvas.Canvas.{Canvas}
+use Rattle.bf_views.specs.Grids.{IsGridAnswer}
 use Rattle.bf_views.specs.Json.{IsJsonAnswer}
 use Rattle.bf_views.specs.Pages.{IsPageAnswer}
 use Rattle.bf_program.specs.Texts.{IsPrinted, completions_text, schema_text}
@@ -133,11 +135,13 @@ MeanSeeds [] [] = Unit {0}
 MeanSeeds (asked ∷ more) (seed ∷ seeds) = MeansSeed asked seed × MeanSeeds more seeds
 MeanSeeds _ _ = ⊥
 
--- this is to be cleared: what the texts mean; or what a file's bytes say, of which the first are read where they are too many; or what failed
+-- this is to be cleared: what the texts mean; or what a file's bytes say, of which the first are read where they are too many; or what failed; or
+-- nothing
 abbrev pub MeansCleared : Files → ClearedAsked → ToClear → Type 0
 MeansCleared files (cleared.Seeds asked) (to_clear.Seeds seeds) = MeanSeeds asked.items seeds.items
 MeansCleared files (cleared.File path) (to_clear.File bytes) = IfSome (files (string_bytes path)) (λ held. IsWholeUpTo 8_388_608 held bytes.items)
 MeansCleared files cleared.Failed to_clear.Failed = Unit {0}
+MeansCleared files cleared.Nothing to_clear.Nothing = Unit {0}
 MeansCleared files _ _ = ⊥
 
 -- the text of the run of one of these means no moment
@@ -278,19 +282,21 @@ pub record IsClearPlanAnswer (files : Files) (asked : ClearPlanAsked) (text : Li
   pub report_readable : IsReadable (files (string_bytes asked.report))
   pub text_is : OfClearFiles files (plan_input asked) (λ graph zone table report. IsClearPlanIn graph zone report range what text)
 
--- the text that a command is to write, and how it ends then
-abbrev pub IsAnswer : Hearing → Files → Machine → Asked → List ℕ → Status → Type 0
-IsAnswer may_hear files machine (Check asked) text status = IsCheckAnswer files asked.graph text status
-IsAnswer may_hear files machine (Intervals asked) text status = IsListAnswer files asked text status
-IsAnswer may_hear files machine (Single asked) text status = IsSingleAnswer files asked text status
-IsAnswer may_hear files machine (Dry asked) text status = IsDryAnswer files asked text status
-IsAnswer may_hear files machine (Run asked) text status = IsRunAnswer may_hear files machine asked text status
-IsAnswer may_hear files machine (Clear asked) text status = IsClearAnswer may_hear files machine asked text status
-IsAnswer may_hear files machine (ClearPlan asked) text status = IsClearPlanAnswer files asked text status
-IsAnswer may_hear files machine (ShowJson path) text status = IsJsonAnswer files (string_bytes path) text status
-IsAnswer may_hear files machine (Page asked) text status = IsPageAnswer files asked text status
-IsAnswer may_hear files machine (Schema format) text status = IsPrinted (schema_text format) text status
-IsAnswer may_hear files machine (Completions shell) text status = IsPrinted (completions_text shell) text status
+-- the text that a command is to write, and how it ends then; a grid that is shown has what the canvas has where the line doesn't say
+abbrev pub IsAnswer : Hearing → Canvas → Files → Machine → Asked → List ℕ → Status → Type 0
+IsAnswer may_hear canvas files machine (Check asked) text status = IsCheckAnswer files asked.graph text status
+IsAnswer may_hear canvas files machine (Intervals asked) text status = IsListAnswer files asked text status
+IsAnswer may_hear canvas files machine (Single asked) text status = IsSingleAnswer files asked text status
+IsAnswer may_hear canvas files machine (Dry asked) text status = IsDryAnswer files asked text status
+IsAnswer may_hear canvas files machine (Run asked) text status = IsRunAnswer may_hear files machine asked text status
+IsAnswer may_hear canvas files machine (Clear asked) text status = IsClearAnswer may_hear files machine asked text status
+IsAnswer may_hear canvas files machine (Keep asked) text status = IsClearAnswer may_hear files machine asked text status
+IsAnswer may_hear canvas files machine (ClearPlan asked) text status = IsClearPlanAnswer files asked text status
+IsAnswer may_hear canvas files machine (Show asked) text status = IsGridAnswer canvas files asked text status
+IsAnswer may_hear canvas files machine (ShowJson path) text status = IsJsonAnswer files (string_bytes path) text status
+IsAnswer may_hear canvas files machine (Page asked) text status = IsPageAnswer files asked text status
+IsAnswer may_hear canvas files machine (Schema format) text status = IsPrinted (schema_text format) text status
+IsAnswer may_hear canvas files machine (Completions shell) text status = IsPrinted (completions_text shell) text status
 
 -- what went out, and which files were replaced, where that is told
 pub record Outputs : Type 0 where
@@ -311,11 +317,11 @@ HasGone None text before after = (after.written ≡ sent before.written text) ×
 HasGone (Some path) text before after = (after.written ≡ before.written) × HasReplaced before.placed after.placed path text
 
 -- the line that was found was answered so, and that is the exit status
-pub record IsDone (may_hear : Hearing) (files : Files) (machine : Machine) (matched : Option (Text × List Row)) (before after : Outputs) (code : ℕ) : Type 0 where
+pub record IsDone (may_hear : Hearing) (canvas : Canvas) (files : Files) (machine : Machine) (matched : Option (Text × List Row)) (before after : Outputs) (code : ℕ) : Type 0 where
   pub line : CommandLine
   pub asks : IsLineBy matched line
   pub text : List ℕ
   pub status : Status
-  pub answer : IsAnswer may_hear files machine line.command text status
+  pub answer : IsAnswer may_hear canvas files machine line.command text status
   pub gone : HasGone (out_of line) text before after
   pub code_is : code ≡ code_of status

@@ -19,6 +19,7 @@ abbrev pub MeansNamed : ClearedAsked → Named → Type 0
 MeansNamed (cleared.Seeds asked) (named.Seeds seeds) = MeanSeeds asked.items seeds.items
 MeansNamed (cleared.File path) (named.File same) = string_bytes same ≡ string_bytes path
 MeansNamed cleared.Failed named.Failed = Unit {0}
+MeansNamed cleared.Nothing named.Nothing = Unit {0}
 MeansNamed _ _ = ⊥
 
 -- the path of the file, where one is named
@@ -39,4 +40,5 @@ abbrev pub IsReadFor : Files → Named → ToClear → Type 0
 IsReadFor files (named.Seeds seeds) (to_clear.Seeds same) = same ≡ seeds
 IsReadFor files (named.File path) (to_clear.File bytes) = IfSome (files (string_bytes path)) (λ held. IsWholeUpTo 8_388_608 held bytes.items)
 IsReadFor files named.Failed to_clear.Failed = Unit {0}
+IsReadFor files named.Nothing to_clear.Nothing = Unit {0}
 IsReadFor files _ _ = ⊥

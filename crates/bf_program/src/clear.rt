@@ -1,4 +1,5 @@
-//! The command `clear`: a backfill that goes on from its report, where some tasks in runs are cleared with all that follows from them.
+//! The command `clear`: a backfill that goes on from its report, where some tasks in runs are cleared with all that follows from them. Where
+//! nothing is, it is `run --keep` and `dry --keep`.
 ghost use Rattle.std.specs.Prelude.{◌≡◌, ℕ, Bool, List, IfOk, IfErr, OnOk, option_map, string_bytes};
 ghost use Rattle.bf_device.specs.Device.{HasHalted};
 ghost use Rattle.bf_table.specs.Tables.{table_of};
@@ -140,7 +141,7 @@ fn go_on<RT: Starter + Screen + Threads + Wait + Clock + Sync, S: Source, W: Wri
         (W.written out.old) (W.written out.new)) }
 {
     let report = report_in(crew.alloc, report, files)?;
-    run_again(crew, prepared, &report, what, out)
+    run_again(crew, prepared, report, what, out)
 }
 
 /// The same, where a journal is named: it is opened when what is cleared is known to be of the report.
@@ -170,7 +171,7 @@ where
 {
     let report = report_in(crew.alloc, report, files)?;
     let Prepared { dated, answers } = prepared;
-    let clearing = clear_in(crew.alloc, &dated, &report, what)?;
+    let clearing = clear_in(crew.alloc, &dated, report, what)?;
     clear_recorded(crew, &clearing, answers, journal, journals, out)
 }
 

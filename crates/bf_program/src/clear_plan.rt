@@ -38,6 +38,6 @@ pub fn clear_plan_answered<S: Source, W: Write>(
     let ready = prepared_in(alloc, asked.graph, None, named, range, files)?;
     let PreparedToClear { prepared, what } = ready;
     let report = report_in(alloc, asked.report, files)?;
-    write_clear_plan(alloc, &prepared.dated, &report, &what, out)?;
+    write_clear_plan(alloc, &prepared.dated, report, &what, out)?;
     Ok(Status::Success)
 }

@@ -13,6 +13,7 @@ use bf_disk::{Journals, Launchers, Source};
 use bf_file::{Folder, Page, ReplaceFault, give_up, replace};
 use bf_process::Starter;
 use bf_value::Text;
+use bf_views::Canvas;
 use std::alloc::Global;
 use std::sync::Wait;
 use std::thread::Threads;
@@ -45,6 +46,7 @@ pub(crate) fn filed<RT, J: Journals + Launchers, S: Source, F: Folder>(
     alloc: Global,
     command: Asked,
     path: String,
+    canvas: Canvas,
     files: &mut S,
     journals: &J,
     folder: &mut F,
@@ -53,7 +55,7 @@ where
     RT: Starter + Screen + Threads + Wait + Clock + Sync,
     J::Device: Send,
     ensures answer { IfOk result (λ status. (text : List ℕ)
-        × IsAnswer (RT.may_hear rt.now) (S.file files.old) (machine_of (J.journal journals.now) (J.startable journals.now)) command text status
+        × IsAnswer (RT.may_hear rt.now) canvas (S.file files.old) (machine_of (J.journal journals.now) (J.startable journals.now)) command text status
         × HasReplaced (F.placed folder.old) (F.placed folder.new) (string_bytes path) text) }
     ensures fault { IfErr result (IsFaultBy (Some (string_bytes path)) (F.failed folder.new ≡ true)
         (RT.may_lose rt.now) (S.file files.old) (machine_of (J.journal journals.now) (J.startable journals.now)) command) }
@@ -64,7 +66,7 @@ where
         Err(fault) => return Err(unreplaced(fault, path)),
     };
     let mut page = Page::of(new);
-    match command_answered(rt, alloc, command, files, journals, &mut page) {
+    match command_answered(rt, alloc, command, canvas, files, journals, &mut page) {
         Ok(status) => match replace(folder, page) {
             Ok(()) => Ok(status),
             Err(fault) => Err(unreplaced(fault, path)),

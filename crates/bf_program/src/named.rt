@@ -22,6 +22,7 @@ pub(crate) enum Named {
     /// The path of a file.
     File(String),
     Failed,
+    Nothing,
 }
 
 /// The seed of a task, a run and maybe a map index.
@@ -66,6 +67,7 @@ pub(crate) fn named_in(alloc: Global, asked: &ClearedAsked) -> Result<Named, Com
         ClearedAsked::Seeds(asked) => Ok(Named::Seeds(seeds_of(alloc, asked.as_slice())?)),
         ClearedAsked::File(path) => Ok(Named::File(String::from_str(alloc, path.as_str())?)),
         ClearedAsked::Failed => Ok(Named::Failed),
+        ClearedAsked::Nothing => Ok(Named::Nothing),
     }
 }
 
@@ -84,5 +86,6 @@ pub(crate) fn to_clear<S: Source>(
         Named::Seeds(seeds) => Ok(ToClear::Seeds(seeds)),
         Named::File(path) => Ok(ToClear::File(seeds_bytes(alloc, path, files)?)),
         Named::Failed => Ok(ToClear::Failed),
+        Named::Nothing => Ok(ToClear::Nothing),
     }
 }

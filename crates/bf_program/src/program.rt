@@ -26,7 +26,7 @@ use bf_device::{Write, send};
 use bf_disk::{Journals, Launchers, Source};
 use bf_file::Folder;
 use bf_process::Starter;
-use bf_views::{json_answered, page_answered};
+use bf_views::{Canvas, json_answered, page_answered, show_answered};
 use clap::Error;
 use clap::error::ErrorKind;
 use std::alloc::Global;
@@ -36,7 +36,7 @@ use std::time::Clock;
 
 /// Answers a command line, of which the first word is the program's own name. Files are read from `files`, the
 /// report, the size of a graph, the intervals, a schema, completions or help goes to `out`, and why there is none to
-/// `err`. A report for which a file is named goes there instead, in `folder`. Gives the exit status: 0 where every run
+/// `err`. A grid is as wide as the line says and has colours by it, or else as the canvas has it. A report for which a file is named goes there instead, in `folder`. Gives the exit status: 0 where every run
 /// is a success, a graph has no fault, the intervals were listed, or a text was asked for, 1 where some run failed, 2
 /// where something was refused, and 3 at a fault.
 #[tactic(auto, using(crate::proofs::Ends::fault_ends))]
@@ -44,6 +44,7 @@ pub fn answer<RT, J: Journals + Launchers, S: Source, F: Folder, W: Write, E: Wr
     rt: &RT,
     alloc: Global,
     words: &[String],
+    canvas: Canvas,
     files: &mut S,
     journals: &J,
     folder: &mut F,
@@ -58,14 +59,14 @@ where
     ensures refused { result ≡ 2 → W.written out.new ≡ W.written out.old }
     ensures line { wrongs_of words.now ≢ [] → EndsAs (wrongs_of words.now) result }
     ensures done { wrongs_of words.now ≡ [] → result ≤ 1
-        → IsDone (RT.may_hear rt.now) (S.file files.old) (machine_of (J.journal journals.now) (J.startable journals.now)) (found_in words.now)
+        → IsDone (RT.may_hear rt.now) canvas (S.file files.old) (machine_of (J.journal journals.now) (J.startable journals.now)) (found_in words.now)
         (outputs (W.written out.old) (F.placed folder.old))
         (outputs (W.written out.new) (F.placed folder.new)) result }
     ensures kept { wrongs_of words.now ≢ [] → F.placed folder.new ≡ F.placed folder.old }
 
     // Of a line with which nothing is wrong: which fault came, and what is told of it.
     ensures why { wrongs_of words.now ≡ [] → 2 ≤ result → (fault : FaultTerm)
-        × MayBeFaulted (RT.may_hear rt.now) (RT.may_lose rt.now)
+        × MayBeFaulted (RT.may_hear rt.now) (RT.may_lose rt.now) canvas
         (S.file files.old) (machine_of (J.journal journals.now) (J.startable journals.now)) (found_in words.now) (HasHalted (W.failures out.old) (W.failures out.new)
         (W.interruptions out.old) (W.interruptions out.new)) (F.failed folder.new ≡ true)
         (outputs (W.written out.old) (F.placed folder.old))
@@ -89,7 +90,7 @@ where
         (E.interruptions err.old) (E.interruptions err.new))
         (E.written err.old) (E.written err.new) fault 3 }
 {
-    match line_answered(rt, alloc, words, files, journals, folder, out, err) {
+    match line_answered(rt, alloc, words, canvas, files, journals, folder, out, err) {
         Ok(status) => status.code(),
         Err(fault) => told(alloc, &fault, err).code(),
     }
@@ -99,6 +100,7 @@ fn line_answered<RT, J: Journals + Launchers, S: Source, F: Folder, W: Write, E:
     rt: &RT,
     alloc: Global,
     words: &[String],
+    canvas: Canvas,
     files: &mut S,
     journals: &J,
     folder: &mut F,
@@ -120,12 +122,12 @@ where
         (W.interruptions out.old) (W.interruptions out.new))
         (W.written out.old) (W.written out.new)) }
     ensures done { wrongs_of words.now ≡ [] → IfOk result (λ s.
-        IsDone (RT.may_hear rt.now) (S.file files.old) (machine_of (J.journal journals.now) (J.startable journals.now)) (found_in words.now)
+        IsDone (RT.may_hear rt.now) canvas (S.file files.old) (machine_of (J.journal journals.now) (J.startable journals.now)) (found_in words.now)
         (outputs (W.written out.old) (F.placed folder.old))
         (outputs (W.written out.new) (F.placed folder.new)) (code_of s)) }
     ensures kept { wrongs_of words.now ≢ [] → F.placed folder.new ≡ F.placed folder.old }
     ensures why { wrongs_of words.now ≡ [] → IfErr result (λ f. MayBeFaulted
-        (RT.may_hear rt.now) (RT.may_lose rt.now) (S.file files.old) (machine_of (J.journal journals.now) (J.startable journals.now)) (found_in words.now)
+        (RT.may_hear rt.now) (RT.may_lose rt.now) canvas (S.file files.old) (machine_of (J.journal journals.now) (J.startable journals.now)) (found_in words.now)
         (HasHalted (W.failures out.old) (W.failures out.new)
         (W.interruptions out.old) (W.interruptions out.new)) (F.failed folder.new ≡ true)
         (outputs (W.written out.old) (F.placed folder.old))
@@ -133,8 +135,8 @@ where
 {
     match asked(alloc, words) {
         Ok(CommandLine { command, out: file }) => match file {
-            Some(path) => filed(rt, alloc, command, path, files, journals, folder),
-            None => command_answered(rt, alloc, command, files, journals, out),
+            Some(path) => filed(rt, alloc, command, path, canvas, files, journals, folder),
+            None => command_answered(rt, alloc, command, canvas, files, journals, out),
         },
         Err(error) => shown(alloc, &error, out, err),
     }
@@ -145,6 +147,7 @@ pub(crate) fn command_answered<RT, J: Journals + Launchers, S: Source, W: Write>
     rt: &RT,
     alloc: Global,
     command: Asked,
+    canvas: Canvas,
     files: &mut S,
     journals: &J,
     out: &mut W,
@@ -152,12 +155,12 @@ pub(crate) fn command_answered<RT, J: Journals + Launchers, S: Source, W: Write>
 where
     RT: Starter + Screen + Threads + Wait + Clock + Sync,
     J::Device: Send,
-    ensures answer { IfOk result (λ status. Sends (λ text. IsAnswer (RT.may_hear rt.now) (S.file files.old) (machine_of (J.journal journals.now) (J.startable journals.now)) command text status)
+    ensures answer { IfOk result (λ status. Sends (λ text. IsAnswer (RT.may_hear rt.now) canvas (S.file files.old) (machine_of (J.journal journals.now) (J.startable journals.now)) command text status)
         (W.written out.old) (W.written out.new)) }
     ensures fault { IfErr result (IsFault (RT.may_lose rt.now) (S.file files.old) (machine_of (J.journal journals.now) (J.startable journals.now)) command) }
     ensures left { IfErr result (Leaves (HasHalted (W.failures out.old) (W.failures out.new)
         (W.interruptions out.old) (W.interruptions out.new))
-        (λ text. (status : StatusTerm) × IsAnswer (RT.may_hear rt.now) (S.file files.old) (machine_of (J.journal journals.now) (J.startable journals.now)) command text status)
+        (λ text. (status : StatusTerm) × IsAnswer (RT.may_hear rt.now) canvas (S.file files.old) (machine_of (J.journal journals.now) (J.startable journals.now)) command text status)
         (W.written out.old) (W.written out.new)) }
 {
     match command {
@@ -167,7 +170,9 @@ where
         Asked::Dry(dry) => dry_answered(rt, alloc, dry, files, out),
         Asked::Run(ran) => run_answered(rt, alloc, ran, files, journals, out),
         Asked::Clear(clear) => clear_answered(rt, alloc, clear, files, journals, out),
+        Asked::Keep(keep) => clear_answered(rt, alloc, keep, files, journals, out),
         Asked::ClearPlan(plan) => clear_plan_answered(alloc, plan, files, out),
+        Asked::Show(show) => show_answered(alloc, show, canvas, files, out),
         Asked::ShowJson(path) => json_answered(alloc, path, files, out),
         Asked::Page(page) => page_answered(alloc, page, files, out),
         Asked::Schema(format) => schema_answered(format, out),

@@ -24,11 +24,15 @@ _backfill() {
     done
 
     case $before in
-        --zone-file | --table | --seeds | --out | --launcher | --logs | --journal | --json)
+        --zone-file | --table | --seeds | --out | --keep | --launcher | --logs | --journal | --json)
             _backfill_files "$word"
             return
             ;;
-        --at | --from | --to | --on | --task | --run | --index | --workers | --stop-after) return ;;
+        --color)
+            mapfile -t COMPREPLY < <(compgen -W 'auto always never' -- "$word")
+            return
+            ;;
+        --at | --from | --to | --on | --task | --run | --index | --workers | --stop-after | --width) return ;;
     esac
 
     case $command in
@@ -37,10 +41,10 @@ _backfill() {
         check) options='--zone-file --explain --help' ;;
         list) options='--zone-file --from --to --on --some --help' ;;
         single) options='--zone-file --at --out --help' ;;
-        dry) options='--zone-file --from --to --on --some --workers --progress --out --help' ;;
-        run) options='--zone-file --from --to --on --some --workers --progress --out --launcher --logs --journal --stop-after --retry-failed --quiet --help' ;;
+        dry) options='--zone-file --from --to --on --some --workers --progress --out --keep --help' ;;
+        run) options='--zone-file --from --to --on --some --workers --progress --out --keep --launcher --logs --journal --stop-after --retry-failed --quiet --help' ;;
         clear) options='--zone-file --task --run --index --seeds --failed --plan --table --from --to --on --some --workers --progress --out --launcher --logs --journal --stop-after --retry-failed --quiet --help' ;;
-        show) options='--json --help' ;;
+        show) options='--zone-file --from --to --failed --width --color --json --help' ;;
         page) options='--zone-file --states-only --help' ;;
         schema) options='--help' words='graph table' ;;
         completions) options='--help' words='bash zsh fish' ;;
@@ -64,7 +68,7 @@ pub const ZSH: &str = r#"#compdef backfill
 _backfill() {
     local curcontext=$curcontext state line
     typeset -A opt_args
-    local -a commands help version zone_file explain at from to on some task run index seeds failed plan table workers progress out launcher logs journal stop_after retry_failed quiet json states_only graph_file table_file report_file format shell
+    local -a commands help version zone_file explain at from to on some task run index seeds failed plan table workers progress out keep launcher logs journal stop_after retry_failed quiet shown_from shown_to shown_failed width color json states_only graph_file table_file report_file format shell
 
     commands=(
         'check:Checks the graph, and tells how many tasks and edges it has'
@@ -73,7 +77,7 @@ _backfill() {
         'dry:Runs the graph over a range, answered from a table'
         'run:Runs the graph over a range, with the programs of its tasks'
         'clear:Runs tasks of runs again, with all that follows from them'
-        'show:Shows a report as lines of JSON'
+        'show:Shows a report as a grid of characters'
         'page:Writes a page that shows a report'
         'schema:Prints the JSON Schema of graph files or tables'
         'completions:Prints what a shell completes'
@@ -99,13 +103,19 @@ _backfill() {
     workers=('--workers[How many tries may run at once]:number from 1 to 64: ')
     progress=('--progress[Tells how far the runs are]')
     out=('--out[The file that the report goes to]:report:_files')
+    keep=('--keep[The report whose tries are kept]:report:_files')
     launcher=('--launcher[The program that the words of commands are handed to]:program:_files')
     logs=('--logs[The folder in which the logs of tries are kept]:folder:_files -/')
     journal=('--journal[The file that tries are recorded in as they end, and gone on from]:journal:_files')
     stop_after=('--stop-after[Behind how many failed tries no further one begins]:number: ')
     retry_failed=('--retry-failed[Makes the failed tries of the journal again]')
     quiet=('--quiet[Tells neither progress nor which tries fail]')
-    json=('--json[Prints an object for each task instance of this report]:report:_files')
+    shown_from=('--from[Shows the runs from this moment on]:moment: ')
+    shown_to=('--to[Shows the runs up to this moment]:moment: ')
+    shown_failed=('--failed[Shows only what failed, is upstream_failed or has no status]')
+    width=('--width[The width in characters]:number from 20 to 10000: ')
+    color=('--color[When to colour]:when:(auto always never)')
+    json=('--json[Prints an object for each task instance of this report, in place of a grid]:report:_files')
     states_only=('--states-only[Leaves the report out of the page]')
     graph_file=('1:graph:_files')
     table_file=('2:table:_files')
@@ -122,10 +132,10 @@ _backfill() {
                 check) _arguments $help $zone_file $explain $graph_file ;;
                 list) _arguments $help $zone_file $from $to $on $some $graph_file ;;
                 single) _arguments $help $zone_file $at $out $graph_file $table_file ;;
-                dry) _arguments $help $zone_file $from $to $on $some $workers $progress $out $graph_file $table_file ;;
-                run) _arguments $help $zone_file $from $to $on $some $workers $progress $out $launcher $logs $journal $stop_after $retry_failed $quiet $graph_file ;;
+                dry) _arguments $help $zone_file $from $to $on $some $workers $progress $out $keep $graph_file $table_file ;;
+                run) _arguments $help $zone_file $from $to $on $some $workers $progress $out $keep $launcher $logs $journal $stop_after $retry_failed $quiet $graph_file ;;
                 clear) _arguments $help $zone_file $task $run $index $seeds $failed $plan $table $from $to $on $some $workers $progress $out $launcher $logs $journal $stop_after $retry_failed $quiet $graph_file $report_file ;;
-                show) _arguments $help $json ;;
+                show) _arguments $help $zone_file $shown_from $shown_to $shown_failed $width $color $json $graph_file $report_file ;;
                 page) _arguments $help $zone_file $states_only $graph_file $report_file ;;
                 schema) _arguments $help $format ;;
                 completions) _arguments $help $shell ;;
@@ -153,7 +163,7 @@ complete -c backfill -n __fish_use_subcommand -a single -d 'Runs the graph once,
 complete -c backfill -n __fish_use_subcommand -a dry -d 'Runs the graph over a range, answered from a table'
 complete -c backfill -n __fish_use_subcommand -a run -d 'Runs the graph over a range, with the programs of its tasks'
 complete -c backfill -n __fish_use_subcommand -a clear -d 'Runs tasks of runs again, with all that follows from them'
-complete -c backfill -n __fish_use_subcommand -a show -d 'Shows a report as lines of JSON'
+complete -c backfill -n __fish_use_subcommand -a show -d 'Shows a report as a grid of characters'
 complete -c backfill -n __fish_use_subcommand -a page -d 'Writes a page that shows a report'
 complete -c backfill -n __fish_use_subcommand -a schema -d 'Prints the JSON Schema of graph files or tables'
 complete -c backfill -n __fish_use_subcommand -a completions -d 'Prints what a shell completes'
@@ -162,11 +172,11 @@ complete -c backfill -n __fish_use_subcommand -a help -d 'Prints help'
 complete -c backfill -n '__fish_seen_subcommand_from help' -a 'check list single dry run clear show page schema completions help'
 complete -c backfill -n '__fish_seen_subcommand_from schema' -a 'graph table'
 complete -c backfill -n '__fish_seen_subcommand_from completions' -a 'bash zsh fish'
-complete -c backfill -n '__fish_seen_subcommand_from check list single dry run clear page' -F
+complete -c backfill -n '__fish_seen_subcommand_from check list single dry run clear show page' -F
 
 complete -c backfill -n 'not __fish_seen_subcommand_from help' -s h -l help -d 'Prints help'
 complete -c backfill -n __fish_use_subcommand -s V -l version -d 'Prints the version'
-complete -c backfill -n '__fish_seen_subcommand_from check list single dry run clear page' -l zone-file -r -F -d 'The zone file that the zone `file` means'
+complete -c backfill -n '__fish_seen_subcommand_from check list single dry run clear show page' -l zone-file -r -F -d 'The zone file that the zone `file` means'
 complete -c backfill -n '__fish_seen_subcommand_from check' -l explain -d 'Tells all that is wrong with a graph that is refused'
 complete -c backfill -n '__fish_seen_subcommand_from single' -l at -x -d 'The moment of the run'
 complete -c backfill -n '__fish_seen_subcommand_from clear' -l task -x -d 'A task to clear'
@@ -183,12 +193,18 @@ complete -c backfill -n '__fish_seen_subcommand_from list dry run clear' -l some
 complete -c backfill -n '__fish_seen_subcommand_from dry run clear' -l workers -x -d 'How many tries may run at once, 1 to 64'
 complete -c backfill -n '__fish_seen_subcommand_from dry run clear' -l progress -d 'Tells how far the runs are'
 complete -c backfill -n '__fish_seen_subcommand_from single dry run clear' -l out -r -F -d 'The file that the report goes to'
+complete -c backfill -n '__fish_seen_subcommand_from dry run' -l keep -r -F -d 'The report whose tries are kept'
 complete -c backfill -n '__fish_seen_subcommand_from run clear' -l launcher -r -F -d 'The program that the words of commands are handed to'
 complete -c backfill -n '__fish_seen_subcommand_from run clear' -l logs -r -F -d 'The folder in which the logs of tries are kept'
 complete -c backfill -n '__fish_seen_subcommand_from run clear' -l journal -r -F -d 'The file that tries are recorded in as they end, and gone on from'
 complete -c backfill -n '__fish_seen_subcommand_from run clear' -l stop-after -x -d 'Behind how many failed tries no further one begins'
 complete -c backfill -n '__fish_seen_subcommand_from run clear' -l retry-failed -d 'Makes the failed tries of the journal again'
 complete -c backfill -n '__fish_seen_subcommand_from run clear' -l quiet -d 'Tells neither progress nor which tries fail'
-complete -c backfill -n '__fish_seen_subcommand_from show' -l json -r -F -d 'Prints an object for each task instance of this report'
+complete -c backfill -n '__fish_seen_subcommand_from show' -l from -x -d 'Shows the runs from this moment on'
+complete -c backfill -n '__fish_seen_subcommand_from show' -l to -x -d 'Shows the runs up to this moment'
+complete -c backfill -n '__fish_seen_subcommand_from show' -l failed -d 'Shows only what failed, is upstream_failed or has no status'
+complete -c backfill -n '__fish_seen_subcommand_from show' -l width -x -d 'The width in characters, 20 to 10000'
+complete -c backfill -n '__fish_seen_subcommand_from show' -l color -x -a 'auto always never' -d 'When to colour'
+complete -c backfill -n '__fish_seen_subcommand_from show' -l json -r -F -d 'Prints an object for each task instance of this report, in place of a grid'
 complete -c backfill -n '__fish_seen_subcommand_from page' -l states-only -d 'Leaves the report out of the page'
 "#;

@@ -1,3 +1,5 @@
 mod MatchingFacts
 mod Alike
+mod ReportedEnds
 mod PageEnds
+mod GridEnds

@@ -1,9 +1,8 @@
 -- What `page` comes to.
-use Rattle.std.proofs.Common.{◌≡◌, ◌≤◌, ◌<◌, ◌^◌, ℕ, Bool, true, List, Option, Result, Ok, Err, IfOk, IfErr, IsErrAnd, length, take, refl, sym, ap, ◌∙◌, subst, inl, inr, string_bytes, arith}
+use Rattle.std.proofs.Common.{◌≡◌, ◌≤◌, ◌<◌, ◌^◌, ℕ, true, List, Option, Result, Ok, Err, IfOk, IfErr, IsErrAnd, length, take, refl, sym, ap, ◌∙◌, subst, string_bytes, arith}
 use Rattle.bf_check.specs.Checking.{dag_of}
 use Rattle.bf_plan.specs.declared.plan.Dag.{Dag}
 use Rattle.bf_report.specs.declared.report.Report.{Report}
-use Rattle.bf_dependents.specs.declared.fault.ClearFault.{ClearFault}
 use Rattle.bf_device.specs.Device.{sent}
 use Rattle.bf_device.specs.declared.sending.Cause.{Cause}
 use Rattle.bf_device.specs.declared.sending.Cause.TheVariants as cause
@@ -11,17 +10,14 @@ use Rattle.bf_device.specs.declared.sending.WriteFault.{WriteFault}
 use Rattle.bf_command_line.specs.declared.forms.PageAsked.{PageAsked}
 use Rattle.bf_command_fault.specs.Refusal.{Leaves, of_cause, of_write}
 use Rattle.bf_command_fault.specs.declared.fault.CommandFault.{CommandFault}
-use Rattle.bf_command_fault.specs.declared.fault.CommandFault.TheVariants.{CannotRead, CannotWrite, Check, Clear, OutOfMemory, Read, Report as BadReport}
 use Rattle.bf_command_fault.specs.declared.status.Status.{Status}
 use Rattle.bf_disk.specs.Files.{AreReadable, Files}
-use Rattle.bf_input.specs.Inputs.{IsReadOf, IsReportFault, graph_paths}
+use Rattle.bf_input.specs.Inputs.{IsReadOf, graph_paths}
 use Rattle.bf_page.specs.Page.{EndsAt}
 use Rattle.bf_views.specs.declared.planned.Planned.{Planned}
 use Rattle.bf_views.specs.Matching.{is_of_graph}
-use Rattle.bf_views.specs.PageFaults.{IsPageFault}
 use Rattle.bf_views.specs.Pages.{IsPage, IsPageAnswer, words_asked}
-use Rattle.bf_views.specs.Planned.{IsPlanned, IsPlanningFault}
-use Rattle.bf_views.specs.Refused.{IsRefusedBy}
+use Rattle.bf_views.specs.Planned.{IsPlanned}
 use Rattle.bf_views.specs.Writing.{IsWritingFault}
 
 -- ---- a command that passes a fault up
@@ -58,55 +54,9 @@ is_writing fault only = by_cause fault.cause fault.sent only
     by_cause cause.Io n e = tt
     by_cause cause.OutOfMemory n e = cc
 
--- ---- before the page is written nothing goes out
-
-module _ (Halted : Type 0) (IsDue : List ℕ → Type 0) (before : Option (List ℕ)) where
-  pub planning_leaves : (files : Files) (asked : PageAsked) (fault : CommandFault) → IsPlanningFault files asked.graph fault → Leaves Halted IsDue before before fault
-  planning_leaves files asked (CannotWrite n) is = absurd is
-  planning_leaves files asked _ is = refl
-
-  pub report_leaves : (path : List ℕ) (file : Option (Option (List ℕ))) (fault : CommandFault) → IsReportFault path file fault → Leaves Halted IsDue before before fault
-  report_leaves path file (CannotWrite n) is = absurd is
-  report_leaves path file _ is = refl
-
-  pub refusal_leaves : (is_of : Bool) (fault : CommandFault) → IsRefusedBy is_of fault → Leaves Halted IsDue before before fault
-  refusal_leaves is_of (CannotWrite n) is = absurd is
-  refusal_leaves is_of _ is = refl
-
--- ---- faults
-
-pub planning_fault : (files : Files) (asked : PageAsked) (fault : CommandFault) → IsPlanningFault files asked.graph fault → IsPageFault files asked fault
-planning_fault files asked OutOfMemory is = tt
-planning_fault files asked (CannotRead path) is = inl is
-planning_fault files asked (Read fault) is = is
-planning_fault files asked (Check fault) is = is
-planning_fault files asked _ is = absurd is
-
-pub report_fault : (files : Files) (asked : PageAsked) → AreReadable files (graph_paths asked.graph) → (fault : CommandFault) →
-    IsReportFault (string_bytes asked.report) (files (string_bytes asked.report)) fault → IsPageFault files asked fault
-report_fault files asked readable OutOfMemory is = tt
-report_fault files asked readable (CannotRead path) is = inr (readable, is.0, is.1)
-report_fault files asked readable (BadReport fault) is = (readable, is)
-report_fault files asked readable _ is = absurd is
-
 -- ---- with what was read
 
 module _ (files : Files) (asked : PageAsked) (planned : Planned) (report : Report) (are : IsPlanned files asked.graph planned) (readable : AreReadable files (graph_paths asked.graph)) (is_read : IsReadOf (files (string_bytes asked.report)) report) where
-  pub refusal_fault : (fault : CommandFault) → IsRefusedBy (is_of_graph planned.plan.dag report) fault → IsPageFault files asked fault
-  refusal_fault OutOfMemory is = tt
-  refusal_fault (Clear ClearFault.ReportMismatch) is = (
-    (readable, is_read.readable),
-    λ graph zone held_graph held told.
-        let plan = (are graph zone held_graph).1 in
-        record { draft = plan.draft; graph_says = plan.graph_is; report = report; report_says = is_read.says held told; differs = ap (λ (d : Dag). is_of_graph d report) (sym plan.dag) ∙ is },
-  )
-  refusal_fault _ is = absurd is
-
-  pub writing_fault : (fault : CommandFault) → IsWritingFault fault → IsPageFault files asked fault
-  writing_fault OutOfMemory is = tt
-  writing_fault (CannotWrite n) is = (readable, is_read.readable)
-  writing_fault _ is = absurd is
-
   pub page_answer : is_of_graph planned.plan.dag report ≡ true → (text : List ℕ) → IsPage (words_asked asked) planned.graph.items planned.plan.dag report text → IsPageAnswer files asked text Status.Success
   page_answer matches text page = record {
     success = refl;

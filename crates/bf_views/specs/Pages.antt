@@ -8,13 +8,13 @@ use Rattle.bf_report.specs.Report.{report_text}
 use Rattle.bf_report_reader.specs.Reading.{IsReadAs}
 use Rattle.bf_command_line.specs.declared.forms.PageAsked.{PageAsked}
 use Rattle.bf_command_fault.specs.declared.status.Status.{Status}
-use Rattle.bf_disk.specs.Files.{AreReadable, Files, IsHeld, IsReadable}
-use Rattle.bf_input.specs.Inputs.{OfFiles, graph_paths}
+use Rattle.bf_disk.specs.Files.{Files}
 use Rattle.bf_planning.specs.Graphs.{IsGraph}
 use Rattle.bf_page.specs.declared.page.PageTexts.{PageTexts}
 use Rattle.bf_page.specs.Page.{page_text}
 use Rattle.bf_cells.specs.Cells.{cells_text}
 use Rattle.bf_views.specs.Matching.{is_of_graph}
+use Rattle.bf_views.specs.Reported.{AreReportedReadable, OfReported}
 
 -- the report on the page: none where only the states are asked for, or where it has more than 134,217,728 bytes
 abbrev pub report_shown : Bool → List ℕ → List ℕ
@@ -58,15 +58,7 @@ pub record IsPageOf (words : PageWords) (graph : List ℕ) (zone : Option (List 
   pub matches : is_of_graph (dag_of draft) report ≡ true
   pub page : IsPage words graph (dag_of draft) report text
 
--- so it is with whatever the files are told to hold
-abbrev pub OfPageFiles : Files → PageAsked → (List ℕ → Option (List ℕ) → List ℕ → Type 0) → Type 0
-OfPageFiles files asked P = OfFiles files asked.graph (λ graph zone. (held : List ℕ) → IsHeld (files (string_bytes asked.report)) held → P graph zone held)
-
--- the files can be read
-abbrev pub ArePageFilesReadable : Files → PageAsked → Type 0
-ArePageFilesReadable files asked = AreReadable files (graph_paths asked.graph) × IsReadable (files (string_bytes asked.report))
-
 pub record IsPageAnswer (files : Files) (asked : PageAsked) (text : List ℕ) (status : Status) : Type 0 where
   pub success : status ≡ Status.Success
-  pub readable : ArePageFilesReadable files asked
-  pub text_is : OfPageFiles files asked (λ graph zone held. IsPageOf (words_asked asked) graph zone held text)
+  pub readable : AreReportedReadable files asked.graph (string_bytes asked.report)
+  pub text_is : OfReported files asked.graph (string_bytes asked.report) (λ graph zone held. IsPageOf (words_asked asked) graph zone held text)

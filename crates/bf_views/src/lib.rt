@@ -1,11 +1,16 @@
 //! What the commands that show a report come to, by what the files hold that they name.
 #![tactic(auto)]
 
+mod bounds;
+mod canvas;
 mod json;
 mod matching;
 mod page;
 mod planned;
 mod report;
+mod show;
 
+pub use canvas::Canvas;
 pub use json::json_answered;
 pub use page::page_answered;
+pub use show::show_answered;

@@ -2,7 +2,8 @@ use Rattle.std.proofs.Common.{string_bytes, subst}
 use Rattle.bf_commands.proofs.Faults.{unwritten_leaves}
 use Rattle.bf_program.specs.Commands.{IsClearAnswer, IsLaunchable, clear_input, launcher_used, machine_of}
 use Rattle.bf_program.specs.CommandFaults.{IsFaultOfLauncher}
-use Rattle.bf_program.proofs.ClearEnds.{clear_answers, clear_faults, clear_unlaunched, clear_unmeant, named_preparing, named_readable, of_clearing, preparing_leaves, read_means, unmeant_leaves}
+use Rattle.bf_program.proofs.ClearInputs.{named_preparing, named_readable, preparing_leaves, read_means}
+use Rattle.bf_program.proofs.ClearEnds.{clear_answers, clear_faults, clear_unlaunched, clear_unmeant, of_clearing, unmeant_leaves}
 use Rattle.bf_program.proofs.Exits.{fails, runs_leave, runs_send}
 use Rattle.bf_program.proofs.clear.clear_answered.Goals as goal
 

@@ -3,7 +3,7 @@ use Rattle.bf_disk.specs.Files.{named_paths}
 use Rattle.bf_input.specs.Inputs.{graph_paths}
 use Rattle.bf_planning.proofs.Results.{handed_on}
 use Rattle.bf_program.specs.Named.{path_of}
-use Rattle.bf_program.proofs.ClearEnds.{held_stays, read_stays}
+use Rattle.bf_program.proofs.ClearInputs.{held_stays, read_stays}
 use Rattle.bf_program.proofs.ReadFiles.{reading_before, reading_first, reading_then}
 use Rattle.bf_program.proofs.clear.clear_files.Goals as goal
 

@@ -1,7 +1,7 @@
 use Rattle.std.proofs.Common.{inr}
 use Rattle.std.proofs.lemmas.Result.{IfErr-weaker, IfOk-weaker}
 use Rattle.bf_command_fault.proofs.Leaving.{leaves_due_in}
-use Rattle.bf_program.proofs.ClearEnds.{report_leaves}
+use Rattle.bf_program.proofs.ClearInputs.{report_leaves}
 use Rattle.bf_planning.proofs.Results.{handed_on}
 use Rattle.bf_program.proofs.clear.go_on.Goals as goal
 

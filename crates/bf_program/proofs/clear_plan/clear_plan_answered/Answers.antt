@@ -2,7 +2,8 @@ use Rattle.std.proofs.Common.{string_bytes}
 use Rattle.bf_command_fault.proofs.Leaving.{leaves_due}
 use Rattle.bf_command_fault.specs.declared.status.Status.{Status}
 use Rattle.bf_program.specs.Commands.{plan_input}
-use Rattle.bf_program.proofs.ClearEnds.{named_preparing, named_readable, of_planning, plan_answer, plan_fault, plan_unmeant, plan_unreported, preparing_leaves, read_means, report_leaves, unmeant_leaves}
+use Rattle.bf_program.proofs.ClearInputs.{named_preparing, named_readable, preparing_leaves, read_means, report_leaves}
+use Rattle.bf_program.proofs.ClearEnds.{of_planning, plan_answer, plan_fault, plan_unmeant, plan_unreported, unmeant_leaves}
 use Rattle.bf_program.proofs.Exits.{fails}
 use Rattle.bf_program.proofs.clear_plan.clear_plan_answered.Goals as goal
 

@@ -4,7 +4,7 @@ use Rattle.bf_program.proofs.program.answer.Goals as goal
 
 pub returns-in-Ok-clause-why : goal.returns-in-Ok-clause-why
 returns-in-Ok-clause-why g c = λ none two.
-    let low = done_low _ _ _ _ _ _ _ (c.in-Ok.ensures.done none) in
+    let low = done_low _ _ _ _ _ _ _ _ (c.in-Ok.ensures.done none) in
     let bad : ⊥ = omega (arith, low, two, c.code.ensures) in
     absurd bad
 

@@ -10,13 +10,13 @@ returns-in-Err-clause-unshown g c = λ wrong. line_unshown _ _ _ _ c.in-Err.erro
 
 pub returns-in-Err-clause-why : goal.returns-in-Err-clause-why
 returns-in-Err-clause-why g c = λ none.
-    shown_may (g.RT.Starter.may_hear c.args.rt.now) (g.RT.Starter.may_lose c.args.rt.now) _ _ _ _ _ _ _ _ c.in-Err.error _
+    shown_may (g.RT.Starter.may_hear c.args.rt.now) (g.RT.Starter.may_lose c.args.rt.now) _ _ _ _ _ _ _ _ _ c.in-Err.error _
     c.in-Err.ensures.err none c.shown.ensures.wanting c.shown.ensures.kept refl
 
 pub returns-in-Some : goal.returns-in-Some
-returns-in-Some g c = filed_ends _ _ _ _ _ _ _ _ _ _ _ _ _ c.in-Ok.ensures.ok c.in-Ok.ensures.err _ (ap (option_map string_bytes) c.in-Some.is) refl _
+returns-in-Some g c = filed_ends _ _ _ _ _ _ _ _ _ _ _ _ _ _ c.in-Ok.ensures.ok c.in-Ok.ensures.err _ (ap (option_map string_bytes) c.in-Some.is) refl _
     c.filed.ensures.answer c.filed.ensures.fault c.filed.ensures.same
 
 pub returns-in-None : goal.returns-in-None
-returns-in-None g c = printed_ends _ _ _ _ _ _ _ _ _ _ _ _ _ c.in-Ok.ensures.ok c.in-Ok.ensures.err (ap (option_map string_bytes) c.in-None.is) refl _
+returns-in-None g c = printed_ends _ _ _ _ _ _ _ _ _ _ _ _ _ _ c.in-Ok.ensures.ok c.in-Ok.ensures.err (ap (option_map string_bytes) c.in-None.is) refl _
     c.command_answered.ensures.answer c.command_answered.ensures.fault c.command_answered.ensures.left

@@ -7,7 +7,8 @@ use Rattle.bf_input.specs.Inputs.{IsReadOf}
 use Rattle.bf_views.specs.Matching.{is_of_graph}
 use Rattle.bf_views.specs.Pages.{IsPage, PageWords}
 use Rattle.bf_views.specs.Refused.{IsRefusedBy}
-use Rattle.bf_views.proofs.PageEnds.{err_is, page_answer, refusal_fault, writing_fault}
+use Rattle.bf_views.proofs.PageEnds.{err_is, page_answer}
+use Rattle.bf_views.proofs.ReportedEnds.{refusal_fault, writing_fault}
 use Rattle.bf_views.proofs.page.page_answered.Goals as goal
 
 pub returns-in_err-refuse_other-clause-fault : goal.returns-in_err-refuse_other-clause-fault
@@ -18,7 +19,7 @@ returns-in_err-refuse_other-clause-fault g c =
     let stays = c.in_ok-planned.ensures.stays path in
     let read : IsReadOf (files path) report = record { readable = subst IsReadable stays c.in_ok-report.ensures.readable; says = λ held told. c.in_ok-report.ensures.says held (stays ∙ told) } in
     err_is _ _ _ c.from_residual-in_err-refuse_other.ensures.1
-    (refusal_fault files c.args.asked c.in_ok-planned.planned report c.in_ok-planned.ensures.plan c.in_ok-planned.ensures.readable read c.in_err-refuse_other.field-0.0
+    (refusal_fault files c.args.asked.graph path c.in_ok-planned.planned report c.in_ok-planned.ensures.plan c.in_ok-planned.ensures.readable read c.in_err-refuse_other.field-0.0
     (subst (λ (d : Dag). IsRefusedBy (is_of_graph d report) c.in_err-refuse_other.field-0.0) c.dag.ensures.dag c.in_err-refuse_other.ensures.err))
 
 pub returns-in_err-write_shown-clause-fault : goal.returns-in_err-write_shown-clause-fault
@@ -29,7 +30,7 @@ returns-in_err-write_shown-clause-fault g c =
     let stays = c.in_ok-planned.ensures.stays path in
     let read : IsReadOf (files path) report = record { readable = subst IsReadable stays c.in_ok-report.ensures.readable; says = λ held told. c.in_ok-report.ensures.says held (stays ∙ told) } in
     err_is _ _ _ c.from_residual-in_err-write_shown.ensures.1
-    (writing_fault files c.args.asked c.in_ok-planned.planned report c.in_ok-planned.ensures.plan c.in_ok-planned.ensures.readable read _ c.in_err-write_shown.ensures.fault)
+    (writing_fault files c.args.asked.graph path c.in_ok-planned.planned report c.in_ok-planned.ensures.plan c.in_ok-planned.ensures.readable read _ c.in_err-write_shown.ensures.fault)
 
 pub returns-in_err-write_shown-clause-left : goal.returns-in_err-write_shown-clause-left
 returns-in_err-write_shown-clause-left g c =

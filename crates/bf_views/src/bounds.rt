@@ -1,0 +1,62 @@
+//! The moments from and up to which runs are shown.
+ghost use Rattle.std.specs.Prelude.{◌≡◌, true, false, IfOk, IfErr, OnOk};
+ghost use Rattle.bf_views.specs.Bounds.{HasNoBound, IsNoMomentIfGiven, MeansBounds, MeansIfGiven, is_reversed as reversed};
+
+use bf_command_fault::{CommandFault, RangeFault};
+use bf_command_line::ShowAsked;
+use bf_input::moment_of;
+use bf_interval::IntervalFault;
+use jiff::Timestamp;
+
+/// The moments from and up to which runs are shown, where there are such.
+#[derive(Clone, Copy, Debug)]
+pub(crate) struct Bounds {
+    pub(crate) from: Option<Timestamp>,
+    pub(crate) to: Option<Timestamp>,
+}
+
+fn moment_if(text: &Option<String>) -> Result<Option<Timestamp>, CommandFault>
+    ensures means { IfOk result (MeansIfGiven text.now) }
+    ensures bad { IfErr result (λ f. (f ≡ CommandFault.BadMoment) × IsNoMomentIfGiven text.now) }
+{
+    match text {
+        Some(text) => {
+            let moment = moment_of(text.as_str())?;
+            Ok(Some(moment))
+        }
+        None => Ok(None),
+    }
+}
+
+impl Bounds {
+    /// Those that a line asks for.
+    pub(crate) fn of(asked: &ShowAsked) -> Result<Bounds, CommandFault>
+        ensures means { IfOk result (MeansBounds asked.now) }
+        ensures bad { IfErr result (λ f. (f ≡ CommandFault.BadMoment) × HasNoBound asked.now) }
+    {
+        let from = moment_if(&asked.from)?;
+        let to = moment_if(&asked.to)?;
+        Ok(Bounds { from, to })
+    }
+
+    fn is_reversed(&self) -> bool
+        ensures { result ≡ reversed self.now }
+    {
+        match (self.from, self.to) {
+            (Some(from), Some(to)) => to.as_nanosecond() < from.as_nanosecond(),
+            _ => false,
+        }
+    }
+
+    /// Refuses those of which the first lies after the last.
+    pub(crate) fn refuse_reversed(&self) -> Result<(), CommandFault>
+        ensures ok { OnOk result (reversed self.now ≡ false) }
+        ensures err { IfErr result (λ f. (f ≡ CommandFault.Range (RangeFault.Unlisted IntervalFault.RangeReversed))
+            × (reversed self.now ≡ true)) }
+    {
+        if self.is_reversed() {
+            return Err(CommandFault::Range(RangeFault::Unlisted(IntervalFault::RangeReversed)));
+        }
+        Ok(())
+    }
+}

@@ -1,0 +1,66 @@
+//! What a grid is shown on.
+ghost use Rattle.std.specs.Prelude.{◌≡◌, IfSome, IfNone, option_map};
+ghost use Rattle.bf_views.specs.Canvases.{IsWidthBy, SaysColumns, columns_said, has_colors as colors_by};
+
+/// The least and the greatest width of a grid, and the one that it has by itself.
+const LEAST_WIDTH: u32 = 20;
+
+const GREATEST_WIDTH: u32 = 10_000;
+
+const USUAL_WIDTH: u32 = 80;
+
+/// What a grid is shown on where the line doesn't say: how wide that is, in characters, and whether it has colours.
+#[derive(Clone, Copy, Debug, PartialEq, Eq)]
+pub struct Canvas {
+    pub width: u32,
+    pub colored: bool,
+}
+
+/// The width that a text says, where it is one of a grid.
+fn width_said(text: &str) -> Option<u32>
+    ensures some { IfSome result (λ width. SaysColumns text.now × (width ≡ columns_said text.now)) }
+    ensures none { IfNone result (SaysColumns text.now → ⊥) }
+{
+    match text.parse::<u32>() {
+        Ok(width) if LEAST_WIDTH <= width && width <= GREATEST_WIDTH => Some(width),
+        _ => None,
+    }
+}
+
+fn width_by(columns: Option<&str>) -> u32
+    ensures { IsWidthBy (option_map (λ c. c.now) columns.entry) result }
+{
+    let Some(text) = columns else {
+        return USUAL_WIDTH;
+    };
+    match width_said(text) {
+        Some(width) => width,
+        None => USUAL_WIDTH,
+    }
+}
+
+fn has_colors(is_terminal: bool, no_color: Option<&str>, term: Option<&str>) -> bool
+    ensures { result ≡ colors_by is_terminal (option_map (λ c. c.now) no_color.entry) (option_map (λ t. t.now) term.entry) }
+{
+    is_terminal && no_color.unwrap_or("").is_empty() && term.unwrap_or("") != "dumb"
+}
+
+impl Canvas {
+    /// By what the variables COLUMNS, NO_COLOR and TERM say, where they are set: as wide as COLUMNS, where that is a number from 20 to
+    /// 10,000, and else 80; a terminal has colours where NO_COLOR is missing or empty and TERM isn't `dumb`.
+    pub fn of(
+        is_terminal: bool,
+        columns: Option<&str>,
+        no_color: Option<&str>,
+        term: Option<&str>,
+    ) -> Canvas
+        ensures width { IsWidthBy (option_map (λ c. c.now) columns.entry) result.width }
+        ensures colored { result.colored
+            ≡ colors_by is_terminal (option_map (λ c. c.now) no_color.entry) (option_map (λ t. t.now) term.entry) }
+    {
+        Canvas {
+            width: width_by(columns),
+            colored: has_colors(is_terminal, no_color, term),
+        }
+    }
+}

@@ -1,0 +1,92 @@
+//! The command `show`: a report as a grid.
+ghost use Rattle.std.specs.Prelude.{◌≡◌, IfOk, IfErr, OnOk};
+ghost use Rattle.bf_command_fault.specs.Refusal.{Leaves, Sends};
+ghost use Rattle.bf_command_fault.specs.declared.status.Status.{Status as StatusTerm};
+ghost use Rattle.bf_device.specs.Device.{HasHalted, sent};
+ghost use Rattle.bf_grid.specs.Grid.{grid_text};
+ghost use Rattle.bf_views.specs.GridFaults.{IsGridFault};
+ghost use Rattle.bf_views.specs.Grids.{IsGridAnswer, is_colored as colored_by, view_asked};
+ghost use Rattle.bf_views.specs.Writing.{IsWritingFault};
+
+use crate::bounds::Bounds;
+use crate::canvas::Canvas;
+use crate::matching::refuse_other;
+use crate::planned::plan_asked;
+use bf_command_fault::{CommandFault, Status};
+use bf_command_line::{Color, ShowAsked};
+use bf_device::Write;
+use bf_disk::Source;
+use bf_grid::write_grid;
+use bf_input::report_in;
+use bf_marks::View;
+use bf_plan::Plan;
+use bf_report::Report;
+use std::alloc::Global;
+
+fn is_colored(color: Color, canvas: Canvas) -> bool
+    ensures { result ≡ colored_by color canvas.colored }
+{
+    match color {
+        Color::Auto => canvas.colored,
+        Color::Always => true,
+        Color::Never => false,
+    }
+}
+
+fn view_of(asked: &ShowAsked, bounds: &Bounds, canvas: Canvas) -> View
+    ensures { result ≡ view_asked asked.now bounds.now canvas }
+{
+    View {
+        from: bounds.from,
+        to: bounds.to,
+        failed: asked.failed,
+        width: asked.width.unwrap_or(canvas.width),
+        colored: is_colored(asked.color, canvas),
+    }
+}
+
+fn write_viewed<W: Write>(
+    alloc: Global,
+    view: &View,
+    plan: &Plan,
+    report: &Report,
+    out: &mut W,
+) -> Result<(), CommandFault>
+    ensures grid { OnOk result (W.written out.new
+        ≡ sent (W.written out.old) (grid_text view.now plan.now.dag report.now)) }
+    ensures fault { IfErr result IsWritingFault }
+    ensures left { IfErr result (Leaves (HasHalted (W.failures out.old) (W.failures out.new)
+        (W.interruptions out.old) (W.interruptions out.new))
+        (λ text. text ≡ grid_text view.now plan.now.dag report.now)
+        (W.written out.old) (W.written out.new)) }
+{
+    write_grid(alloc, view, plan.dag(), report, out)?;
+    Ok(())
+}
+
+/// Looks at the moments first; reads the graph file, the zone file where one is named, and checks the graph; then reads the report, and
+/// writes the grid. The report may be one of `single`, and of any range. What the line doesn't say of width and colours the canvas has.
+pub fn show_answered<S: Source, W: Write>(
+    alloc: Global,
+    asked: ShowAsked,
+    canvas: Canvas,
+    files: &mut S,
+    out: &mut W,
+) -> Result<Status, CommandFault>
+    ensures answer { IfOk result (λ status. Sends (λ text. IsGridAnswer canvas (S.file files.old) asked text status)
+        (W.written out.old) (W.written out.new)) }
+    ensures fault { IfErr result (IsGridFault (S.file files.old) asked) }
+    ensures left { IfErr result (Leaves (HasHalted (W.failures out.old) (W.failures out.new)
+        (W.interruptions out.old) (W.interruptions out.new))
+        (λ text. (status : StatusTerm) × IsGridAnswer canvas (S.file files.old) asked text status)
+        (W.written out.old) (W.written out.new)) }
+{
+    let bounds = Bounds::of(&asked)?;
+    let view = view_of(&asked, &bounds, canvas);
+    let planned = plan_asked(alloc, asked.graph, files)?;
+    bounds.refuse_reversed()?;
+    let report = report_in(alloc, asked.report, files)?;
+    refuse_other(alloc, planned.plan.dag(), &report)?;
+    write_viewed(alloc, &view, &planned.plan, &report, out)?;
+    Ok(Status::Success)
+}
