@@ -5,9 +5,11 @@ For each seed from FIRST on, COUNT of them, a folder of its name has graph.json 
 `dry_2` that the program is to print; `dry_1`, the latter in version 1; mended.json and again.json, by which a task is cleared in
 either; and `clear_1` and `clear_2`, the reports that come of it. The file `seeds` names several tasks and instances; `several` is the report
 that comes of clearing them in version 2, `failed` that of clearing all that failed there, and `several_plan` and `failed_plan` are what `--plan`
-prints of either. The file `cases` has a line for each seed: the seed, the moments
-of the first and the last run, the task and the run that are cleared, and the exit statuses of `single`, `dry`, `clear` from
-version 1 and from version 2, of several and of what failed. The graphs are such as `check` lets pass.
+prints of either. With shape.json, the graph in another shape, and anew.json another range is run, where the report is kept in either version:
+`keep_1` and `keep_2`. The file `cases` has a line for each seed: the seed, the moments
+of the first and the last run, the task and the run that are cleared, the moments of the first and the last run of that other range, and the exit
+statuses of `single`, `dry`, `clear` from version 1 and from version 2, of several and of what failed, and of what is kept of either. The graphs
+are such as `check` lets pass.
 """
 import copy
 import datetime
@@ -118,6 +120,57 @@ def mended(chance, graph):
     return good
 
 
+def is_acyclic(graph):
+    left = set(graph.tasks)
+    while ready := {task for task in left if not left & set(graph.upstreams(task))}:
+        left -= ready
+    return not left
+
+
+def without(tasks, gone):
+    """The tasks but for one, which none of the others names any more."""
+    left = [task for task in tasks if task["id"] != gone]
+    for task in left:
+        task["upstream"] = [upstream for upstream in task["upstream"] if upstream != gone]
+        expanded = task.get("expand") == gone and task.pop("expand") == gone
+        task["command"] = [word for word in task["command"] if word != {"pull": gone} and not (expanded and word == {"item": True})]
+    return left
+
+
+def reshaped(chance, tasks):
+    """One task more or less, another order, an edge more, a pull more or less, or another key. It needn't be good."""
+    tasks = copy.deepcopy(tasks)
+    ids = [task["id"] for task in tasks]
+    spare = sorted(set(IDS) - set(ids))
+    task = chance.choice(tasks)
+    edit = chance.choice(["fewer", "more", "order", "edge", "pull", "key", "key"])
+    if edit == "fewer" and len(tasks) > 1:
+        return without(tasks, task["id"])
+    if edit == "more" and spare:
+        new = task_of(chance, chance.choice(spare), ids)
+        tasks.insert(chance.randint(0, len(tasks)), {**new, "command": some(chance, [{"pull": each} for each in new["upstream"]], 0, 1, 2)})
+    elif edit == "order":
+        chance.shuffle(tasks)
+    elif edit == "edge":
+        task["upstream"].append(chance.choice(ids))
+    elif edit == "pull":
+        word = {"pull": chance.choice(ids)}
+        task["command"] = [each for each in task["command"] if each != word] if word in task["command"] else [*task["command"], word]
+    else:
+        change(chance, task)
+    return tasks
+
+
+def in_another_shape(chance, graph):
+    """A graph of the same id, some steps away."""
+    good = graph
+    for _ in range(chance.choice([1, 2, 3, 5, 8])):
+        new = {**good, "tasks": reshaped(chance, good["tasks"])}
+        shape = recursion.Graph(new)
+        good = new if is_acyclic(shape) and is_sound(shape) else good
+    return good
+
+
 # Tables.
 
 
@@ -175,10 +228,19 @@ def table_of(chance, graph, dates):
 # Cases.
 
 
-def intervals_of(chance):
-    days = [datetime.date(2024, 2, 27) + datetime.timedelta(days=number) for number in range(chance.randint(3, 4) + 1)]
-    moments = [f"{day}T00:00:00Z" for day in days]
+def days_from(first, count):
+    """The data intervals of so many days."""
+    moments = [f"{first + datetime.timedelta(days=number)}T00:00:00Z" for number in range(count + 1)]
     return list(zip(moments, moments[1:]))
+
+
+def intervals_of(chance):
+    return days_from(datetime.date(2024, 2, 27), chance.randint(3, 4))
+
+
+def other_intervals(chance):
+    """Days before and behind those, some of them or none."""
+    return days_from(datetime.date(2024, 2, chance.randint(25, 29)), chance.randint(1, 6))
 
 
 def several_of(chance, graph, dates):
@@ -217,11 +279,19 @@ def write_case(folder, seed):
         files[f"{name}_plan"] = recursion.plan_of(graph, dates, cleared)
         files[name], status = recursion.report_by_table(graph, table, intervals, recursion.kept_outcomes(graph, files["dry_2"], cleared))
         statuses.append(status)
+    files["shape.json"] = in_another_shape(chance, files["graph.json"])
+    graph = recursion.Graph(files["shape.json"])
+    others = other_intervals(chance)
+    files["anew.json"] = table = table_of(chance, graph, [start for start, _ in others])
+    for version in 1, 2:
+        kept = recursion.kept_by_ids(graph, files[f"dry_{version}"], others)
+        files[f"keep_{version}"], status = recursion.report_by_table(graph, table, others, kept)
+        statuses.append(status)
     (folder / f"{seed}").mkdir()
     for name, content in files.items():
         text = content if isinstance(content, str) else json.dumps(content) + "\n"
         (folder / f"{seed}" / name).write_bytes(text.encode())
-    return " ".join(map(str, [seed, dates[0], dates[-1], task, run, *statuses])) + "\n"
+    return " ".join(map(str, [seed, dates[0], dates[-1], task, run, others[0][0], others[-1][0], *statuses])) + "\n"
 
 
 def write_cases(write_case, usage):

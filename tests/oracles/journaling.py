@@ -31,20 +31,12 @@ def head_of(graph, intervals, cleared):
     return recursion.text_of(members if cleared is None else [*members, cleared]) + "\n"
 
 
-def given_of(lines):
-    """The item and the pulled values of a record, each a list of one or of none, by what a report tells of them."""
-    texts = [line.split(" ", 1 if line.startswith("@item ") else 2)[-1] for line in lines]
-    optional = [[] if text == "-" else [json.loads(text)] for text in texts]
-    has_item = bool(lines) and lines[0].startswith("@item ")
-    return (optional[0], optional[1:]) if has_item else ([], optional)
-
-
 def record_of(name, outcome):
-    """The members of a record but for its times."""
-    start, task, index, number, *lines = name
+    """The members of a record but for its times. What isn't there is a list of none."""
+    start, task, index, number, item, *pulled = name
     state, value = outcome
-    item, pulled = given_of(lines)
-    return [start, task, index, number, state, [] if value is None else [value], item, pulled]
+    optional = [[] if text in (None, "-") else [json.loads(text)] for text in [item, *pulled]]
+    return [start, task, index, number, state, [] if value is None else [value], optional[0], optional[1:]]
 
 
 # Reading.
@@ -80,10 +72,8 @@ def tried(graph, starts, line):
         return None
     if state != "success" and pushed:
         return None
-    given = [f"@item {recursion.text_of(item[0])}"] if item else []
-    ids = [*graph.pulls(task), *["no pull"] * len(pulled)][: len(pulled)]
-    given += [f"@pull {upstream} {recursion.text_of(value[0]) if value else '-'}" for upstream, value in zip(ids, pulled)]
-    return (start, task, index, number, *given), (state, pushed)
+    item = recursion.text_of(item[0]) if item else None
+    return (start, task, index, number, item, *[recursion.text_of(value[0]) if value else "-" for value in pulled]), (state, pushed)
 
 
 def may_be(graph, task, state, pushed):

@@ -333,10 +333,14 @@ def worked_out(graph, task, run, index):
     return given(graph, task, run, index, items)
 
 
-def kept_outcomes(graph, report, seeds):
-    """The outcomes of the tries that are kept where these are cleared: by run, task, map index and try, and by what they were given."""
-    version, runs = read_report(report)
-    cleared = cleared_by(graph, [run.start for run in runs], seeds)
+def values_given(lines):
+    """The text of an item, or None, and those of the pulled values, by the lines that tell them."""
+    item = [line.split(" ", 1)[1] for line in lines if line.startswith("@item ")] or [None]
+    return [*item, *[line.split(" ", 2)[2] for line in lines if line.startswith("@pull ")]]
+
+
+def outcomes_in(graph, version, runs, cleared):
+    """The outcomes of the tries that runs tell of and that are kept: by run, task, map index and try, and by what they were given."""
     kept = {}
     for run in runs:
         for task, instances in run.instances.items():
@@ -346,10 +350,25 @@ def kept_outcomes(graph, report, seeds):
                 if tries == 0 or lines is None or {(run.start, task, None), (run.start, task, index)} & cleared:
                     continue
                 for number in range(1, tries):
-                    kept[run.start, task, index, number, *lines] = "failed", None
+                    kept[run.start, task, index, number, *values_given(lines)] = "failed", None
                 if state != "success" or may_push(graph, task, value):
-                    kept[run.start, task, index, tries, *lines] = state, value
+                    kept[run.start, task, index, tries, *values_given(lines)] = state, value
     return kept
+
+
+def kept_outcomes(graph, report, seeds):
+    """Those that are kept where these are cleared."""
+    version, runs = read_report(report)
+    return outcomes_in(graph, version, runs, cleared_by(graph, [run.start for run in runs], seeds))
+
+
+def kept_by_ids(graph, report, intervals):
+    """Those that are kept of a report of another range, or of the graph in another shape."""
+    version, runs = read_report(report)
+    told = {(run.start, run.end): run.instances for run in runs}
+    tasks = [(start, end, told.get((start, end), {})) for start, end in intervals]
+    runs = [Run(start, end, None, {task: held.get(task, without_try("no_status")) for task in graph.tasks}) for start, end, held in tasks]
+    return outcomes_in(graph, version, runs, set())
 
 
 def report_by_table(graph, table, intervals, kept, made=None):
@@ -357,7 +376,7 @@ def report_by_table(graph, table, intervals, kept, made=None):
     those are put into `made`, as they are kept."""
 
     def outcome(start, task, index, number, lines):
-        name = start, task, index, number, *lines
+        name = start, task, index, number, *values_given(lines)
         if name in kept:
             return kept[name]
         graded = grade(graph, task, *answer(table, {"run": start, "task": task, "index": index, "try": number}))

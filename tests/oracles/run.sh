@@ -9,6 +9,7 @@
 set -euo pipefail
 
 source "$(dirname "$(readlink -f "${BASH_SOURCE[0]}")")/../shared/compare.sh"
+unset COLUMNS
 
 # How many seeds each oracle has by itself.
 declare -A seeds=([backfills]=300 [faults]=1000 [intervals]=600 [journals]=400 [reports]=600 [tables_and_clearing]=600 [views]=150)
@@ -34,9 +35,20 @@ clears_by() {
     answers 0 "${words[@]}" --plan < "$folder/${name}_plan"
 }
 
+# Its tries are kept by a graph of another shape and another range.
+keeps() {
+    local status=$1 version=$2 workers
+    shift 2
+    for workers in 1 8; do
+        answers "$status" dry "$folder/shape.json" "$folder/anew.json" "$@" --keep "$folder/dry_$version" --workers "$workers" \
+            < "$folder/keep_$version"
+    done
+}
+
 # Graphs and tables: a plain recursion over dates.
 compares_backfills() {
-    local from=$1 to=$2 task=$3 run=$4 single=$5 dry=$6 clear_1=$7 clear_2=$8 several=$9 failed=${10} workers
+    local from=$1 to=$2 task=$3 run=$4 first=$5 last=$6 single=$7 dry=$8 clear_1=$9 clear_2=${10} several=${11} failed=${12} workers
+    local keep_1=${13} keep_2=${14}
     range=(--from "$from" --to "$to")
     answers "$single" single "$graph" "$folder/table.json" --at "$from" < "$folder/single"
     for workers in 1 2 8; do
@@ -47,6 +59,8 @@ compares_backfills() {
     clears "$task" "$run" "$clear_2" 2 8
     clears_by several "$several" --seeds "$folder/seeds"
     clears_by failed "$failed" --failed
+    keeps "$keep_1" 1 --from "$first" --to "$last"
+    keeps "$keep_2" 2 --from "$first" --to "$last"
 }
 
 # Graph files with faults.
@@ -107,12 +121,17 @@ compares_tables_and_clearing() {
     esac
 }
 
-# Reports, shown as lines of JSON and as pages, also with a graph that was mended since.
+# Reports, shown as lines of JSON, as grids and as pages, also with a graph that was mended since.
 compares_views() {
-    local is_other=$1 version
+    local is_other=$1 version n options
     for version in 1 2; do
         answers 0 show --json "$folder/dry_$version" < "$folder/json_$version"
         answers 0 page "$graph" "$folder/dry_$version" < "$folder/page_$version"
+    done
+    answers 0 show "$graph" "$folder/dry_2" < "$folder/grid"
+    for n in {0..3}; do
+        mapfile -t options < "$folder/options_$n"
+        answers 0 show "$graph" "$folder/long" "${options[@]}" < "$folder/grid_$n"
     done
     answers 0 page "$graph" "$folder/dry_2" --states-only < "$folder/states"
     answers 0 page "$graph" "$folder/single" < "$folder/page_single"

@@ -70,9 +70,10 @@ for words in 'check' 'dry graph.json' 'run --from 2024-01-01' 'clear --table' 'l
 done
 same 'folders in bash' 'folder' < <(bash_offers backfill check fol)
 same 'a file with a space in bash' 'two_words.json' < <(bash_offers backfill check two | sed 's/ /_/')
-for option in --at --from --to --on --task --run --index --workers; do
+for option in --at --from --to --on --task --run --index --workers --width; do
     same "what follows $option in bash" '' < <(bash_offers backfill clear "$option" '')
 done
+same 'what follows --color in bash' 'auto always never' < <(bash_offers backfill show --color '')
 
 # ---- zsh
 

@@ -9,7 +9,7 @@ set -euo pipefail
 
 source "$(dirname "$(readlink -f "${BASH_SOURCE[0]}")")/../shared/count.sh"
 pages=("$@")
-[[ $# -gt 0 ]] || pages=("$root/README.md" "$root/examples/README.md" "$root/docs/FROM_AIRFLOW.md")
+[[ $# -gt 0 ]] || pages=("$root/README.md" "$root/docs/GUIDE.md" "$root/examples/README.md" "$root/docs/FROM_AIRFLOW.md")
 
 # What a page says of a file that has what is printed; its path is seen from the page.
 same_in='The same stands in \[[^]]*\]\(([^)]+)\)'

@@ -8,12 +8,6 @@ source "$(dirname "$(readlink -f "${BASH_SOURCE[0]}")")/../shared/compare.sh"
 from=2024-01-01
 to=2024-01-01
 
-# The report on standard input, which is of version 2, is what is gone on from, in both versions.
-was() {
-    cat > "$work/report_2"
-    sed -e '1s/^@backfill 2 /@backfill 1 /' -e '/^@item /d' -e '/^@pull /d' "$work/report_2" > "$work/report_1"
-}
-
 # What these words tell is cleared, by this table and 1, 2 and 8 workers, in the report of either version: it ends in this status and
 # prints the report on standard input.
 clears_told() {

@@ -21,7 +21,7 @@ Commands:
   dry          Runs the graph for each data interval that starts in a range, answering each task from a table
   run          Runs the graph for each data interval that starts in a range, with the programs of its tasks
   clear        Runs tasks of runs again, with all that follows from them, and keeps the rest of a report
-  show         Shows a report as lines of JSON, for other programs to read
+  show         Shows a report as a grid of characters, a column for each run and a row for each task
   page         Writes a page that shows a report: its runs and tasks as a grid, the graph, and why each task has its state
   schema       Prints the JSON Schema of graph files or tables, for editors
   completions  Prints what a shell completes of a command line
@@ -90,6 +90,7 @@ Options:
       --workers <N>       How many tries may run at once, 1 to 64; 1 where this isn't given
       --progress          Tells on standard error how far the runs are, at most once a second
       --out <PATH>        Writes the report to this file, whole or not at all, in place of standard output
+      --keep <REPORT>     Keeps the tries of this report of the graph, of whatever range and tasks it is, and runs only the others
       --launcher <PATH>   Hands the words of each task's command to this program; without it the first word is the program
       --logs <FOLDER>     Keeps below this folder what each try writes and what it was given
       --journal <PATH>    Records each try in this file as it ends; where it has some, goes on from them
@@ -101,7 +102,8 @@ Options:
 Examples:
   backfill run --from 2024-01-01 --to 2024-01-07 --workers 2 examples/extract_transform_load/graph.json
   backfill run --from 2024-01-01 --to 2024-01-07 --launcher /usr/bin/env examples/extract_transform_load/graph.json
-  backfill run --from 2024-01-01 --to 2024-01-07 --journal journal examples/extract_transform_load/graph.json
+  backfill run --from 2024-01-01 --to 2024-01-07 --journal journal --out report examples/extract_transform_load/graph.json
+  backfill run --from 2024-01-01 --to 2024-01-08 --keep report --out report examples/extract_transform_load/graph.json
 HELP
 answers 0 clear --help <<'HELP'
 Runs tasks of runs again, with all that follows from them, and keeps the rest of a report
@@ -142,15 +144,26 @@ Examples, the first of which makes the report of the others:
   backfill clear --from 2024-01-01 --to 2024-01-07 --failed --plan examples/extract_transform_load/graph.json report
 HELP
 answers 0 show --help <<'HELP'
-Shows a report as lines of JSON, for other programs to read
+Shows a report as a grid of characters, a column for each run and a row for each task
 
-Usage: backfill show --json <REPORT>
+Usage: backfill show [OPTIONS] [GRAPH] [REPORT]
+
+Arguments:
+  [GRAPH]   The task graph, a JSON file
+  [REPORT]  The report to show
 
 Options:
-      --json <REPORT>  Prints a JSON object for each task instance of this report, one a line
-  -h, --help           Print help
+      --zone-file <PATH>  The zone file that the graph's zone `file` means, as of the tz database
+      --from <T>          Shows the runs from this moment on, in UTC, as 2024-01-31 or 2024-01-31T06:00:00Z
+      --to <T>            Shows the runs up to this moment, in UTC, as 2024-01-31 or 2024-01-31T06:00:00Z
+      --failed            Shows only tasks and runs with something that failed, upstream_failed or has no status
+      --width <N>         The width in characters, 20 to 10,000; that of COLUMNS where this isn't given, or 80
+      --color <WHEN>      When to colour: auto, always or never; auto where this isn't given, which is on a terminal without NO_COLOR
+      --json <REPORT>     In place of a grid, prints a JSON object of each task instance of this report, a line each; needs no graph
+  -h, --help              Print help
 
-Example:
+Examples:
+  backfill show examples/failed_day/graph.json examples/failed_day/report.txt
   backfill show --json examples/failed_day/report.txt > instances.jsonl
 HELP
 answers 0 page --help <<'HELP'
@@ -256,13 +269,36 @@ clear g r --failed --failed => error: the argument '--failed' cannot be used mul
 page g => error: the following required arguments were not provided:|  <REPORT>|
 page g r s => error: unexpected argument 's' found|
 page g r --states-only --states-only => error: the argument '--states-only' cannot be used multiple times|
-show => error: the following required arguments were not provided:|  --json <REPORT>|
-show r => error: unexpected argument 'r' found|
+show => error: the following required arguments were not provided:|  <GRAPH> and <REPORT>, or --json <REPORT>|
+show g => error: the following required arguments were not provided:|  <GRAPH> and <REPORT>, or --json <REPORT>|
+show g r s => error: unexpected argument 's' found|
+show g r --width 19 => error: invalid value '19' for '--width <N>': 19 is not in 20..=10000|
+show g r --width 10001 => error: invalid value '10001' for '--width <N>': 10001 is not in 20..=10000|
+show g r --width x => error: invalid value 'x' for '--width <N>': invalid digit found in string|
+show g r --color red => error: invalid value for '--color <WHEN>'|  [possible values: auto, always, never]|
+show g r --from 2024-01-01 --from 2024-01-01 => error: the argument '--from <T>' cannot be used multiple times|
+show g r --json r => error: the argument '--json <REPORT>' cannot be used with another|
+show --json r --failed => error: the argument '--json <REPORT>' cannot be used with another|
+show --json r --color never => error: the argument '--json <REPORT>' cannot be used with another|
 show --json => error: a value is required for '--json <REPORT>' but none was supplied|
 show --json r --json s => error: the argument '--json <REPORT>' cannot be used multiple times|
 run g --from 2024-01-01 --to 2024-01-01 --launcher => error: a value is required for '--launcher <PATH>' but none was supplied|
 single g t --at 2024-01-01 --launcher on => error: unexpected argument '--launcher' found|
+run g --on 2024-01-01 --keep => error: a value is required for '--keep <REPORT>' but none was supplied|
+dry g t --keep r => error: the following required arguments were not provided:|  --from <T> and --to <T>, or --on <DAYS>|
+run g --on 2024-01-01 --keep r --keep s => error: the argument '--keep <REPORT>' cannot be used multiple times|
+single g t --at 2024-01-01 --keep r => error: unexpected argument '--keep' found|
+clear g r --failed --on 2024-01-01 --keep r => error: unexpected argument '--keep' found|
 run g --from 2024-01-01 --to 2024-01-01 --logs => error: a value is required for '--logs <FOLDER>' but none was supplied|
+run g --from 2024-01-01 --to 2024-01-01 --logs= => error: a value is required for '--logs <FOLDER>' but none was supplied|
+clear g r --failed --on 2024-01-01 --logs= => error: a value is required for '--logs <FOLDER>' but none was supplied|
+run g --logs= --retry-failed --on 2024-01-01 => error: the following required arguments were not provided:|  --journal <PATH>|
+run g --on 2024-01-01 --out g => error: the argument '--out <PATH>' cannot name a file that the command reads, or its journal|
+run g --on 2024-01-01 --journal j --out j => error: the argument '--out <PATH>' cannot name a file that the command reads, or its journal|
+dry g t --on 2024-01-01 --out t => error: the argument '--out <PATH>' cannot name a file that the command reads, or its journal|
+single g t --at 2024-01-01 --zone-file z --out z => error: the argument '--out <PATH>' cannot name a file that the command reads, or its journal|
+clear g r --seeds s --on 2024-01-01 --out s => error: the argument '--out <PATH>' cannot name a file that the command reads, or its journal|
+clear g r --seeds s --out s => error: the argument '--out <PATH>' cannot name a file that the command reads, or its journal|
 dry g t --from 2024-01-01 --to 2024-01-01 --logs l => error: unexpected argument '--logs' found|
 single g t --at 2024-01-01 --quiet => error: unexpected argument '--quiet' found|
 run g --from 2024-01-01 --to 2024-01-01 --journal => error: a value is required for '--journal <PATH>' but none was supplied|

@@ -39,6 +39,12 @@ tasks() {
     echo "{\"dag_id\":\"d\",\"schedule\":\"@daily\",\"tasks\":[$1]}" > "$graph"
 }
 
+# The report on standard input, which is of version 2, is what is gone on from, in both versions.
+was() {
+    cat > "$work/report_2"
+    sed -e '1s/^@backfill 2 /@backfill 1 /' -e '/^@item /d' -e '/^@pull /d' "$work/report_2" > "$work/report_1"
+}
+
 # One run over 2024-01-01.
 day=(--from 2024-01-01 --to 2024-01-01)
 

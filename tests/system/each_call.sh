@@ -105,6 +105,7 @@ for call in memory open read write; do
     each "$call" dry every_key/graph.json every_key/table.json --from 2024-01-01 --to 2024-01-03
     each "$call" dry every_key/graph.json every_key/table.json --from 2024-01-01 --to 2024-01-03 --workers 2
     each "$call" dry every_key/graph.json every_key/table.json --from 2024-01-03 --to 2024-01-01
+    each "$call" dry every_key/graph.json every_key/table.json --from 2024-01-02 --to 2024-01-03 --keep "$work/report_2"
     each "$call" clear every_key/graph.json "$work/report_1" "${cleared[@]}"
     each "$call" clear every_key/graph.json "$work/report_2" "${cleared[@]}" --workers 2
     each "$call" clear every_key/graph.json "$work/zone_file" "${cleared[@]}"

@@ -1,6 +1,6 @@
 #!/usr/bin/env bash
 # Tries python/: backfill_graph.py writes the examples again as they are, and refuses just what `check` refuses; backfill_report.py reads
-# reports as the oracles read them; both pass `mypy --strict`, and are installed without the network; what the README shows of them is what
+# reports as the oracles read them; both pass `mypy --strict`, and are installed without the network; what the guide shows of them is what
 # they print. Needs python3. The last line is the sum, and the status is 1 where something differs.
 set -euo pipefail
 
@@ -24,11 +24,11 @@ counts "$root/tests/shared/python_reports.py" "$work" 2500
 
 is_same 'the version' "$(< "$root/VERSION")" "$(sed -n 's/^version = "\(.*\)"$/\1/p' "$root/python/pyproject.toml")"
 
-# The program of the first lines of its page, which stands in the README too.
+# The program of the first lines of its page, which stands in the guide too.
 sed -n '/^    from backfill_graph import/,/^    print/s/^ \{0,4\}//p' "$root/python/backfill_graph.py" > "$work/shops.py"
-is_same 'the program in the README' "$(< "$work/shops.py")" "$(sed -n '/^from backfill_graph import/,/^print/p' "$root/README.md")"
+is_same 'the program in the guide' "$(< "$work/shops.py")" "$(sed -n '/^from backfill_graph import/,/^print/p' "$root/docs/GUIDE.md")"
 python3 "$work/shops.py" > "$work/shops.json"
-is_same 'the graph of the README' 'ok 3 tasks, 2 edges' "$("$program" check "$work/shops.json")"
+is_same 'the graph of the guide' 'ok 3 tasks, 2 edges' "$("$program" check "$work/shops.json")"
 python3 "$root/python/backfill_graph.py" < "$work/shops.json" > "$work/again.py"
 is_same 'the graph, written in Python again' "$(< "$work/shops.json")" "$(python3 "$work/again.py")"
 

@@ -26,7 +26,7 @@ tar -x -f "dist/$name.tar.gz" -C "$work/unpacked"
 (cd "$work/unpacked" && find . -type f | sort) > "$work/found"
 {
     printf '%s\n' backfill PROVED LICENSE README.md CONTRIBUTING.md \
-        docs/{backfill.1,ARCHITECTURE.md,DECISIONS.md,FORMATS.md,FROM_AIRFLOW.md,PROOFS.md,SPECIFICATION.md,SPEED.md}
+        docs/{backfill.1,page.png,ARCHITECTURE.md,DECISIONS.md,FORMATS.md,FROM_AIRFLOW.md,GUIDE.md,PROOFS.md,SPECIFICATION.md,SPEED.md}
     printf '%s\n' completions/backfill.{bash,fish,zsh} schemas/{graph,table}.schema.json
     git ls-files examples python
 } | sed "s#^#./$name/#" | sort > "$work/wanted"
@@ -43,7 +43,7 @@ done
 cd "$work/unpacked/$name"
 while IFS= read -r line; do
     holds "in the archive: $line" bash -c "($line) < /dev/null || [[ \$? -eq 1 ]]"
-done < <(grep -h '^\./backfill ' README.md examples/README.md docs/FROM_AIRFLOW.md)
+done < <(grep -h '^\./backfill ' README.md docs/GUIDE.md examples/README.md docs/FROM_AIRFLOW.md)
 
 cd "$work/clone"
 echo >> README.md

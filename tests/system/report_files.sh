@@ -35,6 +35,7 @@ for workers in 1 8; do
     goes_to_file dry every_key/graph.json every_key/table.json "${range[@]}" --workers "$workers"
     goes_to_file run extract_transform_load/graph.json "${range[@]}" --workers "$workers"
     goes_to_file clear every_key/graph.json "$work/was" "${range[@]}" "${clearing[@]}" --workers "$workers"
+    goes_to_file dry every_key/graph.json every_key/table.json --on 2024-01-03 --keep "$work/was" --workers "$workers"
 done
 goes_to_file single skip/graph.json skip/table.json --at 2024-01-01
 
