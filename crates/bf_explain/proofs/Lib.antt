@@ -1,0 +1,5 @@
+mod BesideFacts
+mod HandFacts
+mod IndexFacts
+mod SectionFacts
+mod TaskFacts

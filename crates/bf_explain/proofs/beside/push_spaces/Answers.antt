@@ -1,0 +1,7 @@
+use Rattle.std.proofs.Common.{ℕ, List, [], ◌∷◌, ◌++◌, ap, ◌∙◌, string_bytes}
+use Rattle.bf_explain.proofs.BesideFacts.{one_more}
+use Rattle.bf_explain.proofs.beside.push_spaces.Goals as goal
+
+pub loop-place-preserved : goal.loop-place-preserved
+loop-place-preserved c =
+    c.in_ok-push_str.ensures.bytes ∙ ap (λ (text : List ℕ). text ++ 32 ∷ []) c.loop-place.invariant ∙ one_more (string_bytes c.args.text.now) c.loop-place.place

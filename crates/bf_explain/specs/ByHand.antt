@@ -1,0 +1,50 @@
+-- The words of an instance's last try, as a line of a shell.
+use Rattle.std.specs.Prelude.{◌≡◌, ℕ, zero, ℤ, negsuc, ◌==◌, ◌&&◌, not, Bool, true, false, List, [], ◌∷◌, Option, None, Some, is_some, length}
+use Rattle.std.specs.List.{list_all}
+use Rattle.bf_value.specs.declared.name.JobName.{JobName}
+use Rattle.bf_core.specs.Terms.{Dag, task_of}
+use Rattle.bf_plan.specs.declared.plan.Word.{Word}
+use Rattle.bf_interval.specs.declared.interval.Interval.{Interval}
+use Rattle.bf_report.specs.declared.report.Version.{Version}
+use Rattle.bf_report.specs.declared.report.InstanceReport.{InstanceReport}
+use Rattle.bf_report.specs.declared.report.TaskReport.{TaskReport}
+use Rattle.bf_clear.specs.Entries.{given_in}
+use Rattle.bf_failure.specs.Tried.{IsContext}
+use Rattle.bf_words.specs.Words.{words_of}
+use Rattle.bf_words.specs.declared.context.JobContext.{JobContext}
+use Rattle.bf_quoted.specs.Lines.{line_of}
+
+-- the report tells the word: version 1 doesn't tell what an instance was given
+abbrev pub tells_word : Version → InstanceReport → Word → Bool
+tells_word Version.One instance (Word.Pull place) = false
+tells_word Version.One instance Word.Item = false
+tells_word Version.Two instance Word.Item = is_some instance.item
+tells_word version instance word = true
+
+-- there is a command, and it tells each word
+abbrev pub tells_words : Version → InstanceReport → List Word → Bool
+tells_words version instance command = not (length command == 0) && list_all (tells_word version instance) command
+
+-- the map index of the instance that is told of alone
+abbrev pub index_of : TaskReport → Option ℤ → ℤ
+index_of (TaskReport.Mapped instances) (Some index) = index
+index_of told index = negsuc zero
+
+abbrev pub last_try : ℕ → ℕ → ℤ → InstanceReport → JobName
+last_try run task index instance = record { run = run; task = task; index = index; attempt = instance.result.tries }
+
+-- the line has the words of the last try
+abbrev pub IsHandLine : Dag → Interval → ℕ → ℕ → ℤ → InstanceReport → List ℕ → Type 0
+IsHandLine dag interval run task index instance line =
+    (context : JobContext) × IsContext dag (task_of dag task) interval (last_try run task index instance) context
+    × (line ≡ line_of (words_of context (given_in instance) (task_of dag task).command))
+
+abbrev pub IsLineIf : Bool → (List ℕ → Type 0) → List (List ℕ) → Type 0
+IsLineIf true IsLine lines = (line : List ℕ) × IsLine line × (lines ≡ line ∷ [])
+IsLineIf false IsLine lines = lines ≡ []
+
+-- where the report tells them, and there is one instance
+abbrev pub AreHandLines : Dag → Interval → Version → ℕ → ℕ → ℤ → Option InstanceReport → List (List ℕ) → Type 0
+AreHandLines dag interval version run task index None lines = lines ≡ []
+AreHandLines dag interval version run task index (Some instance) lines =
+    IsLineIf (tells_words version instance (task_of dag task).command) (IsHandLine dag interval run task index instance) lines

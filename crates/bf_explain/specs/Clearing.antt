@@ -1,0 +1,123 @@
+-- The lines that clear a task in a run, and what is cleared by them.
+use Rattle.std.specs.Prelude.{◌≡◌, ℕ, ◌+◌, ◌-◌, ◌==◌, ◌&&◌, ◌||◌, Bool, true, false, if◌then◌else◌, List, [], ◌∷◌, ◌++◌, Option, None, Some, codes, fold, length, map, slice_get, take}
+use Rattle.std.specs.Ordering.{int_eq}
+use Rattle.bf_core.specs.Terms.{Dag}
+use Rattle.bf_report.specs.declared.report.RunReport.{RunReport}
+use Rattle.bf_report.specs.declared.report.Report.{Report}
+use Rattle.bf_dependents.specs.declared.place.Place.{Place}
+use Rattle.bf_dependents.specs.Dependents.{AreDependents, Following}
+use Rattle.bf_dependents.specs.Listing.{places_in}
+use Rattle.bf_quoted.specs.Lines.{line_of}
+use Rattle.bf_quoted.specs.Words.{quoted}
+use Rattle.bf_roots.specs.declared.step.Root.{Root}
+use Rattle.bf_why.specs.Decided.{id_of}
+use Rattle.bf_wording.specs.Numbers.{plural}
+use Rattle.bf_explain.specs.declared.clearing.Cleared.{Cleared}
+use Rattle.bf_explain.specs.declared.paths.Paths.{Paths}
+use Rattle.bf_explain.specs.Began.{in_the_run}
+use Rattle.bf_explain.specs.Moments.{short_moment}
+use Rattle.bf_explain.specs.Sections.{section}
+
+-- ---- the words of the line
+
+abbrev pub begins_with_hyphen : List ℕ → Bool
+begins_with_hyphen [] = false
+begins_with_hyphen (first ∷ rest) = first == 45
+
+-- an option and its word, in one where the word begins as an option does
+abbrev pub option_words : List ℕ → List ℕ → List (List ℕ)
+option_words name word = if begins_with_hyphen word then (name ++ (codes "=" ++ word)) ∷ [] else name ∷ word ∷ []
+
+abbrev pub zone_words : Option (List ℕ) → List (List ℕ)
+zone_words None = []
+zone_words (Some path) = option_words (codes "--zone-file") path
+
+-- the paths, behind `--` where one begins as an option does
+abbrev pub path_words : Paths → List (List ℕ)
+path_words paths =
+    (if begins_with_hyphen paths.graph || begins_with_hyphen paths.report then codes "--" ∷ [] else []) ++ paths.graph ∷ paths.report ∷ []
+
+-- the start of a run that is there, as short as it is written on a line
+abbrev pub short_start : Option RunReport → List ℕ
+short_start None = []
+short_start (Some run) = short_moment run.interval.start.nanosecond
+
+abbrev pub short_start_at : Report → ℕ → List ℕ
+short_start_at report run = short_start (slice_get report.runs run)
+
+abbrev pub range_words : Report → List (List ℕ)
+range_words report = codes "--from" ∷ short_start_at report 0 ∷ codes "--to" ∷ short_start_at report (length report.runs - 1) ∷ []
+
+abbrev pub seed_words : Dag → Report → Place → List (List ℕ)
+seed_words dag report place = option_words (codes "--task") (id_of dag place.task) ++ codes "--run" ∷ short_start_at report place.run ∷ []
+
+abbrev pub clear_words : Paths → Dag → Report → Place → List (List ℕ)
+clear_words paths dag report place =
+    (((codes "backfill" ∷ codes "clear" ∷ [] ++ zone_words paths.zone_file) ++ range_words report) ++ seed_words dag report place) ++ path_words paths
+
+-- the report that it prints goes into a file beside the report
+abbrev pub clear_line : Paths → Dag → Report → Place → List ℕ
+clear_line paths dag report place = line_of (clear_words paths dag report place) ++ (codes " > " ++ quoted (paths.report ++ codes ".new"))
+
+-- ---- what is cleared
+
+-- the run of the last of these places
+abbrev pub last_run : ℕ → List Place → ℕ
+last_run run places = fold (λ last place. place.run) run places
+
+-- how many tasks follow from the place, in how many runs, from its own to the last
+abbrev pub IsCleared : Dag → ℕ → Place → Cleared → Type 0
+IsCleared dag runs place cleared =
+    (all : Following) × AreDependents dag (place ∷ []) runs all
+    × (cleared.tasks ≡ length (places_in dag all runs))
+    × (cleared.runs ≡ last_run place.run (places_in dag all runs) + 1 - place.run)
+
+-- ---- the sections
+
+-- another place than the one that is told of
+abbrev pub place_text : Dag → Report → ℕ → ℕ → Place → List ℕ
+place_text dag report run task place =
+    if place.run == run && place.task == task then [] else codes " " ++ (id_of dag place.task ++ in_the_run report run place.run)
+
+abbrev pub clear_heading : List ℕ → Cleared → List ℕ
+clear_heading place cleared =
+    codes "clear" ++ (place ++ (codes ", with what follows from it: "
+    ++ (plural cleared.tasks (codes "task") ++ (codes " in " ++ plural cleared.runs (codes "run")))))
+
+abbrev pub clear_section : Paths → Dag → Report → ℕ → ℕ → Place → Cleared → List (List ℕ)
+clear_section paths dag report run task place cleared =
+    section (clear_heading (place_text dag report run task place) cleared) (clear_line paths dag report place ∷ [])
+
+-- a run of `single` is of no range
+abbrev pub is_of_single : Option RunReport → Bool
+is_of_single None = true
+is_of_single (Some run) = int_eq run.interval.start.nanosecond run.interval.end.nanosecond
+
+abbrev pub IsClearSectionIf : Bool → Paths → Dag → Report → ℕ → ℕ → Place → List (List ℕ) → Type 0
+IsClearSectionIf true paths dag report run task place lines = lines ≡ []
+IsClearSectionIf false paths dag report run task place lines =
+    (cleared : Cleared) × IsCleared dag (length report.runs) place cleared × (lines ≡ clear_section paths dag report run task place cleared)
+
+abbrev pub IsClearSection : Paths → Dag → Report → ℕ → ℕ → Place → List (List ℕ) → Type 0
+IsClearSection paths dag report run task place lines =
+    IsClearSectionIf (is_of_single (slice_get report.runs place.run)) paths dag report run task place lines
+
+-- a section for each place, in order
+abbrev pub AreClearSections : Paths → Dag → Report → ℕ → ℕ → List Place → List (List ℕ) → Type 0
+AreClearSections paths dag report run task [] lines = lines ≡ []
+AreClearSections paths dag report run task (place ∷ places) lines =
+    (one : List (List ℕ)) × (more : List (List ℕ)) × IsClearSection paths dag report run task place one
+    × AreClearSections paths dag report run task places more × (lines ≡ one ++ more)
+
+-- ---- the places
+
+abbrev pub place_at : ℕ → ℕ → Place
+place_at run task = record { run = run; task = task; index = None }
+
+abbrev pub root_places : List Root → List Place
+root_places roots = map (λ root. place_at root.run root.task) (take 3 roots)
+
+-- the first three places where it began, or else the task itself
+abbrev pub places_to_clear : ℕ → ℕ → List Root → List Place
+places_to_clear run task [] = place_at run task ∷ []
+places_to_clear run task (root ∷ roots) = root_places (root ∷ roots)

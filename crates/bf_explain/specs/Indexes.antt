@@ -1,0 +1,54 @@
+-- Which instances of an expanded task are in which state.
+use Rattle.std.specs.Prelude.{ℕ, zero, suc, ◌+◌, ◌==◌, max, Bool, false, if◌then◌else◌, List, [], ◌∷◌, ◌++◌, Option, None, Some, codes, decimal, length, slice_get}
+use Rattle.std.specs.List.{flat_map, range_with_len}
+use Rattle.std.specs.Str.{bytes_eq}
+use Rattle.bf_core.specs.Terms.{Counts, TaskResult}
+use Rattle.bf_core.specs.Deciding.{counts_of_results}
+use Rattle.bf_report.specs.Report.{state_word}
+use Rattle.bf_explain.specs.Beside.{padded}
+
+abbrev pub is_in : List ℕ → Option TaskResult → Bool
+is_in state None = false
+is_in state (Some ended) = bytes_eq (state_word ended.outcome) state
+
+-- the instance of this index is in the state
+abbrev pub is_at : List ℕ → List TaskResult → ℕ → Bool
+is_at state results index = is_in state (slice_get results index)
+
+abbrev pub is_before : List ℕ → List TaskResult → ℕ → Bool
+is_before state results zero = false
+is_before state results (suc index) = is_at state results index
+
+-- behind others of the state: the last of them ends a range
+abbrev pub range_end : Bool → ℕ → List ℕ
+range_end goes_on index = if goes_on then [] else codes "-" ++ decimal index
+
+-- an index that begins a range stands behind a space, one that ends a range behind a hyphen, and those between don't stand there
+abbrev pub index_text : List ℕ → List TaskResult → ℕ → List ℕ
+index_text state results index =
+    if is_at state results index
+    then (if is_before state results index then range_end (is_at state results (index + 1)) index else codes " " ++ decimal index)
+    else []
+
+-- the indexes of the instances in the state, as ` 0 2-3`
+abbrev pub indexes_text : List ℕ → List TaskResult → List ℕ
+indexes_text state results = flat_map (index_text state results) (range_with_len 0 (length results))
+
+abbrev pub width_if : ℕ → List ℕ → ℕ
+width_if count state = if count == 0 then 0 else length state
+
+-- the length of the longest state that is there
+abbrev pub states_width : Counts → ℕ
+states_width counts = max (width_if counts.success (codes "success")) (max (width_if counts.failed (codes "failed")) (width_if counts.skipped (codes "skipped")))
+
+abbrev pub state_line : ℕ → List TaskResult → List ℕ → ℕ → List (List ℕ)
+state_line width results state count = if count == 0 then [] else (padded width state ++ (codes " " ++ indexes_text state results)) ∷ []
+
+abbrev pub state_lines_by : List TaskResult → Counts → ℕ → List (List ℕ)
+state_lines_by results counts width =
+    (state_line width results (codes "success") counts.success ++ state_line width results (codes "failed") counts.failed)
+    ++ state_line width results (codes "skipped") counts.skipped
+
+-- a line for each state that is there
+abbrev pub state_lines : List TaskResult → List (List ℕ)
+state_lines results = state_lines_by results (counts_of_results results) (states_width (counts_of_results results))

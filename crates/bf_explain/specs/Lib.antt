@@ -1,0 +1,10 @@
+pub mod Beside
+pub mod Sections
+pub mod Headings
+pub mod Indexes
+pub mod Began
+pub mod ByHand
+pub mod Moments
+pub mod Clearing
+pub mod Runs
+pub mod Tasks

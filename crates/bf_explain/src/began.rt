@@ -1,0 +1,186 @@
+//! Where it began, in a sentence.
+ghost use Rattle.std.specs.Prelude.{◌≡◌, ◌<◌, ◌==◌, ◌++◌, IfOk, OnOk, length, option_copied};
+ghost use Rattle.std.specs.List.{flat_map, list_any};
+ghost use Rattle.bf_explain.specs.Began.{began_lines as began_among, began_sentence as began_words, began_text as began_as, far_text, in_the_run as in_the_run_of, is_far as is_far_from, pushed_first, root_text as root_words, start_text as start_words};
+ghost use Rattle.bf_reason.specs.Runs.{tasks_at as tasks_in};
+ghost use Rattle.bf_wording.specs.Values.{value_text as value_words};
+ghost use Rattle.bf_xcom.specs.Pulls.{pushed_by};
+
+use bf_moment::Moment;
+use bf_plan::Plan;
+use bf_report::{InstanceReport, Report, RunReport, TaskReport};
+use bf_roots::{Began, Root};
+use bf_value::{OutOfMemory, Text};
+use bf_why::id_at;
+use bf_wording::{listed, one_line, value_text};
+use std::alloc::Global;
+
+/// How many characters of a value stand in a sentence.
+const MOST_CHARACTERS: usize = 200;
+
+fn pushed_text(alloc: Global, instance: &InstanceReport) -> Result<Text, OutOfMemory>
+    ensures { IfOk result (λ text. text ≡ value_words 200 (pushed_by instance.now.result.outcome)) }
+{
+    let ended = instance.result(alloc)?;
+    value_text(alloc, ended.outcome.pushed(), MOST_CHARACTERS)
+}
+
+/// What the first instance of a task pushed.
+fn first_pushed_text(alloc: Global, told: Option<&TaskReport>) -> Result<Text, OutOfMemory>
+    ensures { IfOk result (λ text. text ≡ value_words 200 (pushed_first (option_copied told.entry))) }
+{
+    match told {
+        Some(TaskReport::Ran(instance)) => pushed_text(alloc, instance),
+        Some(TaskReport::Mapped(instances)) => match instances.as_slice() {
+            [instance, ..] => pushed_text(alloc, instance),
+            [] => value_text(alloc, None, MOST_CHARACTERS),
+        },
+        _ => value_text(alloc, None, MOST_CHARACTERS),
+    }
+}
+
+fn began_text(alloc: Global, began: Began, told: Option<&TaskReport>) -> Result<Text, OutOfMemory>
+    ensures { IfOk result (λ text. text ≡ began_as began (option_copied told.entry)) }
+{
+    match began {
+        Began::Failed => Text::copied(alloc, "failed"),
+        Began::Exited => Text::copied(alloc, "exited with 99"),
+        Began::PushedNoItems => Text::copied(alloc, "pushed no items"),
+        Began::Pushed => {
+            let value = first_pushed_text(alloc, told)?;
+            Ok(Text::new(format!(in alloc; "pushed {value}")?))
+        }
+    }
+}
+
+fn start_text(alloc: Global, run: Option<&RunReport>) -> Result<Text, OutOfMemory>
+    ensures { IfOk result (λ text. text ≡ start_words (option_copied run.entry)) }
+{
+    match run {
+        Some(run) => {
+            let start = Moment::new(run.interval.start);
+            Ok(Text::new(format!(in alloc; "{start}")?))
+        }
+        None => Text::copied(alloc, ""),
+    }
+}
+
+/// Names another run.
+pub(crate) fn in_the_run(
+    alloc: Global,
+    report: &Report,
+    run: u32,
+    other: u32,
+) -> Result<Text, OutOfMemory>
+    ensures { IfOk result (λ text. text ≡ in_the_run_of report.now run other) }
+{
+    if other == run {
+        return Text::copied(alloc, "");
+    }
+    let start = start_text(alloc, report.runs.get(other as usize))?;
+    Ok(Text::new(format!(in alloc; " in the run of {start}")?))
+}
+
+fn tasks_at(report: &Report, run: u32) -> &[TaskReport]
+    ensures { result.now ≡ tasks_in report.now run }
+{
+    match report.runs.get(run as usize) {
+        Some(run) => run.tasks.as_slice(),
+        None => &[],
+    }
+}
+
+fn root_text(
+    alloc: Global,
+    plan: &Plan,
+    report: &Report,
+    run: u32,
+    root: &Root,
+) -> Result<Text, OutOfMemory>
+    ensures { IfOk result (λ text. text ≡ root_words plan.now.dag report.now run root.now) }
+{
+    let id = id_at(plan.dag(), root.task);
+    let told = tasks_at(report, root.run).get(root.task as usize);
+    let began = began_text(alloc, root.began, told)?;
+    let there = in_the_run(alloc, report, run, root.run)?;
+    Ok(Text::new(format!(in alloc; "{id} {began}{there}")?))
+}
+
+fn is_among(tasks: &[u32], task: u32) -> bool
+    ensures { result ≡ list_any (λ other. other == task) tasks.now }
+{
+    tasks.iter().any(|other| *other == task)
+}
+
+fn is_far(plan: &Plan, run: u32, task: u32, root: &Root) -> bool
+    requires { task < length plan.now.dag.tasks }
+    ensures { result ≡ is_far_from plan.now.dag run task root.now }
+{
+    let upstreams = plan.dag().task(task).upstreams.as_slice();
+    root.run != run || !is_among(upstreams, root.task)
+}
+
+fn add_far(
+    alloc: Global,
+    names: &mut Vec<Text>,
+    plan: &Plan,
+    report: &Report,
+    run: u32,
+    task: u32,
+    root: &Root,
+) -> Result<(), OutOfMemory>
+    requires { task < length plan.now.dag.tasks }
+    ensures { OnOk result (names.new.items ≡ names.old.items ++ far_text plan.now.dag report.now run task root.now) }
+{
+    if is_far(plan, run, task, root) {
+        names.push(root_text(alloc, plan, report, run, root)?)?;
+    }
+    Ok(())
+}
+
+fn far_names(
+    alloc: Global,
+    plan: &Plan,
+    report: &Report,
+    run: u32,
+    task: u32,
+    roots: &[Root],
+) -> Result<Vec<Text>, OutOfMemory>
+    requires { task < length plan.now.dag.tasks }
+    ensures { IfOk result (λ names. names.items ≡ flat_map (far_text plan.now.dag report.now run task) roots.now) }
+{
+    let mut names = Vec::new(alloc);
+    for root in roots {
+        add_far(alloc, &mut names, plan, report, run, task, root)?;
+    }
+    Ok(names)
+}
+
+fn began_sentence(alloc: Global, names: &[Text]) -> Result<Vec<Text>, OutOfMemory>
+    ensures { IfOk result (λ lines. lines.items ≡ began_words names.now) }
+{
+    if names.is_empty() {
+        return Ok(Vec::new(alloc));
+    }
+    let names = listed(alloc, names)?;
+    one_line(
+        alloc,
+        Text::new(format!(in alloc; "It began where {names}.")?),
+    )
+}
+
+/// A sentence on the roots of a task in a run that are more than an edge away, where there are some.
+pub(crate) fn began_lines(
+    alloc: Global,
+    plan: &Plan,
+    report: &Report,
+    run: u32,
+    task: u32,
+    roots: &[Root],
+) -> Result<Vec<Text>, OutOfMemory>
+    requires { task < length plan.now.dag.tasks }
+    ensures { IfOk result (λ lines. lines.items ≡ began_among plan.now.dag report.now run task roots.now) }
+{
+    let names = far_names(alloc, plan, report, run, task, roots)?;
+    began_sentence(alloc, names.as_slice())
+}

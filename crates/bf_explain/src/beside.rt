@@ -1,0 +1,133 @@
+//! The tasks beside a task, with their states.
+ghost use Rattle.std.specs.Prelude.{◌≡◌, ◌∷◌, ◌++◌, [], IfOk, OnOk, Some, option_map, string_bytes};
+ghost use Rattle.bf_explain.specs.Beside.{instances_text as instances_words, padded as padded_to, state_text as state_words, task_line as line_of, task_lines as lines_of, widest as widest_of};
+ghost use Rattle.bf_why.specs.Decided.{id_of};
+ghost use Rattle.std.specs.List.{repeat};
+ghost use Rattle.bf_report.specs.declared.report.InstanceReport.{InstanceReport as InstanceTerm};
+ghost use Rattle.bf_report.specs.Report.{state_word};
+
+use bf_plan::Plan;
+use bf_reason::Settled;
+use bf_report::TaskReport;
+use bf_rule::Counts;
+use bf_value::{OutOfMemory, Text};
+use bf_why::{counts_text, id_at};
+use bf_wording::plural;
+use bf_xcom::{Outcome, TaskResult};
+use std::alloc::Global;
+
+pub(crate) fn outcome_word(outcome: &Outcome) -> &'static str
+    ensures { result.now ≡ state_word outcome.now }
+{
+    match outcome {
+        Outcome::Success(_) => "success",
+        Outcome::Failed => "failed",
+        Outcome::Skipped => "skipped",
+    }
+}
+
+/// Of an unmapped task, by its one result.
+fn result_word(results: &[TaskResult]) -> &'static str
+    ensures { (instance : InstanceTerm) → results.now ≡ instance.result ∷ [] → result.now ≡ state_word instance.result.outcome }
+{
+    match results {
+        [ended, ..] => outcome_word(&ended.outcome),
+        [] => "no_status",
+    }
+}
+
+fn instances_text(alloc: Global, instances: usize, counts: &Counts) -> Result<Text, OutOfMemory>
+    ensures { IfOk result (λ text. text ≡ instances_words instances counts.now) }
+{
+    let instances = plural(alloc, instances as u64, "instance")?;
+    let counts = counts_text(alloc, counts)?;
+    Ok(Text::new(format!(in alloc; "{instances}, {counts}")?))
+}
+
+fn state_of(alloc: Global, task: &Settled<'_>) -> Result<Text, OutOfMemory>
+    ensures { IfOk result (λ text. text ≡ state_words (Some task.now)) }
+{
+    match task.told() {
+        TaskReport::NoStatus => Text::copied(alloc, "no_status"),
+        TaskReport::Skipped => Text::copied(alloc, "skipped"),
+        TaskReport::UpstreamFailed => Text::copied(alloc, "upstream_failed"),
+        TaskReport::Ran(_) => Text::copied(alloc, result_word(task.results())),
+        TaskReport::Mapped(instances) => instances_text(alloc, instances.len(), &task.counts()),
+    }
+}
+
+/// The state of a task, and of an expanded one that ran how many instances are in each.
+pub(crate) fn state_text(alloc: Global, task: Option<&Settled<'_>>) -> Result<Text, OutOfMemory>
+    ensures { IfOk result (λ text. text ≡ state_words (option_map (λ t. t.now) task.entry)) }
+{
+    match task {
+        Some(task) => state_of(alloc, task),
+        None => Text::copied(alloc, "no_status"),
+    }
+}
+
+fn push_spaces(text: &mut String, count: usize) -> Result<(), OutOfMemory>
+    ensures { OnOk result (string_bytes text.new
+        ≡ string_bytes text.old ++ repeat count (32 ∷ [])) }
+{
+    for place in 0..count {
+        text.push_str(" ")?;
+    }
+    Ok(())
+}
+
+pub(crate) fn padded(alloc: Global, id: &str, width: usize) -> Result<Text, OutOfMemory>
+    ensures { IfOk result (λ text. text ≡ padded_to width id.now) }
+{
+    let mut text = String::from_str(alloc, id)?;
+    push_spaces(&mut text, width.saturating_sub(id.len()))?;
+    Ok(Text::new(text))
+}
+
+fn id_in(plan: &Plan, task: u32) -> &str
+    ensures { result.now ≡ id_of plan.now.dag task }
+{
+    id_at(plan.dag(), task)
+}
+
+/// How long the longest id is.
+fn widest(plan: &Plan, tasks: &[u32]) -> usize
+    ensures { result ≡ widest_of plan.now.dag tasks.now }
+{
+    let mut width = 0;
+    for task in tasks {
+        width = width.max(id_in(plan, *task).len());
+    }
+    width
+}
+
+fn task_line(
+    alloc: Global,
+    plan: &Plan,
+    settled: &[Settled<'_>],
+    width: usize,
+    task: u32,
+) -> Result<Text, OutOfMemory>
+    ensures { IfOk result (λ text. text ≡ line_of plan.now.dag settled.now width task) }
+{
+    let id = padded(alloc, id_in(plan, task), width)?;
+    let state = state_text(alloc, settled.get(task as usize))?;
+    Ok(Text::new(format!(in alloc; "{id}  {state}")?))
+}
+
+/// A line for each of these tasks of a run, with its state.
+pub(crate) fn task_lines(
+    alloc: Global,
+    plan: &Plan,
+    settled: &[Settled<'_>],
+    tasks: &[u32],
+) -> Result<Vec<Text>, OutOfMemory>
+    ensures { IfOk result (λ lines. lines.items ≡ lines_of plan.now.dag settled.now tasks.now) }
+{
+    let width = widest(plan, tasks);
+    let mut lines = Vec::with_capacity(alloc, tasks.len())?;
+    for task in tasks {
+        lines.push(task_line(alloc, plan, settled, width, *task)?)?;
+    }
+    Ok(lines)
+}

@@ -1,0 +1,153 @@
+//! The words of an instance's last try, as a line of a shell.
+ghost use Rattle.std.specs.Prelude.{◌≡◌, ◌<◌, IfOk, length, map, option_copied};
+ghost use Rattle.std.specs.List.{list_all};
+ghost use Rattle.bf_core.specs.Terms.{task_of};
+ghost use Rattle.bf_clear.specs.Entries.{given_in};
+ghost use Rattle.bf_explain.specs.ByHand.{AreHandLines, IsHandLine, index_of as index_in, tells_word as tells_word_in, tells_words as tells_words_in};
+ghost use Rattle.bf_graph.specs.Shape.{texts};
+ghost use Rattle.bf_quoted.specs.Lines.{line_of};
+
+use bf_moment::Moment;
+use bf_plan::{Plan, Word};
+use bf_quoted::push_line;
+use bf_report::{InstanceReport, Pull, RunReport, TaskReport, Version};
+use bf_value::{OutOfMemory, Sequence, Text, Xval, copy_option};
+use bf_wording::one_line;
+use bf_words::{JobContext, words};
+use bf_xcom::Given;
+use std::alloc::Global;
+
+fn tells_word(version: Version, instance: &InstanceReport, word: &Word) -> bool
+    ensures { result ≡ tells_word_in version instance.now word.now }
+{
+    match (version, word) {
+        (Version::One, Word::Pull(_)) | (Version::One, Word::Item) => false,
+        (Version::Two, Word::Item) => instance.item().is_some(),
+        _ => true,
+    }
+}
+
+fn tells_each(version: Version, instance: &InstanceReport, command: &[Word]) -> bool
+    ensures { result ≡ list_all (tells_word_in version instance.now) command.now }
+{
+    command
+        .iter()
+        .all(|word| tells_word(version, instance, word))
+}
+
+/// Whether there is a command, and a report of this version tells each of its words.
+fn tells_words(version: Version, instance: &InstanceReport, command: &[Word]) -> bool
+    ensures { result ≡ tells_words_in version instance.now command.now }
+{
+    command.len() != 0 && tells_each(version, instance, command)
+}
+
+/// The map index of the instance that is told of alone.
+pub(crate) fn index_of(told: &TaskReport, index: Option<i32>) -> i32
+    ensures { result ≡ index_in told.now index }
+{
+    match (told, index) {
+        (TaskReport::Mapped(_), Some(index)) => index,
+        _ => -1,
+    }
+}
+
+fn pulled_values(alloc: Global, pulls: &[Pull]) -> Result<Sequence<Option<Xval>>, OutOfMemory>
+    ensures { IfOk result (λ values. values ≡ map (λ pull. pull.value) pulls.now) }
+{
+    let mut values = Vec::with_capacity(alloc, pulls.len())?;
+    for pull in pulls {
+        values.push(copy_option(alloc, pull.value.as_ref())?)?;
+    }
+    Ok(Sequence::from_vec(values))
+}
+
+/// What an instance was given, as a report of version 2 tells it.
+fn given_of(alloc: Global, instance: &InstanceReport) -> Result<Given, OutOfMemory>
+    ensures { IfOk result (λ given. given ≡ given_in instance.now) }
+{
+    let item = copy_option(alloc, instance.item())?;
+    let pulled = pulled_values(alloc, instance.pulls())?;
+    Ok(Given { item, pulled })
+}
+
+fn texts_of(alloc: Global, words: Vec<String>) -> Result<Vec<Text>, OutOfMemory>
+    ensures { IfOk result (λ all. all.items ≡ texts words.items) }
+{
+    let mut all = Vec::with_capacity(alloc, words.len())?;
+    for word in words {
+        all.push(Text::new(word))?;
+    }
+    Ok(all)
+}
+
+fn line_of_words(alloc: Global, words: Vec<String>) -> Result<Text, OutOfMemory>
+    ensures { IfOk result (λ line. line ≡ line_of (texts words.items)) }
+{
+    let words = texts_of(alloc, words)?;
+    let mut line = String::new(alloc);
+    push_line(alloc, &mut line, words.as_slice())?;
+    Ok(Text::new(line))
+}
+
+fn hand_line(
+    alloc: Global,
+    plan: &Plan,
+    report: &RunReport,
+    run: u32,
+    task: u32,
+    index: i32,
+    instance: &InstanceReport,
+) -> Result<Text, OutOfMemory>
+    requires { task < length plan.now.dag.tasks }
+    ensures { IfOk result (IsHandLine plan.now.dag report.now.interval run task index instance.now) }
+{
+    let dag = plan.dag();
+    let made = dag.task(task);
+    let ended = instance.result(alloc)?;
+    let given = given_of(alloc, instance)?;
+    let context = JobContext {
+        data_interval_start: Moment::new(report.interval.start),
+        data_interval_end: Moment::new(report.interval.end),
+        dag_id: dag.id.as_str(),
+        task_id: made.id.as_str(),
+        map_index: index,
+        try_number: ended.tries,
+    };
+    let words = words(alloc, made.command.as_slice(), &context, &given)?;
+    line_of_words(alloc, words)
+}
+
+fn is_told(plan: &Plan, version: Version, task: u32, instance: &InstanceReport) -> bool
+    requires { task < length plan.now.dag.tasks }
+    ensures { result ≡ tells_words_in version instance.now (task_of plan.now.dag task).command }
+{
+    tells_words(version, instance, plan.dag().task(task).command.as_slice())
+}
+
+/// The line to run the last try of the one instance by hand, where the report tells all its words.
+pub(crate) fn hand_lines(
+    alloc: Global,
+    plan: &Plan,
+    report: &RunReport,
+    version: Version,
+    run: u32,
+    task: u32,
+    index: i32,
+    instance: Option<&InstanceReport>,
+) -> Result<Vec<Text>, OutOfMemory>
+    requires { task < length plan.now.dag.tasks }
+    ensures { IfOk result (λ lines. AreHandLines plan.now.dag report.now.interval version run task index
+        (option_copied instance.entry) lines.items) }
+{
+    let Some(instance) = instance else {
+        return Ok(Vec::new(alloc));
+    };
+    if !is_told(plan, version, task, instance) {
+        return Ok(Vec::new(alloc));
+    }
+    one_line(
+        alloc,
+        hand_line(alloc, plan, report, run, task, index, instance)?,
+    )
+}

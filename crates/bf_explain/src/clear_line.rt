@@ -1,0 +1,157 @@
+//! The line that clears a task in a run.
+ghost use Rattle.std.specs.Prelude.{◌≡◌, ◌++◌, ◌∷◌, [], IfOk, OnOk, codes, option_copied};
+ghost use Rattle.bf_explain.specs.Clearing.{begins_with_hyphen as with_hyphen, clear_line as clear_line_in, clear_words as clear_words_in, option_words, path_words, range_words, seed_words, short_start as short_start_of, short_start_at as short_start_in, zone_words};
+
+use crate::moments::short_moment;
+use crate::paths::Paths;
+use bf_dependents::Place;
+use bf_plan::Plan;
+use bf_quoted::{push_line, push_quoted};
+use bf_report::{Report, RunReport};
+use bf_value::{OutOfMemory, Text};
+use bf_why::id_at;
+use bf_wording::{add, add_if};
+use std::alloc::Global;
+
+fn begins_with_hyphen(word: &str) -> bool
+    ensures { result ≡ with_hyphen word.now }
+{
+    match word.as_bytes() {
+        [first, ..] => *first == b'-',
+        [] => false,
+    }
+}
+
+/// Adds an option and its word, in one where the word begins as an option does.
+fn add_option(
+    alloc: Global,
+    words: &mut Vec<Text>,
+    name: &str,
+    word: &str,
+) -> Result<(), OutOfMemory>
+    ensures { OnOk result (words.new.items ≡ words.old.items ++ option_words name.now word.now) }
+{
+    if begins_with_hyphen(word) {
+        words.push(Text::new(format!(in alloc; "{name}={word}")?))?;
+        return Ok(());
+    }
+    add(alloc, words, name)?;
+    add(alloc, words, word)
+}
+
+fn add_zone(
+    alloc: Global,
+    words: &mut Vec<Text>,
+    zone_file: &Option<Text>,
+) -> Result<(), OutOfMemory>
+    ensures { OnOk result (words.new.items ≡ words.old.items ++ zone_words zone_file.now) }
+{
+    let Some(path) = zone_file else {
+        return Ok(());
+    };
+    add_option(alloc, words, "--zone-file", path.as_str())?;
+    Ok(())
+}
+
+fn add_paths(alloc: Global, words: &mut Vec<Text>, paths: &Paths) -> Result<(), OutOfMemory>
+    ensures { OnOk result (words.new.items ≡ words.old.items ++ path_words paths.now) }
+{
+    let (graph, report) = (paths.graph.as_str(), paths.report.as_str());
+    let hyphen = begins_with_hyphen(graph) || begins_with_hyphen(report);
+    add_if(alloc, words, hyphen, "--")?;
+    add(alloc, words, graph)?;
+    add(alloc, words, report)
+}
+
+fn short_start(alloc: Global, run: Option<&RunReport>) -> Result<Text, OutOfMemory>
+    ensures { IfOk result (λ text. text ≡ short_start_of (option_copied run.entry)) }
+{
+    match run {
+        Some(run) => short_moment(alloc, run.interval.start),
+        None => Text::copied(alloc, ""),
+    }
+}
+
+fn short_start_at(alloc: Global, report: &Report, run: usize) -> Result<Text, OutOfMemory>
+    ensures { IfOk result (λ text. text ≡ short_start_in report.now run) }
+{
+    short_start(alloc, report.runs.get(run))
+}
+
+fn add_range(alloc: Global, words: &mut Vec<Text>, report: &Report) -> Result<(), OutOfMemory>
+    ensures { OnOk result (words.new.items ≡ words.old.items ++ range_words report.now) }
+{
+    let last = report.runs.len().saturating_sub(1);
+    add(alloc, words, "--from")?;
+    words.push(short_start_at(alloc, report, 0)?)?;
+    add(alloc, words, "--to")?;
+    words.push(short_start_at(alloc, report, last)?)?;
+    Ok(())
+}
+
+fn add_seed(
+    alloc: Global,
+    words: &mut Vec<Text>,
+    plan: &Plan,
+    report: &Report,
+    place: Place,
+) -> Result<(), OutOfMemory>
+    ensures { OnOk result (words.new.items ≡ words.old.items ++ seed_words plan.now.dag report.now place) }
+{
+    add_option(alloc, words, "--task", id_at(plan.dag(), place.task))?;
+    add(alloc, words, "--run")?;
+    words.push(short_start_at(alloc, report, place.run as usize)?)?;
+    Ok(())
+}
+
+fn first_words(alloc: Global) -> Result<Vec<Text>, OutOfMemory>
+    ensures { IfOk result (λ words. words.items ≡ codes "backfill" ∷ codes "clear" ∷ []) }
+{
+    let mut words = Vec::new(alloc);
+    add(alloc, &mut words, "backfill")?;
+    add(alloc, &mut words, "clear")?;
+    Ok(words)
+}
+
+fn clear_words(
+    alloc: Global,
+    paths: &Paths,
+    plan: &Plan,
+    report: &Report,
+    place: Place,
+) -> Result<Vec<Text>, OutOfMemory>
+    ensures { IfOk result (λ words. words.items ≡ clear_words_in paths.now plan.now.dag report.now place) }
+{
+    let mut words = first_words(alloc)?;
+    add_zone(alloc, &mut words, &paths.zone_file)?;
+    add_range(alloc, &mut words, report)?;
+    add_seed(alloc, &mut words, plan, report, place)?;
+    add_paths(alloc, &mut words, paths)?;
+    Ok(words)
+}
+
+fn new_path(alloc: Global, paths: &Paths) -> Result<Text, OutOfMemory>
+    ensures { IfOk result (λ path. path ≡ paths.now.report ++ codes ".new") }
+{
+    let report = paths.report.as_str();
+    Ok(Text::new(format!(in alloc; "{report}.new")?))
+}
+
+/// The line that clears a task in a run, and puts the report that is printed into a file beside the report.
+pub(crate) fn clear_line(
+    alloc: Global,
+    paths: &Paths,
+    plan: &Plan,
+    report: &Report,
+    place: Place,
+) -> Result<Text, OutOfMemory>
+    ensures { IfOk result (λ line. line ≡ clear_line_in paths.now plan.now.dag report.now place) }
+{
+    let words = clear_words(alloc, paths, plan, report, place)?;
+    let path = new_path(alloc, paths)?;
+    let mut line = String::new(alloc);
+    push_line(alloc, &mut line, words.as_slice())?;
+    line.push_str(" > ")?;
+    push_quoted(alloc, &mut line, path.as_str())?;
+    Ok(Text::new(line))
+}

@@ -1,0 +1,182 @@
+//! What is cleared with a task in a run, in a heading above the line that does it.
+ghost use Rattle.std.specs.Prelude.{◌≡◌, ◌<◌, ◌≤◌, ◌++◌, IfOk, OnOk, length, option_copied};
+ghost use Rattle.bf_explain.specs.Clearing.{AreClearSections, IsClearSection, IsCleared, clear_heading as heading_words, is_of_single as of_single, last_run as last_run_of, place_at as place_in, place_text as place_words, places_to_clear as places_of, root_places as places_of_roots};
+ghost use Rattle.bf_explain.specs.Sections.{section};
+
+use crate::began::in_the_run;
+use crate::clear_line::clear_line;
+use crate::paths::Paths;
+use crate::sections::add_section;
+use bf_dependents::{Place, dependents};
+use bf_plan::Plan;
+use bf_report::{Report, RunReport};
+use bf_roots::Root;
+use bf_value::{OutOfMemory, Text};
+use bf_why::id_at;
+use bf_wording::{add_all, one_line, plural};
+use std::alloc::Global;
+
+/// At most of so many places where something began the line is told.
+const MOST_PLACES: usize = 3;
+
+/// How many tasks follow from one, and in how many runs.
+#[derive(Clone, Copy, Debug, PartialEq, Eq)]
+pub struct Cleared {
+    pub tasks: u64,
+    pub runs: u64,
+}
+
+fn place_at(run: u32, task: u32) -> Place
+    ensures { result ≡ place_in run task }
+{
+    let index = None;
+    Place { run, task, index }
+}
+
+fn last_run(run: u32, places: &[Place]) -> u32
+    ensures { result ≡ last_run_of run places.now }
+{
+    let mut last = run;
+    for place in places {
+        last = place.run;
+    }
+    last
+}
+
+/// What follows from a task in one of so many runs.
+fn cleared_with(alloc: Global, plan: &Plan, runs: u32, place: Place) -> Result<Cleared, OutOfMemory>
+    ensures { IfOk result (IsCleared plan.now.dag runs place) }
+{
+    let all = dependents(alloc, plan, &[place], runs)?;
+    let places = all.places(alloc, plan, runs)?;
+    let last = last_run(place.run, places.as_slice());
+    Ok(Cleared {
+        tasks: places.len() as u64,
+        runs: (u64::from(last) + 1).saturating_sub(u64::from(place.run)),
+    })
+}
+
+/// Names another place than this one.
+fn place_text(
+    alloc: Global,
+    plan: &Plan,
+    report: &Report,
+    run: u32,
+    task: u32,
+    place: Place,
+) -> Result<Text, OutOfMemory>
+    ensures { IfOk result (λ text. text ≡ place_words plan.now.dag report.now run task place) }
+{
+    if place.run == run && place.task == task {
+        return Text::copied(alloc, "");
+    }
+    let id = id_at(plan.dag(), place.task);
+    let there = in_the_run(alloc, report, run, place.run)?;
+    Ok(Text::new(format!(in alloc; " {id}{there}")?))
+}
+
+fn clear_heading(alloc: Global, place: &Text, cleared: Cleared) -> Result<Text, OutOfMemory>
+    ensures { IfOk result (λ text. text ≡ heading_words place.now cleared) }
+{
+    let tasks = plural(alloc, cleared.tasks, "task")?;
+    let runs = plural(alloc, cleared.runs, "run")?;
+    let text = format!(in alloc; "clear{place}, with what follows from it: {tasks} in {runs}")?;
+    Ok(Text::new(text))
+}
+
+fn is_of_single(run: Option<&RunReport>) -> bool
+    ensures { result ≡ of_single (option_copied run.entry) }
+{
+    match run {
+        Some(run) => run.interval.start == run.interval.end,
+        None => true,
+    }
+}
+
+fn clear_section(
+    alloc: Global,
+    paths: &Paths,
+    plan: &Plan,
+    report: &Report,
+    run: u32,
+    task: u32,
+    place: Place,
+) -> Result<Vec<Text>, OutOfMemory>
+    requires { length report.now.runs ≤ 4_096 }
+    ensures { IfOk result (λ lines. IsClearSection paths.now plan.now.dag report.now run task place lines.items) }
+{
+    let mut lines = Vec::new(alloc);
+    if is_of_single(report.runs.get(place.run as usize)) {
+        return Ok(lines);
+    }
+    let cleared = cleared_with(alloc, plan, report.runs.len() as u32, place)?;
+    let there = place_text(alloc, plan, report, run, task, place)?;
+    let heading = clear_heading(alloc, &there, cleared)?;
+    let line = one_line(alloc, clear_line(alloc, paths, plan, report, place)?)?;
+    add_section(alloc, &mut lines, heading.as_str(), line.as_slice())?;
+    Ok(lines)
+}
+
+/// A heading and a line for each of these places.
+fn clear_sections(
+    alloc: Global,
+    paths: &Paths,
+    plan: &Plan,
+    report: &Report,
+    run: u32,
+    task: u32,
+    places: &[Place],
+) -> Result<Vec<Text>, OutOfMemory>
+    requires { length report.now.runs ≤ 4_096 }
+    ensures { IfOk result (λ lines. AreClearSections paths.now plan.now.dag report.now run task places.now lines.items) }
+{
+    let mut lines = Vec::new(alloc);
+    for place in places {
+        let more = clear_section(alloc, paths, plan, report, run, task, *place)?;
+        add_all(&mut lines, more)?;
+    }
+    Ok(lines)
+}
+
+fn root_places(alloc: Global, roots: &[Root]) -> Result<Vec<Place>, OutOfMemory>
+    ensures { IfOk result (λ places. places.items ≡ places_of_roots roots.now) }
+{
+    let mut places = Vec::new(alloc);
+    for root in &roots[..roots.len().min(MOST_PLACES)] {
+        places.push(place_at(root.run, root.task))?;
+    }
+    Ok(places)
+}
+
+/// The first places where it began, or else the task itself.
+fn places_to_clear(
+    alloc: Global,
+    run: u32,
+    task: u32,
+    roots: &[Root],
+) -> Result<Vec<Place>, OutOfMemory>
+    ensures { IfOk result (λ places. places.items ≡ places_of run task roots.now) }
+{
+    match roots {
+        [] => Ok(vec![in alloc; place_at(run, task)]?),
+        [_, ..] => root_places(alloc, roots),
+    }
+}
+
+/// For a task in a run the line that clears it, or of one that wasn't tried those that clear where it began.
+pub(crate) fn clear_lines(
+    alloc: Global,
+    paths: &Paths,
+    plan: &Plan,
+    report: &Report,
+    run: u32,
+    task: u32,
+    roots: &[Root],
+) -> Result<Vec<Text>, OutOfMemory>
+    requires { length report.now.runs ≤ 4_096 }
+    ensures { IfOk result (λ lines. AreClearSections paths.now plan.now.dag report.now run task
+        (places_of run task roots.now) lines.items) }
+{
+    let places = places_to_clear(alloc, run, task, roots)?;
+    clear_sections(alloc, paths, plan, report, run, task, places.as_slice())
+}

@@ -1,0 +1,66 @@
+//! What an instance was given, and what it pushed.
+ghost use Rattle.std.specs.Prelude.{◌≡◌, ◌++◌, IfOk, OnOk, map, option_copied};
+ghost use Rattle.bf_explain.specs.Beside.{given_lines as given_in, item_lines, pull_line as pull_words, pushed_lines as pushed_in};
+
+use bf_report::{InstanceReport, Pull};
+use bf_value::{OutOfMemory, Text, Xval};
+use bf_wording::{add_text, value_text};
+use std::alloc::Global;
+
+/// How many characters of a value stand in a line of its own.
+const MOST_CHARACTERS: usize = 4_096;
+
+fn add_item(alloc: Global, lines: &mut Vec<Text>, item: Option<&Xval>) -> Result<(), OutOfMemory>
+    ensures { OnOk result (lines.new.items ≡ lines.old.items ++ item_lines (option_copied item.entry)) }
+{
+    let Some(item) = item else {
+        return Ok(());
+    };
+    let value = value_text(alloc, Some(item), MOST_CHARACTERS)?;
+    add_text(lines, Text::new(format!(in alloc; "item  {value}")?))
+}
+
+fn pull_line(alloc: Global, pull: &Pull) -> Result<Text, OutOfMemory>
+    ensures { IfOk result (λ text. text ≡ pull_words pull.now) }
+{
+    let task = pull.task.as_str();
+    let value = value_text(alloc, pull.value.as_ref(), MOST_CHARACTERS)?;
+    Ok(Text::new(format!(in alloc; "pulled {task}  {value}")?))
+}
+
+fn add_pulls(alloc: Global, lines: &mut Vec<Text>, pulls: &[Pull]) -> Result<(), OutOfMemory>
+    ensures { OnOk result (lines.new.items ≡ lines.old.items ++ map pull_words pulls.now) }
+{
+    for pull in pulls {
+        lines.push(pull_line(alloc, pull)?)?;
+    }
+    Ok(())
+}
+
+/// A line for the item of an instance, where it has one, and one for each of its pulls.
+pub(crate) fn given_lines(
+    alloc: Global,
+    instance: &InstanceReport,
+) -> Result<Vec<Text>, OutOfMemory>
+    ensures { IfOk result (λ lines. lines.items ≡ given_in instance.now) }
+{
+    let mut lines = Vec::new(alloc);
+    add_item(alloc, &mut lines, instance.item())?;
+    add_pulls(alloc, &mut lines, instance.pulls())?;
+    Ok(lines)
+}
+
+/// A line for what an instance pushed, where it pushed something.
+pub(crate) fn pushed_lines(
+    alloc: Global,
+    instance: &InstanceReport,
+) -> Result<Vec<Text>, OutOfMemory>
+    ensures { IfOk result (λ lines. lines.items ≡ pushed_in instance.now) }
+{
+    let ended = instance.result(alloc)?;
+    let mut lines = Vec::new(alloc);
+    if let Some(value) = ended.outcome.pushed() {
+        lines.push(value_text(alloc, Some(value), MOST_CHARACTERS)?)?;
+    }
+    Ok(lines)
+}

@@ -1,0 +1,101 @@
+//! What a task in a run, or one of its instances, is called, and its state.
+ghost use Rattle.std.specs.Prelude.{◌≡◌, IfOk, Some, option_copied};
+ghost use Rattle.bf_explain.specs.Headings.{has_index as has_index_in, heading as heading_words, heading_of as heading_with, instance_heading as instance_words, instance_name as name_words, instance_of as instance_in, place_of as place_by};
+ghost use Rattle.bf_moment.specs.Moment.{IsShown};
+
+use crate::beside::{outcome_word, state_text};
+use bf_moment::Moment;
+use bf_reason::Settled;
+use bf_report::{InstanceReport, TaskReport};
+use bf_value::{OutOfMemory, Text};
+use jiff::Timestamp;
+use std::alloc::Global;
+
+/// Whether a task in a run has an instance of this map index, which is -1 where it isn't expanded there. Where there is no index none
+/// is asked for.
+pub fn has_index(told: &TaskReport, index: Option<i32>) -> bool
+    ensures { result ≡ has_index_in told.now index }
+{
+    match (told, index) {
+        (_, None) => true,
+        (TaskReport::Mapped(instances), Some(index)) => {
+            index >= 0 && (index as usize) < instances.len()
+        }
+        (_, Some(index)) => index == -1,
+    }
+}
+
+/// The place of an instance among those of an expanded task.
+pub(crate) fn place_of(index: Option<i32>) -> Option<usize>
+    ensures { result ≡ place_by index }
+{
+    match index {
+        Some(index) if index >= 0 => Some(index as usize),
+        _ => None,
+    }
+}
+
+fn heading_of(alloc: Global, name: &str, start: Timestamp, state: &str) -> Result<Text, OutOfMemory>
+    requires { IsShown start.nanosecond }
+    ensures { IfOk result (λ text. text ≡ heading_with name.now start.nanosecond state.now) }
+{
+    let start = Moment::new(start);
+    Ok(Text::new(format!(in alloc; "{name} in the run of {start}: {state}")?))
+}
+
+fn instance_name(alloc: Global, id: &str, place: usize) -> Result<Text, OutOfMemory>
+    ensures { IfOk result (λ text. text ≡ name_words id.now place) }
+{
+    Ok(Text::new(format!(in alloc; "{id} [{place}]")?))
+}
+
+fn instance_heading(
+    alloc: Global,
+    id: &str,
+    start: Timestamp,
+    place: usize,
+    instance: Option<&InstanceReport>,
+) -> Result<Text, OutOfMemory>
+    requires { IsShown start.nanosecond }
+    ensures { IfOk result (λ text. text ≡ instance_words id.now start.nanosecond place (option_copied instance.entry)) }
+{
+    let Some(instance) = instance else {
+        return heading_of(alloc, id, start, "no_status");
+    };
+    let name = instance_name(alloc, id, place)?;
+    let ended = instance.result(alloc)?;
+    heading_of(alloc, name.as_str(), start, outcome_word(&ended.outcome))
+}
+
+/// The first line, of a task in the run of a logical date, or of one instance of an expanded one.
+pub(crate) fn heading(
+    alloc: Global,
+    id: &str,
+    start: Timestamp,
+    task: &Settled<'_>,
+    place: Option<usize>,
+) -> Result<Text, OutOfMemory>
+    requires { IsShown start.nanosecond }
+    ensures { IfOk result (λ text. text ≡ heading_words id.now start.nanosecond task.now place) }
+{
+    match (task.told(), place) {
+        (TaskReport::Mapped(instances), Some(place)) => {
+            instance_heading(alloc, id, start, place, instances.get(place))
+        }
+        _ => {
+            let state = state_text(alloc, Some(task))?;
+            heading_of(alloc, id, start, state.as_str())
+        }
+    }
+}
+
+/// The instance that is told of alone.
+pub(crate) fn instance_of(told: &TaskReport, place: Option<usize>) -> Option<&InstanceReport>
+    ensures { option_copied result ≡ instance_in told.now place }
+{
+    match (told, place) {
+        (TaskReport::Ran(instance), _) => Some(instance),
+        (TaskReport::Mapped(instances), Some(place)) => instances.get(place),
+        _ => None,
+    }
+}

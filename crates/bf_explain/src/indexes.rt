@@ -1,0 +1,132 @@
+//! Which instances of an expanded task are in which state.
+ghost use Rattle.std.specs.Prelude.{◌≡◌, ◌<◌, ◌++◌, IfOk, OnOk, codes, length, option_copied, string_bytes};
+ghost use Rattle.bf_explain.specs.Beside.{padded as padded_to};
+ghost use Rattle.bf_core.specs.Deciding.{counts_of_results};
+ghost use Rattle.bf_explain.specs.Indexes.{index_text, indexes_text as indexes_words, is_at as at_index, is_before as before_index, is_in as in_state, range_end, state_line, state_lines as state_lines_in, states_width as width_of_states, width_if as width_where};
+
+use crate::beside::{outcome_word, padded};
+use bf_rule::Counts;
+use bf_value::{OutOfMemory, Text};
+use bf_xcom::TaskResult;
+use std::alloc::Global;
+
+fn is_in(state: &str, ended: Option<&TaskResult>) -> bool
+    ensures { result ≡ in_state state.now (option_copied ended.entry) }
+{
+    match ended {
+        Some(ended) => outcome_word(&ended.outcome) == state,
+        None => false,
+    }
+}
+
+fn is_at(state: &str, results: &[TaskResult], index: usize) -> bool
+    ensures { result ≡ at_index state.now results.now index }
+{
+    is_in(state, results.get(index))
+}
+
+fn is_before(state: &str, results: &[TaskResult], index: usize) -> bool
+    ensures { result ≡ before_index state.now results.now index }
+{
+    index > 0 && is_at(state, results, index - 1)
+}
+
+fn push_range_end(text: &mut String, goes_on: bool, index: usize) -> Result<(), OutOfMemory>
+    ensures { OnOk result (string_bytes text.new ≡ string_bytes text.old ++ range_end goes_on index) }
+{
+    if !goes_on {
+        write!(text, "-{index}")?;
+    }
+    Ok(())
+}
+
+/// Adds an index of an instance in a state: one that begins a range behind a space, one that ends a range behind a hyphen.
+fn push_index(
+    text: &mut String,
+    state: &str,
+    results: &[TaskResult],
+    index: usize,
+) -> Result<(), OutOfMemory>
+    requires { index < length results.now }
+    ensures { OnOk result (string_bytes text.new ≡ string_bytes text.old ++ index_text state.now results.now index) }
+{
+    if !is_at(state, results, index) {
+        return Ok(());
+    }
+    if is_before(state, results, index) {
+        return push_range_end(text, is_at(state, results, index + 1), index);
+    }
+    write!(text, " {index}")?;
+    Ok(())
+}
+
+fn push_indexes(text: &mut String, state: &str, results: &[TaskResult]) -> Result<(), OutOfMemory>
+    ensures { OnOk result (string_bytes text.new ≡ string_bytes text.old ++ indexes_words state.now results.now) }
+{
+    for index in 0..results.len() {
+        push_index(text, state, results, index)?;
+    }
+    Ok(())
+}
+
+fn width_if(count: u32, state: &str) -> usize
+    ensures { result ≡ width_where count state.now }
+{
+    if count == 0 { 0 } else { state.len() }
+}
+
+fn states_width(counts: &Counts) -> usize
+    ensures { result ≡ width_of_states counts.now }
+{
+    let success = width_if(counts.success, "success");
+    let failed = width_if(counts.failed, "failed");
+    let skipped = width_if(counts.skipped, "skipped");
+    success.max(failed.max(skipped))
+}
+
+fn indexes_line(
+    alloc: Global,
+    width: usize,
+    results: &[TaskResult],
+    state: &str,
+) -> Result<Text, OutOfMemory>
+    ensures { IfOk result (λ text. text ≡ padded_to width state.now ++ (codes " " ++ indexes_words state.now results.now)) }
+{
+    let name = padded(alloc, state, width)?;
+    let mut text = format!(in alloc; "{name} ")?;
+    push_indexes(&mut text, state, results)?;
+    Ok(Text::new(text))
+}
+
+fn add_state(
+    alloc: Global,
+    lines: &mut Vec<Text>,
+    width: usize,
+    results: &[TaskResult],
+    state: &str,
+    count: u32,
+) -> Result<(), OutOfMemory>
+    ensures { OnOk result (lines.new.items ≡ lines.old.items ++ state_line width results.now state.now count) }
+{
+    if count > 0 {
+        lines.push(indexes_line(alloc, width, results, state)?)?;
+    }
+    Ok(())
+}
+
+/// A line for each state that is there, with the indexes of the instances that are in it.
+pub(crate) fn state_lines(
+    alloc: Global,
+    results: &[TaskResult],
+    counts: &Counts,
+) -> Result<Vec<Text>, OutOfMemory>
+    requires { counts.now ≡ counts_of_results results.now }
+    ensures { IfOk result (λ lines. lines.items ≡ state_lines_in results.now) }
+{
+    let width = states_width(counts);
+    let mut lines = Vec::new(alloc);
+    add_state(alloc, &mut lines, width, results, "success", counts.success)?;
+    add_state(alloc, &mut lines, width, results, "failed", counts.failed)?;
+    add_state(alloc, &mut lines, width, results, "skipped", counts.skipped)?;
+    Ok(lines)
+}

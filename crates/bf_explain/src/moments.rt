@@ -1,0 +1,34 @@
+//! Moments as short as a line takes them.
+ghost use Rattle.std.specs.Prelude.{◌≡◌, ◌≤◌, IfOk, length};
+ghost use Rattle.std.specs.Str.{IsAscii};
+ghost use Rattle.bf_explain.specs.Moments.{short_moment as short_text, without_midnight as shortened};
+ghost use Rattle.bf_moment.specs.Moment.{IsShown};
+
+use bf_moment::moment_bytes;
+use bf_value::{OutOfMemory, Text};
+use jiff::Timestamp;
+use std::alloc::Global;
+
+fn without_midnight(moment: &[u8]) -> &[u8]
+    requires long { 10 ≤ length moment.now }
+    requires ascii { IsAscii moment.now }
+    ensures short { result.now ≡ shortened moment.now }
+    ensures ascii { IsAscii result.now }
+{
+    if &moment[10..] == b"T00:00:00Z".as_slice() {
+        return &moment[..10];
+    }
+    moment
+}
+
+/// The text of a moment, of which midnight in UTC is left out.
+pub(crate) fn short_moment(alloc: Global, moment: Timestamp) -> Result<Text, OutOfMemory>
+    requires { IsShown moment.nanosecond }
+    ensures { IfOk result (λ text. text ≡ short_text moment.nanosecond) }
+{
+    let bytes = moment_bytes(moment);
+    let Ok(text) = std::str::from_utf8(without_midnight(&bytes)) else {
+        unreachable!();
+    };
+    Text::copied(alloc, text)
+}

@@ -1,0 +1,62 @@
+//! What is told of a task in a run, or of one of its instances, alone.
+ghost use Rattle.std.specs.Prelude.{◌≡◌, ◌++◌, IfOk, OnOk, option_copied};
+ghost use Rattle.bf_explain.specs.Beside.{given_lines as given_in, pushed_lines as pushed_in};
+ghost use Rattle.bf_explain.specs.Tasks.{instances_lines as instances_in, lines_if, own_sections};
+
+use crate::given::{given_lines, pushed_lines};
+use crate::headings::instance_of;
+use crate::indexes::state_lines;
+use crate::sections::add_section;
+use bf_reason::Settled;
+use bf_report::{InstanceReport, TaskReport};
+use bf_value::{OutOfMemory, Text};
+use std::alloc::Global;
+
+/// The states of an expanded task as a whole.
+fn instances_lines(
+    alloc: Global,
+    told: &Settled<'_>,
+    place: Option<usize>,
+) -> Result<Vec<Text>, OutOfMemory>
+    ensures { IfOk result (λ lines. lines.items ≡ instances_in told.now place) }
+{
+    match (told.told(), place) {
+        (TaskReport::Mapped(_), None) => state_lines(alloc, told.results(), &told.counts()),
+        _ => Ok(Vec::new(alloc)),
+    }
+}
+
+fn pushed_if(alloc: Global, instance: Option<&InstanceReport>) -> Result<Vec<Text>, OutOfMemory>
+    ensures { IfOk result (λ lines. lines.items ≡ lines_if pushed_in (option_copied instance.entry)) }
+{
+    match instance {
+        Some(instance) => pushed_lines(alloc, instance),
+        None => Ok(Vec::new(alloc)),
+    }
+}
+
+fn given_if(alloc: Global, instance: Option<&InstanceReport>) -> Result<Vec<Text>, OutOfMemory>
+    ensures { IfOk result (λ lines. lines.items ≡ lines_if given_in (option_copied instance.entry)) }
+{
+    match instance {
+        Some(instance) => given_lines(alloc, instance),
+        None => Ok(Vec::new(alloc)),
+    }
+}
+
+/// Adds what is told of a task alone, or of its instance in this place.
+pub(crate) fn add_own(
+    alloc: Global,
+    lines: &mut Vec<Text>,
+    told: &Settled<'_>,
+    place: Option<usize>,
+) -> Result<(), OutOfMemory>
+    ensures { OnOk result (lines.new.items ≡ lines.old.items ++ own_sections told.now place) }
+{
+    let instances = instances_lines(alloc, told, place)?;
+    let pushed = pushed_if(alloc, instance_of(told.told(), place))?;
+    let given = given_if(alloc, instance_of(told.told(), place))?;
+    add_section(alloc, lines, "instances", instances.as_slice())?;
+    add_section(alloc, lines, "pushed", pushed.as_slice())?;
+    add_section(alloc, lines, "given", given.as_slice())
+}

@@ -1,0 +1,162 @@
+//! A run: why it has its state, and what came of its tasks.
+ghost use Rattle.std.specs.Prelude.{◌≡◌, ◌≤◌, ◌++◌, All, IfOk, OnOk, codes, length, string_bytes};
+ghost use Rattle.bf_explain.specs.Beside.{task_lines as task_lines_of};
+ghost use Rattle.bf_explain.specs.Runs.{counts_lines as counts_in, failed_tasks as failed_in, is_not_tried as not_tried_by, run_heading as heading_of, run_lines as run_lines_in, run_text, tasks_not_tried as not_tried_in};
+ghost use Rattle.bf_explain.specs.Sections.{section};
+ghost use Rattle.bf_reason.specs.Settled.{IsFewTask, value_among};
+ghost use Rattle.bf_report.specs.Report.{run_state_word};
+
+use crate::beside::task_lines;
+use crate::run_why::run_why_lines;
+use crate::sections::{add_section, lines_text};
+use bf_moment::Moment;
+use bf_plan::Plan;
+use bf_reason::{Settled, counts_of_upstreams, settled_tasks};
+use bf_report::RunReport;
+use bf_value::{OutOfMemory, Text};
+use bf_why::{States, counts_text, has_in};
+use bf_wording::one_line;
+use bf_xcom::{RunState, TaskValue};
+use std::alloc::{AllocError, Global};
+
+fn state_word(state: RunState) -> &'static str
+    ensures { result.now ≡ run_state_word state }
+{
+    match state {
+        RunState::Success => "success",
+        RunState::Failed => "failed",
+    }
+}
+
+fn run_heading(alloc: Global, run: &RunReport) -> Result<Text, OutOfMemory>
+    ensures { IfOk result (λ text. text ≡ heading_of run.now) }
+{
+    let start = Moment::new(run.interval.start);
+    let end = Moment::new(run.interval.end);
+    let state = state_word(run.state);
+    Ok(Text::new(format!(in alloc; "run {start} to {end}: {state}")?))
+}
+
+fn counts_lines(
+    alloc: Global,
+    settled: &[Settled<'_>],
+    order: &[u32],
+) -> Result<Vec<Text>, OutOfMemory>
+    requires { length order.now ≤ 20_000 }
+    ensures { IfOk result (λ lines. lines.items ≡ counts_in settled.now order.now) }
+{
+    if order.is_empty() {
+        return Ok(Vec::new(alloc));
+    }
+    let counts = counts_of_upstreams(settled, order);
+    one_line(alloc, counts_text(alloc, &counts)?)
+}
+
+fn failed_tasks(
+    alloc: Global,
+    settled: &[Settled<'_>],
+    order: &[u32],
+) -> Result<Vec<u32>, AllocError>
+    ensures { IfOk result (λ found. found.items ≡ failed_in settled.now order.now) }
+{
+    let failed = States {
+        upstream_failed: false,
+        ..States::FAILURES
+    };
+    order
+        .iter()
+        .copied()
+        .filter(|task| has_in(settled, failed, *task))
+        .collect(alloc)
+}
+
+fn is_not_tried(settled: &[Settled<'_>], task: u32) -> bool
+    ensures { result ≡ not_tried_by (value_among settled.now task) }
+{
+    match settled.get(task as usize) {
+        Some(task) => matches!(task.value(), TaskValue::UpstreamFailed | TaskValue::Blocked),
+        None => true,
+    }
+}
+
+fn tasks_not_tried(
+    alloc: Global,
+    settled: &[Settled<'_>],
+    order: &[u32],
+) -> Result<Vec<u32>, AllocError>
+    ensures { IfOk result (λ found. found.items ≡ not_tried_in settled.now order.now) }
+{
+    order
+        .iter()
+        .copied()
+        .filter(|task| is_not_tried(settled, *task))
+        .collect(alloc)
+}
+
+fn add_failed(
+    alloc: Global,
+    lines: &mut Vec<Text>,
+    plan: &Plan,
+    settled: &[Settled<'_>],
+    order: &[u32],
+) -> Result<(), OutOfMemory>
+    ensures { OnOk result (lines.new.items ≡ lines.old.items
+        ++ section (codes "failed") (task_lines_of plan.now.dag settled.now (failed_in settled.now order.now))) }
+{
+    let failed = failed_tasks(alloc, settled, order)?;
+    let failed = task_lines(alloc, plan, settled, failed.as_slice())?;
+    add_section(alloc, lines, "failed", failed.as_slice())
+}
+
+fn add_not_tried(
+    alloc: Global,
+    lines: &mut Vec<Text>,
+    plan: &Plan,
+    settled: &[Settled<'_>],
+    order: &[u32],
+) -> Result<(), OutOfMemory>
+    ensures { OnOk result (lines.new.items ≡ lines.old.items
+        ++ section (codes "not tried") (task_lines_of plan.now.dag settled.now (not_tried_in settled.now order.now))) }
+{
+    let left = tasks_not_tried(alloc, settled, order)?;
+    let left = task_lines(alloc, plan, settled, left.as_slice())?;
+    add_section(alloc, lines, "not tried", left.as_slice())
+}
+
+fn run_lines(
+    alloc: Global,
+    plan: &Plan,
+    run: &RunReport,
+    settled: &[Settled<'_>],
+    order: &[u32],
+) -> Result<Vec<Text>, OutOfMemory>
+    requires tasks { settled.now ≡ run.now.tasks }
+    requires few { length order.now ≤ 20_000 }
+    ensures { IfOk result (λ lines. lines.items ≡ run_lines_in plan.now.dag run.now order.now) }
+{
+    let mut lines = one_line(alloc, run_heading(alloc, run)?)?;
+    let why = run_why_lines(alloc, plan, settled, order)?;
+    add_section(alloc, &mut lines, "why", why.as_slice())?;
+    let counts = counts_lines(alloc, settled, order)?;
+    add_section(alloc, &mut lines, "task instances", counts.as_slice())?;
+    add_failed(alloc, &mut lines, plan, settled, order)?;
+    add_not_tried(alloc, &mut lines, plan, settled, order)?;
+    Ok(lines)
+}
+
+/// Why a run has its state, how many instances came to which, and which tasks failed or were not tried, in this order of the tasks. None
+/// of its tasks has more than 1,024 instances.
+pub fn explain_run(
+    alloc: Global,
+    plan: &Plan,
+    run: &RunReport,
+    order: &[u32],
+) -> Result<String, OutOfMemory>
+    requires few { All IsFewTask run.now.tasks }
+    requires short { length order.now ≤ 20_000 }
+    ensures { IfOk result (λ text. string_bytes text ≡ run_text plan.now.dag run.now order.now) }
+{
+    let settled = settled_tasks(alloc, run.tasks.as_slice())?;
+    let lines = run_lines(alloc, plan, run, &settled, order)?;
+    lines_text(alloc, lines.as_slice())
+}

@@ -1,0 +1,145 @@
+//! Why a run has its state.
+ghost use Rattle.std.specs.Prelude.{◌≡◌, ◌==◌, ◌&&◌, ◌++◌, ◌∷◌, [], IfOk, OnOk, if◌then◌else◌, length};
+ghost use Rattle.std.specs.List.{list_any};
+ghost use Rattle.bf_core.specs.Deciding.{is_blocked as blocked};
+ghost use Rattle.bf_explain.specs.Runs.{are as are_word, blocked_sentence as blocked_words, ids_of, is_last as last_in, is_upstream_of as upstream_of, last_sentence as last_words, run_why as run_why_by, run_why_lines as run_why_in};
+ghost use Rattle.bf_reason.specs.Settled.{value_among};
+ghost use Rattle.bf_why.specs.Decided.{id_of};
+ghost use Rattle.bf_why.specs.Since.{failures, has_in as has_within};
+
+use bf_plan::{Dag, Plan, Task};
+use bf_reason::{Settled, is_blocked};
+use bf_value::{OutOfMemory, Text};
+use bf_why::{States, has_in, id_at, no_status};
+use bf_wording::{add_all, add_if, listed, one_line};
+use std::alloc::Global;
+
+pub(crate) fn is_upstream_of(task: u32, other: &Task) -> bool
+    ensures { result ≡ upstream_of task other.now }
+{
+    other
+        .upstreams
+        .as_slice()
+        .iter()
+        .any(|upstream| *upstream == task)
+}
+
+fn has_downstream(dag: &Dag, task: u32) -> bool
+    ensures { result ≡ list_any (upstream_of task) dag.now.tasks }
+{
+    dag.tasks
+        .as_slice()
+        .iter()
+        .any(|other| is_upstream_of(task, other))
+}
+
+/// Whether a task that no task follows is failed or upstream_failed.
+fn is_last_failed(plan: &Plan, settled: &[Settled<'_>], task: u32) -> bool
+    ensures { result ≡ (last_in plan.now.dag task && has_within settled.now failures task) }
+{
+    has_in(settled, States::FAILURES, task) && !has_downstream(plan.dag(), task)
+}
+
+fn add_id(
+    alloc: Global,
+    ids: &mut Vec<Text>,
+    plan: &Plan,
+    task: u32,
+    holds: bool,
+) -> Result<(), OutOfMemory>
+    ensures { OnOk result (ids.new.items ≡ ids.old.items ++ (if holds then id_of plan.now.dag task ∷ [] else [])) }
+{
+    add_if(alloc, ids, holds, id_at(plan.dag(), task))
+}
+
+fn last_failed(
+    alloc: Global,
+    plan: &Plan,
+    settled: &[Settled<'_>],
+    order: &[u32],
+) -> Result<Vec<Text>, OutOfMemory>
+    ensures { IfOk result (λ ids. ids.items ≡ ids_of plan.now.dag
+        (λ task. last_in plan.now.dag task && has_within settled.now failures task) order.now) }
+{
+    let mut ids = Vec::new(alloc);
+    for task in order {
+        let holds = is_last_failed(plan, settled, *task);
+        add_id(alloc, &mut ids, plan, *task, holds)?;
+    }
+    Ok(ids)
+}
+
+fn without_status(
+    alloc: Global,
+    plan: &Plan,
+    settled: &[Settled<'_>],
+    order: &[u32],
+) -> Result<Vec<Text>, OutOfMemory>
+    ensures { IfOk result (λ ids. ids.items ≡ ids_of plan.now.dag
+        (λ task. blocked (value_among settled.now task)) order.now) }
+{
+    let mut ids = Vec::new(alloc);
+    for task in order {
+        let holds = is_blocked(settled, *task);
+        add_id(alloc, &mut ids, plan, *task, holds)?;
+    }
+    Ok(ids)
+}
+
+fn are(count: usize) -> &'static str
+    ensures { result.now ≡ are_word count }
+{
+    if count == 1 { "is" } else { "are" }
+}
+
+fn last_sentence(alloc: Global, names: &[Text]) -> Result<Vec<Text>, OutOfMemory>
+    ensures { IfOk result (λ lines. lines.items ≡ last_words names.now) }
+{
+    if names.is_empty() {
+        return Ok(Vec::new(alloc));
+    }
+    let listed = listed(alloc, names)?;
+    let are = are(names.len());
+    let text = format!(in alloc;
+        "{listed}, which no task follows, {are} failed or upstream_failed."
+    )?;
+    one_line(alloc, Text::new(text))
+}
+
+fn blocked_sentence(alloc: Global, names: &[Text]) -> Result<Vec<Text>, OutOfMemory>
+    ensures { IfOk result (λ lines. lines.items ≡ blocked_words names.now) }
+{
+    if names.is_empty() {
+        return Ok(Vec::new(alloc));
+    }
+    one_line(alloc, no_status(alloc, names)?)
+}
+
+fn run_why(alloc: Global, last: &[Text], blocked: &[Text]) -> Result<Vec<Text>, OutOfMemory>
+    ensures { IfOk result (λ lines. lines.items ≡ run_why_by last.now blocked.now) }
+{
+    if last.is_empty() && blocked.is_empty() {
+        let text = Text::copied(
+            alloc,
+            "None of the tasks that no task follows is failed or upstream_failed, and every task has a status.",
+        )?;
+        return one_line(alloc, text);
+    }
+    let mut lines = last_sentence(alloc, last)?;
+    add_all(&mut lines, blocked_sentence(alloc, blocked)?)?;
+    Ok(lines)
+}
+
+/// Why a run has its state, over its tasks in this order.
+pub(crate) fn run_why_lines(
+    alloc: Global,
+    plan: &Plan,
+    settled: &[Settled<'_>],
+    order: &[u32],
+) -> Result<Vec<Text>, OutOfMemory>
+    ensures { IfOk result (λ lines. lines.items ≡ run_why_in plan.now.dag settled.now order.now) }
+{
+    let last = last_failed(alloc, plan, settled, order)?;
+    let blocked = without_status(alloc, plan, settled, order)?;
+    run_why(alloc, last.as_slice(), blocked.as_slice())
+}

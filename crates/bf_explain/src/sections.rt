@@ -1,0 +1,50 @@
+//! Headings, and what belongs to them.
+ghost use Rattle.std.specs.Prelude.{◌≡◌, ◌++◌, ◌∷◌, IfOk, OnOk, codes, map, string_bytes};
+ghost use Rattle.bf_explain.specs.Sections.{indented as indented_line, lines_text as lines_words, section};
+
+use bf_value::{OutOfMemory, Text};
+use bf_wording::add;
+use std::alloc::Global;
+
+fn indented(alloc: Global, line: &Text) -> Result<Text, OutOfMemory>
+    ensures { IfOk result (λ text. text ≡ indented_line line.now) }
+{
+    Ok(Text::new(format!(in alloc; "  {line}")?))
+}
+
+fn add_indented(alloc: Global, lines: &mut Vec<Text>, more: &[Text]) -> Result<(), OutOfMemory>
+    ensures { OnOk result (lines.new.items ≡ lines.old.items ++ map indented_line more.now) }
+{
+    for line in more {
+        lines.push(indented(alloc, line)?)?;
+    }
+    Ok(())
+}
+
+/// Adds a heading and the lines that belong to it, where there are some.
+pub(crate) fn add_section(
+    alloc: Global,
+    lines: &mut Vec<Text>,
+    heading: &str,
+    more: &[Text],
+) -> Result<(), OutOfMemory>
+    ensures { OnOk result (lines.new.items ≡ lines.old.items ++ section heading.now more.now) }
+{
+    if more.is_empty() {
+        return Ok(());
+    }
+    add(alloc, lines, heading)?;
+    add_indented(alloc, lines, more)
+}
+
+/// The lines, each of which ends with a line feed.
+pub(crate) fn lines_text(alloc: Global, lines: &[Text]) -> Result<String, OutOfMemory>
+    ensures { IfOk result (λ text. string_bytes text ≡ lines_words lines.now) }
+{
+    let mut text = String::new(alloc);
+    for line in lines {
+        text.push_str(line.as_str())?;
+        text.push_str("\n")?;
+    }
+    Ok(text)
+}

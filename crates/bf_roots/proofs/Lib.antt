@@ -1,0 +1,3 @@
+mod SeenFacts
+mod OnwardFacts
+mod WalkFacts

@@ -1,0 +1,222 @@
+//! What began at a place, and where the walk goes on from there.
+ghost use Rattle.std.specs.Prelude.{◌≡◌, ◌≤◌, ◌<◌, ◌++◌, IfOk, OnOk, length, map, slice_get};
+ghost use Rattle.bf_roots.specs.Onward.{alone as alone_in, began_at as began_among, ended_as as ended_among, ends_with as ends_by, goes_on as goes_on_by, is_tried as tried, next_run as next_run_by, next_tasks as next_tasks_in, onward_among, onward_for as onward_by, onward_if_told, roots_among, skipped_among, skips_for_skipped as skips_by, step_by};
+
+use crate::step::{Began, Root, Step};
+use crate::upstreams::{blocked_branches, blocked_tasks, branches_that_skip, tasks_in};
+use bf_plan::{Plan, Task};
+use bf_reason::{Cause, Settled, cause_at, is_expanded};
+use bf_report::TaskReport;
+use bf_rule::Rule;
+use bf_value::OutOfMemory;
+use bf_why::{States, has_in, is_foreign};
+use std::alloc::Global;
+
+/// Whether a task has a try.
+pub fn is_tried(told: &Settled<'_>) -> bool
+    ensures { result ≡ tried told.now }
+{
+    matches!(told.told(), TaskReport::Ran(_) | TaskReport::Mapped(_))
+}
+
+/// How a task that ran ended, where something began there.
+fn ended_as(settled: &[Settled<'_>], task: u32) -> Option<Began>
+    ensures { result ≡ ended_among settled.now task }
+{
+    if has_in(settled, States::FAILURES, task) {
+        Some(Began::Failed)
+    } else if has_in(settled, States::SKIPPED, task) {
+        Some(Began::Exited)
+    } else {
+        None
+    }
+}
+
+fn began_at(settled: &[Settled<'_>], task: u32, began: Option<Began>) -> Option<Began>
+    ensures { result ≡ began_among settled.now task began }
+{
+    match (began, settled.get(task as usize)) {
+        (Some(began), _) => Some(began),
+        (None, Some(told)) if is_tried(told) => ended_as(settled, task),
+        (None, _) => None,
+    }
+}
+
+/// Adds the root that is at a place, if one is.
+pub(crate) fn add_root(
+    roots: &mut Vec<Root>,
+    settled: &[Settled<'_>],
+    step: Step,
+) -> Result<(), OutOfMemory>
+    ensures { OnOk result (roots.new.items ≡ roots.old.items ++ roots_among settled.now step) }
+{
+    if let Some(began) = began_at(settled, step.task, step.began) {
+        roots.push(Root {
+            run: step.run,
+            task: step.task,
+            began,
+        })?;
+    }
+    Ok(())
+}
+
+/// Whether a rule skips a task where an upstream is skipped.
+fn skips_for_skipped(rule: Rule) -> bool
+    ensures { result ≡ skips_by rule }
+{
+    matches!(
+        rule,
+        Rule::AllSuccess | Rule::OneSuccess | Rule::NoneFailedMinOneSuccess | Rule::NoneSkipped
+    )
+}
+
+fn alone(alloc: Global, task: Option<u32>) -> Result<Vec<u32>, OutOfMemory>
+    ensures { IfOk result (λ tasks. tasks.items ≡ alone_in task) }
+{
+    let mut tasks = Vec::new(alloc);
+    if let Some(task) = task {
+        tasks.push(task)?;
+    }
+    Ok(tasks)
+}
+
+fn skipped_upstreams(
+    alloc: Global,
+    settled: &[Settled<'_>],
+    task: &Task,
+) -> Result<Vec<u32>, OutOfMemory>
+    ensures { IfOk result (λ tasks. tasks.items ≡ skipped_among settled.now task.now) }
+{
+    if skips_for_skipped(task.rule) {
+        let upstreams = task.upstreams.as_slice();
+        Ok(tasks_in(alloc, settled, upstreams, States::SKIPPED)?)
+    } else {
+        Ok(Vec::new(alloc))
+    }
+}
+
+/// The tasks that made the state of a task so, by its cause.
+fn next_tasks(
+    alloc: Global,
+    plan: &Plan,
+    settled: &[Settled<'_>],
+    task: u32,
+    cause: Cause,
+) -> Result<Vec<u32>, OutOfMemory>
+    requires { task < length plan.now.dag.tasks }
+    ensures { IfOk result (λ tasks. tasks.items ≡ next_tasks_in plan.now.dag settled.now task cause) }
+{
+    let dag = plan.dag();
+    let made = dag.task(task);
+    let upstreams = made.upstreams.as_slice();
+    match cause {
+        Cause::NotFollowed => Ok(branches_that_skip(alloc, plan, settled, upstreams, task)?),
+        Cause::BranchIsBlocked => Ok(blocked_branches(alloc, dag, settled, upstreams)?),
+        Cause::UpstreamIsBlocked => Ok(blocked_tasks(alloc, settled, upstreams)?),
+        Cause::RuleFails => Ok(tasks_in(alloc, settled, upstreams, States::FAILURES)?),
+        Cause::RuleSkips => skipped_upstreams(alloc, settled, made),
+        Cause::PastHasNotPassed => alone(alloc, Some(task)),
+        Cause::ItemsAreMissing | Cause::HasNoItems => alone(alloc, made.expand),
+        Cause::Waits | Cause::Runs(_) => Ok(Vec::new(alloc)),
+    }
+}
+
+fn next_run(run: u32, cause: Cause) -> u32
+    ensures { result ≡ next_run_by run cause }
+{
+    match cause {
+        Cause::PastHasNotPassed => run.saturating_sub(1),
+        _ => run,
+    }
+}
+
+/// What began where the walk ends for this cause.
+fn ends_with(cause: Cause) -> Option<Began>
+    ensures { result ≡ ends_by cause }
+{
+    match cause {
+        Cause::NotFollowed => Some(Began::Pushed),
+        Cause::HasNoItems => Some(Began::PushedNoItems),
+        _ => None,
+    }
+}
+
+fn steps_to(alloc: Global, run: u32, cause: Cause, tasks: &[u32]) -> Result<Vec<Step>, OutOfMemory>
+    ensures { IfOk result (λ steps. steps.items ≡ map (step_by run cause) tasks.now) }
+{
+    let run = next_run(run, cause);
+    let began = ends_with(cause);
+    let mut steps = Vec::with_capacity(alloc, tasks.len())?;
+    for task in tasks {
+        let task = *task;
+        steps.push(Step { run, task, began })?;
+    }
+    Ok(steps)
+}
+
+fn goes_on(is_expanded: bool, cause: Cause, told: &Settled<'_>) -> bool
+    ensures { result ≡ goes_on_by is_expanded cause told.now }
+{
+    !is_tried(told) && !is_foreign(is_expanded, cause, told)
+}
+
+/// From a task that the report has so, of which this is the cause.
+fn onward_for(
+    alloc: Global,
+    plan: &Plan,
+    settled: &[Settled<'_>],
+    run: u32,
+    task: u32,
+    cause: Cause,
+    told: &Settled<'_>,
+) -> Result<Vec<Step>, OutOfMemory>
+    requires { task < length plan.now.dag.tasks }
+    ensures { IfOk result (λ steps. steps.items ≡ onward_by plan.now.dag settled.now run task cause told.now) }
+{
+    if goes_on(is_expanded(plan.dag(), task), cause, told) {
+        let tasks = next_tasks(alloc, plan, settled, task, cause)?;
+        steps_to(alloc, run, cause, tasks.as_slice())
+    } else {
+        Ok(Vec::new(alloc))
+    }
+}
+
+fn onward_from(
+    alloc: Global,
+    plan: &Plan,
+    settled: &[Settled<'_>],
+    before: &[Settled<'_>],
+    run: u32,
+    task: u32,
+) -> Result<Vec<Step>, OutOfMemory>
+    requires { length settled.now ≤ length plan.now.dag.tasks }
+    ensures { IfOk result (λ steps. steps.items
+        ≡ onward_if_told plan.now.dag settled.now before.now run task (slice_get settled.now task)) }
+{
+    match settled.get(task as usize) {
+        Some(told) => {
+            let cause = cause_at(plan, run as usize, settled, before, task);
+            onward_for(alloc, plan, settled, run, task, cause, told)
+        }
+        None => Ok(Vec::new(alloc)),
+    }
+}
+
+/// Where the walk goes on, by what a report has of the tasks of the run and of the run before.
+pub(crate) fn onward(
+    alloc: Global,
+    plan: &Plan,
+    settled: &[Settled<'_>],
+    before: &[Settled<'_>],
+    step: Step,
+) -> Result<Vec<Step>, OutOfMemory>
+    requires { length settled.now ≤ length plan.now.dag.tasks }
+    ensures steps { IfOk result (λ steps. steps.items ≡ onward_among plan.now.dag settled.now before.now step) }
+    ensures few { IfOk result (λ steps. length steps.items ≤ 20_000) }
+{
+    let _few = plan.dag();
+    if step.began.is_some() {
+        return Ok(Vec::new(alloc));
+    }
+    onward_from(alloc, plan, settled, before, step.run, step.task)
+}

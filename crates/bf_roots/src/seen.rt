@@ -1,0 +1,49 @@
+//! Where the walk has been.
+ghost use Rattle.std.specs.Prelude.{◌≡◌, false, true, IfOk, slice_index_or};
+ghost use Rattle.bf_roots.specs.Walks.{is_seen as seen_in, nothing_seen, with_seen};
+
+use bf_value::{OutOfMemory, Sequence};
+use std::alloc::Global;
+
+/// For each of so many runs a mark for each of so many tasks, of which none is seen.
+pub(crate) fn unseen(
+    alloc: Global,
+    runs: usize,
+    tasks: usize,
+) -> Result<Vec<Sequence<bool>>, OutOfMemory>
+    ensures { IfOk result (λ seen. seen.items ≡ nothing_seen runs tasks) }
+{
+    let mut seen = Vec::with_capacity(alloc, runs)?;
+    for run in 0..runs {
+        seen.push(Sequence::from_vec(vec![in alloc; false; tasks]?))?;
+    }
+    Ok(seen)
+}
+
+/// Whether a task in a run is seen, as is each that isn't there.
+pub(crate) fn is_seen(seen: &[Sequence<bool>], run: u32, task: u32) -> bool
+    ensures { result ≡ seen_in seen.now run task }
+{
+    match seen.get(run as usize) {
+        Some(row) => is_seen_in(row.as_slice(), task),
+        None => true,
+    }
+}
+
+fn is_seen_in(row: &[bool], task: u32) -> bool
+    ensures { result ≡ slice_index_or row.now task true }
+{
+    match row.get(task as usize) {
+        Some(is_seen) => *is_seen,
+        None => true,
+    }
+}
+
+/// Marks a task in a run.
+pub(crate) fn see(seen: &mut Vec<Sequence<bool>>, run: u32, task: u32)
+    requires { seen_in seen.old.items run task ≡ false }
+    ensures { seen.new.items ≡ with_seen seen.old.items run task }
+{
+    let row = &mut seen[run as usize];
+    row.replace(task as usize, true);
+}

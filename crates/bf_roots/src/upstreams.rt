@@ -1,0 +1,75 @@
+//! The upstreams that made the state of a task so.
+ghost use Rattle.std.specs.Prelude.{◌≡◌, ◌<◌, IfOk, Some, filter, length};
+ghost use Rattle.bf_core.specs.Deciding.{branch_is, branch_skips, is_blocked as blocked};
+ghost use Rattle.bf_reason.specs.Settled.{value_among};
+ghost use Rattle.bf_why.specs.Since.{has_in as has_within};
+
+use bf_plan::{Dag, Plan};
+use bf_reason::{Settled, is_blocked, is_blocked_branch, skips};
+use bf_why::{States, has_in};
+use std::alloc::{AllocError, Global};
+
+/// The branches that succeeded and don't follow a task.
+pub(crate) fn branches_that_skip(
+    alloc: Global,
+    plan: &Plan,
+    settled: &[Settled<'_>],
+    upstreams: &[u32],
+    task: u32,
+) -> Result<Vec<u32>, AllocError>
+    requires { task < length plan.now.dag.tasks }
+    ensures { IfOk result (λ found. found.items ≡ filter (λ u. branch_is plan.now.dag
+        (branch_skips plan.now.dag task u) u (Some (value_among settled.now u))) upstreams.now) }
+{
+    upstreams
+        .iter()
+        .copied()
+        .filter(|upstream| skips(plan, settled, *upstream, task))
+        .collect(alloc)
+}
+
+pub(crate) fn blocked_branches(
+    alloc: Global,
+    dag: &Dag,
+    settled: &[Settled<'_>],
+    upstreams: &[u32],
+) -> Result<Vec<u32>, AllocError>
+    ensures { IfOk result (λ found. found.items ≡ filter (λ u. branch_is dag.now blocked u
+        (Some (value_among settled.now u))) upstreams.now) }
+{
+    upstreams
+        .iter()
+        .copied()
+        .filter(|upstream| is_blocked_branch(dag, settled, *upstream))
+        .collect(alloc)
+}
+
+pub(crate) fn blocked_tasks(
+    alloc: Global,
+    settled: &[Settled<'_>],
+    upstreams: &[u32],
+) -> Result<Vec<u32>, AllocError>
+    ensures { IfOk result (λ found. found.items ≡ filter (λ u. blocked (value_among settled.now u)) upstreams.now) }
+{
+    upstreams
+        .iter()
+        .copied()
+        .filter(|upstream| is_blocked(settled, *upstream))
+        .collect(alloc)
+}
+
+/// Those with an instance in these states.
+pub(crate) fn tasks_in(
+    alloc: Global,
+    settled: &[Settled<'_>],
+    upstreams: &[u32],
+    states: States,
+) -> Result<Vec<u32>, AllocError>
+    ensures { IfOk result (λ found. found.items ≡ filter (has_within settled.now states) upstreams.now) }
+{
+    upstreams
+        .iter()
+        .copied()
+        .filter(|upstream| has_in(settled, states, *upstream))
+        .collect(alloc)
+}

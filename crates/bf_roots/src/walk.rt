@@ -1,0 +1,93 @@
+//! The walk from a task to the roots of its state.
+ghost use Rattle.std.specs.Prelude.{◌≡◌, ◌≤◌, ◌∷◌, [], All, IfOk, OnOk, false, length};
+ghost use Rattle.bf_reason.specs.Settled.{IsFewTask};
+ghost use Rattle.bf_roots.specs.Showing.{LooksAt};
+ghost use Rattle.bf_roots.specs.Walks.{AreRootsOf, first_step as first, is_seen as seen_in, nothing_seen};
+
+use crate::onward::{add_root, onward};
+use crate::seen::{is_seen, see, unseen};
+use crate::step::{Root, Step};
+use crate::window::Window;
+use bf_plan::Plan;
+use bf_report::Report;
+use bf_value::{OutOfMemory, Sequence};
+use std::alloc::Global;
+
+/// Where the walk has been, where it has still to go, the next place last, and what it has found.
+#[derive(Drop)]
+struct Trail {
+    seen: Vec<Sequence<bool>>,
+    left: Vec<Step>,
+    found: Vec<Root>,
+}
+
+fn first_step(run: u32, task: u32) -> Step
+    ensures { result ≡ first run task }
+{
+    Step {
+        run,
+        task,
+        began: None,
+    }
+}
+
+impl Trail {
+    fn new(alloc: Global, runs: usize, tasks: usize, step: Step) -> Result<Trail, OutOfMemory>
+        ensures seen { IfOk result (λ trail. trail.seen.items ≡ nothing_seen runs tasks) }
+        ensures left { IfOk result (λ trail. trail.left.items ≡ step ∷ []) }
+        ensures found { IfOk result (λ trail. trail.found.items ≡ []) }
+    {
+        let seen = unseen(alloc, runs, tasks)?;
+        let mut left = Vec::new(alloc);
+        left.push(step)?;
+        let found = Vec::new(alloc);
+        Ok(Trail { seen, left, found })
+    }
+
+    /// Looks at a place where it hasn't been.
+    fn look(
+        &mut self,
+        alloc: Global,
+        plan: &Plan,
+        window: &Window<'_>,
+        step: Step,
+    ) -> Result<(), OutOfMemory>
+        requires unseen { seen_in self.old.seen.items step.run step.task ≡ false }
+        requires within { length window.now.settled.items ≤ length plan.now.dag.tasks }
+        ensures { OnOk result (LooksAt plan.now.dag window.now.settled.items window.now.before.items step self.old self.new) }
+    {
+        see(&mut self.seen, step.run, step.task);
+        add_root(&mut self.found, &window.settled, step)?;
+        let mut steps = onward(alloc, plan, &window.settled, &window.before, step)?;
+        steps.reverse();
+        self.left.extend_from_slice(steps.as_slice())?;
+        Ok(())
+    }
+}
+
+/// The roots of the state of a task in a run, in the order in which the walk finds them. Each run has the tasks of the graph, and none of
+/// these more than 1,024 instances. Takes time over the tasks of a run each time that the walk turns to one.
+pub fn roots_of(
+    alloc: Global,
+    plan: &Plan,
+    report: &Report,
+    run: u32,
+    task: u32,
+) -> Result<Vec<Root>, OutOfMemory>
+    requires tasks { All (λ run. length run.tasks ≡ length plan.now.dag.tasks) report.now.runs }
+    requires few { All (λ run. All IsFewTask run.tasks) report.now.runs }
+    ensures { IfOk result (λ roots. AreRootsOf plan.now.dag report.now run task roots.items) }
+{
+    let runs = report.runs.len();
+    let tasks = plan.dag().tasks.len();
+    let mut window = Window::at(alloc, report, run)?;
+    let mut trail = Trail::new(alloc, runs, tasks, first_step(run, task))?;
+    'walk: while let Some(step) = trail.left.pop() {
+        if is_seen(trail.seen.as_slice(), step.run, step.task) {
+            continue;
+        }
+        window = window.moved(alloc, report, step.run)?;
+        trail.look(alloc, plan, &window, step)?;
+    }
+    Ok(trail.found)
+}

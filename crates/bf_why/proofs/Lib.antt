@@ -1,0 +1,2 @@
+mod LookingFacts
+mod SinceFacts

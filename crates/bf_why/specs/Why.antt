@@ -1,0 +1,59 @@
+-- Why a task has its state in a run, in sentences; where it began is none of them.
+use Rattle.std.specs.Prelude.{ℕ, Bool, true, false, if◌then◌else◌, List, [], ◌∷◌, ◌++◌, Option, None, Some, codes, is_some, length, map, slice_get}
+use Rattle.std.specs.Char.{is_ascii_digit}
+use Rattle.bf_core.specs.Terms.{Counts, Dag, TaskResult, task_of}
+use Rattle.bf_core.specs.Deciding.{counts_of_results}
+use Rattle.bf_report.specs.declared.report.RunReport.{RunReport}
+use Rattle.bf_report.specs.declared.report.TaskReport.{TaskReport}
+use Rattle.bf_reason.specs.declared.cause.Cause.{Cause}
+use Rattle.bf_reason.specs.Letters.{letter_for}
+use Rattle.bf_wording.specs.Numbers.{plural}
+use Rattle.bf_why.specs.Counted.{counts_text}
+use Rattle.bf_why.specs.Decided.{decided}
+use Rattle.bf_why.specs.Tried.{tried}
+
+-- ---- what doesn't follow from the graph
+
+abbrev pub would_run : Bool → ℕ → List ℕ
+would_run true count = codes "By this graph it would have run, with " ++ (plural count (codes "instance") ++ codes ":")
+would_run false count = codes "By this graph it would have run, as one instance:"
+
+-- what the graph makes of it
+abbrev pub would_be : Bool → Cause → List ℕ
+would_be expanded Cause.NotFollowed = codes "By this graph it would be skipped:"
+would_be expanded Cause.RuleSkips = codes "By this graph it would be skipped:"
+would_be expanded Cause.HasNoItems = codes "By this graph it would be skipped:"
+would_be expanded Cause.RuleFails = codes "By this graph it would be upstream_failed:"
+would_be expanded Cause.ItemsAreMissing = codes "By this graph it would be upstream_failed:"
+would_be expanded (Cause.Runs count) = would_run expanded count
+would_be expanded cause = codes "By this graph it would be no_status:"
+
+-- of a task whose letter is a digit: the report has what isn't decided for it
+abbrev pub foreign : Bool → Cause → TaskReport → List (List ℕ)
+foreign expanded cause told =
+    if is_ascii_digit (letter_for expanded cause told)
+    then codes "What the report has doesn't follow from this graph." ∷ would_be expanded cause ∷ [] else []
+
+-- ---- what came of it
+
+abbrev pub came_line : ℕ → Counts → List ℕ
+came_line instances counts = codes "It came to " ++ (plural instances (codes "instance") ++ (codes ": " ++ (counts_text counts ++ codes ".")))
+
+abbrev pub tried_if_there : Dag → ℕ → Option TaskResult → List (List ℕ)
+tried_if_there dag task None = []
+tried_if_there dag task (Some result) = tried dag task result
+
+-- of all instances of an expanded task, or of the one of this map index
+abbrev pub came_to_lines : Dag → ℕ → List TaskResult → Option ℕ → List (List ℕ)
+came_to_lines dag task results None = came_line (length results) (counts_of_results results) ∷ []
+came_to_lines dag task results (Some index) = tried_if_there dag task (slice_get results index)
+
+abbrev pub ended : Dag → ℕ → TaskReport → Option ℕ → List (List ℕ)
+ended dag task (TaskReport.Ran instance) index = tried dag task instance.result
+ended dag task (TaskReport.Mapped instances) index = came_to_lines dag task (map (λ instance. instance.result) instances) index
+ended dag task told index = []
+
+-- of the task, which the report has so, or of one of its instances
+abbrev pub why : Dag → List TaskReport → Option RunReport → ℕ → Cause → TaskReport → Option ℕ → List (List ℕ)
+why dag tasks before task cause told index =
+    (foreign (is_some (task_of dag task).expand) cause told ++ decided dag tasks before task cause) ++ ended dag task told index

@@ -1,0 +1,64 @@
+//! What came of a task in a run, in words.
+ghost use Rattle.std.specs.Prelude.{◌≡◌, ◌∷◌, [], IfOk, Some, option_map};
+ghost use Rattle.bf_why.specs.Decided.{came as came_words, came_of_outcome as outcome_words, came_to as came_to_words};
+ghost use Rattle.bf_report.specs.declared.report.InstanceReport.{InstanceReport as InstanceTerm};
+
+use crate::counted::counts_text;
+use bf_reason::Settled;
+use bf_report::TaskReport;
+use bf_rule::Counts;
+use bf_value::{OutOfMemory, Text};
+use bf_wording::plural;
+use bf_xcom::{Outcome, TaskResult};
+use std::alloc::Global;
+
+fn outcome_text(outcome: &Outcome) -> &'static str
+    ensures { result.now ≡ outcome_words outcome.now }
+{
+    match outcome {
+        Outcome::Success(_) => "was a success",
+        Outcome::Failed => "failed",
+        Outcome::Skipped => "was skipped",
+    }
+}
+
+/// Of an unmapped task, by its one result.
+fn result_text(results: &[TaskResult]) -> &'static str
+    ensures { (instance : InstanceTerm) → results.now ≡ instance.result ∷ [] → result.now ≡ outcome_words instance.result.outcome }
+{
+    match results {
+        [ended, ..] => outcome_text(&ended.outcome),
+        [] => "had no status",
+    }
+}
+
+/// Of an expanded task.
+fn came_to(alloc: Global, instances: usize, counts: &Counts) -> Result<Text, OutOfMemory>
+    ensures { IfOk result (λ text. text ≡ came_to_words instances counts.now) }
+{
+    let instances = plural(alloc, instances as u64, "instance")?;
+    let counts = counts_text(alloc, counts)?;
+    Ok(Text::new(format!(in alloc; "came to {instances} ({counts})")?))
+}
+
+fn came_of(alloc: Global, task: &Settled<'_>) -> Result<Text, OutOfMemory>
+    ensures { IfOk result (λ text. text ≡ came_words (Some task.now)) }
+{
+    match task.told() {
+        TaskReport::NoStatus => Text::copied(alloc, "had no status"),
+        TaskReport::Skipped => Text::copied(alloc, "was skipped"),
+        TaskReport::UpstreamFailed => Text::copied(alloc, "was upstream_failed"),
+        TaskReport::Ran(_) => Text::copied(alloc, result_text(task.results())),
+        TaskReport::Mapped(instances) => came_to(alloc, instances.len(), &task.counts()),
+    }
+}
+
+/// What came of a task in a run, in words; one that isn't there had no status.
+pub(crate) fn came_text(alloc: Global, task: Option<&Settled<'_>>) -> Result<Text, OutOfMemory>
+    ensures { IfOk result (λ text. text ≡ came_words (option_map (λ t. t.now) task.entry)) }
+{
+    match task {
+        Some(task) => came_of(alloc, task),
+        None => Text::copied(alloc, "had no status"),
+    }
+}

@@ -1,0 +1,149 @@
+//! How a task was decided in a run, in sentences.
+ghost use Rattle.std.specs.Prelude.{◌≡◌, ◌<◌, ◌++◌, ◌∷◌, [], IfOk, IfSome, Option, length, option_map};
+ghost use Rattle.bf_core.specs.Terms.{task_of, Verdict as VerdictTerm};
+ghost use Rattle.bf_reason.specs.declared.cause.Cause.{Cause as CauseTerm};
+ghost use Rattle.bf_why.specs.Decided.{decided as decided_in, past_sentences, ruled as ruled_words, source_sentences};
+ghost use Rattle.bf_report.specs.declared.report.RunReport.{RunReport as RunTerm};
+
+use crate::past::add_past;
+use crate::rule::ruled;
+use crate::source::add_source;
+use crate::upstreams::{
+    blocked_branches, blocked_tasks, branch_sentences, branches_sentence, upstreams_sentence,
+};
+use bf_plan::Plan;
+use bf_reason::{Cause, Settled};
+use bf_report::RunReport;
+use bf_rule::Verdict;
+use bf_value::{OutOfMemory, Text};
+use bf_wording::one_line;
+use std::alloc::Global;
+
+fn upstreams_of(plan: &Plan, task: u32) -> &[u32]
+    requires { task < length plan.now.dag.tasks }
+    ensures { result.now ≡ (task_of plan.now.dag task).upstreams }
+{
+    plan.dag().task(task).upstreams.as_slice()
+}
+
+fn by_branches(
+    alloc: Global,
+    plan: &Plan,
+    settled: &[Settled<'_>],
+    task: u32,
+) -> Result<Vec<Text>, OutOfMemory>
+    requires { task < length plan.now.dag.tasks }
+    ensures { (before : Option RunTerm) → IfOk result (λ lines.
+        lines.items ≡ decided_in plan.now.dag settled.now before task CauseTerm.NotFollowed) }
+{
+    branch_sentences(alloc, plan, settled, upstreams_of(plan, task), task)
+}
+
+fn by_blocked_branches(
+    alloc: Global,
+    plan: &Plan,
+    settled: &[Settled<'_>],
+    task: u32,
+) -> Result<Vec<Text>, OutOfMemory>
+    requires { task < length plan.now.dag.tasks }
+    ensures { (before : Option RunTerm) → IfOk result (λ lines.
+        lines.items ≡ decided_in plan.now.dag settled.now before task CauseTerm.BranchIsBlocked) }
+{
+    let names = blocked_branches(alloc, plan, settled, upstreams_of(plan, task))?;
+    one_line(alloc, branches_sentence(alloc, names.as_slice())?)
+}
+
+fn by_blocked_tasks(
+    alloc: Global,
+    plan: &Plan,
+    settled: &[Settled<'_>],
+    task: u32,
+) -> Result<Vec<Text>, OutOfMemory>
+    requires { task < length plan.now.dag.tasks }
+    ensures { (before : Option RunTerm) → IfOk result (λ lines.
+        lines.items ≡ decided_in plan.now.dag settled.now before task CauseTerm.UpstreamIsBlocked) }
+{
+    let names = blocked_tasks(alloc, plan, settled, upstreams_of(plan, task))?;
+    one_line(alloc, upstreams_sentence(alloc, names.as_slice())?)
+}
+
+fn by_rule(
+    alloc: Global,
+    plan: &Plan,
+    settled: &[Settled<'_>],
+    task: u32,
+    verdict: Verdict,
+) -> Result<Vec<Text>, OutOfMemory>
+    requires { task < length plan.now.dag.tasks }
+    ensures { IfOk result (λ lines. lines.items ≡ ruled_words plan.now.dag settled.now task verdict ∷ []) }
+{
+    one_line(alloc, ruled(alloc, plan, settled, task, verdict)?)
+}
+
+/// Of a task that its rule lets run. The run before has these tasks.
+fn by_past(
+    alloc: Global,
+    plan: &Plan,
+    settled: &[Settled<'_>],
+    before: Option<&RunReport>,
+    settled_before: &[Settled<'_>],
+    task: u32,
+) -> Result<Vec<Text>, OutOfMemory>
+    requires task { task < length plan.now.dag.tasks }
+    requires before { IfSome before (λ run. settled_before.now ≡ run.now.tasks) }
+    ensures { IfOk result (λ lines. lines.items ≡ ruled_words plan.now.dag settled.now task VerdictTerm.Run
+        ∷ past_sentences plan.now.dag (option_map (λ run. run.now) before.entry) task) }
+{
+    let mut lines = by_rule(alloc, plan, settled, task, Verdict::Run)?;
+    add_past(alloc, &mut lines, plan, before, settled_before, task)?;
+    Ok(lines)
+}
+
+/// Of one that goes on to its items.
+fn by_source(
+    alloc: Global,
+    plan: &Plan,
+    settled: &[Settled<'_>],
+    before: Option<&RunReport>,
+    settled_before: &[Settled<'_>],
+    task: u32,
+    cause: Cause,
+) -> Result<Vec<Text>, OutOfMemory>
+    requires task { task < length plan.now.dag.tasks }
+    requires before { IfSome before (λ run. settled_before.now ≡ run.now.tasks) }
+    ensures { IfOk result (λ lines. lines.items ≡ ruled_words plan.now.dag settled.now task VerdictTerm.Run
+        ∷ (past_sentences plan.now.dag (option_map (λ run. run.now) before.entry) task
+        ++ source_sentences plan.now.dag settled.now cause (task_of plan.now.dag task).expand)) }
+{
+    let mut lines = by_past(alloc, plan, settled, before, settled_before, task)?;
+    add_source(alloc, &mut lines, plan, settled, cause, task)?;
+    Ok(lines)
+}
+
+/// Why the graph decides for this cause what it does of a task, over the tasks of its run and of the run before, where there is one.
+pub(crate) fn decided_lines(
+    alloc: Global,
+    plan: &Plan,
+    settled: &[Settled<'_>],
+    before: Option<&RunReport>,
+    settled_before: &[Settled<'_>],
+    task: u32,
+    cause: Cause,
+) -> Result<Vec<Text>, OutOfMemory>
+    requires task { task < length plan.now.dag.tasks }
+    requires before { IfSome before (λ run. settled_before.now ≡ run.now.tasks) }
+    ensures { IfOk result (λ lines. lines.items ≡ decided_in plan.now.dag settled.now
+        (option_map (λ run. run.now) before.entry) task cause) }
+{
+    match cause {
+        Cause::NotFollowed => by_branches(alloc, plan, settled, task),
+        Cause::BranchIsBlocked => by_blocked_branches(alloc, plan, settled, task),
+        Cause::UpstreamIsBlocked => by_blocked_tasks(alloc, plan, settled, task),
+        Cause::RuleSkips => by_rule(alloc, plan, settled, task, Verdict::Skip),
+        Cause::RuleFails => by_rule(alloc, plan, settled, task, Verdict::UpstreamFailed),
+        Cause::PastHasNotPassed => by_past(alloc, plan, settled, before, settled_before, task),
+        Cause::Waits | Cause::ItemsAreMissing | Cause::HasNoItems | Cause::Runs(_) => {
+            by_source(alloc, plan, settled, before, settled_before, task, cause)
+        }
+    }
+}

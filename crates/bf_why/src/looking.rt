@@ -1,0 +1,40 @@
+//! Looking things up by task.
+ghost use Rattle.std.specs.Prelude.{◌≡◌, IfOk, option_copied, slice_get};
+ghost use Rattle.bf_why.specs.Decided.{id_of};
+ghost use Rattle.bf_reason.specs.Settled.{results_of, value_among};
+ghost use Rattle.bf_xcom.specs.Pulls.{pushed_alone as alone_of};
+
+use bf_plan::Dag;
+use bf_reason::Settled;
+use bf_value::Xval;
+use bf_xcom::TaskResult;
+
+/// The id of a task; of one that isn't there an empty text.
+#[tactic(auto, unfolding(bf_plan::specs::Plans::task_of))]
+pub fn id_at(dag: &Dag, task: u32) -> &str
+    ensures { result.now ≡ id_of dag.now task }
+{
+    match dag.tasks.get(task as usize) {
+        Some(task) => task.id.as_str(),
+        None => "",
+    }
+}
+
+fn pushed_alone(results: &[TaskResult]) -> Option<&Xval>
+    ensures { option_copied result ≡ alone_of results.now }
+{
+    match results {
+        [first, ..] => first.outcome.pushed(),
+        [] => None,
+    }
+}
+
+/// What the first instance of a task pushed.
+pub fn pushed_by<'a>(settled: &'a [Settled<'_>], task: u32) -> Option<&'a Xval>
+    ensures { option_copied result ≡ alone_of (results_of (value_among settled.entry.now task)) }
+{
+    match settled.get(task as usize) {
+        Some(settled) => pushed_alone(settled.results()),
+        None => None,
+    }
+}

@@ -1,0 +1,70 @@
+//! What its past says of a task, in a sentence.
+ghost use Rattle.std.specs.Prelude.{◌≡◌, ◌<◌, ◌++◌, IfOk, IfSome, OnOk, Some, length, option_map};
+ghost use Rattle.bf_core.specs.Terms.{task_of};
+ghost use Rattle.bf_why.specs.Decided.{past_sentence as past_words, past_sentences};
+
+use crate::came::came_text;
+use bf_moment::Moment;
+use bf_plan::Plan;
+use bf_reason::Settled;
+use bf_report::RunReport;
+use bf_value::{OutOfMemory, Text};
+use std::alloc::Global;
+
+/// By the run before, of which these are the tasks.
+fn by_run(
+    alloc: Global,
+    before: &RunReport,
+    settled: &[Settled<'_>],
+    task: u32,
+) -> Result<Text, OutOfMemory>
+    requires { settled.now ≡ before.now.tasks }
+    ensures { IfOk result (λ text. text ≡ past_words (Some before.now) task) }
+{
+    let start = Moment::new(before.interval.start);
+    let came = came_text(alloc, settled.get(task as usize))?;
+    let text = format!(in alloc; "It depends on its past, and in the run of {start} it {came}.")?;
+    Ok(Text::new(text))
+}
+
+fn past_sentence(
+    alloc: Global,
+    before: Option<&RunReport>,
+    settled: &[Settled<'_>],
+    task: u32,
+) -> Result<Text, OutOfMemory>
+    requires { IfSome before (λ run. settled.now ≡ run.now.tasks) }
+    ensures { IfOk result (λ text. text ≡ past_words (option_map (λ run. run.now) before.entry) task) }
+{
+    match before {
+        Some(before) => by_run(alloc, before, settled, task),
+        None => Text::copied(alloc, "It depends on its past, and this is the first run."),
+    }
+}
+
+fn depends_on_past(plan: &Plan, task: u32) -> bool
+    requires { task < length plan.now.dag.tasks }
+    ensures { result ≡ (task_of plan.now.dag task).depends_on_past }
+{
+    plan.dag().task(task).depends_on_past
+}
+
+/// Adds what its past says of a task that depends on it. The run before has these tasks; the first has none before it.
+pub(crate) fn add_past(
+    alloc: Global,
+    lines: &mut Vec<Text>,
+    plan: &Plan,
+    before: Option<&RunReport>,
+    settled: &[Settled<'_>],
+    task: u32,
+) -> Result<(), OutOfMemory>
+    requires task { task < length plan.now.dag.tasks }
+    requires before { IfSome before (λ run. settled.now ≡ run.now.tasks) }
+    ensures { OnOk result (lines.new.items ≡ lines.old.items
+        ++ past_sentences plan.now.dag (option_map (λ run. run.now) before.entry) task) }
+{
+    if depends_on_past(plan, task) {
+        lines.push(past_sentence(alloc, before, settled, task)?)?;
+    }
+    Ok(())
+}

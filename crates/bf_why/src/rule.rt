@@ -1,0 +1,72 @@
+//! What the rule of a task says, in a sentence.
+ghost use Rattle.std.specs.Prelude.{◌≡◌, ◌<◌, IfOk, length};
+ghost use Rattle.bf_core.specs.Terms.{task_of};
+ghost use Rattle.bf_why.specs.Decided.{over_text as over_words, rule_sentence as rule_words, ruled as ruled_words};
+ghost use Rattle.bf_rule.specs.Verdicts.{total as total_of};
+
+use crate::counted::counts_text;
+use crate::since::{rule_text, since_text, verdict_text};
+use bf_plan::Plan;
+use bf_reason::{Settled, counts_of_upstreams};
+use bf_rule::{Counts, Verdict};
+use bf_value::{OutOfMemory, Text};
+use bf_wording::plural;
+use std::alloc::Global;
+
+/// How many instances are counted.
+fn total(counts: &Counts) -> u64
+    ensures { result ≡ total_of counts.now }
+{
+    u64::from(counts.success)
+        + u64::from(counts.failed)
+        + u64::from(counts.upstream_failed)
+        + u64::from(counts.skipped)
+        + u64::from(counts.blocked)
+        + u64::from(counts.unfinished)
+}
+
+fn over_text(alloc: Global, counts: &Counts) -> Result<Text, OutOfMemory>
+    ensures { IfOk result (λ text. text ≡ over_words counts.now) }
+{
+    let over = plural(alloc, total(counts), "upstream instance")?;
+    let counts = counts_text(alloc, counts)?;
+    Ok(Text::new(format!(in alloc; "{over} ({counts})")?))
+}
+
+fn rule_sentence(
+    alloc: Global,
+    plan: &Plan,
+    settled: &[Settled<'_>],
+    task: u32,
+    verdict: Verdict,
+) -> Result<Text, OutOfMemory>
+    requires { task < length plan.now.dag.tasks }
+    ensures { IfOk result (λ text. text ≡ rule_words plan.now.dag settled.now task verdict) }
+{
+    let dag = plan.dag();
+    let decided = dag.task(task);
+    let counts = counts_of_upstreams(settled, decided.upstreams.as_slice());
+    let over = over_text(alloc, &counts)?;
+    let since = since_text(alloc, dag, settled, task, verdict)?;
+    let (rule, says) = (rule_text(decided.rule), verdict_text(verdict));
+    let text = format!(in alloc; "Its rule {rule}, over {over}, says {says}, {since}.")?;
+    Ok(Text::new(text))
+}
+
+/// What the rule of a task says, over the upstreams that it has.
+pub(crate) fn ruled(
+    alloc: Global,
+    plan: &Plan,
+    settled: &[Settled<'_>],
+    task: u32,
+    verdict: Verdict,
+) -> Result<Text, OutOfMemory>
+    requires { task < length plan.now.dag.tasks }
+    ensures { IfOk result (λ text. text ≡ ruled_words plan.now.dag settled.now task verdict) }
+{
+    if plan.dag().task(task).upstreams.len() == 0 {
+        Text::copied(alloc, "It has no upstream tasks, so no rule holds it back.")
+    } else {
+        rule_sentence(alloc, plan, settled, task, verdict)
+    }
+}

@@ -1,0 +1,203 @@
+//! Since when a rule says what it says of a task.
+ghost use Rattle.std.specs.Prelude.{◌≡◌, ◌<◌, ◌++◌, IfOk, OnOk, Some, length, option_map};
+ghost use Rattle.std.specs.List.{flat_map};
+ghost use Rattle.bf_core.specs.Terms.{task_of};
+ghost use Rattle.bf_why.specs.Grounds.{IsGround};
+ghost use Rattle.bf_why.specs.Since.{because_of as because, name_where, rule_text as rule_word, shared, since, since_text as since_words, verdict_text as verdict_word, with_share};
+
+use crate::looking::id_at;
+use crate::states::States;
+use bf_plan::Dag;
+use bf_reason::{Settled, counts_at};
+use bf_report::TaskReport;
+use bf_rule::{Rule, Verdict};
+use bf_value::{OutOfMemory, Text};
+use bf_wording::{listed, number};
+use std::alloc::Global;
+
+/// Why a rule says so: in words, or by the upstreams with an instance in these states.
+#[derive(Clone, Copy, Debug)]
+enum Ground {
+    Words(&'static str),
+    States(States),
+}
+
+pub(crate) fn rule_text(rule: Rule) -> &'static str
+    ensures { result.now ≡ rule_word rule }
+{
+    match rule {
+        Rule::AllSuccess => "all_success",
+        Rule::AllFailed => "all_failed",
+        Rule::AllSkipped => "all_skipped",
+        Rule::AllDone => "all_done",
+        Rule::OneSuccess => "one_success",
+        Rule::OneFailed => "one_failed",
+        Rule::OneDone => "one_done",
+        Rule::NoneFailed => "none_failed",
+        Rule::NoneFailedMinOneSuccess => "none_failed_min_one_success",
+        Rule::NoneSkipped => "none_skipped",
+        Rule::Always => "always",
+    }
+}
+
+pub(crate) fn verdict_text(verdict: Verdict) -> &'static str
+    ensures { result.now ≡ verdict_word verdict }
+{
+    match verdict {
+        Verdict::Skip => "skipped",
+        Verdict::UpstreamFailed => "upstream_failed",
+        Verdict::Run | Verdict::Wait | Verdict::Blocked => "run",
+    }
+}
+
+fn ground_of(rule: Rule, verdict: Verdict) -> Ground
+    ensures { IsGround (since rule verdict) result }
+{
+    match (rule, verdict) {
+        (Rule::AllSuccess, Verdict::UpstreamFailed) => Ground::States(States::FAILURES),
+        (Rule::AllSuccess, Verdict::Skip) => Ground::States(States::SKIPPED),
+        (Rule::AllSuccess, _) => Ground::Words("since all are success"),
+        (Rule::AllFailed, Verdict::Skip) => Ground::States(States {
+            skipped: true,
+            ..States::SUCCESS
+        }),
+        (Rule::AllFailed, _) => Ground::Words("since all are failed or upstream_failed"),
+        (Rule::AllSkipped, Verdict::Skip) => Ground::States(States {
+            success: true,
+            ..States::FAILURES
+        }),
+        (Rule::AllSkipped, _) => Ground::Words("since all are skipped"),
+        (Rule::AllDone, _) => Ground::Words("since all are done"),
+        (Rule::OneSuccess, Verdict::UpstreamFailed) => {
+            Ground::Words("since none is a success and not all are skipped")
+        }
+        (Rule::OneSuccess, Verdict::Skip) => Ground::Words("since all are skipped"),
+        (Rule::OneSuccess, _) => Ground::States(States::SUCCESS),
+        (Rule::OneFailed, Verdict::Skip) => {
+            Ground::Words("since none is failed or upstream_failed")
+        }
+        (Rule::OneFailed, _) => Ground::States(States::FAILURES),
+        (Rule::OneDone, Verdict::Skip) => Ground::Words("since none is success or failed"),
+        (Rule::OneDone, _) => Ground::States(States {
+            failed: true,
+            ..States::SUCCESS
+        }),
+        (Rule::NoneFailed, Verdict::UpstreamFailed)
+        | (Rule::NoneFailedMinOneSuccess, Verdict::UpstreamFailed) => {
+            Ground::States(States::FAILURES)
+        }
+        (Rule::NoneFailed, _) => Ground::Words("since none is failed or upstream_failed"),
+        (Rule::NoneFailedMinOneSuccess, Verdict::Skip) => {
+            Ground::Words("since none is a success")
+        }
+        (Rule::NoneFailedMinOneSuccess, _) => {
+            Ground::Words("since none is failed or upstream_failed and not all are skipped")
+        }
+        (Rule::NoneSkipped, Verdict::Skip) => Ground::States(States::SKIPPED),
+        (Rule::NoneSkipped, _) => Ground::Words("since none is skipped"),
+        (Rule::Always, _) => Ground::Words("whatever came of them"),
+    }
+}
+
+fn shared_name(alloc: Global, id: &str, count: u32, all: usize) -> Result<Text, OutOfMemory>
+    ensures { IfOk result (λ text. text ≡ shared id.now count all) }
+{
+    let count = number(alloc, u64::from(count))?;
+    let all = number(alloc, all as u64)?;
+    Ok(Text::new(format!(in alloc; "{id} ({count} of {all})")?))
+}
+
+fn name_of_task(alloc: Global, id: &str, count: u32, task: &TaskReport) -> Result<Text, OutOfMemory>
+    ensures { IfOk result (λ text. text ≡ with_share id.now count (Some task.now)) }
+{
+    match task {
+        TaskReport::Mapped(instances) => shared_name(alloc, id, count, instances.len()),
+        _ => Text::copied(alloc, id),
+    }
+}
+
+/// Of an expanded task with how many of its instances.
+fn name_of(
+    alloc: Global,
+    id: &str,
+    count: u32,
+    task: Option<&Settled<'_>>,
+) -> Result<Text, OutOfMemory>
+    ensures { IfOk result (λ text. text ≡ with_share id.now count (option_map (λ t. t.now) task.entry)) }
+{
+    match task {
+        Some(task) => name_of_task(alloc, id, count, task.told()),
+        None => Text::copied(alloc, id),
+    }
+}
+
+/// Adds an upstream, where some instance of it is in these states.
+fn add_name(
+    alloc: Global,
+    dag: &Dag,
+    settled: &[Settled<'_>],
+    states: States,
+    upstream: u32,
+    names: &mut Vec<Text>,
+) -> Result<(), OutOfMemory>
+    ensures { OnOk result (names.new.items ≡ names.old.items ++ name_where dag.now settled.now states upstream) }
+{
+    let counts = counts_at(settled, upstream);
+    let count = states.count_in(&counts);
+    if count > 0 {
+        let id = id_at(dag, upstream);
+        names.push(name_of(alloc, id, count, settled.get(upstream as usize))?)?;
+    }
+    Ok(())
+}
+
+fn names_in(
+    alloc: Global,
+    dag: &Dag,
+    settled: &[Settled<'_>],
+    upstreams: &[u32],
+    states: States,
+) -> Result<Vec<Text>, OutOfMemory>
+    ensures { IfOk result (λ names. names.items ≡ flat_map (name_where dag.now settled.now states) upstreams.now) }
+{
+    let mut names = Vec::new(alloc);
+    for upstream in upstreams {
+        add_name(alloc, dag, settled, states, *upstream, &mut names)?;
+    }
+    Ok(names)
+}
+
+fn because_of(
+    alloc: Global,
+    dag: &Dag,
+    settled: &[Settled<'_>],
+    task: u32,
+    states: States,
+) -> Result<Text, OutOfMemory>
+    requires { task < length dag.now.tasks }
+    ensures { IfOk result (λ text. text ≡ since_words dag.now settled.now task (because states)) }
+{
+    let upstreams = dag.task(task).upstreams.as_slice();
+    let names = names_in(alloc, dag, settled, upstreams, states)?;
+    let names = listed(alloc, names.as_slice())?;
+    Ok(Text::new(format!(in alloc; "because of {names}")?))
+}
+
+/// Since when the rule of a task says so.
+#[tactic(auto, using(crate::proofs::SinceFacts::since_said, crate::proofs::SinceFacts::since_states))]
+pub(crate) fn since_text(
+    alloc: Global,
+    dag: &Dag,
+    settled: &[Settled<'_>],
+    task: u32,
+    verdict: Verdict,
+) -> Result<Text, OutOfMemory>
+    requires { task < length dag.now.tasks }
+    ensures { IfOk result (λ text. text ≡ since_words dag.now settled.now task
+        (since (task_of dag.now task).rule verdict)) }
+{
+    match ground_of(dag.task(task).rule, verdict) {
+        Ground::Words(words) => Text::copied(alloc, words),
+        Ground::States(states) => because_of(alloc, dag, settled, task, states),
+    }
+}

@@ -1,0 +1,97 @@
+//! What the source of its items gave a task, in a sentence.
+ghost use Rattle.std.specs.Prelude.{◌≡◌, ◌++◌, ◌<◌, Bool, IfOk, OnOk, Option, length, option_map};
+ghost use Rattle.bf_core.specs.Terms.{task_of};
+ghost use Rattle.bf_reason.specs.declared.cause.Cause.{Cause as CauseTerm};
+ghost use Rattle.bf_report.specs.declared.report.TaskReport.{TaskReport as TaskTerm};
+ghost use Rattle.bf_why.specs.Decided.{expanded_sentence as expanded_words, items_text as items_words, source_sentences};
+
+use crate::came::came_text;
+use crate::looking::id_at;
+use bf_plan::Plan;
+use bf_reason::{Cause, Settled, is_expanded};
+use bf_value::{OutOfMemory, Text};
+use bf_wording::plural;
+use std::alloc::Global;
+
+fn no_list(alloc: Global, source: Option<&Settled<'_>>) -> Result<Text, OutOfMemory>
+    ensures { (each : Bool) → IfOk result (λ text.
+        text ≡ items_words each (option_map (λ t. t.now) source.entry) CauseTerm.ItemsAreMissing) }
+{
+    let came = came_text(alloc, source)?;
+    Ok(Text::new(format!(in alloc; ", which pushed no list: it {came}.")?))
+}
+
+fn counted_items(alloc: Global, each: bool, count: usize) -> Result<Text, OutOfMemory>
+    ensures { (source : Option TaskTerm) → IfOk result (λ text.
+        text ≡ items_words each source (CauseTerm.Runs count)) }
+{
+    if each {
+        let values = plural(alloc, count as u64, "value")?;
+        return Ok(Text::new(format!(in alloc; ": {values} that its instances pushed.")?));
+    }
+    let items = plural(alloc, count as u64, "item")?;
+    Ok(Text::new(format!(in alloc; ": {items} of the list that it pushed.")?))
+}
+
+/// What a source gave, which is an expanded task itself or isn't.
+fn items_text(
+    alloc: Global,
+    each: bool,
+    source: Option<&Settled<'_>>,
+    cause: Cause,
+) -> Result<Text, OutOfMemory>
+    ensures { IfOk result (λ text. text ≡ items_words each (option_map (λ t. t.now) source.entry) cause) }
+{
+    match cause {
+        Cause::ItemsAreMissing => no_list(alloc, source),
+        Cause::Runs(count) => counted_items(alloc, each, count),
+        _ if each => Text::copied(alloc, ", whose instances pushed nothing."),
+        _ => Text::copied(alloc, ", which pushed an empty list."),
+    }
+}
+
+fn expanded_sentence(
+    alloc: Global,
+    plan: &Plan,
+    settled: &[Settled<'_>],
+    cause: Cause,
+    source: u32,
+) -> Result<Text, OutOfMemory>
+    ensures { IfOk result (λ text. text ≡ expanded_words plan.now.dag settled.now cause source) }
+{
+    let dag = plan.dag();
+    let items = items_text(
+        alloc,
+        is_expanded(dag, source),
+        settled.get(source as usize),
+        cause,
+    )?;
+    let id = id_at(dag, source);
+    Ok(Text::new(format!(in alloc; "It is expanded over {id}{items}")?))
+}
+
+fn source_of(plan: &Plan, task: u32) -> Option<u32>
+    requires { task < length plan.now.dag.tasks }
+    ensures { result ≡ (task_of plan.now.dag task).expand }
+{
+    plan.dag().task(task).expand
+}
+
+/// Adds what the source of its items gave a task that is expanded.
+pub(crate) fn add_source(
+    alloc: Global,
+    lines: &mut Vec<Text>,
+    plan: &Plan,
+    settled: &[Settled<'_>],
+    cause: Cause,
+    task: u32,
+) -> Result<(), OutOfMemory>
+    requires { task < length plan.now.dag.tasks }
+    ensures { OnOk result (lines.new.items ≡ lines.old.items
+        ++ source_sentences plan.now.dag settled.now cause (task_of plan.now.dag task).expand) }
+{
+    if let Some(source) = source_of(plan, task) {
+        lines.push(expanded_sentence(alloc, plan, settled, cause, source)?)?;
+    }
+    Ok(())
+}

@@ -1,0 +1,65 @@
+//! States of instances.
+ghost use Rattle.std.specs.Prelude.{◌≡◌, ◌≤◌, ◌+◌, if◌then◌else◌};
+ghost use Rattle.bf_why.specs.Since.{count_in as count_within, has_in as has_within};
+ghost use Rattle.bf_rule.specs.Verdicts.{total};
+
+use bf_reason::{Settled, counts_at};
+use bf_rule::Counts;
+
+/// Some of the states in which a task's instances may be.
+#[derive(Clone, Copy, Debug, PartialEq, Eq)]
+pub struct States {
+    pub success: bool,
+    pub failed: bool,
+    pub upstream_failed: bool,
+    pub skipped: bool,
+}
+
+fn count_if(chosen: bool, count: u32) -> u32
+    ensures { result ≡ (if chosen then count else 0) }
+{
+    if chosen { count } else { 0 }
+}
+
+impl States {
+    pub const SUCCESS: States = States {
+        success: true,
+        failed: false,
+        upstream_failed: false,
+        skipped: false,
+    };
+
+    pub const FAILURES: States = States {
+        success: false,
+        failed: true,
+        upstream_failed: true,
+        skipped: false,
+    };
+
+    pub const SKIPPED: States = States {
+        success: false,
+        failed: false,
+        upstream_failed: false,
+        skipped: true,
+    };
+
+    /// How many instances are in one of them.
+    pub fn count_in(self, counts: &Counts) -> u32
+        requires { total counts.now ≤ 1_024 }
+        ensures { result ≡ count_within self counts.now }
+    {
+        let success = count_if(self.success, counts.success);
+        let failed = count_if(self.failed, counts.failed);
+        let upstream_failed = count_if(self.upstream_failed, counts.upstream_failed);
+        let skipped = count_if(self.skipped, counts.skipped);
+        success + failed + upstream_failed + skipped
+    }
+}
+
+/// Whether an instance of a task is in one of these states.
+pub fn has_in(settled: &[Settled<'_>], states: States, task: u32) -> bool
+    ensures { result ≡ has_within settled.now states task }
+{
+    let counts = counts_at(settled, task);
+    states.count_in(&counts) > 0
+}

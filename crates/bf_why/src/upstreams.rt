@@ -1,0 +1,162 @@
+//! Sentences on what stands directly upstream.
+ghost use Rattle.std.specs.Prelude.{◌≡◌, ◌<◌, ◌==◌, ◌∷◌, ◌++◌, [], IfOk, OnOk, Some, codes, if◌then◌else◌, length};
+ghost use Rattle.std.specs.List.{flat_map};
+ghost use Rattle.bf_core.specs.Deciding.{branch_is, is_blocked as blocked};
+ghost use Rattle.bf_why.specs.Decided.{branch_sentence as branch_sentence_of, branch_where, branches_sentence as branches_words, have_no_status as no_status_words, id_of, upstreams_sentence as upstreams_words};
+ghost use Rattle.bf_reason.specs.Settled.{value_among};
+
+use crate::looking::{id_at, pushed_by};
+use bf_plan::Plan;
+use bf_reason::{Settled, is_blocked, is_blocked_branch, skips};
+use bf_value::{OutOfMemory, Text};
+use bf_wording::{add_if, listed, value_text};
+use std::alloc::Global;
+
+/// How many characters of a value stand in a sentence.
+const MOST_CHARACTERS: usize = 200;
+
+fn branch_sentence(
+    alloc: Global,
+    plan: &Plan,
+    settled: &[Settled<'_>],
+    branch: u32,
+) -> Result<Text, OutOfMemory>
+    ensures { IfOk result (λ text. text ≡ branch_sentence_of plan.now.dag settled.now branch) }
+{
+    let id = id_at(plan.dag(), branch);
+    let value = value_text(alloc, pushed_by(settled, branch), MOST_CHARACTERS)?;
+    let text = format!(in alloc;
+        "The branch {id} succeeded and doesn't follow it: it pushed {value}."
+    )?;
+    Ok(Text::new(text))
+}
+
+/// Adds a sentence on an upstream, where it is a branch that succeeded and doesn't follow a task.
+fn add_branch(
+    alloc: Global,
+    lines: &mut Vec<Text>,
+    plan: &Plan,
+    settled: &[Settled<'_>],
+    upstream: u32,
+    task: u32,
+) -> Result<(), OutOfMemory>
+    requires { task < length plan.now.dag.tasks }
+    ensures { OnOk result (lines.new.items ≡ lines.old.items ++ branch_where plan.now.dag settled.now task upstream) }
+{
+    if skips(plan, settled, upstream, task) {
+        lines.push(branch_sentence(alloc, plan, settled, upstream)?)?;
+    }
+    Ok(())
+}
+
+/// A sentence for each branch directly upstream that succeeded and doesn't follow a task.
+pub(crate) fn branch_sentences(
+    alloc: Global,
+    plan: &Plan,
+    settled: &[Settled<'_>],
+    upstreams: &[u32],
+    task: u32,
+) -> Result<Vec<Text>, OutOfMemory>
+    requires { task < length plan.now.dag.tasks }
+    ensures { IfOk result (λ lines. lines.items ≡ flat_map (branch_where plan.now.dag settled.now task) upstreams.now) }
+{
+    let mut lines = Vec::new(alloc);
+    for upstream in upstreams {
+        add_branch(alloc, &mut lines, plan, settled, *upstream, task)?;
+    }
+    Ok(lines)
+}
+
+fn add_id(
+    alloc: Global,
+    ids: &mut Vec<Text>,
+    plan: &Plan,
+    task: u32,
+    holds: bool,
+) -> Result<(), OutOfMemory>
+    ensures { OnOk result (ids.new.items ≡ ids.old.items ++ (if holds then id_of plan.now.dag task ∷ [] else [])) }
+{
+    add_if(alloc, ids, holds, id_at(plan.dag(), task))
+}
+
+fn is_blocked_branch_of(plan: &Plan, settled: &[Settled<'_>], upstream: u32) -> bool
+    ensures { result ≡ branch_is plan.now.dag blocked upstream (Some (value_among settled.now upstream)) }
+{
+    is_blocked_branch(plan.dag(), settled, upstream)
+}
+
+/// The ids of the branches among these that are blocked.
+pub(crate) fn blocked_branches(
+    alloc: Global,
+    plan: &Plan,
+    settled: &[Settled<'_>],
+    upstreams: &[u32],
+) -> Result<Vec<Text>, OutOfMemory>
+    ensures { IfOk result (λ ids. ids.items ≡ flat_map (λ u. if branch_is plan.now.dag blocked u (Some (value_among settled.now u))
+        then id_of plan.now.dag u ∷ [] else []) upstreams.now) }
+{
+    let mut ids = Vec::new(alloc);
+    for upstream in upstreams {
+        let holds = is_blocked_branch_of(plan, settled, *upstream);
+        add_id(alloc, &mut ids, plan, *upstream, holds)?;
+    }
+    Ok(ids)
+}
+
+/// The ids of those among these that are blocked.
+pub(crate) fn blocked_tasks(
+    alloc: Global,
+    plan: &Plan,
+    settled: &[Settled<'_>],
+    upstreams: &[u32],
+) -> Result<Vec<Text>, OutOfMemory>
+    ensures { IfOk result (λ ids. ids.items ≡ flat_map (λ u. if blocked (value_among settled.now u)
+        then id_of plan.now.dag u ∷ [] else []) upstreams.now) }
+{
+    let mut ids = Vec::new(alloc);
+    for upstream in upstreams {
+        let holds = is_blocked(settled, *upstream);
+        add_id(alloc, &mut ids, plan, *upstream, holds)?;
+    }
+    Ok(ids)
+}
+
+fn have(count: usize) -> &'static str
+    ensures { result.now ≡ (if count == 1 then codes " has no status." else codes " have no status.") }
+{
+    if count == 1 {
+        " has no status."
+    } else {
+        " have no status."
+    }
+}
+
+fn branches(count: usize) -> &'static str
+    ensures { result.now ≡ (if count == 1 then codes "branch " else codes "branches ") }
+{
+    if count == 1 { "branch " } else { "branches " }
+}
+
+/// That these have no status, as the end of a sentence.
+pub fn no_status(alloc: Global, names: &[Text]) -> Result<Text, OutOfMemory>
+    ensures { IfOk result (λ text. text ≡ no_status_words names.now) }
+{
+    let listed = listed(alloc, names)?;
+    let have = have(names.len());
+    Ok(Text::new(format!(in alloc; "{listed}{have}")?))
+}
+
+pub(crate) fn branches_sentence(alloc: Global, names: &[Text]) -> Result<Text, OutOfMemory>
+    ensures { IfOk result (λ text. text ≡ branches_words names.now) }
+{
+    let branches = branches(names.len());
+    let rest = no_status(alloc, names)?;
+    Ok(Text::new(format!(in alloc; "Directly upstream, the {branches}{rest}")?))
+}
+
+pub(crate) fn upstreams_sentence(alloc: Global, names: &[Text]) -> Result<Text, OutOfMemory>
+    ensures { IfOk result (λ text. text ≡ upstreams_words names.now) }
+{
+    let rest = no_status(alloc, names)?;
+    Ok(Text::new(format!(in alloc; "Directly upstream, {rest}")?))
+}

@@ -1,0 +1,113 @@
+//! Why a task has its state in a run, in sentences.
+ghost use Rattle.std.specs.Prelude.{◌≡◌, ◌<◌, ◌++◌, IfOk, IfSome, is_some, length, option_map, slice_get};
+ghost use Rattle.bf_core.specs.Terms.{task_of};
+ghost use Rattle.bf_core.specs.Deciding.{counts_of_results};
+ghost use Rattle.bf_why.specs.Why.{came_line as came_words, came_to_lines as came_to_in, ended as ended_in, tried_if_there, why as why_in};
+
+use crate::counted::counts_text;
+use crate::decided::decided_lines;
+use crate::foreign::add_foreign;
+use crate::tried::tried_lines;
+use bf_plan::Plan;
+use bf_reason::{Cause, Settled, is_expanded};
+use bf_report::{RunReport, TaskReport};
+use bf_rule::Counts;
+use bf_value::{OutOfMemory, Text};
+use bf_wording::{add_all, one_line, plural};
+use bf_xcom::TaskResult;
+use std::alloc::Global;
+
+fn came_line(alloc: Global, instances: usize, counts: &Counts) -> Result<Text, OutOfMemory>
+    ensures { IfOk result (λ text. text ≡ came_words instances counts.now) }
+{
+    let instances = plural(alloc, instances as u64, "instance")?;
+    let counts = counts_text(alloc, counts)?;
+    Ok(Text::new(format!(in alloc; "It came to {instances}: {counts}.")?))
+}
+
+fn one_of(
+    alloc: Global,
+    plan: &Plan,
+    task: u32,
+    results: &[TaskResult],
+    index: usize,
+) -> Result<Vec<Text>, OutOfMemory>
+    requires { task < length plan.now.dag.tasks }
+    ensures { IfOk result (λ lines. lines.items ≡ tried_if_there plan.now.dag task (slice_get results.now index)) }
+{
+    match results.get(index) {
+        Some(ended) => tried_lines(alloc, plan, task, ended),
+        None => Ok(Vec::new(alloc)),
+    }
+}
+
+/// Of all instances of an expanded task, or of the one of this map index.
+fn came_to_lines(
+    alloc: Global,
+    plan: &Plan,
+    task: u32,
+    results: &[TaskResult],
+    counts: &Counts,
+    index: Option<usize>,
+) -> Result<Vec<Text>, OutOfMemory>
+    requires task { task < length plan.now.dag.tasks }
+    requires counted { counts.now ≡ counts_of_results results.now }
+    ensures { IfOk result (λ lines. lines.items ≡ came_to_in plan.now.dag task results.now index) }
+{
+    match index {
+        Some(index) => one_of(alloc, plan, task, results, index),
+        None => one_line(alloc, came_line(alloc, results.len(), counts)?),
+    }
+}
+
+/// What came of a task that the report has so, or of one of its instances.
+fn ended_lines(
+    alloc: Global,
+    plan: &Plan,
+    task: u32,
+    told: &Settled<'_>,
+    index: Option<usize>,
+) -> Result<Vec<Text>, OutOfMemory>
+    requires { task < length plan.now.dag.tasks }
+    ensures { IfOk result (λ lines. lines.items ≡ ended_in plan.now.dag task told.now index) }
+{
+    match (told.told(), told.results()) {
+        (TaskReport::Ran(_), [ended, ..]) => tried_lines(alloc, plan, task, ended),
+        (TaskReport::Mapped(_), results) => {
+            came_to_lines(alloc, plan, task, results, &told.counts(), index)
+        }
+        _ => Ok(Vec::new(alloc)),
+    }
+}
+
+fn is_expanded_in(plan: &Plan, task: u32) -> bool
+    ensures { result ≡ is_some (task_of plan.now.dag task).expand }
+{
+    is_expanded(plan.dag(), task)
+}
+
+/// Why a task, which the report has so, has its state in a run, or one of its instances: how the graph decides it for this cause, over
+/// the tasks of the run and of the run before, where there is one; and what came of its tries.
+pub fn why_lines(
+    alloc: Global,
+    plan: &Plan,
+    settled: &[Settled<'_>],
+    before: Option<&RunReport>,
+    settled_before: &[Settled<'_>],
+    task: u32,
+    cause: Cause,
+    told: &Settled<'_>,
+    index: Option<usize>,
+) -> Result<Vec<Text>, OutOfMemory>
+    requires task { task < length plan.now.dag.tasks }
+    requires before { IfSome before (λ run. settled_before.now ≡ run.now.tasks) }
+    ensures { IfOk result (λ lines. lines.items ≡ why_in plan.now.dag settled.now
+        (option_map (λ run. run.now) before.entry) task cause told.now index) }
+{
+    let mut lines = Vec::new(alloc);
+    add_foreign(alloc, &mut lines, is_expanded_in(plan, task), cause, told)?;
+    let decided = decided_lines(alloc, plan, settled, before, settled_before, task, cause)?;
+    add_all(&mut lines, decided)?;
+    add_all(&mut lines, ended_lines(alloc, plan, task, told, index)?)?;
+    Ok(lines)
+}

@@ -1,0 +1,56 @@
+//! Lines that are told, one behind the other.
+ghost use Rattle.std.specs.Prelude.{◌≡◌, ◌++◌, ◌∷◌, [], IfOk, OnOk, if◌then◌else◌};
+
+use bf_value::{OutOfMemory, Text};
+use std::alloc::Global;
+
+/// A line alone.
+pub fn one_line(alloc: Global, line: Text) -> Result<Vec<Text>, OutOfMemory>
+    ensures { IfOk result (λ lines. lines.items ≡ line ∷ []) }
+{
+    let mut lines = Vec::new(alloc);
+    lines.push(line)?;
+    Ok(lines)
+}
+
+/// Adds a line.
+pub fn add(alloc: Global, lines: &mut Vec<Text>, line: &str) -> Result<(), OutOfMemory>
+    ensures { OnOk result (lines.new.items ≡ lines.old.items ++ line.now ∷ []) }
+{
+    lines.push(Text::copied(alloc, line)?)?;
+    Ok(())
+}
+
+/// Adds a line, which is moved in.
+pub fn add_text(lines: &mut Vec<Text>, line: Text) -> Result<(), OutOfMemory>
+    ensures { OnOk result (lines.new.items ≡ lines.old.items ++ line ∷ []) }
+{
+    lines.push(line)?;
+    Ok(())
+}
+
+/// Adds lines behind the others.
+pub fn add_all(lines: &mut Vec<Text>, more: Vec<Text>) -> Result<(), OutOfMemory>
+    ensures { OnOk result (lines.new.items ≡ lines.old.items ++ more.items) }
+{
+    for line in more {
+        lines.push(line)?;
+    }
+    Ok(())
+}
+
+/// Adds a line, where something holds.
+pub fn add_if(
+    alloc: Global,
+    lines: &mut Vec<Text>,
+    holds: bool,
+    line: &str,
+) -> Result<(), OutOfMemory>
+    ensures { OnOk result (lines.new.items ≡ lines.old.items ++ (if holds then line.now ∷ [] else [])) }
+{
+    if holds {
+        add(alloc, lines, line)
+    } else {
+        Ok(())
+    }
+}

@@ -1,0 +1,90 @@
+//! Lists of names.
+ghost use Rattle.std.specs.Prelude.{◌≡◌, ◌++◌, ◌==◌, IfOk, OnOk, codes, if◌then◌else◌, string_bytes};
+ghost use Rattle.std.specs.List.{join_by};
+ghost use Rattle.bf_wording.specs.Lists.{joined, listed, shortened as shortened_to};
+ghost use Rattle.bf_wording.specs.Numbers.{number_text};
+
+use crate::numbers::push_number;
+use bf_value::{OutOfMemory, Text};
+use std::alloc::Global;
+
+/// What stands before a name behind the first, where so many are left behind it.
+fn separator(left: usize) -> &'static str
+    ensures { result.now ≡ (if left == 0 then codes " and " else codes ", ") }
+{
+    if left == 0 { " and " } else { ", " }
+}
+
+fn push_joined(text: &mut String, names: &[Text]) -> Result<(), OutOfMemory>
+    ensures { OnOk result (string_bytes text.new ≡ string_bytes text.old ++ joined names.now) }
+{
+    let [first, rest @ ..] = names else {
+        return Ok(());
+    };
+    text.push_str(first.as_str())?;
+    for (place, name) in rest.iter().enumerate() {
+        text.push_str(separator(rest.len() - place - 1))?;
+        text.push_str(name.as_str())?;
+    }
+    Ok(())
+}
+
+fn copies(alloc: Global, names: &[Text]) -> Result<Vec<Text>, OutOfMemory>
+    ensures { IfOk result (λ copies. copies.items ≡ names.now) }
+{
+    let mut copies = Vec::with_capacity(alloc, names.len())?;
+    for name in names {
+        copies.push(name.copy(alloc)?)?;
+    }
+    Ok(copies)
+}
+
+/// How many more there are.
+fn more(alloc: Global, count: usize) -> Result<Text, OutOfMemory>
+    ensures { IfOk result (λ text. text ≡ number_text count ++ codes " more") }
+{
+    let mut text = String::new(alloc);
+    push_number(alloc, &mut text, count as u64)?;
+    text.push_str(" more")?;
+    Ok(Text::new(text))
+}
+
+fn shortened(alloc: Global, names: &[Text], most: usize) -> Result<Vec<Text>, OutOfMemory>
+    ensures { IfOk result (λ kept. kept.items ≡ shortened_to most names.now) }
+{
+    if names.len() <= most || names.len() - most == 1 {
+        return copies(alloc, names);
+    }
+    let mut kept = copies(alloc, &names[..most])?;
+    kept.push(more(alloc, names.len() - most)?)?;
+    Ok(kept)
+}
+
+/// Adds names, as `a`, `a and b`, `a, b and c`; of more than one above `most` only so many, and how many more there are.
+pub fn push_listed(
+    alloc: Global,
+    text: &mut String,
+    names: &[Text],
+    most: usize,
+) -> Result<(), OutOfMemory>
+    ensures { OnOk result (string_bytes text.new ≡ string_bytes text.old ++ listed most names.now) }
+{
+    let kept = shortened(alloc, names, most)?;
+    push_joined(text, kept.as_slice())
+}
+
+/// Adds parts with this text between.
+pub fn push_separated(text: &mut String, separator: &str, parts: &[Text]) -> Result<(), OutOfMemory>
+    ensures { OnOk result (string_bytes text.new
+        ≡ string_bytes text.old ++ join_by (λ part. part) separator.now parts.now) }
+{
+    let [first, rest @ ..] = parts else {
+        return Ok(());
+    };
+    text.push_str(first.as_str())?;
+    for part in rest {
+        text.push_str(separator)?;
+        text.push_str(part.as_str())?;
+    }
+    Ok(())
+}

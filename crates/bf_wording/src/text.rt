@@ -1,0 +1,39 @@
+//! Pieces of sentences.
+ghost use Rattle.std.specs.Prelude.{◌≡◌, IfOk};
+ghost use Rattle.bf_wording.specs.Lists.{listed as listed_names};
+ghost use Rattle.bf_wording.specs.Numbers.{number_text, plural as plural_text};
+
+use crate::lists::push_listed;
+use crate::numbers::{push_number, push_plural};
+use bf_value::{OutOfMemory, Text};
+use std::alloc::Global;
+
+/// How many names stand in a sentence, and one more where that is all.
+const MOST_NAMES: usize = 5;
+
+/// A number, as 8,192,000.
+pub fn number(alloc: Global, count: u64) -> Result<Text, OutOfMemory>
+    ensures { IfOk result (λ text. text ≡ number_text count) }
+{
+    let mut text = String::new(alloc);
+    push_number(alloc, &mut text, count)?;
+    Ok(Text::new(text))
+}
+
+/// How many there are of what one is called so.
+pub fn plural(alloc: Global, count: u64, one: &str) -> Result<Text, OutOfMemory>
+    ensures { IfOk result (λ text. text ≡ plural_text count one.now) }
+{
+    let mut text = String::new(alloc);
+    push_plural(alloc, &mut text, count, one)?;
+    Ok(Text::new(text))
+}
+
+/// Names, as `a, b and c`.
+pub fn listed(alloc: Global, names: &[Text]) -> Result<Text, OutOfMemory>
+    ensures { IfOk result (λ text. text ≡ listed_names 5 names.now) }
+{
+    let mut text = String::new(alloc);
+    push_listed(alloc, &mut text, names, MOST_NAMES)?;
+    Ok(Text::new(text))
+}

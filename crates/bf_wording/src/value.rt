@@ -1,0 +1,64 @@
+//! Values in a sentence.
+ghost use Rattle.std.specs.Prelude.{◌≡◌, ◌++◌, IfOk, OnOk, codes, encode_utf8, length, option_copied, string_bytes};
+ghost use Rattle.std.specs.List.{flat_map};
+ghost use Rattle.std.specs.Str.{chars};
+ghost use Rattle.bf_wording.specs.Values.{cut, long_text as long_words, value_text as value_words};
+
+use crate::text::number;
+use bf_quoted::push_shown;
+use bf_value::{OutOfMemory, Text, Xval, text_of};
+use std::alloc::Global;
+
+/// The characters of a text.
+fn chars_of(alloc: Global, shown: &str) -> Result<Vec<char>, OutOfMemory>
+    ensures { IfOk result (λ all. all.items ≡ chars shown.now) }
+{
+    let mut all = Vec::new(alloc);
+    for c in shown.chars() {
+        all.push(c)?;
+    }
+    Ok(all)
+}
+
+fn text_of_chars(alloc: Global, shown: &[char]) -> Result<Text, OutOfMemory>
+    ensures { IfOk result (λ text. text ≡ flat_map encode_utf8 shown.now) }
+{
+    let mut text = String::new(alloc);
+    for c in shown {
+        text.push(*c)?;
+    }
+    Ok(Text::new(text))
+}
+
+/// The first characters of a text, and how many it has.
+fn long_text(alloc: Global, first: &[char], count: usize) -> Result<Text, OutOfMemory>
+    ensures { IfOk result (λ text. text ≡ long_words first.now count) }
+{
+    let first = text_of_chars(alloc, first)?;
+    let count = number(alloc, count as u64)?;
+    Ok(Text::new(format!(in alloc; "{first}... ({count} characters)")?))
+}
+
+/// A text; of one of more characters the first of them, and how many there are.
+fn cut_text(alloc: Global, shown: &str, most: usize) -> Result<Text, OutOfMemory>
+    ensures { IfOk result (λ text. text ≡ cut most shown.now) }
+{
+    let all = chars_of(alloc, shown)?;
+    if all.len() <= most {
+        return Text::copied(alloc, shown);
+    }
+    long_text(alloc, &all[..most], all.len())
+}
+
+/// A value as JSON text that a terminal shows, or `nothing`.
+pub fn value_text(alloc: Global, value: Option<&Xval>, most: usize) -> Result<Text, OutOfMemory>
+    ensures { IfOk result (λ text. text ≡ value_words most (option_copied value.entry)) }
+{
+    let Some(value) = value else {
+        return Text::copied(alloc, "nothing");
+    };
+    let json = text_of(alloc, value)?;
+    let mut shown = String::new(alloc);
+    push_shown(&mut shown, json.as_str())?;
+    cut_text(alloc, shown.as_str(), most)
+}
