@@ -29,7 +29,7 @@ use Rattle.bf_device.specs.declared.sending.Cause.TheVariants as cause
 use Rattle.bf_device.specs.declared.sending.WriteFault.{WriteFault}
 use Rattle.bf_device.specs.Device.{sent}
 use Rattle.bf_command_fault.specs.declared.fault.CommandFault.{CommandFault}
-use Rattle.bf_command_fault.specs.declared.fault.CommandFault.TheVariants.{Read, Check, Table, Range, Report, Journal, Clear, Seeds, JournalInUse, BadMoment, OutOfMemory, CannotRead, CannotWriteFile, CannotWrite, CannotLaunch, Stopped}
+use Rattle.bf_command_fault.specs.declared.fault.CommandFault.TheVariants.{Read, Check, Table, Range, Report, Journal, Clear, Seeds, JournalInUse, UnknownIndex, BadMoment, OutOfMemory, CannotRead, CannotWriteFile, CannotWrite, CannotLaunch, Stopped}
 use Rattle.bf_command_fault.specs.declared.range.RangeFault.TheVariants.{Unlisted}
 use Rattle.bf_command_fault.specs.declared.stop.StopFault.{StopFault}
 use Rattle.bf_command_fault.specs.declared.status.Status.{Status}
@@ -48,6 +48,7 @@ number_of (Journal fault) = journaling.fault_number fault
 number_of (Clear fault) = clearing.fault_number fault
 number_of (Seeds fault) = seeding.fault_number fault
 number_of JournalInUse = Some 44
+number_of UnknownIndex = Some 46
 number_of BadMoment = Some 28
 number_of OutOfMemory = None
 number_of (CannotRead path) = None
@@ -74,6 +75,7 @@ words_of (Journal fault) = journaling.fault_text fault
 words_of (Clear fault) = clearing.fault_text fault
 words_of (Seeds fault) = seeding.fault_text fault
 words_of JournalInUse = codes "journal in use"
+words_of UnknownIndex = codes "unknown index"
 words_of BadMoment = codes "bad moment"
 words_of OutOfMemory = codes "out of memory"
 words_of (CannotRead path) = codes "cannot read " ++ path

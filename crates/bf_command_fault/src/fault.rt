@@ -40,6 +40,8 @@ pub enum CommandFault {
     Seeds(SeedsFault),
     /// Another backfill has the journal open.
     JournalInUse,
+    /// No instance of the task in the run has the map index that is asked for.
+    UnknownIndex,
     /// A text that is no moment, or one of a date that doesn't exist.
     BadMoment,
     OutOfMemory,
@@ -70,6 +72,7 @@ impl CommandFault {
             CommandFault::Clear(fault) => fault.number(),
             CommandFault::Seeds(fault) => fault.number(),
             CommandFault::JournalInUse => Some(44),
+            CommandFault::UnknownIndex => Some(46),
             CommandFault::BadMoment => Some(28),
             CommandFault::OutOfMemory
             | CommandFault::CannotRead(_)
@@ -119,6 +122,7 @@ impl fmt::Display for CommandFault {
             CommandFault::Clear(fault) => write!(f, "{fault}"),
             CommandFault::Seeds(fault) => write!(f, "{fault}"),
             CommandFault::JournalInUse => write!(f, "journal in use"),
+            CommandFault::UnknownIndex => write!(f, "unknown index"),
             CommandFault::BadMoment => write!(f, "bad moment"),
             CommandFault::OutOfMemory => write!(f, "out of memory"),
             CommandFault::CannotRead(path) => write!(f, "cannot read {path}"),

@@ -5,7 +5,7 @@ use Rattle.std.specs.declared.alloc.Global.{Global}
 use Rattle.std.specs.Str.Parse.{ParsesSigned, ParsesUnsigned}
 use Rattle.clap.specs.Words.{Row, Text, all_of, first_of}
 use Rattle.bf_command_line.specs.declared.forms.Asked.{Asked}
-use Rattle.bf_command_line.specs.declared.forms.Asked.TheVariants.{Check, Clear, ClearPlan, Completions, Dry, Keep, List as Intervals, Page, Run, Schema, Show, ShowJson, Single}
+use Rattle.bf_command_line.specs.declared.forms.Asked.TheVariants.{Check, Clear, ClearPlan, Completions, Dry, Explain, Keep, List as Intervals, Page, Run, Schema, Show, ShowJson, Single}
 use Rattle.bf_command_line.specs.declared.forms.ClearAsked.{ClearAsked}
 use Rattle.bf_command_line.specs.declared.forms.ClearedAsked.{ClearedAsked}
 use Rattle.bf_command_line.specs.declared.forms.ClearedAsked.TheVariants as cleared
@@ -22,6 +22,7 @@ use Rattle.bf_command_line.specs.declared.forms.SeedAsked.{SeedAsked}
 use Rattle.bf_command_line.specs.declared.forms.Shell.{Shell}
 use Rattle.bf_command_line.specs.declared.forms.Shell.TheVariants.{Bash, Fish, Zsh}
 use Rattle.bf_command_line.specs.declared.forms.StartsAsked.{StartsAsked}
+use Rattle.bf_command_line.specs.declared.forms.TaskAsked.{TaskAsked}
 use Rattle.bf_command_line.specs.declared.forms.StartsAsked.TheVariants.{Between, On}
 
 -- the paths of a graph file and of a zone file
@@ -101,6 +102,12 @@ IsClearedBy rows cleared.Failed = (first_of (codes "seeds") rows ≡ None)
     × (says_true (first_of (codes "failed") rows) ≡ true)
     × (has_seeds rows ≡ false)
 IsClearedBy rows cleared.Nothing = ⊥
+
+-- the task that is explained, where there is one, and maybe the map index of one of its instances
+abbrev pub IsTaskBy : List Row → Option TaskAsked → Type 0
+IsTaskBy rows None = (first_of (codes "task") rows ≡ None) × (first_of (codes "index") rows ≡ None)
+IsTaskBy rows (Some t) = (first_of (codes "task") rows ≡ Some (string_bytes t.id))
+    × IsIntegerIfGiven (first_of (codes "index") rows) t.index
 
 -- the number that the text says in decimal digits, or one where there is no text
 abbrev pub IsNumberOr1 : Option Text → ℕ → Type 0
@@ -275,6 +282,11 @@ IsAskedBy (Some (name, rows)) (Page p) = (name ≡ codes "page")
     × IsGraphBy rows p.graph
     × (first_of (codes "report") rows ≡ Some (string_bytes p.report))
     × (p.states_only ≡ says_true (first_of (codes "states_only") rows))
+IsAskedBy (Some (name, rows)) (Explain e) = (name ≡ codes "explain")
+    × IsGraphBy rows e.graph
+    × (first_of (codes "report") rows ≡ Some (string_bytes e.report))
+    × (first_of (codes "run") rows ≡ Some (string_bytes e.run))
+    × IsTaskBy rows e.task
 IsAskedBy (Some (name, rows)) (Schema format) = (name ≡ codes "schema") × IsFormatBy rows format
 IsAskedBy (Some (name, rows)) (Completions shell) = (name ≡ codes "completions") × IsShellBy rows shell
 

@@ -81,6 +81,11 @@ show_wrongs rows =
     else (if is_given (codes "graph") rows && is_given (codes "report") rows then value_wrongs color_words (first_of (codes "color") rows)
     else MissingRequiredArgument ∷ [])
 
+-- `--index` stands beside a task alone
+abbrev pub explain_wrongs : List Row → Kinds
+explain_wrongs rows =
+    if is_some (first_of (codes "index") rows) && not (is_some (first_of (codes "task") rows)) then MissingRequiredArgument ∷ [] else []
+
 -- of the arguments of the command of this name, those that `clap` doesn't look at
 abbrev pub command_wrongs : Text → List Row → Kinds
 command_wrongs name rows = if bytes_eq name (codes "schema") then value_wrongs format_words (first_of (codes "format") rows)
@@ -88,7 +93,8 @@ command_wrongs name rows = if bytes_eq name (codes "schema") then value_wrongs f
     else (if bytes_eq name (codes "run") then programs_wrongs rows
     else (if bytes_eq name (codes "clear") then clear_wrongs rows
     else (if bytes_eq name (codes "show") then show_wrongs rows
-    else (if bytes_eq name (codes "list") || bytes_eq name (codes "dry") then range_wrongs rows else [])))))
+    else (if bytes_eq name (codes "list") || bytes_eq name (codes "dry") then range_wrongs rows
+    else (if bytes_eq name (codes "explain") then explain_wrongs rows else []))))))
 
 -- a report is written over no file that the command reads, but the report that it goes on from, and not over its journal
 abbrev pub out_wrongs : List Row → Kinds

@@ -162,6 +162,23 @@ pub struct PageAsked {
     pub states_only: bool,
 }
 
+/// `--task ID [--index N]`: a task, or one instance of it by its map index.
+#[derive(Drop)]
+pub struct TaskAsked {
+    pub id: String,
+    pub index: Option<i32>,
+}
+
+/// `explain GRAPH REPORT --run T [--task ID [--index N]]`: why a task in the run of a logical date has its state, or where no task
+/// is named, why the run has.
+#[derive(Drop)]
+pub struct ExplainAsked {
+    pub graph: GraphAsked,
+    pub report: String,
+    pub run: String,
+    pub task: Option<TaskAsked>,
+}
+
 /// A format that a file of its own is written in, and that has a schema.
 #[derive(Clone, Copy, PartialEq, Eq)]
 pub enum Format {
@@ -196,6 +213,7 @@ pub enum Asked {
     /// `show --json REPORT`: the task instances of a report, as lines of JSON.
     ShowJson(String),
     Page(PageAsked),
+    Explain(ExplainAsked),
     /// `schema FORMAT`: the schema of the files of a format.
     Schema(Format),
     /// `completions SHELL`: what a shell completes.

@@ -18,7 +18,7 @@ mod viewing;
 
 pub use forms::{
     Asked, CheckAsked, ClearAsked, ClearPlanAsked, ClearedAsked, Color, CommandLine, DryAsked,
-    Format, GraphAsked, JournalAsked, ListAsked, PageAsked, RangeAsked, RunAsked, SeedAsked, Shell,
-    ShowAsked, SingleAsked, StartsAsked,
+    ExplainAsked, Format, GraphAsked, JournalAsked, ListAsked, PageAsked, RangeAsked, RunAsked,
+    SeedAsked, Shell, ShowAsked, SingleAsked, StartsAsked, TaskAsked,
 };
 pub use reading::asked;

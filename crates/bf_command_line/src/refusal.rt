@@ -35,6 +35,9 @@ const UNPAIRED: &str =
 
 const ODD_INDEXES: &str = "as many '--index <N>' are needed as '--task <ID>', or none";
 
+const NO_TASK: &str = "the following required arguments were not provided:\n\
+    \x20 --task <ID>";
+
 const NO_REPORT: &str = "the following required arguments were not provided:\n\
     \x20 <GRAPH> and <REPORT>, or --json <REPORT>";
 
@@ -112,6 +115,18 @@ pub(crate) fn odd_indexes(alloc: Global) -> Result<Error, AllocError>
     ensures { IfOk result (λ e. kind_of e ≡ ErrorKind.WrongNumberOfValues) }
 {
     refuse(alloc, "clear", ErrorKind::WrongNumberOfValues, ODD_INDEXES)
+}
+
+/// What is said of a map index without a task.
+pub(crate) fn no_task(alloc: Global) -> Result<Error, AllocError>
+    ensures { IfOk result (λ e. kind_of e ≡ ErrorKind.MissingRequiredArgument) }
+{
+    refuse(
+        alloc,
+        "explain",
+        ErrorKind::MissingRequiredArgument,
+        NO_TASK,
+    )
 }
 
 /// What is said where it isn't told which report is shown.

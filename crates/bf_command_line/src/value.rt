@@ -1,7 +1,7 @@
 //! The values of a command's arguments.
 ghost use Rattle.std.specs.Prelude.{◌≡◌, IfOk, length, slice_get, option_map, string_bytes, Some};
 ghost use Rattle.clap.specs.Words.{first_of, found_of, rows_of};
-ghost use Rattle.bf_command_line.specs.Asked.{texts_of as texts_in, is_given as is_given_in, IsNumberIfGiven, says as says_in, says_true};
+ghost use Rattle.bf_command_line.specs.Asked.{texts_of as texts_in, is_given as is_given_in, IsIntegerIfGiven, IsNumberIfGiven, says as says_in, says_true};
 
 use clap::ArgMatches;
 use std::alloc::{AllocError, Global};
@@ -100,6 +100,20 @@ pub(crate) fn number_asked(matches: &ArgMatches<'_>, id: &str) -> Result<Option<
     };
     match text.parse::<u32>() {
         Ok(count) => Ok(Some(count)),
+        Err(_) => Err(AllocError),
+    }
+}
+
+/// The same, of a number that may be negative.
+#[tactic(auto, using(crate::proofs::Rows::first_rows))]
+pub(crate) fn integer_asked(matches: &ArgMatches<'_>, id: &str) -> Result<Option<i32>, AllocError>
+    ensures { IfOk result (IsIntegerIfGiven (first_of id.now (rows_of (found_of matches.now)))) }
+{
+    let Some(text) = matches.get_str(id) else {
+        return Ok(None);
+    };
+    match text.parse::<i32>() {
+        Ok(index) => Ok(Some(index)),
         Err(_) => Err(AllocError),
     }
 }

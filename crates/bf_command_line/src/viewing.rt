@@ -1,12 +1,14 @@
-//! Reads the words of `page`.
+//! Reads the words of `page` and `explain`.
 ghost use Rattle.std.specs.Prelude.{IfOk, Some, codes};
-ghost use Rattle.clap.specs.Words.{found_of, rows_of};
-ghost use Rattle.bf_command_line.specs.Asked.{IsAskedBy};
+ghost use Rattle.clap.specs.Words.{FailsBy, found_of, rows_of};
+ghost use Rattle.bf_command_line.specs.Wrongs.{explain_wrongs};
+ghost use Rattle.bf_command_line.specs.Asked.{IsAskedBy, IsTaskBy};
 
-use crate::forms::{Asked, PageAsked};
+use crate::forms::{Asked, ExplainAsked, PageAsked, TaskAsked};
 use crate::range::graph_asked;
-use crate::value::{is_told, required};
-use clap::ArgMatches;
+use crate::refusal::no_task;
+use crate::value::{integer_asked, is_told, optional, required};
+use clap::{ArgMatches, Error};
 use std::alloc::{AllocError, Global};
 
 pub(crate) fn page_asked(alloc: Global, matches: &ArgMatches<'_>) -> Result<Asked, AllocError>
@@ -16,5 +18,31 @@ pub(crate) fn page_asked(alloc: Global, matches: &ArgMatches<'_>) -> Result<Aske
         graph: graph_asked(alloc, matches)?,
         report: required(alloc, matches, "report")?,
         states_only: is_told(matches, "states_only"),
+    }))
+}
+
+/// The task that is explained, where one is named.
+fn task_asked(alloc: Global, matches: &ArgMatches<'_>) -> Result<Option<TaskAsked>, Error>
+    ensures ok { IfOk result (IsTaskBy (rows_of (found_of matches.now))) }
+    ensures err { FailsBy (explain_wrongs (rows_of (found_of matches.now))) result }
+{
+    let index = integer_asked(matches, "index")?;
+    match optional(alloc, matches, "task")? {
+        Some(id) => Ok(Some(TaskAsked { id, index })),
+        None if index.is_some() => Err(no_task(alloc)?),
+        None => Ok(None),
+    }
+}
+
+pub(crate) fn explain_asked(alloc: Global, matches: &ArgMatches<'_>) -> Result<Asked, Error>
+    ensures ok { IfOk result (IsAskedBy (Some (codes "explain", rows_of (found_of matches.now)))) }
+    ensures err { FailsBy (explain_wrongs (rows_of (found_of matches.now))) result }
+{
+    let task = task_asked(alloc, matches)?;
+    Ok(Asked::Explain(ExplainAsked {
+        graph: graph_asked(alloc, matches)?,
+        report: required(alloc, matches, "report")?,
+        run: required(alloc, matches, "run")?,
+        task,
     }))
 }

@@ -49,6 +49,18 @@ run_rule = repeated_rule (codes "run")
 abbrev pub index_rule : Rule
 index_rule = record (repeated_rule (codes "index")) { parser = Some (Signed (negsuc 0) (pos 2_147_483_647)) }
 
+-- `--task ID`, of one task
+abbrev pub one_task_rule : Rule
+one_task_rule = option_rule (codes "task") (codes "task")
+
+-- `--run T`, of one run, which has to be there
+abbrev pub one_run_rule : Rule
+one_run_rule = required_option_rule (codes "run")
+
+-- `--index N`, of one instance
+abbrev pub one_index_rule : Rule
+one_index_rule = record (option_rule (codes "index") (codes "index")) { parser = Some (Signed (negsuc 0) (pos 2_147_483_647)) }
+
 -- `--states-only`, a flag
 abbrev pub states_only_rule : Rule
 states_only_rule = record (new_rule (codes "states_only")) { long = Some (codes "states-only"); action = Some SetTrue }
@@ -216,9 +228,17 @@ showing_app =
 abbrev pub show_app : App
 show_app = with_rule (with_rule (with_rule (with_rule showing_app failed_rule) width_rule) color_rule) json_rule
 
+-- `NAME GRAPH REPORT [--zone-file PATH]`
+abbrev pub over_report_app : Text → App
+over_report_app name = with_rule (over_graph_app name) report_rule
+
 -- `page GRAPH REPORT [--states-only] [--zone-file PATH]`
 abbrev pub page_app : App
-page_app = with_rule (with_rule (over_graph_app (codes "page")) report_rule) states_only_rule
+page_app = with_rule (over_report_app (codes "page")) states_only_rule
+
+-- `explain GRAPH REPORT --run T [--task ID [--index N]] [--zone-file PATH]`
+abbrev pub explain_app : App
+explain_app = with_rule (with_rule (with_rule (over_report_app (codes "explain")) one_run_rule) one_task_rule) one_index_rule
 
 -- `schema FORMAT`
 abbrev pub schema_app : App
@@ -249,7 +269,7 @@ running_app = with_subcommand (with_subcommand answered_app run_app.top) clear_a
 
 -- and those that show a report
 abbrev pub viewing_app : App
-viewing_app = with_subcommand (with_subcommand running_app show_app.top) page_app.top
+viewing_app = with_subcommand (with_subcommand (with_subcommand running_app show_app.top) page_app.top) explain_app.top
 
 abbrev pub backfill_app : App
 backfill_app = with_subcommand (with_subcommand viewing_app schema_app.top) completions_app.top

@@ -302,6 +302,7 @@ fn viewing<'a>(alloc: Global) -> Draft<'a>
     running(alloc)
         .subcommand(show(alloc))
         .subcommand(viewing::page(alloc))
+        .subcommand(viewing::explain(alloc))
 }
 
 /// The whole command line.

@@ -4,6 +4,7 @@ ghost use Rattle.clap.specs.Words.{kind_of};
 
 use crate::command::{clear, completions, dry, list, run, schema, show, single};
 use crate::draft::Draft;
+use crate::viewing::explain;
 use clap::Error;
 use clap::error::ErrorKind;
 use std::alloc::{AllocError, Global};
@@ -16,6 +17,7 @@ fn asking<'a>(alloc: Global, name: &str) -> (Draft<'a>, &'static str) {
         "dry" => (dry(alloc), "backfill dry"),
         "run" => (run(alloc), "backfill run"),
         "show" => (show(alloc), "backfill show"),
+        "explain" => (explain(alloc), "backfill explain"),
         "schema" => (schema(alloc), "backfill schema"),
         "completions" => (completions(alloc), "backfill completions"),
         _ => (clear(alloc), "backfill clear"),

@@ -1,17 +1,21 @@
 //! The commands that show a report, as `clap` reads them.
 ghost use Rattle.std.specs.Prelude.{◌≡◌};
 ghost use Rattle.clap.specs.Words.{rule_of};
-ghost use Rattle.bf_grammar.specs.Grammar.{page_app, states_only_rule};
+ghost use Rattle.bf_grammar.specs.Grammar.{explain_app, one_index_rule, one_run_rule, one_task_rule, over_report_app, page_app, states_only_rule};
 ghost use Rattle.bf_grammar.specs.Drafts.{IsDraftOf};
 
-use crate::argument::positional;
+use crate::argument::{option, positional, required_option};
 use crate::command::over_graph;
 use crate::draft::Draft;
-use clap::{Arg, ArgAction};
+use clap::{Arg, ArgAction, value_parser};
 use std::alloc::Global;
 
 const PAGE_EXAMPLE: &str = "Example:\n\
     \x20 backfill page examples/failed_day/graph.json examples/failed_day/report.txt > page.html";
+
+const EXPLAIN_EXAMPLES: &str = "Examples:\n\
+    \x20 backfill explain --task publish --run 2024-03-05 examples/failed_day/graph.json examples/failed_day/report.txt\n\
+    \x20 backfill explain --run 2024-03-05 examples/failed_day/graph.json examples/failed_day/report.txt";
 
 fn states_only<'a>(alloc: Global) -> Arg<'a>
     ensures { rule_of result ≡ states_only_rule }
@@ -24,15 +28,79 @@ fn states_only<'a>(alloc: Global) -> Arg<'a>
         .action(ArgAction::SetTrue)
 }
 
+fn run<'a>(alloc: Global) -> Arg<'a>
+    ensures { rule_of result ≡ one_run_rule }
+{
+    required_option(
+        alloc,
+        "run",
+        "T",
+        "The logical date of the run, in UTC, as 2024-01-31 or 2024-01-31T06:00:00Z",
+    )
+}
+
+fn task<'a>(alloc: Global) -> Arg<'a>
+    ensures { rule_of result ≡ one_task_rule }
+{
+    option(
+        alloc,
+        "task",
+        "task",
+        "ID",
+        "The task; without it the run is explained",
+    )
+}
+
+fn index<'a>(alloc: Global) -> Arg<'a>
+    ensures { rule_of result ≡ one_index_rule }
+{
+    option(
+        alloc,
+        "index",
+        "index",
+        "N",
+        "The map index of one instance of an expanded task; needs --task",
+    )
+    .value_parser(value_parser!(i32).range(-1..))
+}
+
+/// A command over a graph and a report.
+fn over_report<'a>(
+    alloc: Global,
+    name: &'a str,
+    about: &'a str,
+    report: &'a str,
+    examples: &'a str,
+) -> Draft<'a>
+    ensures { IsDraftOf (over_report_app name.entry.now) result }
+{
+    over_graph(alloc, name, about, examples).arg(positional(alloc, "report", "REPORT", report))
+}
+
 pub(crate) fn page<'a>(alloc: Global) -> Draft<'a>
     ensures { IsDraftOf page_app result }
 {
-    over_graph(
+    over_report(
         alloc,
         "page",
         "Writes a page that shows a report: its runs and tasks as a grid, the graph, and why each task has its state",
+        "The report to show",
         PAGE_EXAMPLE,
     )
-    .arg(positional(alloc, "report", "REPORT", "The report to show"))
     .arg(states_only(alloc))
+}
+
+pub(crate) fn explain<'a>(alloc: Global) -> Draft<'a>
+    ensures { IsDraftOf explain_app result }
+{
+    over_report(
+        alloc,
+        "explain",
+        "Tells why a task of a run, or a run, has its state",
+        "The report that has it",
+        EXPLAIN_EXAMPLES,
+    )
+    .arg(run(alloc))
+    .arg(task(alloc))
+    .arg(index(alloc))
 }

@@ -4,7 +4,7 @@ use Rattle.clap.specs.Words.{Row, Text}
 use Rattle.jiff.specs.declared.timestamp.Timestamp.{Timestamp}
 use Rattle.bf_device.specs.Device.{sent}
 use Rattle.bf_command_line.specs.declared.forms.Asked.{Asked}
-use Rattle.bf_command_line.specs.declared.forms.Asked.TheVariants.{Check, Clear, ClearPlan, Completions, Dry, Keep, List as Intervals, Page, Run, Schema, Show, ShowJson, Single}
+use Rattle.bf_command_line.specs.declared.forms.Asked.TheVariants.{Check, Clear, ClearPlan, Completions, Dry, Explain, Keep, List as Intervals, Page, Run, Schema, Show, ShowJson, Single}
 use Rattle.bf_command_line.specs.declared.forms.ClearAsked.{ClearAsked}
 use Rattle.bf_command_line.specs.declared.forms.ClearPlanAsked.{ClearPlanAsked}
 use Rattle.bf_command_line.specs.declared.forms.CommandLine.{CommandLine}
@@ -39,6 +39,7 @@ use Rattle.bf_views.specs.declared.canvas.Canvas.{Canvas}
 use Rattle.bf_views.specs.GridFaults.{IsGridFault}
 use Rattle.bf_views.specs.Json.{IsJsonFault}
 use Rattle.bf_views.specs.PageFaults.{IsPageFault}
+use Rattle.bf_views.specs.ExplainFaults.{IsExplainFault}
 use Rattle.bf_program.specs.Texts.{IsDeviceFault}
 use Rattle.bf_disk.specs.Files.{Files, IsReadable, IsUntold, AreReadable, IsFirstUntold}
 use Rattle.bf_input.specs.Inputs.{OfFiles, OfFilesAndTable, OfFilesAndNamedTable, graph_paths, table_paths}
@@ -210,6 +211,7 @@ IsFault may_lose files machine (ClearPlan asked) fault = IsClearPlanFault files 
 IsFault may_lose files machine (Show asked) fault = IsGridFault files asked fault
 IsFault may_lose files machine (ShowJson path) fault = IsJsonFault files (string_bytes path) fault
 IsFault may_lose files machine (Page asked) fault = IsPageFault files asked fault
+IsFault may_lose files machine (Explain asked) fault = IsExplainFault files asked fault
 IsFault may_lose files machine (Schema format) fault = IsDeviceFault fault
 IsFault may_lose files machine (Completions shell) fault = IsDeviceFault fault
 

@@ -7,7 +7,7 @@ use Rattle.bf_device.specs.Device.{sent}
 use Rattle.bf_file.specs.declared.call.Placed.{Placed}
 use Rattle.bf_file.specs.Replacing.{HasReplaced}
 use Rattle.bf_command_line.specs.declared.forms.Asked.{Asked}
-use Rattle.bf_command_line.specs.declared.forms.Asked.TheVariants.{Check, Clear, ClearPlan, Completions, Dry, Keep, List as Intervals, Page, Run, Schema, Show, ShowJson, Single}
+use Rattle.bf_command_line.specs.declared.forms.Asked.TheVariants.{Check, Clear, ClearPlan, Completions, Dry, Explain, Keep, List as Intervals, Page, Run, Schema, Show, ShowJson, Single}
 use Rattle.bf_command_line.specs.declared.forms.ClearAsked.{ClearAsked}
 use Rattle.bf_command_line.specs.declared.forms.ClearPlanAsked.{ClearPlanAsked}
 use Rattle.bf_command_line.specs.declared.forms.ClearedAsked.{ClearedAsked}
@@ -55,6 +55,7 @@ use Rattle.bf_views.specs.declared.canvas.Canvas.{Canvas}
 use Rattle.bf_views.specs.Grids.{IsGridAnswer}
 use Rattle.bf_views.specs.Json.{IsJsonAnswer}
 use Rattle.bf_views.specs.Pages.{IsPageAnswer}
+use Rattle.bf_views.specs.Explanations.{IsExplainAnswer}
 use Rattle.bf_program.specs.Texts.{IsPrinted, completions_text, schema_text}
 use Rattle.bf_disk.specs.Files.{AreReadable, Files, IsHeld, IsReadable, IsUntold}
 use Rattle.bf_disk.specs.Source.{IsWholeUpTo}
@@ -295,6 +296,7 @@ IsAnswer may_hear canvas files machine (ClearPlan asked) text status = IsClearPl
 IsAnswer may_hear canvas files machine (Show asked) text status = IsGridAnswer canvas files asked text status
 IsAnswer may_hear canvas files machine (ShowJson path) text status = IsJsonAnswer files (string_bytes path) text status
 IsAnswer may_hear canvas files machine (Page asked) text status = IsPageAnswer files asked text status
+IsAnswer may_hear canvas files machine (Explain asked) text status = IsExplainAnswer files asked text status
 IsAnswer may_hear canvas files machine (Schema format) text status = IsPrinted (schema_text format) text status
 IsAnswer may_hear canvas files machine (Completions shell) text status = IsPrinted (completions_text shell) text status
 

@@ -33,11 +33,17 @@ pub fn clear_plan_answered<S: Source, W: Write>(
         (λ text. (status : StatusTerm) × IsClearPlanAnswer (S.file files.old) asked text status)
         (W.written out.old) (W.written out.new)) }
 {
-    let range = range_of(&asked.range)?;
-    let named = named_in(alloc, &asked.cleared)?;
-    let ready = prepared_in(alloc, asked.graph, None, named, range, files)?;
+    let ClearPlanAsked {
+        graph,
+        report,
+        range,
+        cleared,
+    } = asked;
+    let range = range_of(&range)?;
+    let named = named_in(alloc, &cleared)?;
+    let ready = prepared_in(alloc, graph, None, named, range, files)?;
     let PreparedToClear { prepared, what } = ready;
-    let report = report_in(alloc, asked.report, files)?;
+    let report = report_in(alloc, report, files)?;
     write_clear_plan(alloc, &prepared.dated, report, &what, out)?;
     Ok(Status::Success)
 }

@@ -26,7 +26,7 @@ use bf_device::{Write, send};
 use bf_disk::{Journals, Launchers, Source};
 use bf_file::Folder;
 use bf_process::Starter;
-use bf_views::{Canvas, json_answered, page_answered, show_answered};
+use bf_views::{Canvas, explain_answered, json_answered, page_answered, show_answered};
 use clap::Error;
 use clap::error::ErrorKind;
 use std::alloc::Global;
@@ -175,6 +175,7 @@ where
         Asked::Show(show) => show_answered(alloc, show, canvas, files, out),
         Asked::ShowJson(path) => json_answered(alloc, path, files, out),
         Asked::Page(page) => page_answered(alloc, page, files, out),
+        Asked::Explain(explain) => explain_answered(alloc, explain, files, out),
         Asked::Schema(format) => schema_answered(format, out),
         Asked::Completions(shell) => completions_answered(shell, out),
     }

@@ -3,3 +3,5 @@ mod Alike
 mod ReportedEnds
 mod PageEnds
 mod GridEnds
+mod ExplainEnds
+mod ExplainFacts

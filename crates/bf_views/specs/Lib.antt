@@ -10,3 +10,6 @@ pub mod Canvases
 pub mod Bounds
 pub mod Grids
 pub mod GridFaults
+pub mod Asked
+pub mod Explanations
+pub mod ExplainFaults

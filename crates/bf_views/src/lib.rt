@@ -3,6 +3,7 @@
 
 mod bounds;
 mod canvas;
+mod explain;
 mod json;
 mod matching;
 mod page;
@@ -11,6 +12,7 @@ mod report;
 mod show;
 
 pub use canvas::Canvas;
+pub use explain::explain_answered;
 pub use json::json_answered;
 pub use page::page_answered;
 pub use show::show_answered;

@@ -1,0 +1,156 @@
+//! The command `explain`: why a run of a report, a task in it or an instance has its state.
+ghost use Rattle.std.specs.Prelude.{◌≡◌, ◌<◌, IfOk, IfErr, OnOk, Some, length, option_map, slice_get, string_bytes, true};
+ghost use Rattle.bf_command_fault.specs.Refusal.{Leaves, Sends};
+ghost use Rattle.bf_command_fault.specs.declared.status.Status.{Status as StatusTerm};
+ghost use Rattle.bf_device.specs.Device.{HasHalted, sent};
+ghost use Rattle.bf_report_reader.specs.Rules.{IsShownReport};
+ghost use Rattle.bf_views.specs.Asked.{run_number, task_number};
+ghost use Rattle.bf_views.specs.ExplainFaults.{IsExplainFault, IsFaultOfAsked};
+ghost use Rattle.bf_views.specs.Explanations.{IsExplainAnswer, IsExplanation, paths_asked};
+ghost use Rattle.bf_views.specs.Matching.{is_of_graph};
+
+use crate::matching::refuse_other;
+use crate::planned::plan_asked;
+use bf_command_fault::{CommandFault, Status};
+use bf_command_line::{ExplainAsked, TaskAsked};
+use bf_dependents::ClearFault;
+use bf_device::{Write, send};
+use bf_disk::Source;
+use bf_explain::{Paths, explain_run, explain_task, has_index};
+use bf_input::{moment_of, report_in};
+use bf_marks::tasks_in_order;
+use bf_plan::Plan;
+use bf_report::{Report, RunReport};
+use bf_value::{OutOfMemory, Text};
+use jiff::Timestamp;
+use std::alloc::Global;
+
+fn text_if_named(alloc: Global, path: &Option<String>) -> Result<Option<Text>, OutOfMemory>
+    ensures { IfOk result (λ text. text ≡ option_map string_bytes path.now) }
+{
+    match path {
+        Some(path) => Ok(Some(Text::copied(alloc, path.as_str())?)),
+        None => Ok(None),
+    }
+}
+
+fn paths_of(alloc: Global, asked: &ExplainAsked) -> Result<Paths, OutOfMemory>
+    ensures { IfOk result (λ paths. paths ≡ paths_asked asked.now) }
+{
+    Ok(Paths {
+        graph: Text::copied(alloc, asked.graph.graph.as_str())?,
+        report: Text::copied(alloc, asked.report.as_str())?,
+        zone_file: text_if_named(alloc, &asked.graph.zone_file)?,
+    })
+}
+
+fn task_of(plan: &Plan, task: &TaskAsked) -> Option<u32>
+    ensures { result ≡ task_number plan.now.dag task.now }
+{
+    plan.graph().number_of(task.id.as_str())
+}
+
+/// The number of the run that starts at a moment.
+fn run_at(report: &Report, start: Timestamp) -> Option<usize>
+    ensures { result ≡ run_number report.now start.nanosecond }
+{
+    report
+        .runs
+        .as_slice()
+        .iter()
+        .position(|run| run.interval.start == start)
+}
+
+/// The text on a run.
+fn run_explained(
+    alloc: Global,
+    paths: &Paths,
+    plan: &Plan,
+    report: &Report,
+    start: Timestamp,
+) -> Result<String, CommandFault>
+    requires { IsShownReport report.now }
+    ensures text { IfOk result (λ text. IsExplanation paths.now plan.now.dag report.now start.nanosecond None (string_bytes text)) }
+    ensures fault { IfErr result (IsFaultOfAsked plan.now.dag report.now start.nanosecond None) }
+{
+    let Some(run) = run_at(report, start) else {
+        return Err(CommandFault::Clear(ClearFault::UnknownRun));
+    };
+    refuse_other(alloc, plan.dag(), report)?;
+    let order = tasks_in_order(alloc, plan.dag())?;
+    let told_run = &report.runs.as_slice()[run];
+    Ok(explain_run(alloc, plan, told_run, order.as_slice())?)
+}
+
+/// The text on a task in a run.
+fn task_explained(
+    alloc: Global,
+    paths: &Paths,
+    plan: &Plan,
+    report: &Report,
+    start: Timestamp,
+    asked: &TaskAsked,
+) -> Result<String, CommandFault>
+    requires { IsShownReport report.now }
+    ensures text { IfOk result (λ text. IsExplanation paths.now plan.now.dag report.now start.nanosecond (Some asked.now) (string_bytes text)) }
+    ensures fault { IfErr result (IsFaultOfAsked plan.now.dag report.now start.nanosecond (Some asked.now)) }
+{
+    let Some(task) = task_of(plan, asked) else {
+        return Err(CommandFault::Clear(ClearFault::UnknownTask));
+    };
+    let Some(run) = run_at(report, start) else {
+        return Err(CommandFault::Clear(ClearFault::UnknownRun));
+    };
+    refuse_other(alloc, plan.dag(), report)?;
+    let told_run = &report.runs.as_slice()[run];
+    if !has_index(&told_run.tasks.as_slice()[task as usize], asked.index) {
+        return Err(CommandFault::UnknownIndex);
+    }
+    let index = asked.index;
+    Ok(explain_task(
+        alloc, paths, plan, report, run as u32, told_run, task, index,
+    )?)
+}
+
+fn explained(
+    alloc: Global,
+    paths: &Paths,
+    plan: &Plan,
+    report: &Report,
+    start: Timestamp,
+    task: &Option<TaskAsked>,
+) -> Result<String, CommandFault>
+    requires { IsShownReport report.now }
+    ensures text { IfOk result (λ text. IsExplanation paths.now plan.now.dag report.now start.nanosecond task.now (string_bytes text)) }
+    ensures fault { IfErr result (IsFaultOfAsked plan.now.dag report.now start.nanosecond task.now) }
+{
+    match task {
+        Some(task) => task_explained(alloc, paths, plan, report, start, task),
+        None => run_explained(alloc, paths, plan, report, start),
+    }
+}
+
+/// Looks at the moment of the run first; reads the graph file, the zone file where one is named, and checks the graph; then reads the
+/// report, looks for what is asked about, and writes the text. The report may be one of `single`, and of any range.
+pub fn explain_answered<S: Source, W: Write>(
+    alloc: Global,
+    asked: ExplainAsked,
+    files: &mut S,
+    out: &mut W,
+) -> Result<Status, CommandFault>
+    ensures answer { IfOk result (λ status. Sends (λ text. IsExplainAnswer (S.file files.old) asked text status)
+        (W.written out.old) (W.written out.new)) }
+    ensures fault { IfErr result (IsExplainFault (S.file files.old) asked) }
+    ensures left { IfErr result (Leaves (HasHalted (W.failures out.old) (W.failures out.new)
+        (W.interruptions out.old) (W.interruptions out.new))
+        (λ text. (status : StatusTerm) × IsExplainAnswer (S.file files.old) asked text status)
+        (W.written out.old) (W.written out.new)) }
+{
+    let start = moment_of(asked.run.as_str())?;
+    let paths = paths_of(alloc, &asked)?;
+    let planned = plan_asked(alloc, asked.graph, files)?;
+    let report = report_in(alloc, asked.report, files)?;
+    let text = explained(alloc, &paths, &planned.plan, &report, start, &asked.task)?;
+    send(out, text.as_bytes())?;
+    Ok(Status::Success)
+}
