@@ -104,13 +104,13 @@ at_terminal() {
     timeout 60 script -qec "$(printf '%q ' "$program" "$@") > out" typed < /dev/null > /dev/null || true
     sed -i -e '/^Script started on /d' -e '/^Script done on /d' typed
 }
-# What stands on the screen in the end: of each line what is behind the last clearing.
+# What stands on the screen in the end: of each line what is behind the last clearing. (What has a terminal cut a line moves nothing.)
 on_screen() {
-    sed -e 's/.*\r\x1b\[K//' -e 's/\r*$//' typed | sed -e '/^$/d'
+    sed -e 's/\x1b\[?7[hl]//g' -e 's/.*\r\x1b\[K//' -e 's/\r*$//' typed | sed -e '/^$/d'
 }
-# How often a text was written over a line.
+# How often a text was written over a line, to be cut where the terminal ends.
 times_written() {
-    { grep -aoF -- $'\r\x1b[K'"$1" typed || true; } | wc -l
+    { grep -aoF -- $'\r\x1b[K\x1b[?7l'"$1"$'\x1b[?7h' typed || true; } | wc -l
 }
 
 tasks '
@@ -137,6 +137,23 @@ for workers in 1 8; do
 done
 at_terminal clear "$graph" report "${day[@]}" --task hangs --run 2024-01-01 --workers 8 --quiet
 is_same 'the screen of a quiet clear' '' "$(on_screen)"
+
+# On a terminal of 40 columns the line that is kept leaves nothing behind: the last one stands there alone, over two rows.
+
+if command -v tmux > /dev/null; then
+    tasks '{"id":"quick","command":["true"]},{"id":"hangs","command":["sleep","2.4"]}'
+    in_tmux() {
+        tmux -L "backfill-$$" -f /dev/null "$@"
+    }
+    in_tmux new-session -d -x 40 -y 12 "$(printf '%q ' "$program" run "$graph" "${day[@]}" --workers 2) > out; touch ended; sleep 60"
+    until [[ -e ended ]]; do sleep 0.1; done
+    sleep 0.5
+    in_tmux capture-pane -pJ > typed
+    in_tmux kill-server
+    is_same 'the screen of 40 columns' 'runs 1/1 (0 open)  tasks 2/2  running 0  waiting 0  failed 0' "$(sed -e 's/ *$//' -e '/^$/d' typed)"
+else
+    skips 'what stands on a narrow terminal, for want of tmux'
+fi
 
 # Where a table answers, or no try is made, nothing is told unasked.
 

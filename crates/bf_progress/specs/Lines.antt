@@ -11,6 +11,14 @@ counts_text c =
     ++ (codes "  tasks " ++ (decimal c.settled ++ (codes "/" ++ (decimal c.tasks ++ (codes "  running " ++ (decimal c.running
     ++ (codes "  waiting " ++ (decimal c.waiting ++ (codes "  failed " ++ decimal c.failed)))))))))))))))
 
+-- and a line feed
+abbrev pub counts_line : Counts → List ℕ
+counts_line c = counts_text c ++ codes "\n"
+
+-- the same, as it is kept on a terminal: between ESC [ ? 7 l and ESC [ ? 7 h it is cut where the terminal ends, and goes on in no other line
+abbrev pub kept_line : Counts → List ℕ
+kept_line c = 27 ∷ codes "[?7l" ++ (counts_text c ++ (27 ∷ codes "[?7h"))
+
 -- as `running for 3600 s: crawl 2024-01-01T05:00:00Z index 2 try 1`, and a line feed
 abbrev pub longest_line : ℕ → JobContext → List ℕ
 longest_line seconds try = codes "running for " ++ (decimal seconds ++ (codes " s: " ++ (try_text try ++ codes "\n")))

@@ -1,8 +1,11 @@
 //! How far a backfill is.
+ghost use Rattle.std.specs.Prelude.{◌≡◌, IfOk, string_bytes};
+ghost use Rattle.bf_progress.specs.Lines.{counts_line, kept_line};
 
 use bf_core::{Cell, Core, Event, Phase};
 use bf_try::Outcome;
-use bf_value::JobName;
+use bf_value::{JobName, OutOfMemory};
+use std::alloc::Global;
 use std::fmt;
 
 /// How far a backfill is.
@@ -95,4 +98,18 @@ impl Counts {
             Event::Tick { .. } => {}
         }
     }
+}
+
+/// The line of the counts.
+pub(crate) fn line_of(alloc: Global, counts: &Counts) -> Result<String, OutOfMemory>
+    ensures { IfOk result (λ line. string_bytes line ≡ counts_line counts.now) }
+{
+    Ok(format!(in alloc; "{counts}\n")?)
+}
+
+/// The line of the counts that a terminal keeps. Nothing asks how wide it is: it cuts the line itself.
+pub(crate) fn kept_line_of(alloc: Global, counts: &Counts) -> Result<String, OutOfMemory>
+    ensures { IfOk result (λ line. string_bytes line ≡ kept_line counts.now) }
+{
+    Ok(format!(in alloc; "\u{1b}[?7l{counts}\u{1b}[?7h")?)
 }

@@ -2,7 +2,7 @@
 
 use crate::begun::Begun;
 use crate::board::Board;
-use crate::counts::Counts;
+use crate::counts::{Counts, kept_line_of, line_of};
 use crate::due::{Due, seconds_between};
 use crate::longest::longest_line;
 use crate::screen::{Screen, tell};
@@ -10,6 +10,7 @@ use bf_core::{Core, Event};
 use bf_failure::context_of;
 use bf_interval::Runs;
 use bf_plan::Plan;
+use bf_value::OutOfMemory;
 use std::alloc::Global;
 use std::sync::atomic::{AtomicBool, Ordering};
 use std::sync::{Mutex, Wait};
@@ -77,10 +78,14 @@ impl<'a, RT: Screen + Wait + Clock> Progress<'a, RT> {
         self.bell.unpark();
     }
 
-    /// Shows a last time how far the backfill is, on a line of its own.
+    /// Shows a last time how far the backfill is, on a line of its own. No try runs any more: where it was stopped, the
+    /// ends of the last ones were noted by nobody.
     pub fn show_last(&self) {
-        let counts = self.counts();
-        self.show(&counts, "\n");
+        let counts = Counts {
+            running: 0,
+            ..self.counts()
+        };
+        self.show(line_of(self.alloc, &counts));
     }
 
     fn counts(&self) -> Counts {
@@ -102,15 +107,15 @@ impl<'a, RT: Screen + Wait + Clock> Progress<'a, RT> {
         let keeps_line = self.rt.is_terminal();
         match self.taken(now, keeps_line) {
             (Due::Nothing, _) => {}
-            (Due::Counts, counts) => self.show(&counts, if keeps_line { "" } else { "\n" }),
+            (Due::Counts, counts) if keeps_line => self.show(kept_line_of(self.alloc, &counts)),
+            (Due::Counts, counts) => self.show(line_of(self.alloc, &counts)),
             (Due::Longest(begun), _) => self.tell_longest(&begun, now),
         }
     }
 
-    /// Shows how far the backfill is, over the line before where the screen is a terminal. Where memory is wanting, nothing
-    /// is shown.
-    fn show(&self, counts: &Counts, end: &str) {
-        if let Ok(line) = format!(in self.alloc; "{counts}{end}") {
+    /// Tells a line. Where memory was wanting for it, nothing is told.
+    fn show(&self, line: Result<String, OutOfMemory>) {
+        if let Ok(line) = line {
             tell(self.rt, self.alloc, line.as_str());
         }
     }
@@ -121,8 +126,6 @@ impl<'a, RT: Screen + Wait + Clock> Progress<'a, RT> {
             return;
         };
         let seconds = seconds_between(begun.at, now);
-        if let Ok(line) = longest_line(self.alloc, seconds, &context) {
-            tell(self.rt, self.alloc, line.as_str());
-        }
+        self.show(longest_line(self.alloc, seconds, &context));
     }
 }
