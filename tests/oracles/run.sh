@@ -12,7 +12,7 @@ source "$(dirname "$(readlink -f "${BASH_SOURCE[0]}")")/../shared/compare.sh"
 unset COLUMNS
 
 # How many seeds each oracle has by itself.
-declare -A seeds=([backfills]=300 [faults]=1000 [intervals]=600 [journals]=400 [reports]=600 [tables_and_clearing]=600 [views]=150)
+declare -A seeds=([backfills]=300 [explanations]=300 [faults]=1000 [intervals]=600 [journals]=400 [reports]=600 [tables_and_clearing]=600 [views]=150)
 
 # Below, `folder` has the files of a seed, `graph` is its graph file, and the arguments are what its line in the file `cases` has.
 
@@ -61,6 +61,15 @@ compares_backfills() {
     clears_by failed "$failed" --failed
     keeps "$keep_1" 1 --from "$first" --to "$last"
     keeps "$keep_2" 2 --from "$first" --to "$last"
+}
+
+# Why runs, tasks and instances of a report have their states.
+compares_explanations() {
+    local name of report words
+    while read -r name of report words; do
+        # (each word stands for itself)
+        answers 0 explain "$folder/$of" "$folder/$report" $words < "$folder/$name"
+    done < "$folder/asked"
 }
 
 # Graph files with faults.

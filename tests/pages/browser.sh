@@ -1,7 +1,8 @@
 #!/usr/bin/env bash
-# Looks at pages in a real browser: the texts that they have, the details of each place beside the report, the graph, keys, filters, addresses, colours,
-# names for readers of screens, copies, narrow and printed, and what the policy refuses, over examples, a warehouse of 90 days, hostile values and 20
-# graphs by chance. It takes Chromium and python3. The last line is the sum, and the status is 1 where something differs.
+# Looks at pages in a real browser: the texts that they have, the details of each place beside the report and the reasons beside a second reading's, the
+# graph, keys, filters, addresses, colours, names for readers of screens, copies, narrow and printed, and what the policy refuses, over examples, a
+# warehouse of 90 days, hostile values and 20 graphs by chance. It takes Chromium and python3. The last line is the sum, and the status is 1 where
+# something differs.
 set -euo pipefail
 
 source "$(dirname "$(readlink -f "${BASH_SOURCE[0]}")")/../shared/count.sh"

@@ -23,6 +23,7 @@ Commands:
   clear        Runs tasks of runs again, with all that follows from them, and keeps the rest of a report
   show         Shows a report as a grid of characters, a column for each run and a row for each task
   page         Writes a page that shows a report: its runs and tasks as a grid, the graph, and why each task has its state
+  explain      Tells why a task of a run, or a run, has its state
   schema       Prints the JSON Schema of graph files or tables, for editors
   completions  Prints what a shell completes of a command line
   help         Print this message or the help of the given subcommand(s)
@@ -182,6 +183,26 @@ Options:
 
 Example:
   backfill page examples/failed_day/graph.json examples/failed_day/report.txt > page.html
+HELP
+answers 0 explain --help <<'HELP'
+Tells why a task of a run, or a run, has its state
+
+Usage: backfill explain [OPTIONS] --run <T> <GRAPH> <REPORT>
+
+Arguments:
+  <GRAPH>   The task graph, a JSON file
+  <REPORT>  The report that has it
+
+Options:
+      --zone-file <PATH>  The zone file that the graph's zone `file` means, as of the tz database
+      --run <T>           The logical date of the run, in UTC, as 2024-01-31 or 2024-01-31T06:00:00Z
+      --task <ID>         The task; without it the run is explained
+      --index <N>         The map index of one instance of an expanded task; needs --task
+  -h, --help              Print help
+
+Examples:
+  backfill explain --task publish --run 2024-03-05 examples/failed_day/graph.json examples/failed_day/report.txt
+  backfill explain --run 2024-03-05 examples/failed_day/graph.json examples/failed_day/report.txt
 HELP
 answers 0 schema --help <<'HELP'
 Prints the JSON Schema of graph files or tables, for editors

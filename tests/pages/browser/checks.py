@@ -13,6 +13,7 @@ import time
 
 sys.path.insert(0, str(pathlib.Path(__file__).resolve().parents[2] / "oracles"))
 import chromium
+import explaining
 import showing
 
 TEXTS = ["graph-path", "report-path", "zone-path", "cells", "graph", "report"]
@@ -111,16 +112,17 @@ class Sample:
         cells = showing.cells_text(self.graph, self.report, len(self.report_text.encode()))
         paths = (self.folder / "paths").read_bytes().decode().split("\0")
         self.texts = [*paths[:3], cells, self.graph_text, self.report_text]
+        self.explaining = explaining.Explaining(*paths[:2], self.graph_text, self.report_text)
 
     def places(self):
-        """Each task of each run and each of its instances: what comes behind # in its address, the task, and the instance if it is one."""
-        for run in self.report.runs:
+        """Each task of each run and each of its instances: what comes behind # in its address, the instance if it is one, and why it is so."""
+        for at, run in enumerate(self.report.runs):
             for task, instances in enumerate(run.tasks):
                 place = f"{run.start}/{self.graph.id(task)}"
-                yield place, instances[0] if instances[0].index < 0 else None
+                yield place, instances[0] if instances[0].index < 0 else None, list(self.explaining.why(at, task, None))
                 for instance in instances:
                     if instance.index >= 0:
-                        yield f"{place}/{instance.index}", instance
+                        yield f"{place}/{instance.index}", instance, list(self.explaining.why(at, task, instance.index))
 
 
 def details_of(instance):
@@ -151,15 +153,15 @@ def looks_at_texts(browser, sample):
 def looks_at_details(browser, sample):
     """The details of each task of each run and of each instance have what the report has of it."""
     name, places = sample.folder.name, list(sample.places())
-    found = browser.script(DETAILS.replace("PLACES", json.dumps([place for place, _ in places])), True) if places else []
+    found = browser.script(DETAILS.replace("PLACES", json.dumps([place for place, *_ in places])), True) if places else []
     is_same(f"{name}: how many details", len(places), len(found))
-    for (place, instance), details in zip(places, found):
+    for (place, instance, why), details in zip(places, found):
+        is_same(f"{name}: why {place} is so", why, details["parts"].get("Why"))
         if instance is None:
             continue
         wanted = details_of(instance)
         is_same(f"{name}: {place}", wanted, {part: details["parts"].get(part) for part in wanted})
         is_so(f"{name}: the state of {place}", details["state"].startswith(showing.STATES[instance.state]), details["state"])
-        is_so(f"{name}: why {place} has it", details["parts"].get("Why"), details["parts"])
     is_same(f"{name}: what the browser told", [], browser.problems())
 
 
