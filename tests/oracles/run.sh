@@ -4,14 +4,15 @@
 #
 #     tests/oracles/run.sh NAME [FIRST [COUNT]]
 #
-# NAME.py writes the files of COUNT seeds from FIRST on, by itself those from 1 on that ./test runs, with what is to be printed. Without a NAME it
-# tells which there are. Needs python3. The last line is the sum, and the status is 1 where a row differs.
+# NAME.py writes the files of COUNT seeds from FIRST on, with what is to be printed; by itself those from 1 on that ./test takes, or
+# ./test --whole, which says so by TEST_SEEDS. Without a NAME it tells which there are, one that takes long in parts. Needs python3.
+# The last line is the sum, and the status is 1 where a row differs.
 set -euo pipefail
 
 source "$(dirname "$(readlink -f "${BASH_SOURCE[0]}")")/../shared/compare.sh"
 unset COLUMNS
 
-# How many seeds each oracle has by itself.
+# How many seeds each oracle has in the whole.
 declare -A seeds=([backfills]=300 [explanations]=300 [faults]=1000 [intervals]=600 [journals]=400 [reports]=600 [tables_and_clearing]=600 [views]=150)
 
 # Below, `folder` has the files of a seed, `graph` is its graph file, and the arguments are what its line in the file `cases` has.
@@ -152,7 +153,14 @@ compares_views() {
 
 name=${1:-}
 if [[ -z $name ]]; then
-    printf '%s\n' "${!seeds[@]}" | sort
+    for name in $(printf '%s\n' "${!seeds[@]}" | sort); do
+        # (300 seeds of this one take longer than all others together)
+        if [[ $name == explanations && ${TEST_SEEDS:-} == whole ]]; then
+            printf "$name %s 75\n" 1 76 151 226
+        else
+            echo "$name"
+        fi
+    done
     exit
 fi
 if [[ -z ${seeds[$name]:-} ]]; then
@@ -160,7 +168,9 @@ if [[ -z ${seeds[$name]:-} ]]; then
     exit 2
 fi
 [[ -n $(command -v python3) ]] || skips_rest "the oracle $name, since there is no python3"
-count=${3:-${seeds[$name]}}
+count=${seeds[$name]}
+[[ ${TEST_SEEDS:-} == whole ]] || count=$((count / 10))
+count=${3:-$count}
 python3 -B "$root/tests/oracles/$name.py" "$work" "${2:-1}" "$count"
 # (paths in a folder that mktemp made have no blanks)
 while read -r seed words; do

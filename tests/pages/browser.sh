@@ -1,7 +1,7 @@
 #!/usr/bin/env bash
 # Looks at pages in a real browser: the texts that they have, the details of each place beside the report and the reasons beside a second reading's, the
 # graph, keys, filters, addresses, colours, names for readers of screens, copies, narrow and printed, and what the policy refuses, over examples, a
-# warehouse of 90 days, hostile values and 20 graphs by chance. It takes Chromium and python3. The last line is the sum, and the status is 1 where
+# warehouse of 90 days, hostile values and 2 graphs by chance, or 20 in ./test --whole. It takes Chromium and python3. The last line is the sum, and the status is 1 where
 # something differs.
 set -euo pipefail
 
@@ -37,9 +37,11 @@ for name in failed_day branch mapped; do
     makes_page "$name"
 done
 mkdir chance
-python3 -B "$root/tests/oracles/views.py" chance 1 20
+graphs=2
+[[ ${TEST_SEEDS:-} != whole ]] || graphs=20
+python3 -B "$root/tests/oracles/views.py" chance 1 "$graphs"
 folders=(warehouse hostile failed_day branch mapped)
-for seed in {1..20}; do
+for ((seed = 1; seed <= graphs; seed++)); do
     for report in dry_1 dry_2 single; do
         folder=chance_${seed}_$report
         mkdir "$folder"
