@@ -81,6 +81,33 @@ end-in_step lanes next b workers at d o is able given got =
           omega (arith, g, same);
     })
 
+-- a try has begun and ended, and no lane has heard of it
+pub made-in_step : (lanes : List Scheduled) (b : Backfill) (workers : ℕ) (t : Asked) (d : Answered) (o : Outcome) → IsInStep lanes b workers → MayCome b (Event.Begin t.name) →
+    t.given ≡ given_in (cell_at b.state t.name.run t.name.task) (place_in b.dag t.name) → MayCome (moved b (Event.Begin t.name)) (Event.End d.name o) →
+    given_in (cell_at (moved b (Event.Begin t.name)).state d.name.run d.name.task) (place_in (moved b (Event.Begin t.name)).dag d.name) ≡ d.given → d.name ≡ t.name → d.given ≡ t.given →
+    IsInStep lanes (moved (moved b (Event.Begin t.name)) (Event.End d.name o)) workers
+made-in_step lanes b workers t d o is begins given ends gives named alike = record {
+  replayed = replay-event c (Event.End d.name o) begun ends;
+  lane_each = is.lane_each;
+  none_stopped = is.none_stopped;
+  accounted = record {
+    equal = λ h.
+        let first : _ = running-after b.dag b.runs b.state (replay-shaped b is.replayed) h b.limits (Event.Begin t.name) begins.0 in
+        let then : _ = running-after c.dag c.runs c.state (replay-shaped c begun) h c.limits (Event.End d.name o) ends.0 in
+        let a : _ = is.accounted.equal h in
+        let more : h t ≡ h (asked_in b.dag b.state t.name) = ap (λ g. h (record { name = t.name; given = g })) given in
+        let fewer : h (asked_in c.dag c.state d.name) ≡ h (record { name = d.name; given = d.given }) = ap (λ g. h (record { name = d.name; given = g })) gives in
+        let same : h (record { name = d.name; given = d.given }) ≡ h t = (λ i. h (record { name = named i; given = alike i })) in
+        omega (arith, first, then, a, more, fewer, same);
+  };
+}
+  where
+    c : Backfill
+    c = moved b (Event.Begin t.name)
+
+    begun : IsReplay c
+    begun = replay-event b (Event.Begin t.name) is.replayed begins
+
 -- ---- the start
 
 pub opening-in_step : (lanes : List Scheduled) (dag : Dag) (limits : Limits) (runs workers : ℕ) → IsReplay (opening dag limits runs) → AreUnused lanes → length lanes ≡ workers → IsInStep lanes (opening dag limits runs) workers

@@ -78,6 +78,10 @@ module _ {S : Type 0} (shows : S → Event → ℕ → S → Type 0) where
   pub acted_shown : (old mid new : S) (s p t : Schedule) (event : Event) → HasShown shows old mid s.backfill p.backfill → t.backfill ≡ moved p.backfill event → ShowsLast shows mid new t.backfill → HasShown shows old new s.backfill t.backfill
   acted_shown old mid new s p t event h is last = then_shown old mid new s.backfill p.backfill t.backfill h (one_shown mid new p.backfill t.backfill event is last)
 
+  -- the clock has caught up, a try has begun, and then it may have ended at once
+  pub begun_shown : (old mid begun new : S) (s p q t : Schedule) (event : Event) → HasShown shows old mid s.backfill p.backfill → q.backfill ≡ moved p.backfill event → ShowsLast shows mid begun q.backfill → HasShown shows begun new q.backfill t.backfill → HasShown shows old new s.backfill t.backfill
+  begun_shown old mid begun new s p q t event h is last k = then_shown old begun new s.backfill q.backfill t.backfill (acted_shown old mid begun s p q event h is last) k
+
   -- the clock has caught up, nothing has come, and then an answer was waited for
   pub awaited_shown : (old mid new : S) (s p q t : Schedule) → HasShown shows old mid s.backfill p.backfill → q ≡ p → HasShown shows mid new q.backfill t.backfill → HasShown shows old new s.backfill t.backfill
   awaited_shown old mid new s p q t h is k = then_shown old mid new s.backfill p.backfill t.backfill h (subst (λ (x : Schedule). HasShown shows mid new x.backfill t.backfill) is k)

@@ -1,5 +1,5 @@
 -- What a turn keeps.
-use Rattle.std.proofs.Common.{◌≡◌, ◌<◌, ℕ, ℤ, Bool, true, false, List, None, Some, refl, sym, subst, inl, inr, arith, length, not}
+use Rattle.std.proofs.Common.{◌≡◌, ◌<◌, ℕ, ℤ, Bool, true, false, List, None, Some, refl, sym, subst, subst₂, inl, inr, arith, length, not}
 use Rattle.std.specs.Int.{int_min}
 use Rattle.std.specs.List.{position}
 use Rattle.std.specs.Prelude.{OnOk, Result, Ok, Err}
@@ -18,10 +18,10 @@ use Rattle.bf_lane.specs.Open.{IsIdleAt, Scheduled, awaits}
 use Rattle.bf_lane.specs.Rounds.{IsGathered, IsSubmitted}
 use Rattle.bf_exec.specs.Accounts.{IsInStep}
 use Rattle.bf_sched.specs.Driving.{StaysDriven}
-use Rattle.bf_sched.proofs.Driving.{finished_driven, same_driven, stays_driven, ticked_driven}
-use Rattle.bf_exec.specs.Turns.{AreInStep, EndsBy, EndsWait, HasAwaited, HasCaughtUp, HasStranger, IsHaltBy, IsHaltOf, IsLeftBy, IsStrange, MustAwait}
+use Rattle.bf_sched.proofs.Driving.{begun_driven, finished_driven, same_driven, stays_driven, ticked_driven}
+use Rattle.bf_exec.specs.Turns.{AreAmong, AreInStep, EndsAtOnce, EndsBy, EndsWait, HasAwaited, HasCaughtUp, HasStranger, IsHaltBy, IsHaltOf, IsLeftBy, IsStrange, MustAwait}
 use Rattle.bf_exec.specs.declared.halt.Halt.{Halt}
-use Rattle.bf_exec.proofs.Keeping.{IsStill, begin-in_step, end-in_step, still-in_step, tick-in_step}
+use Rattle.bf_exec.proofs.Keeping.{IsStill, begin-in_step, end-in_step, made-in_step, still-in_step, tick-in_step}
 use Rattle.bf_exec.proofs.Sums.{first-idle, some-idle}
 
 -- ---- driven
@@ -31,6 +31,11 @@ caught_up_driven may now s t is = ticked_driven may s t (int_min now last_moment
 
 pub ended_driven : (may : JobName → Given → Raw → Type 0) (now : ℤ) (s t : Schedule) (done : Answered) → EndsBy now done s t → may done.name done.given done.raw → StaysDriven may s t
 ended_driven may now s t done h ok = stays_driven may s h.present t (caught_up_driven may now s h.present h.caught_up) (finished_driven may h.present t done h.finished ok)
+
+pub answered_driven : (may some : JobName → Given → Raw → Type 0) (s m t : Schedule) (ticket : Asked) → AreAmong some may → HasBegun s ticket m → EndsAtOnce some ticket m t → StaysDriven may s t
+answered_driven may some s m t ticket among begun h =
+    let done = h.answer in
+    stays_driven may s m t (begun_driven may s m ticket begun) (finished_driven may m t done h.finished (among done.name done.given done.raw h.may_be))
 
 -- ---- in step
 
@@ -72,6 +77,22 @@ gathered_in_step lanes next now s t at done h got before =
     let may : MayFinish p.backfill done = h.finished.0 in
     moved_in_step lanes next p t (end_of p.backfill done) h.finished.1
     (end-in_step lanes next p.backfill p.workers at done (grade_of p.backfill.dag done.name.task done.raw) present may.0 (may.1 may.0.0.0) got)
+
+pub answered_in_step : (some : JobName → Given → Raw → Type 0) (lanes : List Scheduled) (s m t : Schedule) (ticket : Asked) → HasBegun s ticket m → EndsAtOnce some ticket m t → AreInStep lanes s → AreInStep lanes t
+answered_in_step some lanes s m t ticket begun h before =
+    moved_in_step lanes lanes m t (end_of m.backfill h.answer) h.finished.1
+    (subst (λ (x : Schedule). MayFinish x.backfill h.answer → IsInStep lanes (moved x.backfill (end_of x.backfill h.answer)) x.workers) (sym begun.new_is) first h.finished.0)
+  where
+    c : Backfill
+    c = moved s.backfill (Event.Begin ticket.name)
+
+    first : MayFinish c h.answer → IsInStep lanes (moved c (end_of c h.answer)) s.workers
+    first may =
+        made-in_step lanes s.backfill s.workers ticket h.answer (grade_of s.backfill.dag h.answer.name.task h.answer.raw) before begun.is_first.may_begin begun.is_ticket.1 may.0 (may.1 may.0.0.0) h.is_name h.is_given
+
+-- a try that has begun, and whose ticket came back, has begun
+pub left_begun : (s m t : Schedule) (ticket back : Asked) → HasBegun s ticket m → (back ≡ ticket) × (t ≡ m) → HasBegun s back t
+left_begun s m t ticket back begun h = subst₂ (λ (a : Asked) (x : Schedule). HasBegun s a x) (sym h.0) (sym h.1) begun
 
 -- ---- the idle lane
 

@@ -3,7 +3,8 @@ use Rattle.std.specs.Prelude.{◌≡◌, ◌⊎◌, ℕ, ℤ, ◌≤ℤ◌, Bool
 use Rattle.std.specs.Int.{int_min}
 use Rattle.bf_try.specs.Asked.{Asked, Answered}
 use Rattle.bf_try.specs.declared.runner.RunnerFault.TheVariants.{GaveUp}
-use Rattle.bf_core.specs.Terms.{JobName}
+use Rattle.bf_try.specs.declared.answers.Raw.{Raw}
+use Rattle.bf_core.specs.Terms.{Given, JobName}
 use Rattle.bf_core.specs.Clocks.{last_moment}
 use Rattle.bf_core.specs.Cores.{Backfill}
 use Rattle.bf_core.specs.Events.{HasEnded}
@@ -19,6 +20,10 @@ use Rattle.bf_exec.specs.declared.halt.Halt.{Halt}
 
 -- ---- what comes in a turn
 
+-- what may be answered at once may be answered by a worker
+abbrev pub AreAmong : (JobName → Given → Raw → Type 0) → (JobName → Given → Raw → Type 0) → Type 0
+AreAmong some all = (n : JobName) (g : Given) (r : Raw) → some n g r → all n g r
+
 -- the clock of the backfill has come to the present moment, where that is later than what it showed
 pub record HasCaughtUp (now : ℤ) (s t : Schedule) : Type 0 where
   pub came : Bool
@@ -30,6 +35,22 @@ pub record HasSubmitted (lanes after : List Scheduled) (s t : Schedule) : Type 0
   pub ticket : Asked
   pub sent : IsSubmitted lanes after at ticket
   pub begun : HasBegun s ticket t
+
+-- the try of the ticket, which has begun, has ended by an answer that was there at once
+pub record EndsAtOnce (may : JobName → Given → Raw → Type 0) (ticket : Asked) (s t : Schedule) : Type 0 where
+  pub answer : Answered
+  pub is_name : answer.name ≡ ticket.name
+  pub is_given : answer.given ≡ ticket.given
+  pub may_be : may answer.name answer.given answer.raw
+  pub finished : HasFinished s answer t
+
+-- a try has begun, and has ended by an answer that was there at once
+pub record HasAnswered (may : JobName → Given → Raw → Type 0) (lanes after : List Scheduled) (s t : Schedule) : Type 0 where
+  pub ticket : Asked
+  pub running : Schedule
+  pub begun : HasBegun s ticket running
+  pub ended : EndsAtOnce may ticket running t
+  pub lanes_are : after ≡ lanes
 
 -- the clock has caught up, and the try of the answer has ended by it
 pub record EndsBy (now : ℤ) (answer : Answered) (s t : Schedule) : Type 0 where
@@ -62,11 +83,11 @@ MustAwait s = MustWait s s ⊎ ((moment : ℤ) × WaitsUntil s moment s)
 
 -- ---- turns
 
--- the clock has caught up, and then an event has come by itself, or a try has begun that was submitted
-pub record HasActed (now : ℤ) (lanes after : List Scheduled) (s t : Schedule) : Type 0 where
+-- the clock has caught up, and then an event has come by itself, or a try has begun that was submitted, or that has ended at once
+pub record HasActed (may : JobName → Given → Raw → Type 0) (now : ℤ) (lanes after : List Scheduled) (s t : Schedule) : Type 0 where
   pub present : Schedule
   pub caught_up : HasCaughtUp now s present
-  pub acted : ((after ≡ lanes) × HasStepped present t) ⊎ HasSubmitted lanes after present t
+  pub acted : ((after ≡ lanes) × HasStepped present t) ⊎ (HasSubmitted lanes after present t ⊎ HasAnswered may lanes after present t)
 
 -- the clock has caught up, nothing could come, and then a try has ended by its answer, or the moment has come that was waited for
 pub record HasAwaited (now : ℤ) (lanes after : List Scheduled) (s t : Schedule) : Type 0 where
@@ -82,9 +103,9 @@ pub record FindsEnded (now : ℤ) (lanes after : List Scheduled) (s t : Schedule
   pub ended : HasEnded t.backfill.state
   pub lanes_are : after ≡ lanes
 
-abbrev pub IsTurn : ℤ → List Scheduled → List Scheduled → Schedule → Schedule → Bool → Type 0
-IsTurn now lanes after s t true = HasActed now lanes after s t ⊎ HasAwaited now lanes after s t
-IsTurn now lanes after s t false = FindsEnded now lanes after s t
+abbrev pub IsTurn : (JobName → Given → Raw → Type 0) → ℤ → List Scheduled → List Scheduled → Schedule → Schedule → Bool → Type 0
+IsTurn may now lanes after s t true = HasActed may now lanes after s t ⊎ HasAwaited now lanes after s t
+IsTurn may now lanes after s t false = FindsEnded now lanes after s t
 
 -- the lanes and the backfill are in step
 abbrev pub AreInStep : List Scheduled → Schedule → Type 0

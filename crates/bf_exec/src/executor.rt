@@ -6,15 +6,16 @@ ghost use Rattle.bf_lane.specs.Lanes.{IsAllowedBy};
 ghost use Rattle.bf_lane.specs.Rounds.{IsGathered};
 ghost use Rattle.bf_exec.specs.Faults.{MayHalt};
 ghost use Rattle.bf_exec.specs.Shown.{HasShown, ShowsLast};
-ghost use Rattle.bf_exec.specs.Turns.{AreInStep, EndsBy, EndsWait, HasCaughtUp, IsHaltBy, IsHaltOf, IsPast, IsTurn};
-ghost use Rattle.bf_sched.specs.Driving.{StaysDriven};
+ghost use Rattle.bf_exec.specs.Turns.{AreAmong, AreInStep, EndsAtOnce, EndsBy, EndsWait, HasCaughtUp, IsHaltBy, IsHaltOf, IsPast, IsTurn};
+ghost use Rattle.bf_sched.specs.Driving.{IsUnderWay, StaysDriven};
 
+use crate::at_once::AnswerAtOnce;
 use crate::halt::Halt;
 use crate::watch::{Observer, Watch};
 use bf_core::{Illegal, LAST_MOMENT};
 use bf_lane::{Answer, Clock, Closed, Lanes, Service};
 use bf_sched::{Next, Scheduler};
-use bf_try::{Done, RunnerFault};
+use bf_try::{Done, RunnerFault, Ticket};
 use bf_value::OutOfMemory;
 use std::marker::Model;
 use std::sync::Wait;
@@ -86,6 +87,30 @@ fn end<C: Clock, O: Observer>(
     }
 }
 
+/// Ends a try that has begun, where it is answered at once; else its ticket comes back.
+fn end_at_once<D: AnswerAtOnce, O: Observer>(
+    desk: &D,
+    ticket: Ticket,
+    scheduler: &mut Scheduler<'_>,
+    observer: &mut O,
+) -> Result<Option<Ticket>, OutOfMemory>
+    requires { IsUnderWay scheduler.old.backfill ticket }
+    ensures some { IfOk result (λ left. IfSome left (λ back. (back ≡ ticket) × (scheduler.new ≡ scheduler.old))) }
+    ensures none { IfOk result (λ left. IfNone left
+        (EndsAtOnce (D.may_answer_at_once desk.now) ticket scheduler.old scheduler.new)) }
+    ensures same { OnErr result (scheduler.new ≡ scheduler.old) }
+    ensures shown { HasShown O.shows observer.old observer.new scheduler.old.backfill scheduler.new.backfill }
+{
+    match desk.answer_at_once(ticket) {
+        Ok(done) => {
+            scheduler.finish_running(done)?;
+            show(scheduler, observer);
+            Ok(None)
+        }
+        Err(ticket) => Ok(Some(ticket)),
+    }
+}
+
 impl<'s, K: Service + Send + Sync + 's> Executor<'s, K> {
     /// The executor over these lanes.
     pub fn of(lanes: Lanes<'s, K>) -> Executor<'s, K>
@@ -148,17 +173,19 @@ impl<'s, K: Service + Send + Sync + 's> Executor<'s, K> {
     }
 
     /// One turn of the scheduling loop, in which the clock of the backfill catches up first: an event comes by itself, or a
-    /// try begins and is submitted, or where nothing can come an answer is gathered and ends its try, unless the moment comes
+    /// try begins and ends by an answer at once, or begins and is submitted, or where nothing can come an answer is gathered and ends its try, unless the moment comes
     /// before for which a try waits. False where the backfill has ended. After a halt only `close` may follow. The observer is
     /// shown each event.
-    pub fn turn<W: Wait, C: Clock, O: Observer>(
+    pub fn turn<W: Wait, D: AnswerAtOnce, C: Clock, O: Observer>(
         &mut self,
         rt: &W,
+        desk: &D,
         scheduler: &mut Scheduler<'_>,
         watch: &mut Watch<C, O>,
     ) -> Result<bool, Halt>
         requires in_step { AreInStep self.old scheduler.old }
-        ensures ok { IfOk result (IsTurn (C.last watch.new.clock) self.old self.new scheduler.old scheduler.new) }
+        requires at_once { AreAmong (D.may_answer_at_once desk.now) K.answers }
+        ensures ok { IfOk result (IsTurn (D.may_answer_at_once desk.now) (C.last watch.new.clock) self.old self.new scheduler.old scheduler.new) }
         ensures in_step { OnOk result (AreInStep self.new scheduler.new) }
         ensures driven { OnOk result (StaysDriven K.answers scheduler.old scheduler.new) }
         ensures err { IfErr result (IsHaltOf self.old self.new) }
@@ -176,8 +203,13 @@ impl<'s, K: Service + Send + Sync + 's> Executor<'s, K> {
                 let Some(at) = self.lanes.idle() else {
                     unreachable!()
                 };
-                self.lanes.submit(rt, at, ticket);
-                Ok(true)
+                match end_at_once(desk, ticket, scheduler, &mut watch.observer)? {
+                    Some(ticket) => {
+                        self.lanes.submit(rt, at, ticket);
+                        Ok(true)
+                    }
+                    None => Ok(true),
+                }
             }
             Next::Wait => {
                 let until = scheduler.pending();

@@ -1,12 +1,14 @@
 //! The executor: it drives a backfill by a scheduler over worker threads.
 //!
 //! The calling thread owns the scheduler and shares nothing of it. It goes by turns: in each an event comes by itself, or a
-//! try begins and is submitted over the lane of a worker that has none, or an answer is gathered and ends its try.
+//! try begins and is submitted over the lane of a worker that has none, or an answer is gathered and ends its try. A try that is
+//! kept of another backfill begins and ends in one turn, and no worker hears of it.
 //!
 //! What runs is always what was submitted and not gathered, each try with what it is given, and never are more tries running
 //! than there are workers. No clause says that threads are used, or how long anything takes.
 #![tactic(auto)]
 
+mod at_once;
 mod executor;
 mod halt;
 mod order;
@@ -15,6 +17,7 @@ mod running;
 mod starting;
 mod watch;
 
+pub use at_once::AnswerAtOnce;
 pub use executor::Executor;
 pub use halt::Halt;
 pub use resuming::resume;

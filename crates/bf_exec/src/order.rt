@@ -1,4 +1,5 @@
 //! What a backfill is asked for, and what its workers share.
+use crate::at_once::AnswerAtOnce;
 use bf_plan::Plan;
 use bf_try::{Done, RunnerFault, TaskRunner, Ticket};
 use bf_workers::Workers;
@@ -46,5 +47,13 @@ impl<'r, R: TaskRunner> TaskRunner for Desk<'r, R> {
 
     fn run(&self, ticket: Ticket) -> Result<Done, (Ticket, RunnerFault)> {
         self.runner.run(ticket)
+    }
+}
+
+impl<'r, R: AnswerAtOnce> AnswerAtOnce for Desk<'r, R> {
+    ghost may_answer_at_once = { λ d n g r. R.may_answer_at_once d.runner.now n g r };
+
+    fn answer_at_once(&self, ticket: Ticket) -> Result<Done, Ticket> {
+        self.runner.answer_at_once(ticket)
     }
 }

@@ -7,7 +7,7 @@ ghost use Rattle.bf_core.specs.Events.{entry_in};
 ghost use Rattle.bf_core.specs.Terms.{AreAlike};
 ghost use Rattle.bf_exec.specs.Faults.{MayFail};
 
-use crate::running::run_backfill;
+use crate::running::run_answered;
 use crate::watch::{Observer, Watch};
 use bf_core::{BackfillFault, Ended};
 use bf_kept::{Keeping, KeptTries};
@@ -21,7 +21,7 @@ use std::sync::Wait;
 use std::thread::Threads;
 
 /// The end of a backfill of a plan over these runs, of which tries are kept: a try that is kept, and is given the same
-/// again, ends as it did and is never given up, and the runner answers every other. All else is as in `run_backfill`.
+/// again, ends as it did at once and is never given up, and the runner answers every other. All else is as in `run_backfill`.
 ///
 /// Where the runner could have given what is kept, it could have given all: so a backfill that goes on from what is kept of one
 /// that was broken off ends as one that the runner answers alone.
@@ -58,5 +58,5 @@ pub fn resume<
     ensures err { IfErr result (MayFail
         (MayGiveUpAnew (K.kept keeping.now.kept.now) (R.may_give_up keeping.now.runner.now))) }
 {
-    run_backfill(rt, alloc, plan, runs, workers, keeping, watch)
+    run_answered(rt, alloc, plan, runs, workers, keeping, watch)
 }

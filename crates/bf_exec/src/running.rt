@@ -10,9 +10,10 @@ ghost use Rattle.bf_exec.specs.Faults.{IsFaultOf, MayFail, MayHalt};
 ghost use Rattle.bf_exec.specs.Shown.{HasShown, WasShown};
 ghost use Rattle.bf_exec.specs.Starting.{AreFresh};
 ghost use Rattle.bf_sched.specs.Driving.{StaysDriven};
-ghost use Rattle.bf_exec.specs.Turns.{AreInStep, IsLeftBy};
+ghost use Rattle.bf_exec.specs.Turns.{AreAmong, AreInStep, IsLeftBy};
 ghost use Rattle.bf_exec.specs.declared.halt.Halt.{Halt as HaltTerm};
 
+use crate::at_once::{AnswerAtOnce, ByWorkers};
 use crate::executor::Executor;
 use crate::halt::Halt;
 use crate::order::{Desk, Order, Shared};
@@ -33,13 +34,15 @@ use std::thread::{Parker, Scope, Threads};
 
 /// Turns until the backfill has ended, or a turn halts.
 #[tactic(auto, using(bf_sched::proofs::Driving::same_driven, crate::proofs::Turning::left_by))]
-fn all_turns<'s, K: Service + Send + Sync + 's, W: Wait, C: Clock, O: Observer>(
+fn all_turns<'s, K: Service + Send + Sync + 's, W: Wait, D: AnswerAtOnce, C: Clock, O: Observer>(
     rt: &W,
+    desk: &D,
     executor: &mut Executor<'s, K>,
     scheduler: &mut Scheduler<'_>,
     watch: &mut Watch<C, O>,
 ) -> Result<(), Halt>
     requires in_step { AreInStep executor.old scheduler.old }
+    requires at_once { AreAmong (D.may_answer_at_once desk.now) K.answers }
     ensures ended { OnOk result (HasEnded scheduler.new.backfill.state) }
     ensures in_step { OnOk result (AreInStep executor.new scheduler.new) }
     ensures driven { OnOk result (StaysDriven K.answers scheduler.old scheduler.new) }
@@ -48,7 +51,7 @@ fn all_turns<'s, K: Service + Send + Sync + 's, W: Wait, C: Clock, O: Observer>(
     ensures shown { HasShown O.shows watch.old.observer watch.new.observer scheduler.old.backfill scheduler.new.backfill }
 {
     for _ in rt.forever() {
-        if !executor.turn(rt, scheduler, watch)? {
+        if !executor.turn(rt, desk, scheduler, watch)? {
             return Ok(());
         }
     }
@@ -56,9 +59,9 @@ fn all_turns<'s, K: Service + Send + Sync + 's, W: Wait, C: Clock, O: Observer>(
 }
 
 /// Drives a backfill to its end.
-fn drive<'s, 'p, K, W, N, C, O>(
+fn drive<'s, 'p, K, W, D, N, C, O>(
     rt: &W,
-    alloc: Global,
+    desk: &D,
     executor: &mut Executor<'s, K>,
     order: &Order<'p, '_, N>,
     watch: &mut Watch<C, O>,
@@ -66,11 +69,13 @@ fn drive<'s, 'p, K, W, N, C, O>(
 where
     K: Service + Send + Sync + 's,
     W: Wait,
+    D: Shared + AnswerAtOnce,
     N: RunCount,
     C: Clock,
     O: Observer,
     requires lanes { length executor.old ≡ order.now.workers }
     requires unused { AreUnused executor.old }
+    requires at_once { AreAmong (D.may_answer_at_once desk.now) K.answers }
     ensures over { IfOk result (IsOver K.answers order.now.plan.now.dag order.now.plan.now.limits (N.runs order.now.runs.now) order.now.workers) }
     ensures left { IfErr result (IsLeftBy executor.new) }
     ensures fault { IfErr result (MayHalt K.gives_up) }
@@ -78,9 +83,9 @@ where
 {
     let _sound = order.plan.dag();
     let _fit = order.plan.limits();
-    let core = Core::new(alloc, order.plan, order.runs)?;
-    let mut scheduler = Scheduler::new(alloc, core, order.workers)?;
-    all_turns(rt, executor, &mut scheduler, watch)?;
+    let core = Core::new(desk.alloc(), order.plan, order.runs)?;
+    let mut scheduler = Scheduler::new(desk.alloc(), core, order.workers)?;
+    all_turns(rt, desk, executor, &mut scheduler, watch)?;
     match scheduler.into_ended() {
         Ok(ended) => Ok(ended),
         Err(_) => unreachable!(),
@@ -113,20 +118,21 @@ fn in_scope<'s, 'p, K, E, W, D, N, C, O>(
 where
     K: Service + Send + Sync + 's,
     W: Threads + Wait + Sync,
-    D: TaskRunner + Shared + Sync,
+    D: TaskRunner + Shared + AnswerAtOnce + Sync,
     N: RunCount,
     C: Clock,
     O: Observer,
     requires many { length seats.items ≡ order.now.workers }
     requires fresh { AreFresh queues.now seats.items }
     requires fulfils { Fulfils (D.may_answer desk.now) (D.may_give_up desk.now) K.answers K.gives_up }
+    requires at_once { AreAmong (D.may_answer_at_once desk.now) (D.may_answer desk.now) }
     ensures over { IfOk result (IsOver K.answers order.now.plan.now.dag order.now.plan.now.limits (N.runs order.now.runs.now) order.now.workers) }
     ensures fault { IfErr result (MayFail K.gives_up) }
     ensures shown { IfOk result (WasShown O.shows order.now.plan.now.dag (N.runs order.now.runs.now) watch.old.observer watch.new.observer) }
 {
     let lanes = all_started(scope, rt, queues, seats, desk)?;
     let mut executor = Executor::of(lanes);
-    let ended = drive(rt, desk.alloc(), &mut executor, order, watch);
+    let ended = drive(rt, desk, &mut executor, order, watch);
     drop(executor.close(rt));
     match ended {
         Ok(ended) => Ok(ended),
@@ -145,11 +151,12 @@ fn run_order<'p, K, W, D, N, C, O>(
 where
     K: Service + Send + Sync,
     W: Threads + Wait + Sync,
-    D: TaskRunner + Shared + Sync,
+    D: TaskRunner + Shared + AnswerAtOnce + Sync,
     N: RunCount,
     C: Clock,
     O: Observer,
-    requires { Fulfils (D.may_answer desk.now) (D.may_give_up desk.now) K.answers K.gives_up }
+    requires fulfils { Fulfils (D.may_answer desk.now) (D.may_give_up desk.now) K.answers K.gives_up }
+    requires at_once { AreAmong (D.may_answer_at_once desk.now) (D.may_answer desk.now) }
     ensures over { IfOk result (IsOver K.answers order.now.plan.now.dag order.now.plan.now.limits (N.runs order.now.runs.now) order.now.workers) }
     ensures fault { IfErr result (MayFail K.gives_up) }
 {
@@ -162,11 +169,50 @@ where
             requires many { length seats.items ≡ order.now.workers }
             requires fresh { AreFresh rows.now seats.items }
             requires fulfils { Fulfils (D.may_answer desk.now) (D.may_give_up desk.now) K.answers K.gives_up }
+            requires at_once { AreAmong (D.may_answer_at_once desk.now) (D.may_answer desk.now) }
             ensures over { IfOk result (IsOver K.answers order.entry.now.plan.now.dag order.entry.now.plan.now.limits (N.runs order.entry.now.runs.now) order.entry.now.workers) }
             ensures fault { IfErr result (MayFail K.gives_up) }
         { in_scope(scope, rt, rows, seats, desk, order, watch) },
     );
     ended
+}
+
+/// The end of a backfill as of `run_backfill`, but that a try which is answered at once is handed to no worker.
+pub(crate) fn run_answered<
+    'p,
+    W: Threads + Wait + Sync,
+    N: RunCount,
+    R: TaskRunner + AnswerAtOnce + Sync,
+    C: Clock,
+    O: Observer,
+>(
+    rt: &W,
+    alloc: Global,
+    plan: &'p Plan,
+    runs: &N,
+    workers: Workers,
+    runner: &R,
+    watch: &mut Watch<C, O>,
+) -> Result<Ended<'p>, BackfillFault>
+    requires { AreAmong (R.may_answer_at_once runner.now) (R.may_answer runner.now) }
+    ensures of { IfOk result (IsEndOf plan.entry.now.dag plan.entry.now.limits (N.runs runs.now)) }
+    ensures graded { IfOk result (λ ended.
+        AreGraded (R.may_answer runner.now) plan.entry.now.dag (entry_in ended.state.ledger)) }
+    ensures workers { IfOk result (λ ended.
+        KeepsWorkers plan.entry.now.dag (N.runs runs.now) workers ended.journal) }
+    ensures err { IfErr result (MayFail (R.may_give_up runner.now)) }
+{
+    let desk = Desk {
+        alloc,
+        runner,
+        answered: Parker::new(),
+    };
+    let order = Order {
+        plan,
+        runs,
+        workers,
+    };
+    run_order::<Brand, W, Desk<'_, R>, N, C, O>(rt, &desk, &order, watch)
 }
 
 /// The end of a backfill of a plan over these runs, whose tries the runner answers, by so many workers at once. The clock
@@ -197,15 +243,6 @@ pub fn run_backfill<
         KeepsWorkers plan.entry.now.dag (N.runs runs.now) workers ended.journal) }
     ensures err { IfErr result (MayFail (R.may_give_up runner.now)) }
 {
-    let desk = Desk {
-        alloc,
-        runner,
-        answered: Parker::new(),
-    };
-    let order = Order {
-        plan,
-        runs,
-        workers,
-    };
-    run_order::<Brand, W, Desk<'_, R>, N, C, O>(rt, &desk, &order, watch)
+    let runner = ByWorkers { runner };
+    run_answered(rt, alloc, plan, runs, workers, &runner, watch)
 }

@@ -20,27 +20,6 @@ use Rattle.bf_plain.specs.Driving.{IsIdle}
 
 -- ---- tries
 
--- a try that has just begun is under way
-pub begun-under_way : (s t : Schedule) (ticket : Asked) → HasBegun s ticket t → IsUnderWay t.backfill ticket
-begun-under_way s t ticket h = subst (λ (x : Schedule). IsUnderWay x.backfill ticket) (sym h.new_is) (record {
-  runs = running-at s.backfill ticket.name waits;
-  gives = begun-given s.backfill ticket.name waits ∙ sym h.is_ticket.1;
-})
-  where
-    waits : IsPresent s.backfill.dag s.backfill.state ticket.name Phase.Waiting
-    waits = h.is_first.may_begin.0.0
-
--- its answer ends it
-pub may-finish : (b : Backfill) (ticket : Asked) (done : Answered) → IsUnderWay b ticket → done.name ≡ ticket.name → done.given ≡ ticket.given → MayFinish b done
-may-finish b ticket done way named given =
-    (((runs, grade_fits b.dag done.name.task done.raw), tt), λ at. gives)
-  where
-    runs : IsPresent b.dag b.state done.name Phase.Running
-    runs = subst (λ (n : JobName). IsPresent b.dag b.state n Phase.Running) (sym named) way.runs
-
-    gives : given_in (cell_at b.state done.name.run done.name.task) (place_in b.dag done.name) ≡ done.given
-    gives = ap (λ (n : JobName). given_in (cell_at b.state n.run n.task) (place_in b.dag n)) named ∙ (way.gives ∙ sym given)
-
 -- an answer that may be given to the ticket may be given to its own name
 pub allowed-as : (may : JobName → Given → Raw → Type 0) (ticket : Asked) (done : Answered) → done.name ≡ ticket.name → done.given ≡ ticket.given → may ticket.name ticket.given done.raw → may done.name done.given done.raw
 allowed-as may ticket done named given ok = subst₂ (λ (n : JobName) (g : Given). may n g done.raw) (sym named) (sym given) ok

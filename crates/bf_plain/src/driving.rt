@@ -6,16 +6,14 @@ ghost use Rattle.bf_core.specs.Endings.{IsEndOf, KeepsWorkers};
 ghost use Rattle.bf_core.specs.Events.{HasEnded, entry_in};
 ghost use Rattle.bf_core.specs.Running.{running_now};
 ghost use Rattle.bf_sched.specs.Driving.{IsUnderWay, StaysDriven};
-ghost use Rattle.bf_sched.specs.Scheduling.{HasFinished, MayFinish};
 ghost use Rattle.bf_plain.specs.Driving.{IsIdle, IsLonger, fault_by};
 ghost use Rattle.bf_plain.specs.Ticks.{TicksSo, TicksToFirstMoments};
 
-use bf_core::{BackfillFault, Core, Ended, Illegal};
+use bf_core::{BackfillFault, Core, Ended};
 use bf_plan::Plan;
 use bf_runs::RunCount;
 use bf_sched::{Next, Scheduler};
 use bf_try::{Done, RunnerFault, TaskRunner, Ticket};
-use bf_value::OutOfMemory;
 use bf_workers::Workers;
 use std::alloc::Global;
 
@@ -40,18 +38,6 @@ fn answer_to<R: TaskRunner>(runner: &R, ticket: Ticket) -> Result<Done, Backfill
     }
 }
 
-/// Ends the try of an answer that may end so, so that nothing but want of memory is in its way.
-fn finish(scheduler: &mut Scheduler<'_>, done: Done) -> Result<(), OutOfMemory>
-    requires { MayFinish scheduler.old.backfill done }
-    ensures { OnOk result (HasFinished scheduler.old done scheduler.new) }
-{
-    match scheduler.finish(done) {
-        Ok(()) => Ok(()),
-        Err((_, Illegal::OutOfMemory)) => Err(OutOfMemory),
-        Err(_) => unreachable!(),
-    }
-}
-
 /// Makes the try of a ticket, which has begun.
 fn make_try<R: TaskRunner>(
     runner: &R,
@@ -67,7 +53,7 @@ fn make_try<R: TaskRunner>(
 {
     let _replayed = scheduler.journal();
     let done = answer_to(runner, ticket)?;
-    finish(scheduler, done)?;
+    scheduler.finish_running(done)?;
     Ok(())
 }
 

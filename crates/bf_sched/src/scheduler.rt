@@ -215,6 +215,19 @@ impl<'a> Scheduler<'a> {
         }
     }
 
+    /// Ends the try of an answer that may end so: nothing but want of memory is in its way.
+    pub fn finish_running(&mut self, done: Done) -> Result<(), OutOfMemory>
+        requires { MayFinish self.old.backfill done }
+        ensures ok { OnOk result (HasFinished self.old done self.new) }
+        ensures same { OnErr result (self.new ≡ self.old) }
+    {
+        match self.finish(done) {
+            Ok(()) => Ok(()),
+            Err((_, Illegal::OutOfMemory)) => Err(OutOfMemory),
+            Err(_) => unreachable!(),
+        }
+    }
+
     /// The backfill whose events are chosen.
     pub fn core(&self) -> &Core<'a>
         ensures { result.now ≡ self.now.backfill }

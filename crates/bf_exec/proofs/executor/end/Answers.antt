@@ -1,6 +1,6 @@
 use Rattle.std.proofs.Common.{ap}
 use Rattle.bf_sched.specs.Scheduling.{Schedule, end_of}
-use Rattle.bf_exec.proofs.Shown.{acted_shown, idle_shown}
+use Rattle.bf_exec.proofs.Shown.{acted_shown}
 use Rattle.bf_exec.proofs.executor.end.Goals as goal
 
 pub returns-in-Ok-clause-ok : goal.returns-in-Ok-clause-ok

@@ -4,7 +4,8 @@ use Rattle.bf_sched.specs.declared.next.Next.{Next}
 use Rattle.bf_sched.specs.Scheduling.{HasBegun, HasStepped, HasTicked, IsNext, WaitsUntil}
 use Rattle.bf_sched.proofs.Driving.{begun_driven, same_driven, stays_driven, stepped_driven, ticked_driven}
 use Rattle.bf_plain.proofs.Ticking.{begun-so, same-so, stepped-so, then-so, until-so}
-use Rattle.bf_plain.proofs.Turning.{begun-under_way, made-idle, read-as, stepped-idle, until-comes, until-idle}
+use Rattle.bf_sched.proofs.Answering.{begun-under_way}
+use Rattle.bf_plain.proofs.Turning.{made-idle, read-as, stepped-idle, until-comes, until-idle}
 use Rattle.bf_plain.proofs.driving.turn.Goals as goal
 
 pub make_try-requires : goal.make_try-requires

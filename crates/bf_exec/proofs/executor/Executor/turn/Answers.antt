@@ -5,10 +5,11 @@ use Rattle.bf_sched.specs.declared.next.Next.{Next}
 use Rattle.bf_sched.specs.Scheduling.{HasBegun, HasStepped, IsNext, MustWait, Schedule, WaitsUntil}
 use Rattle.bf_core.specs.declared.event.Event.{Event}
 use Rattle.bf_core.specs.Events.{HasEnded}
-use Rattle.bf_exec.specs.Turns.{AreInStep}
+use Rattle.bf_exec.specs.Turns.{AreInStep, EndsAtOnce}
+use Rattle.bf_sched.proofs.Answering.{begun-under_way}
 use Rattle.bf_sched.proofs.Driving.{begun_driven, same_driven, stays_driven, stepped_driven}
-use Rattle.bf_exec.proofs.Shown.{acted_shown, awaited_shown, idle_shown}
-use Rattle.bf_exec.proofs.Turning.{awaited, awaited_driven, awaited_in_step, begun_in_step, caught_up_driven, caught_up_in_step, idle_at, idle_there, must_until, must_wait, stepped_in_step}
+use Rattle.bf_exec.proofs.Shown.{acted_shown, awaited_shown, begun_shown, idle_shown}
+use Rattle.bf_exec.proofs.Turning.{answered_driven, answered_in_step, awaited, awaited_driven, awaited_in_step, begun_in_step, caught_up_driven, caught_up_in_step, idle_at, idle_there, left_begun, must_until, must_wait, stepped_in_step}
 use Rattle.bf_exec.proofs.executor.Executor.turn.Goals as goal
 
 pub unreachable-requires : goal.unreachable-requires
@@ -52,27 +53,63 @@ returns-in-Stepped-clause-driven g c =
     let stepped : HasStepped p c.next.new.self = subst (λ (n : Next). IsNext p n c.next.new.self) c.in-Stepped.is c.in_ok-next.ensures.ok in
     stays_driven may c.args.scheduler.now p c.next.new.self (caught_up_driven may _ c.args.scheduler.now p c.in_ok-catch_up.ensures.ok) (stepped_driven may p c.next.new.self stepped)
 
-pub returns-in-Some-clause-ok : goal.returns-in-Some-clause-ok
-returns-in-Some-clause-ok g c =
+pub end_at_once-requires : goal.end_at_once-requires
+end_at_once-requires g c =
     let p = c.catch_up.new.scheduler in
     let begun : HasBegun p c.in-Go.ticket c.next.new.self = subst (λ (n : Next). IsNext p n c.next.new.self) c.in-Go.is c.in_ok-next.ensures.ok in
-    let sent : IsSubmitted c.args.self.now c.submit.new.self c.in-Some.at c.in-Go.ticket = rw (← c.self.view_is) c.submit.ensures in
-    inl (record { present = p; caught_up = c.in_ok-catch_up.ensures.ok; acted = inr (record { at = c.in-Some.at; ticket = c.in-Go.ticket; sent = sent; begun = begun }) })
+    begun-under_way p c.next.new.self c.in-Go.ticket begun
 
-pub returns-in-Some-clause-in_step : goal.returns-in-Some-clause-in_step
-returns-in-Some-clause-in_step g c =
+pub returns-in-Some-2-clause-ok : goal.returns-in-Some-2-clause-ok
+returns-in-Some-2-clause-ok g c =
     let p = c.catch_up.new.scheduler in
     let begun : HasBegun p c.in-Go.ticket c.next.new.self = subst (λ (n : Next). IsNext p n c.next.new.self) c.in-Go.is c.in_ok-next.ensures.ok in
-    let sent : IsSubmitted c.args.self.now c.submit.new.self c.in-Some.at c.in-Go.ticket = rw (← c.self.view_is) c.submit.ensures in
-    begun_in_step c.args.self.now c.submit.new.self p c.next.new.self c.in-Some.at c.in-Go.ticket begun sent
+    let came : (c.in-Some-2.ticket ≡ c.in-Go.ticket) × (c.end_at_once.new.scheduler ≡ c.next.new.self) = rw c.in-Some-2.is at c.in_ok-ticket-in-Go.ensures.some in
+    let left : HasBegun p c.in-Some-2.ticket c.end_at_once.new.scheduler = left_begun p c.next.new.self c.end_at_once.new.scheduler c.in-Go.ticket c.in-Some-2.ticket begun came in
+    let sent : IsSubmitted c.args.self.now c.submit.new.self c.in-Some.at c.in-Some-2.ticket = rw (← c.self.view_is) c.submit.ensures in
+    inl (record { present = p; caught_up = c.in_ok-catch_up.ensures.ok; acted = inr (inl (record { at = c.in-Some.at; ticket = c.in-Some-2.ticket; sent = sent; begun = left })) })
+
+pub returns-in-Some-2-clause-in_step : goal.returns-in-Some-2-clause-in_step
+returns-in-Some-2-clause-in_step g c =
+    let p = c.catch_up.new.scheduler in
+    let begun : HasBegun p c.in-Go.ticket c.next.new.self = subst (λ (n : Next). IsNext p n c.next.new.self) c.in-Go.is c.in_ok-next.ensures.ok in
+    let came : (c.in-Some-2.ticket ≡ c.in-Go.ticket) × (c.end_at_once.new.scheduler ≡ c.next.new.self) = rw c.in-Some-2.is at c.in_ok-ticket-in-Go.ensures.some in
+    let left : HasBegun p c.in-Some-2.ticket c.end_at_once.new.scheduler = left_begun p c.next.new.self c.end_at_once.new.scheduler c.in-Go.ticket c.in-Some-2.ticket begun came in
+    let sent : IsSubmitted c.args.self.now c.submit.new.self c.in-Some.at c.in-Some-2.ticket = rw (← c.self.view_is) c.submit.ensures in
+    begun_in_step c.args.self.now c.submit.new.self p c.end_at_once.new.scheduler c.in-Some.at c.in-Some-2.ticket left sent
     (caught_up_in_step c.args.self.now _ c.args.scheduler.now p c.in_ok-catch_up.ensures.ok c.requires.in_step)
 
-pub returns-in-Some-clause-driven : goal.returns-in-Some-clause-driven
-returns-in-Some-clause-driven g c =
+pub returns-in-Some-2-clause-driven : goal.returns-in-Some-2-clause-driven
+returns-in-Some-2-clause-driven g c =
     let may = g.K.Service.answers in
     let p = c.catch_up.new.scheduler in
     let begun : HasBegun p c.in-Go.ticket c.next.new.self = subst (λ (n : Next). IsNext p n c.next.new.self) c.in-Go.is c.in_ok-next.ensures.ok in
-    stays_driven may c.args.scheduler.now p c.next.new.self (caught_up_driven may _ c.args.scheduler.now p c.in_ok-catch_up.ensures.ok) (begun_driven may p c.next.new.self c.in-Go.ticket begun)
+    let came : (c.in-Some-2.ticket ≡ c.in-Go.ticket) × (c.end_at_once.new.scheduler ≡ c.next.new.self) = rw c.in-Some-2.is at c.in_ok-ticket-in-Go.ensures.some in
+    let left : HasBegun p c.in-Some-2.ticket c.end_at_once.new.scheduler = left_begun p c.next.new.self c.end_at_once.new.scheduler c.in-Go.ticket c.in-Some-2.ticket begun came in
+    stays_driven may c.args.scheduler.now p c.end_at_once.new.scheduler (caught_up_driven may _ c.args.scheduler.now p c.in_ok-catch_up.ensures.ok) (begun_driven may p c.end_at_once.new.scheduler c.in-Some-2.ticket left)
+
+pub returns-in-None-clause-ok : goal.returns-in-None-clause-ok
+returns-in-None-clause-ok g c =
+    let p = c.catch_up.new.scheduler in
+    let begun : HasBegun p c.in-Go.ticket c.next.new.self = subst (λ (n : Next). IsNext p n c.next.new.self) c.in-Go.is c.in_ok-next.ensures.ok in
+    let ended : EndsAtOnce (g.D.AnswerAtOnce.may_answer_at_once c.args.desk.now) c.in-Go.ticket c.next.new.self c.end_at_once.new.scheduler = rw c.in-None.is at c.in_ok-ticket-in-Go.ensures.none in
+    inl (record { present = p; caught_up = c.in_ok-catch_up.ensures.ok; acted = inr (inr (record { ticket = c.in-Go.ticket; running = c.next.new.self; begun = begun; ended = ended; lanes_are = refl })) })
+
+pub returns-in-None-clause-in_step : goal.returns-in-None-clause-in_step
+returns-in-None-clause-in_step g c =
+    let p = c.catch_up.new.scheduler in
+    let begun : HasBegun p c.in-Go.ticket c.next.new.self = subst (λ (n : Next). IsNext p n c.next.new.self) c.in-Go.is c.in_ok-next.ensures.ok in
+    let ended : EndsAtOnce (g.D.AnswerAtOnce.may_answer_at_once c.args.desk.now) c.in-Go.ticket c.next.new.self c.end_at_once.new.scheduler = rw c.in-None.is at c.in_ok-ticket-in-Go.ensures.none in
+    answered_in_step (g.D.AnswerAtOnce.may_answer_at_once c.args.desk.now) c.args.self.now p c.next.new.self c.end_at_once.new.scheduler c.in-Go.ticket begun ended
+    (caught_up_in_step c.args.self.now _ c.args.scheduler.now p c.in_ok-catch_up.ensures.ok c.requires.in_step)
+
+pub returns-in-None-clause-driven : goal.returns-in-None-clause-driven
+returns-in-None-clause-driven g c =
+    let may = g.K.Service.answers in
+    let p = c.catch_up.new.scheduler in
+    let begun : HasBegun p c.in-Go.ticket c.next.new.self = subst (λ (n : Next). IsNext p n c.next.new.self) c.in-Go.is c.in_ok-next.ensures.ok in
+    let ended : EndsAtOnce (g.D.AnswerAtOnce.may_answer_at_once c.args.desk.now) c.in-Go.ticket c.next.new.self c.end_at_once.new.scheduler = rw c.in-None.is at c.in_ok-ticket-in-Go.ensures.none in
+    stays_driven may c.args.scheduler.now p c.end_at_once.new.scheduler (caught_up_driven may _ c.args.scheduler.now p c.in_ok-catch_up.ensures.ok)
+    (answered_driven may (g.D.AnswerAtOnce.may_answer_at_once c.args.desk.now) p c.next.new.self c.end_at_once.new.scheduler c.in-Go.ticket c.requires.at_once begun ended)
 
 pub returns-in_ok-wait-in-Wait-clause-ok : goal.returns-in_ok-wait-in-Wait-clause-ok
 returns-in_ok-wait-in-Wait-clause-ok g c =
@@ -122,12 +159,26 @@ returns-in-Stepped-clause-shown g c =
     acted_shown g.O.Observer.shows c.args.watch.now.observer c.catch_up.new.watch.observer c.show.new.observer c.args.scheduler.now p c.next.new.self stepped.event
     c.in_ok-catch_up.ensures.shown (ap (λ (s : Schedule). s.backfill) stepped.new_is) c.show.ensures
 
-pub returns-in-Some-clause-shown : goal.returns-in-Some-clause-shown
-returns-in-Some-clause-shown g c =
+pub returns-in_err-ticket-in-Go-clause-shown : goal.returns-in_err-ticket-in-Go-clause-shown
+returns-in_err-ticket-in-Go-clause-shown g c =
     let p = c.catch_up.new.scheduler in
     let begun : HasBegun p c.in-Go.ticket c.next.new.self = subst (λ (n : Next). IsNext p n c.next.new.self) c.in-Go.is c.in_ok-next.ensures.ok in
-    acted_shown g.O.Observer.shows c.args.watch.now.observer c.catch_up.new.watch.observer c.show-in-Go.new.observer c.args.scheduler.now p c.next.new.self (Event.Begin c.in-Go.ticket.name)
-    c.in_ok-catch_up.ensures.shown (ap (λ (s : Schedule). s.backfill) begun.new_is) c.show-in-Go.ensures
+    begun_shown g.O.Observer.shows c.args.watch.now.observer c.catch_up.new.watch.observer c.show-in-Go.new.observer c.end_at_once.new.observer c.args.scheduler.now p c.next.new.self c.end_at_once.new.scheduler (Event.Begin c.in-Go.ticket.name)
+    c.in_ok-catch_up.ensures.shown (ap (λ (s : Schedule). s.backfill) begun.new_is) c.show-in-Go.ensures c.end_at_once.ensures.shown
+
+pub returns-in-Some-2-clause-shown : goal.returns-in-Some-2-clause-shown
+returns-in-Some-2-clause-shown g c =
+    let p = c.catch_up.new.scheduler in
+    let begun : HasBegun p c.in-Go.ticket c.next.new.self = subst (λ (n : Next). IsNext p n c.next.new.self) c.in-Go.is c.in_ok-next.ensures.ok in
+    begun_shown g.O.Observer.shows c.args.watch.now.observer c.catch_up.new.watch.observer c.show-in-Go.new.observer c.end_at_once.new.observer c.args.scheduler.now p c.next.new.self c.end_at_once.new.scheduler (Event.Begin c.in-Go.ticket.name)
+    c.in_ok-catch_up.ensures.shown (ap (λ (s : Schedule). s.backfill) begun.new_is) c.show-in-Go.ensures c.end_at_once.ensures.shown
+
+pub returns-in-None-clause-shown : goal.returns-in-None-clause-shown
+returns-in-None-clause-shown g c =
+    let p = c.catch_up.new.scheduler in
+    let begun : HasBegun p c.in-Go.ticket c.next.new.self = subst (λ (n : Next). IsNext p n c.next.new.self) c.in-Go.is c.in_ok-next.ensures.ok in
+    begun_shown g.O.Observer.shows c.args.watch.now.observer c.catch_up.new.watch.observer c.show-in-Go.new.observer c.end_at_once.new.observer c.args.scheduler.now p c.next.new.self c.end_at_once.new.scheduler (Event.Begin c.in-Go.ticket.name)
+    c.in_ok-catch_up.ensures.shown (ap (λ (s : Schedule). s.backfill) begun.new_is) c.show-in-Go.ensures c.end_at_once.ensures.shown
 
 pub returns-in_ok-wait-in-Wait-clause-shown : goal.returns-in_ok-wait-in-Wait-clause-shown
 returns-in_ok-wait-in-Wait-clause-shown g c =
