@@ -503,6 +503,14 @@ cycle: a: each comes after the one before it, and the first after the last
 LINES
 is_explained 3 none <<< 'fault: cannot read none'
 answers 0 check --explain one <<< 'ok 1 tasks, 0 edges'
+# Nothing that a terminal obeys, or doesn't show, goes to it: an 8-bit control sequence, and what turns the direction of a line.
+printf '{"dag_id":"d","schedule":"@daily","tasks":[{"id":"\xc2\x9b31m","\xe2\x80\xae":1,"upstream":["\xc2\x9b31n"]}]}' > unseen
+is_explained 2 unseen <<'LINES'
+refused 2 shape: tasks[0]
+tasks[0].id: "\u009b31m": has to be an id of 1 to 250 letters, digits, dashes, dots and underscores that no task before has
+tasks[0]: unknown key "\u202e": a task has the keys id, upstream, rule, kind, command, expand, depends_on_past, retries, retry_delay, pool, pool_slots, priority_weight and weight_rule
+tasks[0].upstream[0]: "\u009b31n": did you mean "\u009b31m"?
+LINES
 # Of many faults a hundred are told, and soon.
 {
     printf '{"dag_id":"d","schedule":"@daily","tasks":[{"id":"a","upstream":["x0"'

@@ -22,7 +22,8 @@ use Rattle.bf_planning.proofs.Faults.{write_wanting}
 use Rattle.bf_commands.specs.Programs.{Hearing, Losing}
 use Rattle.bf_disk.specs.Files.{Files}
 use Rattle.bf_views.specs.declared.canvas.Canvas.{Canvas}
-use Rattle.bf_program.specs.Commands.{HasGone, IsAnswer, IsDone, Machine, Outputs, out_of, outputs}
+use Rattle.bf_backfills.specs.Commands.{Machine}
+use Rattle.bf_program.specs.Commands.{HasGone, IsAnswer, IsDone, Outputs, out_of, outputs}
 use Rattle.bf_program.specs.CommandFaults.{IsFault, IsFaultBy, LeavesBy, MayBeFaulted, MayTell, Tells}
 use Rattle.bf_file.specs.Replacing.{HasReplaced}
 use Rattle.bf_program.specs.Shown.{EndsAs, IsUnshown, ShowsHelp, shown_as}

@@ -12,7 +12,7 @@ use Rattle.bf_command_fault.specs.declared.fault.CommandFault.TheVariants.{Canno
 use Rattle.bf_command_line.specs.declared.forms.Asked.{Asked}
 use Rattle.bf_commands.specs.Programs.{Losing}
 use Rattle.bf_disk.specs.Files.{Files}
-use Rattle.bf_program.specs.Commands.{Machine}
+use Rattle.bf_backfills.specs.Commands.{Machine}
 use Rattle.bf_program.specs.CommandFaults.{IsFault, IsFaultBy}
 use Rattle.bf_program.specs.Filed.{filed_fault, replacing_fault}
 

@@ -4,6 +4,7 @@ use Rattle.std.specs.List.{flat_map}
 use Rattle.bf_findings.specs.declared.finding.Finding.{Finding}
 use Rattle.bf_findings.specs.Findings.{AreFindings}
 use Rattle.bf_findings.specs.Texts.{finding_text}
+use Rattle.bf_quoted.specs.Values.{shown}
 use Rattle.bf_command_line.specs.declared.forms.Asked.{Asked}
 use Rattle.bf_command_line.specs.declared.forms.Asked.TheVariants.{Check}
 use Rattle.bf_command_line.specs.declared.forms.GraphAsked.{GraphAsked}
@@ -11,8 +12,9 @@ use Rattle.bf_disk.specs.Files.{Files}
 use Rattle.bf_input.specs.Inputs.{OfFiles, AreAlike}
 use Rattle.bf_program.specs.CommandFaults.{IsTold}
 
+-- with the escapes of what a terminal doesn't show as itself
 abbrev pub finding_line : Finding → List ℕ
-finding_line finding = finding_text finding ++ 10 ∷ []
+finding_line finding = shown (finding_text finding) ++ 10 ∷ []
 
 abbrev pub findings_text : List Finding → List ℕ
 findings_text found = flat_map finding_line found

@@ -1,9 +1,6 @@
 pub mod Shown
 pub mod Texts
 pub mod Commands
-pub mod Named
 pub mod CommandFaults
-pub mod Files
 pub mod Explained
 pub mod Filed
-pub mod Journals

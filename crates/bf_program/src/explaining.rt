@@ -14,13 +14,16 @@ use bf_device::Write;
 use bf_disk::Source;
 use bf_findings::{Finding, findings};
 use bf_input::graph_files;
+use bf_quoted::push_shown;
 use bf_value::OutOfMemory;
 use std::alloc::Global;
 
-fn push_finding(text: &mut String, finding: &Finding) -> Result<(), OutOfMemory>
+fn push_finding(alloc: Global, text: &mut String, finding: &Finding) -> Result<(), OutOfMemory>
     ensures { OnOk result (string_bytes text.new ≡ string_bytes text.old ++ finding_line finding.now) }
 {
-    writeln!(text, "{finding}")?;
+    let line = format!(in alloc; "{finding}")?;
+    push_shown(text, line.as_str())?;
+    text.push('\n')?;
     Ok(())
 }
 
@@ -30,7 +33,7 @@ fn text_of(alloc: Global, found: &[Finding]) -> Result<String, OutOfMemory>
 {
     let mut text = String::new(alloc);
     for finding in found {
-        push_finding(&mut text, finding)?;
+        push_finding(alloc, &mut text, finding)?;
     }
     Ok(text)
 }

@@ -1,7 +1,8 @@
 //! Reports that go to files.
 ghost use Rattle.std.specs.Prelude.{◌≡◌, List, ℕ, IfErr, IfOk, OnErr, Some, string_bytes, true};
 ghost use Rattle.bf_file.specs.Replacing.{HasReplaced};
-ghost use Rattle.bf_program.specs.Commands.{IsAnswer, machine_of};
+ghost use Rattle.bf_backfills.specs.Commands.{machine_of};
+ghost use Rattle.bf_program.specs.Commands.{IsAnswer};
 ghost use Rattle.bf_program.specs.CommandFaults.{IsFaultBy};
 ghost use Rattle.bf_program.specs.Filed.{filed_fault, replacing_fault};
 

@@ -6,19 +6,17 @@ ghost use Rattle.bf_command_fault.specs.Refusal.{Leaves, Sends, number_of};
 ghost use Rattle.bf_command_fault.specs.Status.{code_of};
 ghost use Rattle.bf_command_fault.specs.declared.fault.CommandFault.{CommandFault as FaultTerm};
 ghost use Rattle.bf_command_fault.specs.declared.status.Status.{Status as StatusTerm};
-ghost use Rattle.bf_program.specs.Commands.{IsAnswer, IsDone, found_in, machine_of, outputs, wrongs_of};
+ghost use Rattle.bf_backfills.specs.Commands.{machine_of};
+ghost use Rattle.bf_program.specs.Commands.{IsAnswer, IsDone, found_in, outputs, wrongs_of};
 ghost use Rattle.bf_program.specs.CommandFaults.{IsFault, IsTold, MayBeFaulted, MayTell, Tells};
 ghost use Rattle.bf_program.specs.Shown.{shown_as, EndsAs, IsUnshown, ShowsHelp};
 
-use crate::check::check_answered;
-use crate::clear::clear_answered;
-use crate::clear_plan::clear_plan_answered;
-use crate::dry::dry_answered;
 use crate::filed::filed;
-use crate::list::list_answered;
-use crate::run::run_answered;
-use crate::single::single_answered;
 use crate::texts::{completions_answered, schema_answered};
+use bf_backfills::{
+    check_answered, clear_answered, clear_plan_answered, dry_answered, list_answered, run_answered,
+    single_answered,
+};
 use bf_command_fault::{CommandFault, Status};
 use bf_command_line::{Asked, CommandLine, asked};
 use bf_commands::Screen;

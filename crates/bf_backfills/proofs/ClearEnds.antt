@@ -1,0 +1,321 @@
+-- What the command `clear` comes to, by what was read of its files.
+use Rattle.std.proofs.Common.{◌≡◌, ℕ, ℤ, Bool, List, Option, Some, None, option_map, ◌⊎◌, string_bytes, refl, sym, ◌∙◌, subst, inl, inr}
+use Rattle.bf_plan.specs.declared.plan.Dag.{Dag}
+use Rattle.bf_interval.specs.declared.interval.Interval.{Interval}
+use Rattle.bf_table.specs.declared.table.TableEntry.{TableEntry}
+use Rattle.bf_report.specs.declared.report.Report.{Report as Reported}
+use Rattle.bf_commands.specs.declared.cleared.ToClear.{ToClear}
+use Rattle.bf_try.specs.Tries.{Look}
+use Rattle.bf_command_line.specs.declared.forms.ClearAsked.{ClearAsked}
+use Rattle.bf_command_line.specs.declared.forms.ClearPlanAsked.{ClearPlanAsked}
+use Rattle.bf_command_line.specs.declared.forms.JournalAsked.{JournalAsked}
+use Rattle.bf_command_fault.specs.Refusal.{Leaves}
+use Rattle.bf_command_fault.specs.Status.{of_runs}
+use Rattle.bf_command_fault.specs.declared.fault.CommandFault.{CommandFault}
+use Rattle.bf_command_fault.specs.declared.fault.CommandFault.TheVariants.{Read, Check, Table, Range, Report, Journal, Clear, Seeds, JournalInUse, BadMoment, OutOfMemory, CannotLaunch, CannotRead, CannotWriteFile, CannotWrite, Stopped}
+use Rattle.bf_command_fault.specs.declared.status.Status.{Status}
+use Rattle.bf_command_fault.specs.declared.stop.StopFault.{StopFault}
+use Rattle.bf_planning.specs.declared.range.RunRange.{RunRange}
+use Rattle.bf_report_reader.specs.Reading.{IsReadAs}
+use Rattle.bf_commands.specs.Cleared.{IsFaultAgain, IsPrepared, IsReady, IsReportAfter, IsUncleared}
+use Rattle.bf_commands.specs.Journaled.{Heading, IsClearable, IsClearedBy, IsFaultSince, IsJournaledAfter}
+use Rattle.bf_commands.specs.OverTable.{is_alone}
+use Rattle.bf_commands.specs.Planned.{IsClearPlan, IsFaultOfClearPlan}
+use Rattle.bf_process.specs.Words.{LaunchingOf}
+use Rattle.bf_commands.specs.Programs.{Hearing, Losing, launched_by, with_clocks}
+use Rattle.bf_commands.proofs.Faults.{unwritten_leaves}
+use Rattle.bf_disk.specs.Files.{AreReadable, Files, IsHeld, IsReadable}
+use Rattle.bf_input.specs.Inputs.{IsReadOf, IsReportFault, OfFilesAndNamedTable}
+use Rattle.bf_backfills.specs.Commands.{HasNoMoment, IsClearAnswer, IsClearPlanAnswer, IsClearReportBy, IsLaunchable, Machine, MeansCleared, MeansRange, OfClearFiles, OfJournal, clear_input, first_paths, launcher_used, launching_asked, plan_input}
+use Rattle.bf_backfills.specs.CommandFaults.{CanClear, GoesWrongOver, IsClearFault, IsClearFaultBy, IsClearPlanFault, IsFaultOfClear, IsFaultOfClearing, IsFaultOfLauncher, IsRecordedClearFault}
+use Rattle.bf_backfills.specs.Named.{IsUnmeant}
+use Rattle.bf_backfills.specs.Files.{IsFaultAfterFile, IsOfBytes, IsReportAfterFile}
+use Rattle.bf_backfills.specs.Journals.{GoesWrongAfter, IsFaultAfterFileBy, IsFaultSinceFile, IsJournaledAfterFile, IsReportAfterFileBy}
+use Rattle.bf_backfills.proofs.ClearInputs.{prepared_held, ready, unreported, uncleared}
+
+-- ---- the launcher
+
+pub clear_unlaunched : (may_lose : Losing) (files : Files) (machine : Machine) (asked : ClearAsked) (range : RunRange) → MeansRange asked.range range → (fault : CommandFault)
+    → IsFaultOfLauncher machine.startable (launcher_used asked.table asked.launcher) fault → IsClearFault may_lose files machine asked fault
+clear_unlaunched may_lose files machine asked range means (CannotLaunch path) is = is
+clear_unlaunched may_lose files machine asked range means OutOfMemory is = (range, means, go asked.journal)
+  where
+    go : (o : Option JournalAsked) → IsClearFaultBy may_lose files machine.journals asked o range OutOfMemory
+    go None = tt
+    go (Some journal) = tt
+clear_unlaunched may_lose files machine asked range means fault is = absurd is
+
+-- ---- the moments of a line
+
+pub clear_unmeant : (may_lose : Losing) (files : Files) (machine : Machine) (asked : ClearAsked) (range : RunRange) → MeansRange asked.range range → (fault : CommandFault)
+    → IsUnmeant (HasNoMoment asked.cleared) fault → IsClearFault may_lose files machine asked fault
+clear_unmeant may_lose files machine asked range means BadMoment is = inr is
+clear_unmeant may_lose files machine asked range means OutOfMemory is = clear_unlaunched may_lose files machine asked range means OutOfMemory tt
+clear_unmeant may_lose files machine asked range means fault is = absurd is
+
+pub plan_unmeant : (files : Files) (asked : ClearPlanAsked) (range : RunRange) → MeansRange asked.range range → (fault : CommandFault) → IsUnmeant (HasNoMoment asked.cleared) fault → IsClearPlanFault files asked fault
+plan_unmeant files asked range means BadMoment is = inr is
+plan_unmeant files asked range means OutOfMemory is = (range, means, tt)
+plan_unmeant files asked range means fault is = absurd is
+
+-- nothing went out before a file is read
+pub unmeant_leaves : (Halted : Type 0) (IsDue : List ℕ → Type 0) (before : Option (List ℕ)) (HasNone : Type 0) (fault : CommandFault) → IsUnmeant HasNone fault → Leaves Halted IsDue before before fault
+unmeant_leaves Halted IsDue before HasNone fault is = unwritten_leaves Halted IsDue before (IsUnmeant HasNone) (λ n written. written) fault is
+
+-- ---- where it is cleared
+
+module _ (may_lose : Losing) (files : Files) (machine : Machine) (asked : ClearAsked) (range : RunRange) (means : MeansRange asked.range range) where
+  -- a fault that comes before a journal is opened is the same where one is named
+  before_journal : (fault : CommandFault) → (IsFaultOfClearing files (clear_input asked) range fault → IsFaultOfClear may_lose files asked range fault)
+      → ((journal : JournalAsked) → IsFaultOfClearing files (clear_input asked) range fault → IsRecordedClearFault files machine.journals asked journal range fault)
+      → IsFaultOfClearing files (clear_input asked) range fault → IsClearFaultBy may_lose files machine.journals asked asked.journal range fault
+  before_journal fault unrecorded recorded is = go asked.journal
+    where
+      go : (journal : Option JournalAsked) → IsClearFaultBy may_lose files machine.journals asked journal range fault
+      go None = unrecorded is
+      go (Some journal) = recorded journal is
+
+  pub of_clearing : (fault : CommandFault) → IsFaultOfClearing files (clear_input asked) range fault → IsClearFault may_lose files machine asked fault
+  of_clearing (Read fault) is = (range, means, before_journal (Read fault) (λ i. i) (λ j i. i) is)
+  of_clearing (Check fault) is = (range, means, before_journal (Check fault) (λ i. i) (λ j i. i) is)
+  of_clearing (Table fault) is = (range, means, before_journal (Table fault) (λ i. i) (λ j i. i) is)
+  of_clearing (Range fault) is = (range, means, before_journal (Range fault) (λ i. i) (λ j i. i) is)
+  of_clearing (Report fault) is = (range, means, before_journal (Report fault) (λ i. i) (λ j i. i) is)
+  of_clearing (Clear fault) is = (range, means, before_journal (Clear fault) (λ i. i) (λ j i. i) is)
+  of_clearing (Seeds fault) is = (range, means, before_journal (Seeds fault) (λ i. i) (λ j i. i) is)
+  of_clearing OutOfMemory is = (range, means, before_journal OutOfMemory (λ i. i) (λ j i. i) is)
+  of_clearing (CannotWrite n) is = (range, means, before_journal (CannotWrite n) (λ i. i) (λ j i. i) is)
+  of_clearing (CannotRead path) is = (range, means, before_journal (CannotRead path) (λ i. i) (λ j i. inl i) is)
+  of_clearing fault is = absurd is
+
+  module _ (launchable : IsLaunchable machine.startable (launcher_used asked.table asked.launcher))
+      (dag : Dag) (found : List Interval) (clocks : List ℤ) (answers : Option (List TableEntry)) (readable : AreReadable files (first_paths (clear_input asked))) (what : ToClear) (means_what : MeansCleared files asked.cleared what)
+      (said : IsOfBytes files asked.graph (option_map string_bytes asked.table) (λ graph zone table. IsPrepared graph zone table range dag found clocks answers)) where
+    abbrev as_ready : OfFilesAndNamedTable files asked.graph (option_map string_bytes asked.table) (λ graph held other. IsReady graph held other range)
+    as_ready = ready files (clear_input asked) range dag found clocks answers readable what means_what said
+
+    abbrev as_prepared : OfFilesAndNamedTable files asked.graph (option_map string_bytes asked.table) (λ graph held other. IsPrepared graph held other range dag found clocks answers)
+    as_prepared = prepared_held files (clear_input asked) range dag found clocks answers readable what means_what said
+
+    module _ (report_readable : IsReadable (files (string_bytes asked.report))) (was : Reported) (says : (held : List ℕ) → IsHeld (files (string_bytes asked.report)) held → IsReadAs held was) where
+      clear_refused : (fault : CommandFault) → IsUncleared dag found was what fault → IsClearFault may_lose files machine asked fault
+      clear_refused fault is = of_clearing fault (uncleared files (clear_input asked) range dag found clocks answers readable what means_what said report_readable was says fault is)
+
+      -- memory or the device is wanting
+      clear_memory : IsClearFault may_lose files machine asked OutOfMemory
+      clear_memory = of_clearing OutOfMemory tt
+
+      clear_write : (n : ℕ) → IsClearFault may_lose files machine asked (CannotWrite n)
+      clear_write n = of_clearing (CannotWrite n) (readable, report_readable)
+
+      -- ---- where no journal is named
+
+      module _ (none : asked.journal ≡ None) where
+        clear_again : (fault : CommandFault) → IsFaultAgain (is_alone asked.progress) (with_clocks (launching_asked asked.launcher asked.logs) clocks) may_lose answers dag found was what fault → IsClearFault may_lose files machine asked fault
+        clear_again (Clear fault) is = clear_refused (Clear fault) is
+        clear_again (Seeds fault) is = clear_refused (Seeds fault) is
+        clear_again OutOfMemory is = clear_memory
+        clear_again (CannotWrite n) is = clear_write n
+        clear_again (Stopped stop) is = (
+          range,
+          means,
+          subst (λ (o : Option JournalAsked). IsClearFaultBy may_lose files machine.journals asked o range (Stopped stop)) (sym none)
+              (readable, report_readable, what, means_what, λ graph held other are holds reported told. (record { ready = as_ready graph held other are holds; was = was; report_says = says reported told; kept = is.0; kept_is = is.1; stops = is.2 })),
+        )
+        clear_again fault is = absurd is
+
+        clear_answer : (may_hear : Hearing) (text : List ℕ) (success : Bool) → IsReportAfter (launched_by (launching_asked asked.launcher asked.logs) may_hear clocks) answers dag found was what text success → IsClearAnswer may_hear files machine asked text (of_runs success)
+        clear_answer may_hear text success is = record {
+          range = range;
+          means = means;
+          what = what;
+          means_what = means_what;
+          succeeded = success;
+          status_is = refl;
+          launchable = launchable;
+          readable = readable;
+          report_readable = report_readable;
+          text_is = λ graph held other are holds reported told. (let p = as_prepared graph held other are holds in
+              subst (λ (o : Option JournalAsked). IsClearReportBy (launching_asked asked.launcher asked.logs) may_hear machine.journals o range what graph held other reported text success) (sym none) (record {
+                draft = p.draft;
+                answers = answers;
+                found = found;
+                was = was;
+                graph_is = p.graph_is;
+                table_says = p.table_says;
+                listing = p.listing;
+                report_says = says reported told;
+                clocks = clocks;
+                clocks_are = p.clocks_are;
+                reported = subst (λ (d : Dag). IsReportAfter (launched_by (launching_asked asked.launcher asked.logs) may_hear clocks) answers d found was what text success) p.dag_is is;
+              }));
+        }
+
+      -- ---- where one is
+
+      module _ (journal : JournalAsked) (named : asked.journal ≡ Some journal) where
+        abbrev clearable : (kept : Look) (cleared : Heading) → IsClearedBy dag found was what kept cleared → OfClearFiles files (clear_input asked) (λ graph zone table report. IsClearable graph zone table report range what)
+        clearable kept cleared is graph held other are holds reported told =
+            record { ready = as_ready graph held other are holds; was = was; report_says = says reported told; kept = kept; cleared = cleared; cleared_is = is }
+
+        can_clear : (kept : Look) (cleared : Heading) → IsClearedBy dag found was what kept cleared → CanClear files asked range
+        can_clear kept cleared is = (readable, report_readable, what, means_what, clearable kept cleared is)
+
+        goes_wrong : (fault : CommandFault) (kept : Look) (cleared : Heading) (is : IsClearedBy dag found was what kept cleared)
+            → OfJournal machine.journals journal (λ bytes. IsFaultSince journal.stop_after kept journal.retry_failed bytes cleared (option_map string_bytes asked.logs) dag found fault)
+            → GoesWrongOver files machine.journals asked journal range fault
+        goes_wrong fault kept cleared is wrong = (
+          readable,
+          report_readable,
+          what,
+          means_what,
+          λ graph held other are holds reported told bytes are_held.
+              (record { clearable = clearable kept cleared is graph held other are holds reported told; fault_is = wrong bytes are_held }),
+        )
+
+        recorded : (fault : CommandFault) → GoesWrongAfter (option_map string_bytes asked.logs) machine.journals dag found was what journal fault → IsRecordedClearFault files machine.journals asked journal range fault
+        recorded (CannotRead path) is = inr (is.fault_is.0, is.fault_is.1, can_clear is.kept is.cleared is.cleared_is)
+        recorded JournalInUse is = (is.fault_is, can_clear is.kept is.cleared is.cleared_is)
+        recorded (CannotWriteFile path) is = (is.fault_is, can_clear is.kept is.cleared is.cleared_is)
+        recorded (Journal fault) is = goes_wrong (Journal fault) is.kept is.cleared is.cleared_is is.fault_is
+        recorded (Stopped StopFault.CannotRecord) is = absurd is.fault_is
+        recorded (Stopped stop) is = goes_wrong (Stopped stop) is.kept is.cleared is.cleared_is is.fault_is
+        recorded OutOfMemory is = tt
+        recorded (CannotWrite n) is = (readable, report_readable)
+        recorded fault is = absurd is.fault_is
+
+        as_command : (fault : CommandFault) → IsRecordedClearFault files machine.journals asked journal range fault → IsClearFaultBy may_lose files machine.journals asked asked.journal range fault
+        as_command fault is = subst (λ (o : Option JournalAsked). IsClearFaultBy may_lose files machine.journals asked o range fault) (sym named) is
+
+        clear_since : (fault : CommandFault) → GoesWrongAfter (option_map string_bytes asked.logs) machine.journals dag found was what journal fault → IsClearFault may_lose files machine asked fault
+        clear_since BadMoment is = absurd is.fault_is
+        clear_since (CannotLaunch path) is = absurd is.fault_is
+        clear_since fault is = (range, means, as_command fault (recorded fault is))
+
+        journaled_answer : (may_hear : Hearing) (text : List ℕ) (success : Bool) → OfJournal machine.journals journal (λ bytes. IsJournaledAfter (launched_by (launching_asked asked.launcher asked.logs) may_hear clocks) answers dag found was what journal.retry_failed bytes text success)
+            → IsClearAnswer may_hear files machine asked text (of_runs success)
+        journaled_answer may_hear text success is = record {
+          range = range;
+          means = means;
+          what = what;
+          means_what = means_what;
+          succeeded = success;
+          status_is = refl;
+          launchable = launchable;
+          readable = readable;
+          report_readable = report_readable;
+          text_is = λ graph held other are holds reported told. (let p = as_prepared graph held other are holds in
+              subst (λ (o : Option JournalAsked). IsClearReportBy (launching_asked asked.launcher asked.logs) may_hear machine.journals o range what graph held other reported text success) (sym named) (λ bytes are_held. (record {
+                draft = p.draft;
+                answers = answers;
+                found = found;
+                was = was;
+                graph_is = p.graph_is;
+                table_says = p.table_says;
+                listing = p.listing;
+                report_says = says reported told;
+                clocks = clocks;
+                clocks_are = p.clocks_are;
+                reported = subst (λ (d : Dag). IsJournaledAfter (launched_by (launching_asked asked.launcher asked.logs) may_hear clocks) answers d found was what journal.retry_failed bytes text success) p.dag_is (is bytes are_held);
+              })));
+        }
+
+    -- the report is read in a file that nothing has changed
+    module _ (file : Option (Option (List ℕ))) (stays : file ≡ files (string_bytes asked.report)) where
+      clear_unreported : (fault : CommandFault) → IsReportFault (string_bytes asked.report) file fault → IsClearFault may_lose files machine asked fault
+      clear_unreported fault is = of_clearing fault (unreported files (clear_input asked) range dag found clocks answers readable what means_what said fault
+          (subst (λ (f : Option (Option (List ℕ))). IsReportFault (string_bytes asked.report) f fault) stays is))
+
+      clear_going_on : asked.journal ≡ None → (fault : CommandFault) → IsFaultAfterFile (is_alone asked.progress) (with_clocks (launching_asked asked.launcher asked.logs) clocks) may_lose answers dag found (string_bytes asked.report) file what fault
+          → IsClearFault may_lose files machine asked fault
+      clear_going_on none fault (inl report) = clear_unreported fault report
+      clear_going_on none fault (inr (was, is, again)) = clear_again (subst IsReadable stays is.readable) was (λ held told. is.says held (stays ∙ told)) none fault again
+
+      clear_gone_on : asked.journal ≡ None → (may_hear : Hearing) (text : List ℕ) (success : Bool) → IsReportAfterFile (launched_by (launching_asked asked.launcher asked.logs) may_hear clocks) answers dag found file what text success
+          → IsClearAnswer may_hear files machine asked text (of_runs success)
+      clear_gone_on none may_hear text success is =
+          clear_answer (subst IsReadable stays is.read.readable) is.was (λ held told. is.read.says held (stays ∙ told)) none may_hear text success is.reported
+
+      module _ (journal : JournalAsked) (named : asked.journal ≡ Some journal) where
+        since_read : (was : Reported) → IsReadOf file was → (fault : CommandFault) → IsUncleared dag found was what fault ⊎ GoesWrongAfter (option_map string_bytes asked.logs) machine.journals dag found was what journal fault → IsClearFault may_lose files machine asked fault
+        since_read was is fault (inl refused) = clear_refused (subst IsReadable stays is.readable) was (λ held told. is.says held (stays ∙ told)) fault refused
+        since_read was is fault (inr wrong) = clear_since (subst IsReadable stays is.readable) was (λ held told. is.says held (stays ∙ told)) journal named fault wrong
+
+        recording_going_on : (fault : CommandFault) → IsFaultSinceFile (option_map string_bytes asked.logs) machine.journals dag found (string_bytes asked.report) file what journal fault → IsClearFault may_lose files machine asked fault
+        recording_going_on fault (inl report) = clear_unreported fault report
+        recording_going_on fault (inr (was, is, since)) = since_read was is fault since
+
+        recording_gone_on : (may_hear : Hearing) (text : List ℕ) (success : Bool) → IsJournaledAfterFile (launched_by (launching_asked asked.launcher asked.logs) may_hear clocks) machine.journals answers dag found file what journal text success
+            → IsClearAnswer may_hear files machine asked text (of_runs success)
+        recording_gone_on may_hear text success is =
+            journaled_answer (subst IsReadable stays is.read.readable) is.was (λ held told. is.read.says held (stays ∙ told)) journal named may_hear text success is.reported
+
+      -- whether a journal is named or not
+      pub clear_faults : (launching : LaunchingOf) → launching ≡ launching_asked asked.launcher asked.logs → (fault : CommandFault)
+          → IsFaultAfterFileBy (is_alone asked.progress) (with_clocks launching clocks) may_lose machine.journals asked.journal answers dag found (string_bytes asked.report) file what fault
+          → IsClearFault may_lose files machine asked fault
+      clear_faults launching same fault is = go asked.journal refl
+          (subst (λ (l : LaunchingOf). IsFaultAfterFileBy (is_alone asked.progress) (with_clocks l clocks) may_lose machine.journals asked.journal answers dag found (string_bytes asked.report) file what fault) same is)
+        where
+          go : (o : Option JournalAsked) → asked.journal ≡ o → IsFaultAfterFileBy (is_alone asked.progress) (with_clocks (launching_asked asked.launcher asked.logs) clocks) may_lose machine.journals o answers dag found (string_bytes asked.report) file what fault
+              → IsClearFault may_lose files machine asked fault
+          go None none is = clear_going_on none fault is
+          go (Some journal) named is = recording_going_on journal named fault is
+
+      pub clear_answers : (launching : LaunchingOf) → launching ≡ launching_asked asked.launcher asked.logs → (may_hear : Hearing) (text : List ℕ) (success : Bool)
+          → IsReportAfterFileBy (launched_by launching may_hear clocks) machine.journals asked.journal answers dag found file what text success
+          → IsClearAnswer may_hear files machine asked text (of_runs success)
+      clear_answers launching same may_hear text success is = go asked.journal refl
+          (subst (λ (l : LaunchingOf). IsReportAfterFileBy (launched_by l may_hear clocks) machine.journals asked.journal answers dag found file what text success) same is)
+        where
+          go : (o : Option JournalAsked) → asked.journal ≡ o → IsReportAfterFileBy (launched_by (launching_asked asked.launcher asked.logs) may_hear clocks) machine.journals o answers dag found file what text success → IsClearAnswer may_hear files machine asked text (of_runs success)
+          go None none is = clear_gone_on none may_hear text success is
+          go (Some journal) named is = recording_gone_on journal named may_hear text success is
+
+-- ---- where it is only told
+
+module _ (files : Files) (asked : ClearPlanAsked) (range : RunRange) (means : MeansRange asked.range range) where
+  pub of_planning : (fault : CommandFault) → IsFaultOfClearing files (plan_input asked) range fault → IsClearPlanFault files asked fault
+  of_planning BadMoment is = absurd is
+  of_planning fault is = (range, means, is)
+
+  module _ (dag : Dag) (found : List Interval) (clocks : List ℤ) (answers : Option (List TableEntry)) (readable : AreReadable files (first_paths (plan_input asked))) (what : ToClear) (means_what : MeansCleared files asked.cleared what)
+      (said : IsOfBytes files asked.graph None (λ graph zone table. IsPrepared graph zone table range dag found clocks answers))
+      (file : Option (Option (List ℕ))) (stays : file ≡ files (string_bytes asked.report)) where
+    pub plan_unreported : (fault : CommandFault) → IsReportFault (string_bytes asked.report) file fault → IsClearPlanFault files asked fault
+    plan_unreported fault is = of_planning fault (unreported files (plan_input asked) range dag found clocks answers readable what means_what said fault
+        (subst (λ (f : Option (Option (List ℕ))). IsReportFault (string_bytes asked.report) f fault) stays is))
+
+    module _ (was : Reported) (is_read : IsReadOf file was) where
+      report_readable : IsReadable (files (string_bytes asked.report))
+      report_readable = subst IsReadable stays is_read.readable
+
+      report_says : (held : List ℕ) → IsHeld (files (string_bytes asked.report)) held → IsReadAs held was
+      report_says held told = is_read.says held (stays ∙ told)
+
+      pub plan_fault : (fault : CommandFault) → IsFaultOfClearPlan dag found was what fault → IsClearPlanFault files asked fault
+      plan_fault (CannotWrite n) is = of_planning (CannotWrite n) (readable, report_readable)
+      plan_fault (Clear fault) is = of_planning (Clear fault) (uncleared files (plan_input asked) range dag found clocks answers readable what means_what said report_readable was report_says (Clear fault) is)
+      plan_fault (Seeds fault) is = of_planning (Seeds fault) (uncleared files (plan_input asked) range dag found clocks answers readable what means_what said report_readable was report_says (Seeds fault) is)
+      plan_fault OutOfMemory is = of_planning OutOfMemory tt
+      plan_fault fault is = absurd is
+
+      pub plan_answer : (text : List ℕ) → IsClearPlan dag found was what text → IsClearPlanAnswer files asked text Status.Success
+      plan_answer text is = record {
+        success = refl;
+        range = range;
+        means = means;
+        what = what;
+        means_what = means_what;
+        readable = readable;
+        report_readable = report_readable;
+        text_is = λ graph held other are holds reported told. (let p = prepared_held files (plan_input asked) range dag found clocks answers readable what means_what said graph held other are holds in record {
+          draft = p.draft;
+          found = found;
+          was = was;
+          graph_is = p.graph_is;
+          listing = p.listing;
+          report_says = report_says reported told;
+          plan = subst (λ (d : Dag). IsClearPlan d found was what text) p.dag_is is;
+        });
+      }

@@ -1,0 +1,5 @@
+pub mod Commands
+pub mod Named
+pub mod CommandFaults
+pub mod Files
+pub mod Journals

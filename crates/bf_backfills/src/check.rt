@@ -1,0 +1,45 @@
+//! The command `check`: whether a graph file has a fault.
+ghost use Rattle.std.specs.Prelude.{IfOk, IfErr, ◌≡◌, string_bytes};
+ghost use Rattle.bf_device.specs.Device.{HasHalted};
+ghost use Rattle.bf_command_fault.specs.Refusal.{Leaves, Sends};
+ghost use Rattle.bf_command_fault.specs.declared.status.Status.{Status as StatusTerm};
+ghost use Rattle.bf_backfills.specs.Commands.{IsCheckAnswer, size_text};
+ghost use Rattle.bf_backfills.specs.CommandFaults.{IsCheckFault};
+
+use bf_command_fault::{CommandFault, Status};
+use bf_command_line::GraphAsked;
+use bf_device::{Write, send};
+use bf_disk::Source;
+use bf_input::graph_files;
+use bf_planning::{GraphSize, check_graph};
+use bf_value::OutOfMemory;
+use std::alloc::Global;
+
+/// The line for standard output. There is no singular.
+fn size_line(alloc: Global, size: GraphSize) -> Result<String, OutOfMemory>
+    ensures { IfOk result (λ line. string_bytes line ≡ size_text size) }
+{
+    Ok(format!(in alloc; "ok {} tasks, {} edges\n", size.tasks, size.edges)?)
+}
+
+/// Reads the files and checks the graph, and prints the size of its graph.
+pub fn check_answered<S: Source, W: Write>(
+    alloc: Global,
+    asked: GraphAsked,
+    files: &mut S,
+    out: &mut W,
+) -> Result<Status, CommandFault>
+    ensures answer { IfOk result (λ status. Sends (λ text. IsCheckAnswer (S.file files.old) asked text status)
+        (W.written out.old) (W.written out.new)) }
+    ensures fault { IfErr result (IsCheckFault (S.file files.old) asked) }
+    ensures left { IfErr result (Leaves (HasHalted (W.failures out.old) (W.failures out.new)
+        (W.interruptions out.old) (W.interruptions out.new))
+        (λ text. (status : StatusTerm) × IsCheckAnswer (S.file files.old) asked text status)
+        (W.written out.old) (W.written out.new)) }
+{
+    let files = graph_files(alloc, asked, files)?;
+    let size = check_graph(alloc, &files.graph, files.zone_file())?;
+    let line = size_line(alloc, size)?;
+    send(out, line.as_bytes())?;
+    Ok(Status::Success)
+}

@@ -1,0 +1,264 @@
+//! The command `clear`: a backfill that goes on from its report, where some tasks in runs are cleared with all that follows from them. Where
+//! nothing is, it is `run --keep` and `dry --keep`.
+ghost use Rattle.std.specs.Prelude.{◌≡◌, ℕ, Bool, List, IfOk, IfErr, OnOk, option_map, string_bytes};
+ghost use Rattle.bf_device.specs.Device.{HasHalted};
+ghost use Rattle.bf_table.specs.Tables.{table_of};
+ghost use Rattle.bf_commands.specs.Cleared.{IsPrepared};
+ghost use Rattle.bf_commands.specs.OverTable.{is_alone};
+ghost use Rattle.bf_process.specs.Words.{launching_of};
+ghost use Rattle.bf_planning.specs.Clocks.{clocks_in};
+ghost use Rattle.bf_commands.specs.Programs.{launched_in, with_clocks};
+ghost use Rattle.bf_command_fault.specs.Refusal.{Leaves, Sends};
+ghost use Rattle.bf_command_fault.specs.declared.status.Status.{Status as StatusTerm};
+ghost use Rattle.bf_disk.specs.Files.{AreReadable};
+ghost use Rattle.bf_input.specs.Inputs.{OfFilesAndNamedTable, clear_paths, AreAlike, IsReadingFault, bytes_of};
+ghost use Rattle.bf_backfills.specs.Commands.{IsClearAnswer, launcher_used as used, machine_of};
+ghost use Rattle.bf_backfills.specs.CommandFaults.{IsClearFault};
+ghost use Rattle.bf_backfills.specs.Files.{IsFaultAfterFile, IsOfBytes, IsPreparingFault, IsReportAfterFile};
+ghost use Rattle.bf_backfills.specs.Journals.{IsFaultAfterFileBy, IsFaultSinceFile, IsJournaledAfterFile, IsReportAfterFileBy};
+ghost use Rattle.bf_backfills.specs.Named.{IsReadFor, path_of};
+
+use crate::journaled::clear_recorded;
+use crate::launching::{launching_asked, look_at, path_named, tells_of};
+use crate::named::{Named, named_in, to_clear};
+use crate::range::range_of;
+use bf_command_fault::{CommandFault, Status};
+use bf_command_line::{ClearAsked, GraphAsked, JournalAsked};
+use bf_commands::{Crew, Prepared, Screen, ToClear, clear_in, prepare, run_again};
+use bf_device::Write;
+use bf_disk::{Journals, Launchers, Source};
+use bf_input::{GraphFiles, graph_files, named_table_bytes, report_in};
+use bf_planning::RunRange;
+use bf_process::Starter;
+use std::alloc::Global;
+use std::sync::Wait;
+use std::thread::Threads;
+use std::time::Clock;
+
+/// The launcher that is named, where no table is.
+fn launcher_used<'a>(table: &Option<String>, launcher: &'a Option<String>) -> Option<&'a str>
+    ensures { option_map (λ l. l.now) result ≡ used table.now launcher.entry.now }
+{
+    match table {
+        Some(_) => None,
+        None => path_named(launcher),
+    }
+}
+
+/// The files that are read before any is looked at, and what is to be cleared. The report isn't one of them.
+#[derive(Drop)]
+struct ClearFiles {
+    graph: GraphFiles,
+    table: Option<Vec<u8>>,
+    what: ToClear,
+}
+
+impl ClearFiles {
+    /// What the table holds, where there is one.
+    fn table(&self) -> Option<&[u8]>
+        ensures { option_map (λ s. s.now) result ≡ bytes_of self.now.table }
+    {
+        self.table.as_deref()
+    }
+}
+
+/// Reads the graph file, and where they are named, in this order, the zone file, the table and the seeds file.
+fn clear_files<S: Source>(
+    alloc: Global,
+    graph: GraphAsked,
+    table: Option<String>,
+    named: Named,
+    files: &mut S,
+) -> Result<ClearFiles, CommandFault>
+    ensures alike { IfOk result (λ f. OfFilesAndNamedTable (S.file files.old) graph (option_map string_bytes table) (λ held zone other.
+        AreAlike f.graph.graph.items held (bytes_of f.graph.zone_file) zone × (option_map table_of (bytes_of f.table) ≡ option_map table_of other))) }
+    ensures what { IfOk result (λ f. IsReadFor (S.file files.old) named f.what) }
+    ensures readable { OnOk result (AreReadable (S.file files.old) (clear_paths graph (option_map string_bytes table) (path_of named))) }
+    ensures fault { IfErr result (IsReadingFault (S.file files.old) (clear_paths graph (option_map string_bytes table) (path_of named))) }
+    ensures stays { (p : List ℕ) → S.file files.new p ≡ S.file files.old p }
+{
+    let graph = graph_files(alloc, graph, files)?;
+    let table = named_table_bytes(alloc, table, files)?;
+    let what = to_clear(alloc, named, files)?;
+    Ok(ClearFiles { graph, table, what })
+}
+
+/// What the files say but for the report, and what is to be cleared.
+#[derive(Drop)]
+pub(crate) struct PreparedToClear {
+    pub(crate) prepared: Prepared,
+    pub(crate) what: ToClear,
+}
+
+/// Reads the files but for the report, and then looks at what they hold.
+pub(crate) fn prepared_in<S: Source>(
+    alloc: Global,
+    graph: GraphAsked,
+    table: Option<String>,
+    named: Named,
+    range: RunRange,
+    files: &mut S,
+) -> Result<PreparedToClear, CommandFault>
+    ensures said { IfOk result (λ p. IsOfBytes (S.file files.old) graph (option_map string_bytes table) (λ bytes zone entries.
+        IsPrepared bytes zone entries range p.prepared.dated.plan.dag p.prepared.dated.runs (clocks_in p.prepared.dated) p.prepared.answers)) }
+    ensures what { IfOk result (λ p. IsReadFor (S.file files.old) named p.what) }
+    ensures readable { OnOk result (AreReadable (S.file files.old) (clear_paths graph (option_map string_bytes table) (path_of named))) }
+    ensures fault { IfErr result (IsPreparingFault (S.file files.old) graph (option_map string_bytes table) (path_of named) range) }
+    ensures stays { (p : List ℕ) → S.file files.new p ≡ S.file files.old p }
+{
+    let read = clear_files(alloc, graph, table, named, files)?;
+    let prepared = prepare(
+        alloc,
+        &read.graph.graph,
+        read.graph.zone_file(),
+        read.table(),
+        range,
+    )?;
+    Ok(PreparedToClear {
+        prepared,
+        what: read.what,
+    })
+}
+
+/// Reads the report, and goes on from it where this is cleared. Says whether every run is a success.
+fn go_on<RT: Starter + Screen + Threads + Wait + Clock + Sync, S: Source, W: Write>(
+    crew: &Crew<'_, RT>,
+    prepared: Prepared,
+    report: String,
+    what: ToClear,
+    files: &mut S,
+    out: &mut W,
+) -> Result<bool, CommandFault>
+    ensures ok { IfOk result (λ success. Sends (λ text. IsReportAfterFile (launched_in prepared.dated (launching_of crew.now.launching) (RT.may_hear crew.now.rt.now))
+        prepared.answers prepared.dated.plan.dag prepared.dated.runs (S.file files.old (string_bytes report)) what text success)
+        (W.written out.old) (W.written out.new)) }
+    ensures fault { IfErr result (IsFaultAfterFile (is_alone crew.now.progress) (with_clocks (launching_of crew.now.launching) (clocks_in prepared.dated)) (RT.may_lose crew.now.rt.now)
+        prepared.answers prepared.dated.plan.dag prepared.dated.runs (string_bytes report) (S.file files.old (string_bytes report)) what) }
+    ensures left { IfErr result (Leaves (HasHalted (W.failures out.old) (W.failures out.new)
+        (W.interruptions out.old) (W.interruptions out.new))
+        (λ text. (success : Bool) × IsReportAfterFile (launched_in prepared.dated (launching_of crew.now.launching) (RT.may_hear crew.now.rt.now))
+        prepared.answers prepared.dated.plan.dag prepared.dated.runs (S.file files.old (string_bytes report)) what text success)
+        (W.written out.old) (W.written out.new)) }
+{
+    let report = report_in(crew.alloc, report, files)?;
+    run_again(crew, prepared, report, what, out)
+}
+
+/// The same, where a journal is named: it is opened when what is cleared is known to be of the report.
+fn go_on_recorded<RT, J: Journals, S: Source, W: Write>(
+    crew: &Crew<'_, RT>,
+    prepared: Prepared,
+    report: String,
+    what: ToClear,
+    journal: JournalAsked,
+    files: &mut S,
+    journals: &J,
+    out: &mut W,
+) -> Result<bool, CommandFault>
+where
+    RT: Starter + Screen + Threads + Wait + Clock + Sync,
+    J::Device: Send,
+    ensures ok { IfOk result (λ success. Sends (λ text. IsJournaledAfterFile (launched_in prepared.dated (launching_of crew.now.launching) (RT.may_hear crew.now.rt.now))
+        (J.journal journals.now) prepared.answers prepared.dated.plan.dag prepared.dated.runs
+        (S.file files.old (string_bytes report)) what journal text success) (W.written out.old) (W.written out.new)) }
+    ensures fault { IfErr result (IsFaultSinceFile (launching_of crew.now.launching).logs (J.journal journals.now)
+        prepared.dated.plan.dag prepared.dated.runs (string_bytes report) (S.file files.old (string_bytes report)) what journal) }
+    ensures left { IfErr result (Leaves (HasHalted (W.failures out.old) (W.failures out.new)
+        (W.interruptions out.old) (W.interruptions out.new))
+        (λ text. (success : Bool) × IsJournaledAfterFile (launched_in prepared.dated (launching_of crew.now.launching) (RT.may_hear crew.now.rt.now))
+        (J.journal journals.now) prepared.answers prepared.dated.plan.dag prepared.dated.runs
+        (S.file files.old (string_bytes report)) what journal text success) (W.written out.old) (W.written out.new)) }
+{
+    let report = report_in(crew.alloc, report, files)?;
+    let Prepared { dated, answers } = prepared;
+    let clearing = clear_in(crew.alloc, &dated, report, what)?;
+    clear_recorded(crew, &clearing, answers, journal, journals, out)
+}
+
+/// Goes on from a report, and from a journal where one is named.
+fn gone_on<RT, J: Journals, S: Source, W: Write>(
+    crew: &Crew<'_, RT>,
+    prepared: Prepared,
+    report: String,
+    what: ToClear,
+    journal: Option<JournalAsked>,
+    files: &mut S,
+    journals: &J,
+    out: &mut W,
+) -> Result<bool, CommandFault>
+where
+    RT: Starter + Screen + Threads + Wait + Clock + Sync,
+    J::Device: Send,
+    ensures ok { IfOk result (λ success. Sends (λ text. IsReportAfterFileBy (launched_in prepared.dated (launching_of crew.now.launching) (RT.may_hear crew.now.rt.now))
+        (J.journal journals.now) journal prepared.answers prepared.dated.plan.dag prepared.dated.runs
+        (S.file files.old (string_bytes report)) what text success) (W.written out.old) (W.written out.new)) }
+    ensures fault { IfErr result (IsFaultAfterFileBy (is_alone crew.now.progress)
+        (with_clocks (launching_of crew.now.launching) (clocks_in prepared.dated)) (RT.may_lose crew.now.rt.now) (J.journal journals.now) journal
+        prepared.answers prepared.dated.plan.dag prepared.dated.runs (string_bytes report) (S.file files.old (string_bytes report)) what) }
+    ensures left { IfErr result (Leaves (HasHalted (W.failures out.old) (W.failures out.new)
+        (W.interruptions out.old) (W.interruptions out.new))
+        (λ text. (success : Bool) × IsReportAfterFileBy (launched_in prepared.dated (launching_of crew.now.launching) (RT.may_hear crew.now.rt.now))
+        (J.journal journals.now) journal prepared.answers prepared.dated.plan.dag prepared.dated.runs
+        (S.file files.old (string_bytes report)) what text success) (W.written out.old) (W.written out.new)) }
+{
+    match journal {
+        Some(journal) => go_on_recorded(
+            crew, prepared, report, what, journal, files, journals, out,
+        ),
+        None => go_on(crew, prepared, report, what, files, out),
+    }
+}
+
+/// The moments are looked at first, and then the launcher, where no table is named. Then the files are read but for the report, and
+/// only then what they hold is looked at; then the report is read, and what is to be cleared is looked for.
+pub fn clear_answered<
+    RT: Starter + Screen + Threads + Wait + Clock + Sync,
+    J: Journals + Launchers,
+    S: Source,
+    W: Write,
+>(
+    rt: &RT,
+    alloc: Global,
+    asked: ClearAsked,
+    files: &mut S,
+    journals: &J,
+    out: &mut W,
+) -> Result<Status, CommandFault>
+where
+    J::Device: Send,
+    ensures answer { IfOk result (λ status. Sends (λ text. IsClearAnswer (RT.may_hear rt.now) (S.file files.old) (machine_of (J.journal journals.now) (J.startable journals.now)) asked text status)
+        (W.written out.old) (W.written out.new)) }
+    ensures fault { IfErr result (IsClearFault (RT.may_lose rt.now) (S.file files.old) (machine_of (J.journal journals.now) (J.startable journals.now)) asked) }
+    ensures left { IfErr result (Leaves (HasHalted (W.failures out.old) (W.failures out.new)
+        (W.interruptions out.old) (W.interruptions out.new))
+        (λ text. (status : StatusTerm) × IsClearAnswer (RT.may_hear rt.now) (S.file files.old) (machine_of (J.journal journals.now) (J.startable journals.now)) asked text status)
+        (W.written out.old) (W.written out.new)) }
+{
+    let range = range_of(&asked.range)?;
+    let named = named_in(alloc, &asked.cleared)?;
+    look_at(
+        journals,
+        alloc,
+        launcher_used(&asked.table, &asked.launcher),
+    )?;
+    let ready = prepared_in(alloc, asked.graph, asked.table, named, range, files)?;
+    let PreparedToClear { prepared, what } = ready;
+    let (launcher, logs) = (asked.launcher, asked.logs);
+    let by_programs = prepared.answers.is_none();
+    let tells = tells_of(rt, by_programs, asked.quiet, asked.progress, &logs);
+    let crew = Crew::of(rt, alloc, asked.workers, asked.progress).launching(
+        launching_asked(&launcher, &logs),
+        tells,
+    );
+    let succeeded = gone_on(
+        &crew,
+        prepared,
+        asked.report,
+        what,
+        asked.journal,
+        files,
+        journals,
+        out,
+    )?;
+    Ok(Status::of_runs(succeeded))
+}

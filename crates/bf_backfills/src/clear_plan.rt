@@ -1,0 +1,49 @@
+//! The command `clear --plan`: what is cleared in a report.
+ghost use Rattle.std.specs.Prelude.{IfOk, IfErr};
+ghost use Rattle.bf_device.specs.Device.{HasHalted};
+ghost use Rattle.bf_command_fault.specs.Refusal.{Leaves, Sends};
+ghost use Rattle.bf_command_fault.specs.declared.status.Status.{Status as StatusTerm};
+ghost use Rattle.bf_backfills.specs.Commands.{IsClearPlanAnswer};
+ghost use Rattle.bf_backfills.specs.CommandFaults.{IsClearPlanFault};
+
+use crate::clear::{PreparedToClear, prepared_in};
+use crate::named::named_in;
+use crate::range::range_of;
+use bf_command_fault::{CommandFault, Status};
+use bf_command_line::ClearPlanAsked;
+use bf_commands::write_clear_plan;
+use bf_device::Write;
+use bf_disk::Source;
+use bf_input::report_in;
+use std::alloc::Global;
+
+/// The moments are looked at first. Then the files are read but for the report, and only then what they hold is looked at; then the report
+/// is read, and what is to be cleared is looked for. No program is started, so no launcher is looked at.
+pub fn clear_plan_answered<S: Source, W: Write>(
+    alloc: Global,
+    asked: ClearPlanAsked,
+    files: &mut S,
+    out: &mut W,
+) -> Result<Status, CommandFault>
+    ensures answer { IfOk result (λ status. Sends (λ text. IsClearPlanAnswer (S.file files.old) asked text status)
+        (W.written out.old) (W.written out.new)) }
+    ensures fault { IfErr result (IsClearPlanFault (S.file files.old) asked) }
+    ensures left { IfErr result (Leaves (HasHalted (W.failures out.old) (W.failures out.new)
+        (W.interruptions out.old) (W.interruptions out.new))
+        (λ text. (status : StatusTerm) × IsClearPlanAnswer (S.file files.old) asked text status)
+        (W.written out.old) (W.written out.new)) }
+{
+    let ClearPlanAsked {
+        graph,
+        report,
+        range,
+        cleared,
+    } = asked;
+    let range = range_of(&range)?;
+    let named = named_in(alloc, &cleared)?;
+    let ready = prepared_in(alloc, graph, None, named, range, files)?;
+    let PreparedToClear { prepared, what } = ready;
+    let report = report_in(alloc, report, files)?;
+    write_clear_plan(alloc, &prepared.dated, report, &what, out)?;
+    Ok(Status::Success)
+}

@@ -1,0 +1,51 @@
+//! The command `dry`: a run for each data interval of a range, answered from a table.
+ghost use Rattle.std.specs.Prelude.{IfOk, IfErr};
+ghost use Rattle.bf_device.specs.Device.{HasHalted};
+ghost use Rattle.bf_command_fault.specs.Refusal.{Leaves, Sends};
+ghost use Rattle.bf_command_fault.specs.declared.status.Status.{Status as StatusTerm};
+ghost use Rattle.bf_backfills.specs.Commands.{IsDryAnswer};
+ghost use Rattle.bf_backfills.specs.CommandFaults.{IsDryFault};
+
+use crate::range::range_of;
+use bf_command_fault::{CommandFault, Status};
+use bf_command_line::DryAsked;
+use bf_commands::{Crew, Screen, run_dry};
+use bf_device::Write;
+use bf_disk::Source;
+use bf_input::files_with_table;
+use bf_process::Starter;
+use std::alloc::Global;
+use std::sync::Wait;
+use std::thread::Threads;
+use std::time::Clock;
+
+/// The moments are looked at first. Then the files are read, and only then what they hold is looked at.
+pub fn dry_answered<RT: Starter + Screen + Threads + Wait + Clock + Sync, S: Source, W: Write>(
+    rt: &RT,
+    alloc: Global,
+    asked: DryAsked,
+    files: &mut S,
+    out: &mut W,
+) -> Result<Status, CommandFault>
+    ensures answer { IfOk result (λ status. Sends (λ text. IsDryAnswer (S.file files.old) asked text status)
+        (W.written out.old) (W.written out.new)) }
+    ensures fault { IfErr result (IsDryFault (S.file files.old) asked) }
+    ensures left { IfErr result (Leaves (HasHalted (W.failures out.old) (W.failures out.new)
+        (W.interruptions out.old) (W.interruptions out.new))
+        (λ text. (status : StatusTerm) × IsDryAnswer (S.file files.old) asked text status)
+        (W.written out.old) (W.written out.new)) }
+{
+    let range = range_of(&asked.range)?;
+    let files = files_with_table(alloc, asked.graph, asked.table, files)?;
+    let graph = &files.graph;
+    let crew = Crew::of(rt, alloc, asked.workers, asked.progress);
+    let succeeded = run_dry(
+        &crew,
+        &graph.graph,
+        graph.zone_file(),
+        &files.table,
+        range,
+        out,
+    )?;
+    Ok(Status::of_runs(succeeded))
+}

@@ -1,0 +1,215 @@
+//! Backfills that record their tries in a journal, which is opened before the first of them.
+ghost use Rattle.std.specs.Prelude.{◌≡◌, [], Bool, IfErr, IfOk, option_map, string_bytes};
+ghost use Rattle.bf_clear.specs.Keeping.{kept_in};
+ghost use Rattle.bf_kept.specs.Kept.{AreFit, nothing};
+ghost use Rattle.bf_process.specs.Words.{MayAnswer, launching_of};
+ghost use Rattle.bf_device.specs.Device.{HasHalted};
+ghost use Rattle.bf_command_fault.specs.Refusal.{Leaves, Sends};
+ghost use Rattle.bf_commands.specs.Cleared.{MayAnswerBy};
+ghost use Rattle.bf_commands.specs.Programs.{launched_in};
+ghost use Rattle.bf_backfills.specs.Commands.{IsRunReportBy, OfJournal};
+ghost use Rattle.bf_input.specs.Inputs.{bytes_of};
+ghost use Rattle.bf_backfills.specs.Journals.{IsFaultOfOpening, IsFaultOfRecorded, IsFaultOfRunBy, IsFaultOver, IsReportOver, journaled_fault, of_open};
+
+use bf_command_fault::{CommandFault, StopFault};
+use bf_command_line::JournalAsked;
+use bf_commands::{
+    Clearing, Crew, Journal, Recorded, Screen, record_again, record_programs, run_programs,
+};
+use bf_device::Write;
+use bf_disk::{Journals, OpenFault};
+use bf_input::GraphFiles;
+use bf_journal::Cuttable;
+use bf_planning::{DatedPlan, RunRange, dated_plan_in};
+use bf_process::Starter;
+use bf_table::Table;
+use bf_value::Text;
+use std::alloc::Global;
+use std::sync::Wait;
+use std::thread::Threads;
+use std::time::Clock;
+
+/// Why there is no answer where a path's journal isn't open.
+fn unopened(path: String, fault: OpenFault) -> CommandFault
+    ensures { result ≡ of_open (string_bytes path) fault }
+{
+    match fault {
+        OpenFault::CannotRead => CommandFault::CannotRead(Text::new(path)),
+        OpenFault::InUse => CommandFault::JournalInUse,
+        OpenFault::OutOfMemory => CommandFault::OutOfMemory,
+    }
+}
+
+/// What is told of the fault of a backfill that records its tries in a path's journal.
+fn told_of_journal(fault: CommandFault, path: String) -> CommandFault
+    ensures { result ≡ journaled_fault (string_bytes path) fault }
+{
+    match fault {
+        CommandFault::Stopped(StopFault::CannotRecord) => {
+            CommandFault::CannotWriteFile(Text::new(path))
+        }
+        fault => fault,
+    }
+}
+
+/// A journal that was asked for, and its path.
+#[derive(Drop)]
+struct NamedJournal<D: Cuttable + Drop> {
+    journal: Journal<D>,
+    path: String,
+}
+
+/// Opens the journal that is asked for.
+fn named_journal<J: Journals>(
+    journals: &J,
+    alloc: Global,
+    asked: JournalAsked,
+) -> Result<NamedJournal<J::Device>, CommandFault>
+    ensures held { IfOk result (λ named. OfJournal (J.journal journals.now) asked (λ held. named.journal.held.items ≡ held)) }
+    ensures stop_after { IfOk result (λ named. named.journal.stop_after ≡ asked.stop_after) }
+    ensures retry_failed { IfOk result (λ named. named.journal.retry_failed ≡ asked.retry_failed) }
+    ensures path { IfOk result (λ named. string_bytes named.path ≡ string_bytes asked.path) }
+    ensures fault { IfErr result (IsFaultOfOpening (J.journal journals.now) asked) }
+{
+    let JournalAsked {
+        path,
+        stop_after,
+        retry_failed,
+    } = asked;
+    match journals.open_journal(alloc, path.as_str()) {
+        Ok(opened) => Ok(NamedJournal {
+            journal: Journal {
+                held: opened.held,
+                device: opened.device,
+                stop_after,
+                retry_failed,
+            },
+            path,
+        }),
+        Err(fault) => Err(unopened(path, fault)),
+    }
+}
+
+/// What `run` makes of its runs, where a journal is named.
+fn run_over<RT, J: Journals, W>(
+    crew: &Crew<'_, RT>,
+    dated: &DatedPlan,
+    asked: JournalAsked,
+    journals: &J,
+    out: &mut W,
+) -> Result<bool, CommandFault>
+where
+    RT: Starter + Screen + Threads + Wait + Clock + Sync,
+    J::Device: Send,
+    W: Write,
+    ensures ok { IfOk result (λ success. Sends (λ text. IsReportOver (J.journal journals.now) asked nothing []
+        (MayAnswer (launched_in dated.now (launching_of crew.now.launching) (RT.may_hear crew.now.rt.now)) dated.now.plan.dag dated.now.runs)
+        dated.now.plan.dag dated.now.runs text success) (W.written out.old) (W.written out.new)) }
+    ensures fault { IfErr result (IsFaultOver (J.journal journals.now) asked nothing [] (launching_of crew.now.launching).logs dated.now.plan.dag dated.now.runs) }
+    ensures left { IfErr result (Leaves (HasHalted (W.failures out.old) (W.failures out.new)
+        (W.interruptions out.old) (W.interruptions out.new))
+        (λ text. (success : Bool) × IsReportOver (J.journal journals.now) asked nothing []
+        (MayAnswer (launched_in dated.now (launching_of crew.now.launching) (RT.may_hear crew.now.rt.now)) dated.now.plan.dag dated.now.runs)
+        dated.now.plan.dag dated.now.runs text success) (W.written out.old) (W.written out.new)) }
+{
+    let NamedJournal { journal, path } = named_journal(journals, crew.alloc, asked)?;
+    let Recorded { report, device: _ } = record_programs(crew, dated, journal, out);
+    match report {
+        Ok(success) => Ok(success),
+        Err(fault) => Err(told_of_journal(fault, path)),
+    }
+}
+
+/// The command `run` where a journal is named. That is opened when the range is known to have runs.
+fn run_recorded<RT, J: Journals, W>(
+    crew: &Crew<'_, RT>,
+    files: &GraphFiles,
+    range: RunRange,
+    asked: JournalAsked,
+    journals: &J,
+    out: &mut W,
+) -> Result<bool, CommandFault>
+where
+    RT: Starter + Screen + Threads + Wait + Clock + Sync,
+    J::Device: Send,
+    W: Write,
+    ensures ok { IfOk result (λ success. Sends (λ text. IsRunReportBy (launching_of crew.now.launching) (RT.may_hear crew.now.rt.now)
+        (J.journal journals.now) (Some asked) range files.now.graph.items (bytes_of files.now.zone_file) text success)
+        (W.written out.old) (W.written out.new)) }
+    ensures fault { IfErr result (IsFaultOfRecorded (launching_of crew.now.launching).logs (J.journal journals.now) asked range
+        files.now.graph.items (bytes_of files.now.zone_file)) }
+    ensures left { IfErr result (Leaves (HasHalted (W.failures out.old) (W.failures out.new)
+        (W.interruptions out.old) (W.interruptions out.new))
+        (λ text. (success : Bool) × IsRunReportBy (launching_of crew.now.launching) (RT.may_hear crew.now.rt.now)
+        (J.journal journals.now) (Some asked) range files.now.graph.items (bytes_of files.now.zone_file) text success)
+        (W.written out.old) (W.written out.new)) }
+{
+    let dated = dated_plan_in(crew.alloc, &files.graph, files.zone_file(), range)?;
+    run_over(crew, &dated, asked, journals, out)
+}
+
+/// What `run` makes of its files, and of a journal where one is named.
+pub(crate) fn run_reported<RT, J: Journals, W>(
+    crew: &Crew<'_, RT>,
+    files: &GraphFiles,
+    range: RunRange,
+    journal: Option<JournalAsked>,
+    journals: &J,
+    out: &mut W,
+) -> Result<bool, CommandFault>
+where
+    RT: Starter + Screen + Threads + Wait + Clock + Sync,
+    J::Device: Send,
+    W: Write,
+    ensures ok { IfOk result (λ success. Sends (λ text. IsRunReportBy (launching_of crew.now.launching) (RT.may_hear crew.now.rt.now)
+        (J.journal journals.now) journal range files.now.graph.items (bytes_of files.now.zone_file) text success)
+        (W.written out.old) (W.written out.new)) }
+    ensures fault { IfErr result (IsFaultOfRunBy (launching_of crew.now.launching) (RT.may_lose crew.now.rt.now)
+        (J.journal journals.now) journal range files.now.graph.items (bytes_of files.now.zone_file)) }
+    ensures left { IfErr result (Leaves (HasHalted (W.failures out.old) (W.failures out.new)
+        (W.interruptions out.old) (W.interruptions out.new))
+        (λ text. (success : Bool) × IsRunReportBy (launching_of crew.now.launching) (RT.may_hear crew.now.rt.now)
+        (J.journal journals.now) journal range files.now.graph.items (bytes_of files.now.zone_file) text success)
+        (W.written out.old) (W.written out.new)) }
+{
+    match journal {
+        Some(journal) => run_recorded(crew, files, range, journal, journals, out),
+        None => run_programs(crew, &files.graph, files.zone_file(), range, out),
+    }
+}
+
+/// The command `clear` where a journal is named.
+pub(crate) fn clear_recorded<RT, J: Journals, W>(
+    crew: &Crew<'_, RT>,
+    clearing: &Clearing<'_>,
+    answers: Option<Table>,
+    asked: JournalAsked,
+    journals: &J,
+    out: &mut W,
+) -> Result<bool, CommandFault>
+where
+    RT: Starter + Screen + Threads + Wait + Clock + Sync,
+    J::Device: Send,
+    W: Write,
+    requires { AreFit clearing.now.dated.now.plan.dag (kept_in clearing.now.kept) }
+    ensures ok { IfOk result (λ success. Sends (λ text. IsReportOver (J.journal journals.now) asked
+        (kept_in clearing.now.kept) clearing.now.cleared.items
+        (MayAnswerBy (launched_in clearing.now.dated.now (launching_of crew.now.launching) (RT.may_hear crew.now.rt.now)) answers clearing.now.dated.now.plan.dag clearing.now.dated.now.runs)
+        clearing.now.dated.now.plan.dag clearing.now.dated.now.runs text success) (W.written out.old) (W.written out.new)) }
+    ensures fault { IfErr result (IsFaultOver (J.journal journals.now) asked
+        (kept_in clearing.now.kept) clearing.now.cleared.items (launching_of crew.now.launching).logs
+        clearing.now.dated.now.plan.dag clearing.now.dated.now.runs) }
+    ensures left { IfErr result (Leaves (HasHalted (W.failures out.old) (W.failures out.new)
+        (W.interruptions out.old) (W.interruptions out.new))
+        (λ text. (success : Bool) × IsReportOver (J.journal journals.now) asked
+        (kept_in clearing.now.kept) clearing.now.cleared.items
+        (MayAnswerBy (launched_in clearing.now.dated.now (launching_of crew.now.launching) (RT.may_hear crew.now.rt.now)) answers clearing.now.dated.now.plan.dag clearing.now.dated.now.runs)
+        clearing.now.dated.now.plan.dag clearing.now.dated.now.runs text success) (W.written out.old) (W.written out.new)) }
+{
+    let NamedJournal { journal, path } = named_journal(journals, crew.alloc, asked)?;
+    let Recorded { report, device: _ } = record_again(crew, clearing, answers, journal, out);
+    match report {
+        Ok(success) => Ok(success),
+        Err(fault) => Err(told_of_journal(fault, path)),
+    }
+}

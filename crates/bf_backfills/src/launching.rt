@@ -1,0 +1,72 @@
+//! How the programs of tries are launched, and whether tries that fail are told.
+ghost use Rattle.std.specs.Prelude.{◌≡◌, IfErr, OnOk, false, option_map, string_bytes, true};
+ghost use Rattle.bf_process.specs.Words.{launching_of};
+ghost use Rattle.bf_backfills.specs.Commands.{IsLaunchable, launching_asked as asked};
+ghost use Rattle.bf_backfills.specs.CommandFaults.{IsFaultOfLauncher};
+
+use bf_command_fault::CommandFault;
+use bf_commands::{Screen, Tells};
+use bf_disk::Launchers;
+use bf_process::Launching;
+use bf_value::Text;
+use std::alloc::Global;
+
+/// The path that is named, where one is.
+pub(crate) fn path_named(path: &Option<String>) -> Option<&str>
+    ensures { option_map (λ p. p.now) result ≡ option_map string_bytes path.entry.now }
+{
+    path.as_deref()
+}
+
+/// Looks whether the launcher that is named can be started.
+pub(crate) fn look_at<L: Launchers>(
+    launchers: &L,
+    alloc: Global,
+    launcher: Option<&str>,
+) -> Result<(), CommandFault>
+    ensures ok { OnOk result (IsLaunchable (L.startable launchers.now) (option_map (λ l. l.now) launcher.entry)) }
+    ensures fault { IfErr result (IsFaultOfLauncher (L.startable launchers.now) (option_map (λ l. l.now) launcher.entry)) }
+{
+    let Some(path) = launcher else {
+        return Ok(());
+    };
+    if launchers.can_start(path) {
+        return Ok(());
+    }
+    let path = Text::copied(alloc, path)?;
+    Err(CommandFault::CannotLaunch(path))
+}
+
+/// How programs are launched where this launcher and this folder of logs are named. What clocks show is left open.
+pub(crate) fn launching_asked<'a>(
+    launcher: &'a Option<String>,
+    logs: &'a Option<String>,
+) -> Launching<'a>
+    ensures { launching_of result ≡ asked launcher.entry.now logs.entry.now }
+{
+    Launching {
+        launcher: path_named(launcher),
+        logs: path_named(logs),
+        clocks: &[],
+    }
+}
+
+/// What is told without being asked for, where programs make the tries: progress on a terminal; which tries fail there, where
+/// progress is asked for, and where logs are kept; and nothing where all is to be quiet.
+pub(crate) fn tells_of<RT: Screen>(
+    rt: &RT,
+    by_programs: bool,
+    quiet: bool,
+    progress: bool,
+    logs: &Option<String>,
+) -> Tells
+    ensures quiet { quiet ≡ true → (result.progress ≡ false) × (result.failures ≡ false) }
+    ensures table { by_programs ≡ false → (result.progress ≡ false) × (result.failures ≡ false) }
+{
+    let is_terminal = rt.is_terminal();
+    let tells = by_programs && !quiet;
+    Tells {
+        progress: tells && is_terminal,
+        failures: tells && (is_terminal || progress || logs.is_some()),
+    }
+}

@@ -1,0 +1,26 @@
+//! The commands over graphs, from the forms of their lines to the texts that they print: `check`, `list`, `single`, `dry`, `run` and
+//! `clear`.
+//!
+//! Each looks at its moments, reads the files that it is given in their order, and only then looks at what they hold. What a command makes
+//! of their bytes is in `bf_commands`.
+#![tactic(auto)]
+
+mod check;
+mod clear;
+mod clear_plan;
+mod dry;
+mod journaled;
+mod launching;
+mod list;
+mod named;
+mod range;
+mod run;
+mod single;
+
+pub use check::check_answered;
+pub use clear::clear_answered;
+pub use clear_plan::clear_plan_answered;
+pub use dry::dry_answered;
+pub use list::list_answered;
+pub use run::run_answered;
+pub use single::single_answered;

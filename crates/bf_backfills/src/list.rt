@@ -1,0 +1,37 @@
+//! The command `list`: the data intervals of a graph's schedule that start in a range.
+ghost use Rattle.std.specs.Prelude.{IfOk, IfErr};
+ghost use Rattle.bf_device.specs.Device.{HasHalted};
+ghost use Rattle.bf_command_fault.specs.Refusal.{Leaves, Sends};
+ghost use Rattle.bf_command_fault.specs.declared.status.Status.{Status as StatusTerm};
+ghost use Rattle.bf_backfills.specs.Commands.{IsListAnswer};
+ghost use Rattle.bf_backfills.specs.CommandFaults.{IsListFault};
+
+use crate::range::range_of;
+use bf_command_fault::{CommandFault, Status};
+use bf_command_line::ListAsked;
+use bf_device::Write;
+use bf_disk::Source;
+use bf_input::graph_files;
+use bf_planning::run_list;
+use std::alloc::Global;
+
+/// The moments are looked at first. Then the files are read, and only then what they hold is looked at.
+pub fn list_answered<S: Source, W: Write>(
+    alloc: Global,
+    asked: ListAsked,
+    files: &mut S,
+    out: &mut W,
+) -> Result<Status, CommandFault>
+    ensures answer { IfOk result (λ status. Sends (λ text. IsListAnswer (S.file files.old) asked text status)
+        (W.written out.old) (W.written out.new)) }
+    ensures fault { IfErr result (IsListFault (S.file files.old) asked) }
+    ensures left { IfErr result (Leaves (HasHalted (W.failures out.old) (W.failures out.new)
+        (W.interruptions out.old) (W.interruptions out.new))
+        (λ text. (status : StatusTerm) × IsListAnswer (S.file files.old) asked text status)
+        (W.written out.old) (W.written out.new)) }
+{
+    let range = range_of(&asked.range)?;
+    let files = graph_files(alloc, asked.graph, files)?;
+    run_list(alloc, &files.graph, files.zone_file(), range, out)?;
+    Ok(Status::Success)
+}

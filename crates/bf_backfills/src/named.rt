@@ -1,0 +1,91 @@
+//! What a line names to be cleared.
+ghost use Rattle.std.specs.Prelude.{◌≡◌, ◌∷◌, ◌++◌, [], ℕ, List, IfErr, IfOk, OnOk, string_bytes};
+ghost use Rattle.bf_disk.specs.Files.{AreReadable, named_paths};
+ghost use Rattle.bf_input.specs.Inputs.{IsReadingFault};
+ghost use Rattle.bf_input.specs.Moments.{IsNoMoment};
+ghost use Rattle.bf_backfills.specs.Commands.{HasNoMoment, HasUnmeantRun, MeanSeeds, MeansSeed};
+ghost use Rattle.bf_backfills.specs.Named.{IsReadFor, IsUnmeant, MeansNamed, path_of};
+
+use bf_command_fault::CommandFault;
+use bf_command_line::{ClearedAsked, SeedAsked};
+use bf_commands::ToClear;
+use bf_dependents::Seed;
+use bf_disk::Source;
+use bf_input::{moment_of, seeds_bytes};
+use bf_value::{OutOfMemory, Text};
+use std::alloc::Global;
+
+/// What is to be cleared, where its file isn't read yet.
+#[derive(Drop)]
+pub(crate) enum Named {
+    Seeds(Vec<Seed>),
+    /// The path of a file.
+    File(String),
+    Failed,
+    Nothing,
+}
+
+/// The seed of a task, a run and maybe a map index.
+fn seed_of(alloc: Global, asked: &SeedAsked) -> Result<Seed, CommandFault>
+    ensures means { IfOk result (MeansSeed asked.now) }
+    ensures bad { IfErr result (IsUnmeant (IsNoMoment (string_bytes asked.now.run))) }
+{
+    let run = moment_of(asked.run.as_str())?;
+    let task = Text::copied(alloc, asked.task.as_str())?;
+    Ok(Seed {
+        task,
+        run,
+        index: asked.index,
+    })
+}
+
+fn add(seeds: &mut Vec<Seed>, seed: Seed) -> Result<(), OutOfMemory>
+    ensures { OnOk result (seeds.new.items ≡ seeds.old.items ++ seed ∷ []) }
+{
+    seeds.push(seed)?;
+    Ok(())
+}
+
+fn seeds_of(alloc: Global, asked: &[SeedAsked]) -> Result<Vec<Seed>, CommandFault>
+    ensures means { IfOk result (λ seeds. MeanSeeds asked.now seeds.items) }
+    ensures bad { IfErr result (IsUnmeant (HasUnmeantRun asked.now)) }
+{
+    let mut seeds = Vec::new(alloc);
+    for one in asked {
+        let seed = seed_of(alloc, one)?;
+        add(&mut seeds, seed)?;
+    }
+    Ok(seeds)
+}
+
+/// What the texts of a line mean. No file is read.
+pub(crate) fn named_in(alloc: Global, asked: &ClearedAsked) -> Result<Named, CommandFault>
+    ensures means { IfOk result (MeansNamed asked.now) }
+    ensures bad { IfErr result (IsUnmeant (HasNoMoment asked.now)) }
+{
+    match asked {
+        ClearedAsked::Seeds(asked) => Ok(Named::Seeds(seeds_of(alloc, asked.as_slice())?)),
+        ClearedAsked::File(path) => Ok(Named::File(String::from_str(alloc, path.as_str())?)),
+        ClearedAsked::Failed => Ok(Named::Failed),
+        ClearedAsked::Nothing => Ok(Named::Nothing),
+    }
+}
+
+/// What is to be cleared, by what the file holds where one is named.
+pub(crate) fn to_clear<S: Source>(
+    alloc: Global,
+    named: Named,
+    files: &mut S,
+) -> Result<ToClear, CommandFault>
+    ensures ok { IfOk result (IsReadFor (S.file files.old) named) }
+    ensures readable { OnOk result (AreReadable (S.file files.old) (named_paths (path_of named))) }
+    ensures fault { IfErr result (IsReadingFault (S.file files.old) (named_paths (path_of named))) }
+    ensures stays { (p : List ℕ) → S.file files.new p ≡ S.file files.old p }
+{
+    match named {
+        Named::Seeds(seeds) => Ok(ToClear::Seeds(seeds)),
+        Named::File(path) => Ok(ToClear::File(seeds_bytes(alloc, path, files)?)),
+        Named::Failed => Ok(ToClear::Failed),
+        Named::Nothing => Ok(ToClear::Nothing),
+    }
+}

@@ -1,0 +1,59 @@
+//! The command `run`: a run for each data interval of a range, with the programs of its tasks.
+ghost use Rattle.std.specs.Prelude.{IfOk, IfErr};
+ghost use Rattle.bf_device.specs.Device.{HasHalted};
+ghost use Rattle.bf_command_fault.specs.Refusal.{Leaves, Sends};
+ghost use Rattle.bf_command_fault.specs.declared.status.Status.{Status as StatusTerm};
+ghost use Rattle.bf_backfills.specs.Commands.{IsRunAnswer, machine_of};
+ghost use Rattle.bf_backfills.specs.CommandFaults.{IsRunFault};
+
+use crate::journaled::run_reported;
+use crate::launching::{launching_asked, look_at, path_named, tells_of};
+use crate::range::range_of;
+use bf_command_fault::{CommandFault, Status};
+use bf_command_line::RunAsked;
+use bf_commands::{Crew, Screen};
+use bf_device::Write;
+use bf_disk::{Journals, Launchers, Source};
+use bf_input::graph_files;
+use bf_process::Starter;
+use std::alloc::Global;
+use std::sync::Wait;
+use std::thread::Threads;
+use std::time::Clock;
+
+/// The moments are looked at first, and then the launcher. Then the files are read, and only then what they hold is looked at.
+pub fn run_answered<
+    RT: Starter + Screen + Threads + Wait + Clock + Sync,
+    J: Journals + Launchers,
+    S: Source,
+    W: Write,
+>(
+    rt: &RT,
+    alloc: Global,
+    asked: RunAsked,
+    files: &mut S,
+    journals: &J,
+    out: &mut W,
+) -> Result<Status, CommandFault>
+where
+    J::Device: Send,
+    ensures answer { IfOk result (λ status. Sends (λ text. IsRunAnswer (RT.may_hear rt.now) (S.file files.old) (machine_of (J.journal journals.now) (J.startable journals.now)) asked text status)
+        (W.written out.old) (W.written out.new)) }
+    ensures fault { IfErr result (IsRunFault (RT.may_lose rt.now) (S.file files.old) (machine_of (J.journal journals.now) (J.startable journals.now)) asked) }
+    ensures left { IfErr result (Leaves (HasHalted (W.failures out.old) (W.failures out.new)
+        (W.interruptions out.old) (W.interruptions out.new))
+        (λ text. (status : StatusTerm) × IsRunAnswer (RT.may_hear rt.now) (S.file files.old) (machine_of (J.journal journals.now) (J.startable journals.now)) asked text status)
+        (W.written out.old) (W.written out.new)) }
+{
+    let range = range_of(&asked.range)?;
+    look_at(journals, alloc, path_named(&asked.launcher))?;
+    let files = graph_files(alloc, asked.graph, files)?;
+    let (launcher, logs) = (asked.launcher, asked.logs);
+    let tells = tells_of(rt, true, asked.quiet, asked.progress, &logs);
+    let crew = Crew::of(rt, alloc, asked.workers, asked.progress).launching(
+        launching_asked(&launcher, &logs),
+        tells,
+    );
+    let succeeded = run_reported(&crew, &files, range, asked.journal, journals, out)?;
+    Ok(Status::of_runs(succeeded))
+}

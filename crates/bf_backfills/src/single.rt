@@ -1,0 +1,50 @@
+//! The command `single`: one run, answered from a table.
+ghost use Rattle.std.specs.Prelude.{IfOk, IfErr};
+ghost use Rattle.bf_device.specs.Device.{HasHalted};
+ghost use Rattle.bf_command_fault.specs.Refusal.{Leaves, Sends};
+ghost use Rattle.bf_command_fault.specs.declared.status.Status.{Status as StatusTerm};
+ghost use Rattle.bf_backfills.specs.Commands.{IsSingleAnswer};
+ghost use Rattle.bf_backfills.specs.CommandFaults.{IsSingleFault};
+
+use bf_command_fault::{CommandFault, Status};
+use bf_command_line::SingleAsked;
+use bf_commands::{Screen, run_single};
+use bf_device::Write;
+use bf_disk::Source;
+use bf_input::{files_with_table, moment_of};
+use bf_process::Starter;
+use std::alloc::Global;
+use std::sync::Wait;
+use std::thread::Threads;
+use std::time::Clock;
+
+/// The moment is looked at first. Then the files are read, and only then what they hold is looked at.
+pub fn single_answered<RT: Starter + Screen + Threads + Wait + Clock + Sync, S: Source, W: Write>(
+    rt: &RT,
+    alloc: Global,
+    asked: SingleAsked,
+    files: &mut S,
+    out: &mut W,
+) -> Result<Status, CommandFault>
+    ensures answer { IfOk result (λ status. Sends (λ text. IsSingleAnswer (S.file files.old) asked text status)
+        (W.written out.old) (W.written out.new)) }
+    ensures fault { IfErr result (IsSingleFault (S.file files.old) asked) }
+    ensures left { IfErr result (Leaves (HasHalted (W.failures out.old) (W.failures out.new)
+        (W.interruptions out.old) (W.interruptions out.new))
+        (λ text. (status : StatusTerm) × IsSingleAnswer (S.file files.old) asked text status)
+        (W.written out.old) (W.written out.new)) }
+{
+    let at = moment_of(asked.at.as_str())?;
+    let files = files_with_table(alloc, asked.graph, asked.table, files)?;
+    let graph = &files.graph;
+    let succeeded = run_single(
+        rt,
+        alloc,
+        &graph.graph,
+        graph.zone_file(),
+        &files.table,
+        at,
+        out,
+    )?;
+    Ok(Status::of_runs(succeeded))
+}

@@ -1,6 +1,0 @@
-use Rattle.std.proofs.Common.{take}
-use Rattle.bf_program.specs.Commands.{MeanSeeds}
-use Rattle.bf_program.proofs.named.seeds_of.Given as goal
-
-abbrev pub invariant-loop-one : goal.invariant-loop-one
-invariant-loop-one l = MeanSeeds (take l.one-index l.asked) l.seeds.items
