@@ -13,7 +13,7 @@ source "$(dirname "$(readlink -f "${BASH_SOURCE[0]}")")/../shared/compare.sh"
 unset COLUMNS
 
 # How many seeds each oracle has in the whole.
-declare -A seeds=([backfills]=300 [explanations]=300 [faults]=1000 [intervals]=600 [journals]=400 [reports]=600 [tables_and_clearing]=600 [views]=150)
+declare -A seeds=([answering]=300 [backfills]=300 [explanations]=300 [faults]=1000 [intervals]=600 [journals]=400 [reports]=600 [tables_and_clearing]=600 [views]=150)
 
 # Below, `folder` has the files of a seed, `graph` is its graph file, and the arguments are what its line in the file `cases` has.
 
@@ -44,6 +44,19 @@ keeps() {
         answers "$status" dry "$folder/shape.json" "$folder/anew.json" "$@" --keep "$folder/dry_$version" --workers "$workers" \
             < "$folder/keep_$version"
     done
+}
+
+# Tables that are made of reports, over which the reports come out again.
+compares_answering() {
+    local from=$1 to=$2 single=$3 dry=$4 version workers
+    for version in 1 2; do
+        answers 0 answers "$folder/dry_$version" < "$folder/answers"
+    done
+    for workers in 1 8; do
+        answers "$dry" dry "$graph" "$folder/answers" --from "$from" --to "$to" --workers "$workers" < "$folder/dry_2"
+    done
+    answers 0 answers "$folder/single" < "$folder/answers_single"
+    answers "$single" single "$graph" "$folder/answers_single" --at "$from" < "$folder/single"
 }
 
 # Graphs and tables: a plain recursion over dates.
@@ -131,9 +144,9 @@ compares_tables_and_clearing() {
     esac
 }
 
-# Reports, shown as lines of JSON, as grids and as pages, also with a graph that was mended since.
+# Reports, shown as lines of JSON, as grids and as pages, also with a journal and with a graph that was mended since.
 compares_views() {
-    local is_other=$1 version n options
+    local is_other=$1 is_refused=$2 version n options
     for version in 1 2; do
         answers 0 show --json "$folder/dry_$version" < "$folder/json_$version"
         answers 0 page "$graph" "$folder/dry_$version" < "$folder/page_$version"
@@ -145,6 +158,10 @@ compares_views() {
     done
     answers 0 page "$graph" "$folder/dry_2" --states-only < "$folder/states"
     answers 0 page "$graph" "$folder/single" < "$folder/page_single"
+    case $is_refused in
+        0) answers 0 page "$graph" "$folder/dry_2" --journal "$folder/journal" < "$folder/page_journal" ;;
+        *) tells 2 "$(< "$folder/told")" page "$graph" "$folder/dry_2" --journal "$folder/journal" ;;
+    esac
     case $is_other in
         0) answers 0 page "$folder/mended.json" "$folder/dry_2" < "$folder/page_mended" ;;
         *) tells 2 'refused 42 report mismatch' page "$folder/mended.json" "$folder/dry_2" ;;

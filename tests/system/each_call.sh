@@ -111,6 +111,7 @@ for call in memory open read write; do
     each "$call" clear every_key/graph.json "$work/zone_file" "${cleared[@]}"
     each "$call" single "$work/cycle" one_task/table.json --at 2024-01-01
     each "$call" single one_task/graph.json one_task/table.json --at 2024-02-30
+    each "$call" answers "$work/report_2"
     each "$call" schema graph
     each "$call" completions fish
     each "$call" single --help

@@ -109,6 +109,7 @@ answer_low may_hear canvas files machine (asked.Show a) text status is = rw is.s
 answer_low may_hear canvas files machine (asked.ShowJson path) text status is = rw is.success (omega arith)
 answer_low may_hear canvas files machine (asked.Page a) text status is = rw is.success (omega arith)
 answer_low may_hear canvas files machine (asked.Explain a) text status is = rw is.success (omega arith)
+answer_low may_hear canvas files machine (asked.Answers path) text status is = rw is.success (omega arith)
 answer_low may_hear canvas files machine (asked.Schema format) text status is = rw is.0 (omega arith)
 answer_low may_hear canvas files machine (asked.Completions shell) text status is = rw is.0 (omega arith)
 answer_low may_hear canvas files machine a text status is = rw is.status_is (runs_low is.succeeded)

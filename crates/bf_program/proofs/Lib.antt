@@ -1,3 +1,4 @@
 pub mod Ends
 pub mod FiledReports
+mod Printing
 pub mod Unasked

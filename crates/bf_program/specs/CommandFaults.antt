@@ -3,7 +3,7 @@ use Rattle.std.specs.Prelude.{◌≡◌, ◌≤◌, ◌⊎◌, ℕ, List, length
 use Rattle.clap.specs.Words.{Row, Text}
 use Rattle.bf_device.specs.Device.{sent}
 use Rattle.bf_command_line.specs.declared.forms.Asked.{Asked}
-use Rattle.bf_command_line.specs.declared.forms.Asked.TheVariants.{Check, Clear, ClearPlan, Completions, Dry, Explain, Keep, List as Intervals, Page, Run, Schema, Show, ShowJson, Single}
+use Rattle.bf_command_line.specs.declared.forms.Asked.TheVariants.{Answers, Check, Clear, ClearPlan, Completions, Dry, Explain, Keep, List as Intervals, Page, Run, Schema, Show, ShowJson, Single}
 use Rattle.bf_command_line.specs.declared.forms.CommandLine.{CommandLine}
 use Rattle.bf_command_line.specs.Asked.{IsLineBy}
 use Rattle.bf_command_fault.specs.declared.fault.CommandFault.{CommandFault}
@@ -14,7 +14,7 @@ use Rattle.bf_command_fault.specs.Status.{code_of}
 use Rattle.bf_commands.specs.Programs.{Hearing, Losing}
 use Rattle.bf_views.specs.declared.canvas.Canvas.{Canvas}
 use Rattle.bf_views.specs.GridFaults.{IsGridFault}
-use Rattle.bf_views.specs.Json.{IsJsonFault}
+use Rattle.bf_views.specs.Json.{IsLoneFault}
 use Rattle.bf_views.specs.PageFaults.{IsPageFault}
 use Rattle.bf_views.specs.ExplainFaults.{IsExplainFault}
 use Rattle.bf_program.specs.Texts.{IsDeviceFault}
@@ -36,9 +36,10 @@ IsFault may_lose files machine (Clear asked) fault = IsClearFault may_lose files
 IsFault may_lose files machine (Keep asked) fault = IsClearFault may_lose files machine asked fault
 IsFault may_lose files machine (ClearPlan asked) fault = IsClearPlanFault files asked fault
 IsFault may_lose files machine (Show asked) fault = IsGridFault files asked fault
-IsFault may_lose files machine (ShowJson path) fault = IsJsonFault files (string_bytes path) fault
+IsFault may_lose files machine (ShowJson path) fault = IsLoneFault files (string_bytes path) fault
 IsFault may_lose files machine (Page asked) fault = IsPageFault files asked fault
 IsFault may_lose files machine (Explain asked) fault = IsExplainFault files asked fault
+IsFault may_lose files machine (Answers path) fault = IsLoneFault files (string_bytes path) fault
 IsFault may_lose files machine (Schema format) fault = IsDeviceFault fault
 IsFault may_lose files machine (Completions shell) fault = IsDeviceFault fault
 

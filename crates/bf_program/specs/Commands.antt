@@ -6,7 +6,7 @@ use Rattle.bf_device.specs.Device.{sent}
 use Rattle.bf_file.specs.declared.call.Placed.{Placed}
 use Rattle.bf_file.specs.Replacing.{HasReplaced}
 use Rattle.bf_command_line.specs.declared.forms.Asked.{Asked}
-use Rattle.bf_command_line.specs.declared.forms.Asked.TheVariants.{Check, Clear, ClearPlan, Completions, Dry, Explain, Keep, List as Intervals, Page, Run, Schema, Show, ShowJson, Single}
+use Rattle.bf_command_line.specs.declared.forms.Asked.TheVariants.{Answers, Check, Clear, ClearPlan, Completions, Dry, Explain, Keep, List as Intervals, Page, Run, Schema, Show, ShowJson, Single}
 use Rattle.bf_command_line.specs.declared.forms.CommandLine.{CommandLine}
 use Rattle.bf_command_line.specs.Asked.{IsLineBy}
 use Rattle.bf_grammar.specs.Grammar.{backfill_app}
@@ -17,6 +17,7 @@ use Rattle.bf_commands.specs.Programs.{Hearing}
 use Rattle.bf_views.specs.declared.canvas.Canvas.{Canvas}
 use Rattle.bf_views.specs.Grids.{IsGridAnswer}
 use Rattle.bf_views.specs.Json.{IsJsonAnswer}
+use Rattle.bf_views.specs.Tables.{IsTableAnswer}
 use Rattle.bf_views.specs.Pages.{IsPageAnswer}
 use Rattle.bf_views.specs.Explanations.{IsExplainAnswer}
 use Rattle.bf_backfills.specs.Commands.{IsCheckAnswer, IsClearAnswer, IsClearPlanAnswer, IsDryAnswer, IsListAnswer, IsRunAnswer, IsSingleAnswer, Machine}
@@ -49,6 +50,7 @@ IsAnswer may_hear canvas files machine (Show asked) text status = IsGridAnswer c
 IsAnswer may_hear canvas files machine (ShowJson path) text status = IsJsonAnswer files (string_bytes path) text status
 IsAnswer may_hear canvas files machine (Page asked) text status = IsPageAnswer files asked text status
 IsAnswer may_hear canvas files machine (Explain asked) text status = IsExplainAnswer files asked text status
+IsAnswer may_hear canvas files machine (Answers path) text status = IsTableAnswer files (string_bytes path) text status
 IsAnswer may_hear canvas files machine (Schema format) text status = IsPrinted (schema_text format) text status
 IsAnswer may_hear canvas files machine (Completions shell) text status = IsPrinted (completions_text shell) text status
 

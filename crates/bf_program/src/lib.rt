@@ -3,8 +3,10 @@
 
 mod explaining;
 mod filed;
+mod laws;
 mod program;
 mod texts;
 
 pub use explaining::explain;
+pub use laws::reports_are_printed_again;
 pub use program::answer;

@@ -24,7 +24,9 @@ use bf_device::{Write, send};
 use bf_disk::{Journals, Launchers, Source};
 use bf_file::Folder;
 use bf_process::Starter;
-use bf_views::{Canvas, explain_answered, json_answered, page_answered, show_answered};
+use bf_views::{
+    Canvas, answers_answered, explain_answered, json_answered, page_answered, show_answered,
+};
 use clap::Error;
 use clap::error::ErrorKind;
 use std::alloc::Global;
@@ -174,6 +176,7 @@ where
         Asked::ShowJson(path) => json_answered(alloc, path, files, out),
         Asked::Page(page) => page_answered(alloc, page, files, out),
         Asked::Explain(explain) => explain_answered(alloc, explain, files, out),
+        Asked::Answers(path) => answers_answered(alloc, path, files, out),
         Asked::Schema(format) => schema_answered(format, out),
         Asked::Completions(shell) => completions_answered(shell, out),
     }

@@ -15,4 +15,5 @@ mod members;
 mod writing;
 
 pub use laws::{instances_are_read_back, untried_tasks_are_read_back};
+pub use members::push_string;
 pub use writing::write_json_lines;

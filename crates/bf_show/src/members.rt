@@ -14,7 +14,7 @@ use bf_xcom::Outcome;
 use std::alloc::Global;
 
 /// Adds a text as a string of JSON.
-pub(crate) fn push_string(alloc: Global, text: &mut String, word: &str) -> Result<(), OutOfMemory>
+pub fn push_string(alloc: Global, text: &mut String, word: &str) -> Result<(), OutOfMemory>
     ensures { OnOk result (string_bytes text.new ≡ string_bytes text.old ++ quoted word.now) }
 {
     let value = Xval::Text(Text::copied(alloc, word)?);

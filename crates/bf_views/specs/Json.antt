@@ -19,7 +19,7 @@ pub record IsJsonAnswer (files : Files) (path text : List ℕ) (status : Status)
   pub readable : IsReadable (files path)
   pub text_is : (held : List ℕ) → IsHeld (files path) held → IsJsonOf held text
 
--- the fault is that of the report's file or of the report; or memory or the device is wanting
-abbrev pub IsJsonFault : Files → List ℕ → CommandFault → Type 0
-IsJsonFault files path (CannotWrite n) = IsReadable (files path)
-IsJsonFault files path fault = IsReportFault path (files path) fault
+-- of a command over a report alone the fault is that of the report's file or of the report; or memory or the device is wanting
+abbrev pub IsLoneFault : Files → List ℕ → CommandFault → Type 0
+IsLoneFault files path (CannotWrite n) = IsReadable (files path)
+IsLoneFault files path fault = IsReportFault path (files path) fault

@@ -3,7 +3,7 @@ ghost use Rattle.std.specs.Prelude.{IfOk, IfErr, string_bytes};
 ghost use Rattle.bf_command_fault.specs.Refusal.{Leaves, Sends};
 ghost use Rattle.bf_command_fault.specs.declared.status.Status.{Status as StatusTerm};
 ghost use Rattle.bf_device.specs.Device.{HasHalted};
-ghost use Rattle.bf_views.specs.Json.{IsJsonAnswer, IsJsonFault};
+ghost use Rattle.bf_views.specs.Json.{IsJsonAnswer, IsLoneFault};
 
 use bf_command_fault::{CommandFault, Status};
 use bf_device::Write;
@@ -21,7 +21,7 @@ pub fn json_answered<S: Source, W: Write>(
 ) -> Result<Status, CommandFault>
     ensures answer { IfOk result (λ status. Sends (λ text. IsJsonAnswer (S.file files.old) (string_bytes path) text status)
         (W.written out.old) (W.written out.new)) }
-    ensures fault { IfErr result (IsJsonFault (S.file files.old) (string_bytes path)) }
+    ensures fault { IfErr result (IsLoneFault (S.file files.old) (string_bytes path)) }
     ensures left { IfErr result (Leaves (HasHalted (W.failures out.old) (W.failures out.new)
         (W.interruptions out.old) (W.interruptions out.new))
         (λ text. (status : StatusTerm) × IsJsonAnswer (S.file files.old) (string_bytes path) text status)

@@ -1,0 +1,5 @@
+pub mod Answers
+pub mod TableText
+pub mod Pieces
+pub mod Tellable
+pub mod Over

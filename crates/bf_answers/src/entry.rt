@@ -1,0 +1,130 @@
+//! The entries of single tries, each added behind a text.
+ghost use Rattle.std.specs.Prelude.{◌≡◌, ◌++◌, ◌∷◌, [], ◌<◌, true, OnOk, string_bytes};
+ghost use Rattle.serde_json.specs.Data.{Members, object};
+ghost use Rattle.serde_json.specs.Written.{compact_text, members_text, number_text};
+ghost use Rattle.serde_json.specs.Find.{of_integer};
+ghost use Rattle.bf_value.specs.Json.{text_of as json_of};
+ghost use Rattle.bf_answers.specs.Answers.{entry_at, entries_for, number_of};
+ghost use Rattle.bf_answers.specs.Pieces.{named_members};
+ghost use Rattle.bf_answers.specs.TableText.{entry_line, entry_lines};
+
+use bf_show::push_string;
+use bf_value::{OutOfMemory, Xval, text_of};
+use bf_xcom::Outcome;
+use std::alloc::Global;
+
+/// The status of a failed try.
+const FAILED: u8 = 1;
+
+/// The status of a skipped one.
+const SKIPPED: u8 = 99;
+
+/// An instance: the start of its run as a report spells it, the id of its task, and its map index, where that is expanded.
+#[derive(Clone, Copy)]
+pub(crate) struct InstanceName<'a> {
+    pub run: &'a str,
+    pub task: &'a str,
+    pub index: Option<usize>,
+}
+
+/// Adds a map index.
+fn push_index(text: &mut String, index: Option<usize>) -> Result<(), OutOfMemory>
+    ensures { OnOk result (string_bytes text.new ≡ string_bytes text.old ++ number_text (of_integer (number_of index))) }
+{
+    match index {
+        Some(index) => write!(text, "{index}")?,
+        None => text.push_str("-1")?,
+    }
+    Ok(())
+}
+
+/// Begins the entry of a try, by what it names.
+fn push_named(
+    alloc: Global,
+    text: &mut String,
+    name: &InstanceName<'_>,
+    attempt: u32,
+) -> Result<(), OutOfMemory>
+    ensures { OnOk result ((members : Members) → string_bytes text.new ++ members_text true members
+        ≡ string_bytes text.old ++ 44 ∷ 10 ∷ compact_text (object
+        (named_members name.now.run.now name.now.task.now (number_of name.now.index) attempt members))) }
+{
+    text.push_str(",\n{\"task\":")?;
+    push_string(alloc, text, name.task)?;
+    text.push_str(",\"index\":")?;
+    push_index(text, name.index)?;
+    text.push_str(",\"run\":")?;
+    push_string(alloc, text, name.run)?;
+    text.push_str(",\"try\":")?;
+    write!(text, "{attempt}")?;
+    Ok(())
+}
+
+/// Adds the entry of a try that ended with a status.
+fn push_status(
+    alloc: Global,
+    text: &mut String,
+    name: &InstanceName<'_>,
+    attempt: u32,
+    status: u8,
+) -> Result<(), OutOfMemory>
+    requires { 0 < status }
+    ensures { OnOk result (string_bytes text.new ≡ string_bytes text.old
+        ++ entry_line (entry_at name.now.run.now name.now.task.now (number_of name.now.index) attempt status [])) }
+{
+    push_named(alloc, text, name, attempt)?;
+    text.push_str(",\"status\":")?;
+    write!(text, "{status}")?;
+    text.push_str("}")?;
+    Ok(())
+}
+
+/// Adds the entry of a try that pushed a value.
+fn push_pushed(
+    alloc: Global,
+    text: &mut String,
+    name: &InstanceName<'_>,
+    attempt: u32,
+    value: &Xval,
+) -> Result<(), OutOfMemory>
+    ensures { OnOk result (string_bytes text.new ≡ string_bytes text.old
+        ++ entry_line (entry_at name.now.run.now name.now.task.now (number_of name.now.index) attempt 0 (json_of value.now))) }
+{
+    push_named(alloc, text, name, attempt)?;
+    text.push_str(",\"out\":")?;
+    push_string(alloc, text, text_of(alloc, value)?.as_str())?;
+    text.push_str("}")?;
+    Ok(())
+}
+
+/// Adds the entry of a try that failed.
+pub(crate) fn push_failed(
+    alloc: Global,
+    text: &mut String,
+    name: &InstanceName<'_>,
+    attempt: u32,
+) -> Result<(), OutOfMemory>
+    ensures { OnOk result (string_bytes text.new ≡ string_bytes text.old
+        ++ entry_line (entry_at name.now.run.now name.now.task.now (number_of name.now.index) attempt 1 [])) }
+{
+    push_status(alloc, text, name, attempt, FAILED)
+}
+
+/// Adds the entry by which a try ends so, if it takes one.
+pub(crate) fn push_ended(
+    alloc: Global,
+    text: &mut String,
+    name: &InstanceName<'_>,
+    attempt: u32,
+    outcome: &Outcome,
+) -> Result<(), OutOfMemory>
+    ensures { OnOk result (string_bytes text.new ≡ string_bytes text.old
+        ++ entry_lines (entries_for name.now.run.now name.now.task.now (number_of name.now.index) attempt outcome.now)) }
+{
+    match outcome {
+        Outcome::Success(None) => Ok(()),
+        Outcome::Success(Some(value)) => push_pushed(alloc, text, name, attempt, value),
+        Outcome::Failed => push_failed(alloc, text, name, attempt),
+        Outcome::Skipped => push_status(alloc, text, name, attempt, SKIPPED),
+    }
+}

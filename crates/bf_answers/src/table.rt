@@ -1,0 +1,146 @@
+//! The entries of a report, each added behind a text.
+ghost use Rattle.std.specs.Prelude.{◌≡◌, ◌++◌, ◌∷◌, ◌<◌, IfOk, OnOk, string_bytes, drop, length};
+ghost use Rattle.std.specs.List.{flat_map};
+ghost use Rattle.bf_answers.specs.Answers.{number_of, instance_entries, mapped_entries, retried_entries, run_entries, task_entries, tasks_entries};
+ghost use Rattle.bf_answers.specs.TableText.{answers_text, entry_lines};
+
+use crate::entry::{InstanceName, push_ended, push_failed};
+use bf_moment::Moment;
+use bf_report::{InstanceReport, Report, RunReport, TaskReport};
+use bf_value::{OutOfMemory, Text};
+use std::alloc::Global;
+
+/// Adds the tries before the last.
+fn push_retried(
+    alloc: Global,
+    text: &mut String,
+    name: &InstanceName<'_>,
+    tries: u32,
+) -> Result<(), OutOfMemory>
+    ensures { OnOk result (string_bytes text.new ≡ string_bytes text.old
+        ++ entry_lines (retried_entries name.now.run.now name.now.task.now (number_of name.now.index) tries)) }
+{
+    for attempt in 1..tries {
+        push_failed(alloc, text, name, attempt)?;
+    }
+    Ok(())
+}
+
+fn push_instance(
+    alloc: Global,
+    text: &mut String,
+    name: &InstanceName<'_>,
+    instance: &InstanceReport,
+) -> Result<(), OutOfMemory>
+    ensures { OnOk result (string_bytes text.new ≡ string_bytes text.old
+        ++ entry_lines (instance_entries name.now.run.now name.now.task.now (number_of name.now.index) instance.now.result)) }
+{
+    let ended = instance.result(alloc)?;
+    push_retried(alloc, text, name, ended.tries)?;
+    push_ended(alloc, text, name, ended.tries, &ended.outcome)
+}
+
+fn push_mapped(
+    alloc: Global,
+    text: &mut String,
+    run: &str,
+    task: &str,
+    instances: &[InstanceReport],
+) -> Result<(), OutOfMemory>
+    ensures { OnOk result (string_bytes text.new ≡ string_bytes text.old
+        ++ entry_lines (mapped_entries run.now task.now instances.now)) }
+{
+    for (index, instance) in instances.iter().enumerate() {
+        let index = Some(index);
+        push_instance(alloc, text, &InstanceName { run, task, index }, instance)?;
+    }
+    Ok(())
+}
+
+fn push_task(
+    alloc: Global,
+    text: &mut String,
+    run: &str,
+    task: &str,
+    told: &TaskReport,
+) -> Result<(), OutOfMemory>
+    ensures { OnOk result (string_bytes text.new
+        ≡ string_bytes text.old ++ entry_lines (task_entries run.now task.now told.now)) }
+{
+    match told {
+        TaskReport::NoStatus | TaskReport::Skipped | TaskReport::UpstreamFailed => Ok(()),
+        TaskReport::Ran(instance) => {
+            let index = None;
+            push_instance(alloc, text, &InstanceName { run, task, index }, instance)
+        }
+        TaskReport::Mapped(instances) => {
+            push_mapped(alloc, text, run, task, instances.as_slice())
+        }
+    }
+}
+
+fn push_tasks(
+    alloc: Global,
+    text: &mut String,
+    run: &str,
+    ids: &[Text],
+    tasks: &[TaskReport],
+) -> Result<(), OutOfMemory>
+    ensures { OnOk result (string_bytes text.new
+        ≡ string_bytes text.old ++ entry_lines (tasks_entries run.now ids.now tasks.now)) }
+{
+    for (id, task) in ids.iter().zip(tasks) {
+        push_task(alloc, text, run, id.as_str(), task)?;
+    }
+    Ok(())
+}
+
+fn push_run(
+    alloc: Global,
+    text: &mut String,
+    ids: &[Text],
+    run: &RunReport,
+) -> Result<(), OutOfMemory>
+    ensures { OnOk result (string_bytes text.new
+        ≡ string_bytes text.old ++ entry_lines (run_entries ids.now run.now)) }
+{
+    let moment = Moment::new(run.interval.start);
+    let start = format!(in alloc; "{moment}")?;
+    push_tasks(alloc, text, start.as_str(), ids, run.tasks.as_slice())
+}
+
+fn push_runs(
+    alloc: Global,
+    text: &mut String,
+    ids: &[Text],
+    runs: &[RunReport],
+) -> Result<(), OutOfMemory>
+    ensures { OnOk result (string_bytes text.new
+        ≡ string_bytes text.old ++ entry_lines (flat_map (run_entries ids.now) runs.now)) }
+{
+    for run in runs {
+        push_run(alloc, text, ids, run)?;
+    }
+    Ok(())
+}
+
+/// Puts the bracket that opens a list in the place of the first comma.
+fn opened(text: String) -> Vec<u8>
+    requires { 0 < length (string_bytes text) }
+    ensures { result.items ≡ 91 ∷ drop 1 (string_bytes text) }
+{
+    let mut bytes = text.into_bytes();
+    bytes[0] = b'[';
+    bytes
+}
+
+/// The table that answers as a report tells.
+pub(crate) fn table_of(alloc: Global, report: &Report) -> Result<Vec<u8>, OutOfMemory>
+    ensures { IfOk result (λ bytes. bytes.items ≡ answers_text report.now) }
+{
+    let mut text = String::new(alloc);
+    let (ids, runs) = (report.tasks.as_slice(), report.runs.as_slice());
+    push_runs(alloc, &mut text, ids, runs)?;
+    text.push_str("\n]\n")?;
+    Ok(opened(text))
+}

@@ -1,0 +1,34 @@
+//! Tables to devices.
+ghost use Rattle.std.specs.Prelude.{◌≡◌, ◌≤◌, length, take, OnOk, IfErr};
+ghost use Rattle.bf_device.specs.Device.{sent, HasHalted, HasGoneOn};
+ghost use Rattle.bf_answers.specs.TableText.{answers_text};
+
+use crate::table::table_of;
+use bf_device::{Cause, Write, WriteFault, send};
+use bf_report::Report;
+use std::alloc::Global;
+
+/// Writes the table that answers as a report tells. The whole text is made first, so want of memory is known before the first
+/// byte goes out. It gives up where a write fails or takes nothing, and at the 1,001st interruption.
+pub fn write_answers<W: Write>(
+    alloc: Global,
+    report: &Report,
+    out: &mut W,
+) -> Result<(), WriteFault>
+    ensures ok { OnOk result (W.written out.new ≡ sent (W.written out.old) (answers_text report.now)) }
+    ensures part { IfErr result (λ fault. (fault.sent ≤ length (answers_text report.now))
+        × (W.written out.new ≡ sent (W.written out.old) (take fault.sent (answers_text report.now)))) }
+    ensures io { IfErr result (λ fault. fault.cause ≡ Cause.Io → HasHalted (W.failures out.old) (W.failures out.new)
+        (W.interruptions out.old) (W.interruptions out.new)) }
+    ensures went_on { OnOk result (HasGoneOn (W.failures out.old) (W.failures out.new)
+        (W.interruptions out.old) (W.interruptions out.new)) }
+    ensures memory { IfErr result (λ fault. fault.cause ≡ Cause.OutOfMemory → fault.sent ≡ 0) }
+{
+    match table_of(alloc, report) {
+        Ok(bytes) => send(out, bytes.as_slice()),
+        Err(_) => Err(WriteFault {
+            sent: 0,
+            cause: Cause::OutOfMemory,
+        }),
+    }
+}

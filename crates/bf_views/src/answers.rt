@@ -1,0 +1,34 @@
+//! The command `answers`: a report as a table of answers.
+ghost use Rattle.std.specs.Prelude.{IfOk, IfErr, string_bytes};
+ghost use Rattle.bf_command_fault.specs.Refusal.{Leaves, Sends};
+ghost use Rattle.bf_command_fault.specs.declared.status.Status.{Status as StatusTerm};
+ghost use Rattle.bf_device.specs.Device.{HasHalted};
+ghost use Rattle.bf_views.specs.Json.{IsLoneFault};
+ghost use Rattle.bf_views.specs.Tables.{IsTableAnswer};
+
+use bf_answers::write_answers;
+use bf_command_fault::{CommandFault, Status};
+use bf_device::Write;
+use bf_disk::Source;
+use bf_input::report_in;
+use std::alloc::Global;
+
+/// Reads a report, and writes the table of answers over which a dry backfill has it again. No graph is asked for.
+pub fn answers_answered<S: Source, W: Write>(
+    alloc: Global,
+    path: String,
+    files: &mut S,
+    out: &mut W,
+) -> Result<Status, CommandFault>
+    ensures answer { IfOk result (λ status. Sends (λ text. IsTableAnswer (S.file files.old) (string_bytes path) text status)
+        (W.written out.old) (W.written out.new)) }
+    ensures fault { IfErr result (IsLoneFault (S.file files.old) (string_bytes path)) }
+    ensures left { IfErr result (Leaves (HasHalted (W.failures out.old) (W.failures out.new)
+        (W.interruptions out.old) (W.interruptions out.new))
+        (λ text. (status : StatusTerm) × IsTableAnswer (S.file files.old) (string_bytes path) text status)
+        (W.written out.old) (W.written out.new)) }
+{
+    let report = report_in(alloc, path, files)?;
+    write_answers(alloc, &report, out)?;
+    Ok(Status::Success)
+}
