@@ -248,11 +248,11 @@ def pieces(root):
     return re.findall(r'pub const \w+: &str = r##"(.*?)"##;', source, re.S)
 
 
-def page(fixed, paths, graph_text, report_text, states_only=False):
-    """The page of a graph and a report of it; of the zone file no path is told."""
+def page(fixed, paths, graph_text, report_text, states_only=False, times=""):
+    """The page of a graph and a report of it, with the times of a journal; of the zone file no path is told."""
     graph = Graph(graph_text)
     cells = cells_text(graph, Report(report_text, graph), len(report_text.encode()))
-    texts = [*paths, "", cells, graph_text, "" if states_only else report_text]
+    texts = [*paths, "", cells, graph_text, "" if states_only else report_text, times]
     return "".join(piece + safe(text) for piece, text in zip(fixed, [*texts, ""]))
 
 

@@ -1,7 +1,8 @@
 #!/usr/bin/env bash
 # Looks at pages in a real browser: the texts that they have, the details of each place beside the report and the reasons beside a second reading's, the
-# graph, keys, filters, addresses, colours, names for readers of screens, copies, narrow and printed, and what the policy refuses, over examples, a
-# warehouse of 90 days, hostile values and 2 graphs by chance, or 20 in ./test --whole. It takes Chromium and python3. The last line is the sum, and the status is 1 where
+# graph, the tries of a journal and their Gantt, keys, filters, addresses, colours, names for readers of screens, copies, narrow and printed, and what the
+# policy refuses, over examples, a warehouse of 90 days, programs that sleep, hostile values and 2 graphs by chance, or 20 in ./test --whole. It takes
+# Chromium and python3. The last line is the sum, and the status is 1 where
 # something differs.
 set -euo pipefail
 
@@ -36,11 +37,15 @@ for name in failed_day branch mapped; do
     cp "$root/examples/$name/report.txt" "$name/report"
     makes_page "$name"
 done
+# Programs that sleep, of which one fails at first, one is killed, and one isn't there.
+cp -r "$root/tests/pages/browser/timed" .
+"$program" run timed/graph.json --from 2024-01-01 --to 2024-01-02 --workers 4 --journal timed/journal --out timed/report 2> /dev/null || true
+makes_page timed --journal timed/journal
 mkdir chance
 graphs=2
 [[ ${TEST_SEEDS:-} != whole ]] || graphs=20
 python3 -B "$root/tests/oracles/views.py" chance 1 "$graphs"
-folders=(warehouse hostile failed_day branch mapped)
+folders=(warehouse hostile timed failed_day branch mapped)
 for ((seed = 1; seed <= graphs; seed++)); do
     for report in dry_1 dry_2 single; do
         folder=chance_${seed}_$report

@@ -24,6 +24,7 @@ Commands:
   show         Shows a report as a grid of characters, a column for each run and a row for each task
   page         Writes a page that shows a report: its runs and tasks as a grid, the graph, and why each task has its state
   explain      Tells why a task of a run, or a run, has its state
+  answers      Prints the table of answers over which a dry backfill has a report again
   schema       Prints the JSON Schema of graph files or tables, for editors
   completions  Prints what a shell completes of a command line
   help         Print this message or the help of the given subcommand(s)
@@ -179,6 +180,7 @@ Arguments:
 Options:
       --zone-file <PATH>  The zone file that the graph's zone `file` means, as of the tz database
       --states-only       Leaves the report out of the page, which then has states and reasons, but no tries and values
+      --journal <PATH>    Adds from this journal of the runs when each try started, how long it took, and its exit code
   -h, --help              Print help
 
 Example:
@@ -203,6 +205,20 @@ Options:
 Examples:
   backfill explain --task publish --run 2024-03-05 examples/failed_day/graph.json examples/failed_day/report.txt
   backfill explain --run 2024-03-05 examples/failed_day/graph.json examples/failed_day/report.txt
+HELP
+answers 0 answers --help <<'HELP'
+Prints the table of answers over which a dry backfill has a report again
+
+Usage: backfill answers <REPORT>
+
+Arguments:
+  <REPORT>  The report
+
+Options:
+  -h, --help  Print help
+
+Example:
+  backfill answers examples/failed_day/report.txt > table.json
 HELP
 answers 0 schema --help <<'HELP'
 Prints the JSON Schema of graph files or tables, for editors
@@ -289,6 +305,8 @@ clear g r --failed => error: the following required arguments were not provided:
 clear g r --failed --failed => error: the argument '--failed' cannot be used multiple times|
 page g => error: the following required arguments were not provided:|  <REPORT>|
 page g r s => error: unexpected argument 's' found|
+page g r --journal => error: a value is required for '--journal <PATH>' but none was supplied|
+page g r --journal j --journal j => error: the argument '--journal <PATH>' cannot be used multiple times|
 page g r --states-only --states-only => error: the argument '--states-only' cannot be used multiple times|
 show => error: the following required arguments were not provided:|  <GRAPH> and <REPORT>, or --json <REPORT>|
 show g => error: the following required arguments were not provided:|  <GRAPH> and <REPORT>, or --json <REPORT>|
@@ -328,6 +346,9 @@ run g --from 2024-01-01 --to 2024-01-01 --journal j --stop-after 0 => error: inv
 run g --from 2024-01-01 --to 2024-01-01 --stop-after 1 => error: the following required arguments were not provided:|  --journal <PATH>|
 run g --from 2024-01-01 --to 2024-01-01 --retry-failed => error: the following required arguments were not provided:|  --journal <PATH>|
 clear g r --task a --run 2024-01-01 --from 2024-01-01 --to 2024-01-01 --retry-failed => error: the following required arguments were not provided:|  --journal <PATH>|
+answers => error: the following required arguments were not provided:|  <REPORT>|
+answers r s => error: unexpected argument 's' found|
+answers r --out t => error: unexpected argument '--out' found|
 schema => error: the following required arguments were not provided:|  <FORMAT>|
 schema report => error: invalid value for '<FORMAT>'|  [possible values: graph, table]|
 schema graph table => error: unexpected argument 'table' found|
@@ -509,7 +530,7 @@ is_explained 2 unseen <<'LINES'
 refused 2 shape: tasks[0]
 tasks[0].id: "\u009b31m": has to be an id of 1 to 250 letters, digits, dashes, dots and underscores that no task before has
 tasks[0]: unknown key "\u202e": a task has the keys id, upstream, rule, kind, command, expand, depends_on_past, retries, retry_delay, pool, pool_slots, priority_weight and weight_rule
-tasks[0].upstream[0]: "\u009b31n": did you mean "\u009b31m"?
+tasks[0].upstream[0]: "\u009b31n": has to be the id of a task
 LINES
 # Of many faults a hundred are told, and soon.
 {

@@ -136,4 +136,74 @@ tells 2 'refused 1 not json' page "$work/bad.json" /dev/null
 tells 2 'refused 32 truncated' page "$graph" /dev/null
 tells 2 'refused 42 report mismatch' page "$graph" "$report"
 
+# The times of a journal: of each try whose record has three whole numbers at its end.
+
+report=$work/two
+journal=$work/journal
+tasks '{"id":"a"},{"id":"b","upstream":["a"],"expand":"a","command":[{"pull":"a"}],"retries":1}'
+cat > "$report" <<'REPORT'
+@backfill 2 d
+@run 2024-01-01T00:00:00Z 2024-01-02T00:00:00Z success
+a -1 success 1 [5]
+b 0 success 2 -
+@item 5
+@pull a [5]
+@run 2024-01-02T00:00:00Z 2024-01-03T00:00:00Z success
+a -1 success 1 []
+b -1 skipped 0 -
+@end 2
+REPORT
+times() {
+    "$program" page "$graph" "$report" "$@" | sed -n 's/^.*<script[^>]*id="times">//; /^@times /,/<\/script>/{/<\/script>/!p}'
+}
+head='["backfill journal",1,"d",[["a"],["b","a"]],[["2024-01-01T00:00:00Z","2024-01-02T00:00:00Z"],["2024-01-02T00:00:00Z","2024-01-03T00:00:00Z"]]'
+cat > "$work/records" <<'RECORDS'
+["2024-01-02T00:00:00Z","a",-1,1,"success",[[]],[],[],[1704153600000,1704153600250,0]]
+["2024-01-01T00:00:00Z","a",-1,1,"success",[[5]],[],[],[1704067200000,1704067201000,0]]
+["2024-01-01T00:00:00Z","b",0,1,"failed",[],[5],[[[5]]],[1704067201000,1704067263000,137]]
+["2024-01-01T00:00:00Z","b",0,1,"failed",[],[5],[[[5]]],null]
+["2024-01-01T00:00:00Z","b",0,1,"failed",[],[5],[[[5]]],[1704067201000,1704067263000]]
+["2024-01-01T00:00:00Z","b",0,1,"failed",[],[5],[[[5]]],[1704067201000,"1704067263000",137]]
+[ "2024-01-01T00:00:00Z", "b", 0, 2, "success", [], [5], [[[5]]], [1704067263000, -1, -1] ]
+RECORDS
+wanted='@times 1
+2024-01-02T00:00:00Z a -1 1 1704153600000 1704153600250 0
+2024-01-01T00:00:00Z a -1 1 1704067200000 1704067201000 0
+2024-01-01T00:00:00Z b 0 1 1704067201000 1704067263000 137
+2024-01-01T00:00:00Z b 0 2 1704067263000 -1 -1'
+is_same 'no times' 1 "$("$program" page "$graph" "$report" | grep -c '^<script type="text/plain" id="times"></script>$')"
+{ echo "$head]"; cat "$work/records"; } > "$journal"
+is_same 'the times' "$wanted" "$(times --journal "$journal")"
+is_same 'the times beside states only' "$wanted" "$(times --states-only --journal "$journal")"
+# A piece of a line is dropped, and `clear` names what it clears.
+{ echo "$head,[[\"b\",\"2024-01-01T00:00:00Z\",0]]]"; cat "$work/records"; printf '["2024-01-01T00:00:00Z","a",-1,2,"succ'; } > "$journal"
+is_same 'the times of a journal of clear, cut short' "$wanted" "$(times --journal "$journal")"
+echo "$head]" > "$journal"
+is_same 'the times of no tries' '@times 1' "$(times --journal "$journal")"
+
+# Journals of others, or of nobody.
+
+for line in '' "$head" "$head}" "${head/\"d\"/\"e\"}]" "${head/,\"a\"]/]}]" "${head/-03T/-04T}]" "${head/journal\",1/journal\",2}]" "[${head:0:40}"; do
+    echo "$line" > "$journal"
+    tells 2 'refused 43 journal mismatch' page "$graph" "$report" --journal "$journal"
+done
+for line in '' "$head]" "${head:0:20}"; do
+    printf '%s' "$line" > "$journal"
+    tells 2 'refused 43 journal mismatch' page "$graph" "$report" --journal "$journal"
+done
+# The third of these lines, the fourth with the head, is none: of another task, of another run, of eight members, and no JSON.
+for line in '["2024-01-01T00:00:00Z","c",-1,1,"success",[],[],[],[1,2,0]]' '["2024-01-03T00:00:00Z","a",-1,1,"success",[],[],[],[1,2,0]]' \
+    '["2024-01-01T00:00:00Z","a",-1,1,"success",[],[],[1,2,0]]' '@'; do
+    { echo "$head]"; head -n 2 "$work/records"; echo "$line"; tail -n 1 "$work/records"; } > "$journal"
+    tells 2 'refused 33 bad record: 4' page "$graph" "$report" --journal "$journal"
+done
+
+# The journal is looked at last.
+
+tells 3 "fault: cannot read $work/none" page "$graph" "$report" --journal "$work/none"
+tells 3 "fault: cannot read $work" page "$graph" "$report" --journal "$work"
+tells 3 "fault: cannot read $work/gone" page "$graph" "$work/gone" --journal "$work/none"
+tells 2 'refused 32 truncated' page "$graph" /dev/null --journal "$work/none"
+tells 2 'refused 42 report mismatch' page "$graph" "$work/hostile" --journal "$work/none"
+
 sum

@@ -5,7 +5,7 @@ use Rattle.std.specs.declared.alloc.Global.{Global}
 use Rattle.std.specs.Str.Parse.{ParsesSigned, ParsesUnsigned}
 use Rattle.clap.specs.Words.{Row, Text, all_of, first_of}
 use Rattle.bf_command_line.specs.declared.forms.Asked.{Asked}
-use Rattle.bf_command_line.specs.declared.forms.Asked.TheVariants.{Check, Clear, ClearPlan, Completions, Dry, Explain, Keep, List as Intervals, Page, Run, Schema, Show, ShowJson, Single}
+use Rattle.bf_command_line.specs.declared.forms.Asked.TheVariants.{Answers, Check, Clear, ClearPlan, Completions, Dry, Explain, Keep, List as Intervals, Page, Run, Schema, Show, ShowJson, Single}
 use Rattle.bf_command_line.specs.declared.forms.ClearAsked.{ClearAsked}
 use Rattle.bf_command_line.specs.declared.forms.ClearedAsked.{ClearedAsked}
 use Rattle.bf_command_line.specs.declared.forms.ClearedAsked.TheVariants as cleared
@@ -282,11 +282,13 @@ IsAskedBy (Some (name, rows)) (Page p) = (name ≡ codes "page")
     × IsGraphBy rows p.graph
     × (first_of (codes "report") rows ≡ Some (string_bytes p.report))
     × (p.states_only ≡ says_true (first_of (codes "states_only") rows))
+    × (first_of (codes "journal") rows ≡ option_map string_bytes p.journal)
 IsAskedBy (Some (name, rows)) (Explain e) = (name ≡ codes "explain")
     × IsGraphBy rows e.graph
     × (first_of (codes "report") rows ≡ Some (string_bytes e.report))
     × (first_of (codes "run") rows ≡ Some (string_bytes e.run))
     × IsTaskBy rows e.task
+IsAskedBy (Some (name, rows)) (Answers report) = (name ≡ codes "answers") × (first_of (codes "report") rows ≡ Some (string_bytes report))
 IsAskedBy (Some (name, rows)) (Schema format) = (name ≡ codes "schema") × IsFormatBy rows format
 IsAskedBy (Some (name, rows)) (Completions shell) = (name ≡ codes "completions") × IsShellBy rows shell
 

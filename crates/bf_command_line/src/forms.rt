@@ -153,13 +153,14 @@ pub struct ShowAsked {
     pub color: Color,
 }
 
-/// `page GRAPH REPORT [--states-only]`: the page that shows a report, from which its values are left out where only the states
-/// are asked for.
+/// `page GRAPH REPORT [--states-only] [--journal PATH]`: the page that shows a report, from which its values are left out where only
+/// the states are asked for; it has the times of a journal where one is named.
 #[derive(Drop)]
 pub struct PageAsked {
     pub graph: GraphAsked,
     pub report: String,
     pub states_only: bool,
+    pub journal: Option<String>,
 }
 
 /// `--task ID [--index N]`: a task, or one instance of it by its map index.
@@ -214,6 +215,8 @@ pub enum Asked {
     ShowJson(String),
     Page(PageAsked),
     Explain(ExplainAsked),
+    /// `answers REPORT`: the table of answers over which a dry backfill has the report again.
+    Answers(String),
     /// `schema FORMAT`: the schema of the files of a format.
     Schema(Format),
     /// `completions SHELL`: what a shell completes.

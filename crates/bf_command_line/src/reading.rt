@@ -13,7 +13,7 @@ use crate::range::{graph_asked, range_asked};
 use crate::refusal::overwriting;
 use crate::showing::show_asked;
 use crate::value::{is_told, optional, required, says};
-use crate::viewing::{explain_asked, page_asked};
+use crate::viewing::{answers_asked, explain_asked, page_asked};
 use bf_grammar::backfill;
 use clap::{ArgMatches, Error};
 use std::alloc::{AllocError, Global};
@@ -92,6 +92,7 @@ fn named_asked(alloc: Global, name: &str, matches: &ArgMatches<'_>) -> Result<As
         "list" => list_asked(alloc, name, matches),
         "dry" => dry_asked(alloc, name, matches),
         "explain" => explain_asked(alloc, matches),
+        "answers" => Ok(answers_asked(alloc, matches)?),
         _ => Ok(over_graph_asked(alloc, name, matches)?),
     }
 }

@@ -1,4 +1,4 @@
-//! Reads the words of `page` and `explain`.
+//! Reads the words of `page`, `explain` and `answers`.
 ghost use Rattle.std.specs.Prelude.{IfOk, Some, codes};
 ghost use Rattle.clap.specs.Words.{FailsBy, found_of, rows_of};
 ghost use Rattle.bf_command_line.specs.Wrongs.{explain_wrongs};
@@ -18,6 +18,7 @@ pub(crate) fn page_asked(alloc: Global, matches: &ArgMatches<'_>) -> Result<Aske
         graph: graph_asked(alloc, matches)?,
         report: required(alloc, matches, "report")?,
         states_only: is_told(matches, "states_only"),
+        journal: optional(alloc, matches, "journal")?,
     }))
 }
 
@@ -45,4 +46,10 @@ pub(crate) fn explain_asked(alloc: Global, matches: &ArgMatches<'_>) -> Result<A
         run: required(alloc, matches, "run")?,
         task,
     }))
+}
+
+pub(crate) fn answers_asked(alloc: Global, matches: &ArgMatches<'_>) -> Result<Asked, AllocError>
+    ensures { IfOk result (IsAskedBy (Some (codes "answers", rows_of (found_of matches.now)))) }
+{
+    Ok(Asked::Answers(required(alloc, matches, "report")?))
 }

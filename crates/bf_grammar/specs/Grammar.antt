@@ -232,13 +232,17 @@ show_app = with_rule (with_rule (with_rule (with_rule showing_app failed_rule) w
 abbrev pub over_report_app : Text → App
 over_report_app name = with_rule (over_graph_app name) report_rule
 
--- `page GRAPH REPORT [--states-only] [--zone-file PATH]`
+-- `page GRAPH REPORT [--states-only] [--journal PATH] [--zone-file PATH]`
 abbrev pub page_app : App
-page_app = with_rule (over_report_app (codes "page")) states_only_rule
+page_app = with_rule (with_rule (over_report_app (codes "page")) states_only_rule) journal_rule
 
 -- `explain GRAPH REPORT --run T [--task ID [--index N]] [--zone-file PATH]`
 abbrev pub explain_app : App
 explain_app = with_rule (with_rule (with_rule (over_report_app (codes "explain")) one_run_rule) one_task_rule) one_index_rule
+
+-- `answers REPORT`
+abbrev pub answers_app : App
+answers_app = with_rule (new_app (codes "answers")) report_rule
 
 -- `schema FORMAT`
 abbrev pub schema_app : App
@@ -269,7 +273,7 @@ running_app = with_subcommand (with_subcommand answered_app run_app.top) clear_a
 
 -- and those that show a report
 abbrev pub viewing_app : App
-viewing_app = with_subcommand (with_subcommand (with_subcommand running_app show_app.top) page_app.top) explain_app.top
+viewing_app = with_subcommand (with_subcommand (with_subcommand (with_subcommand running_app show_app.top) page_app.top) explain_app.top) answers_app.top
 
 abbrev pub backfill_app : App
 backfill_app = with_subcommand (with_subcommand viewing_app schema_app.top) completions_app.top

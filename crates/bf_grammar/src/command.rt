@@ -303,6 +303,7 @@ fn viewing<'a>(alloc: Global) -> Draft<'a>
         .subcommand(show(alloc))
         .subcommand(viewing::page(alloc))
         .subcommand(viewing::explain(alloc))
+        .subcommand(viewing::answers(alloc))
 }
 
 /// The whole command line.

@@ -1,7 +1,7 @@
 //! The commands that show a report, as `clap` reads them.
 ghost use Rattle.std.specs.Prelude.{◌≡◌};
 ghost use Rattle.clap.specs.Words.{rule_of};
-ghost use Rattle.bf_grammar.specs.Grammar.{explain_app, one_index_rule, one_run_rule, one_task_rule, over_report_app, page_app, states_only_rule};
+ghost use Rattle.bf_grammar.specs.Grammar.{answers_app, explain_app, journal_rule, one_index_rule, one_run_rule, one_task_rule, over_report_app, page_app, states_only_rule};
 ghost use Rattle.bf_grammar.specs.Drafts.{IsDraftOf};
 
 use crate::argument::{option, positional, required_option};
@@ -17,6 +17,9 @@ const EXPLAIN_EXAMPLES: &str = "Examples:\n\
     \x20 backfill explain --task publish --run 2024-03-05 examples/failed_day/graph.json examples/failed_day/report.txt\n\
     \x20 backfill explain --run 2024-03-05 examples/failed_day/graph.json examples/failed_day/report.txt";
 
+const ANSWERS_EXAMPLE: &str = "Example:\n\
+    \x20 backfill answers examples/failed_day/report.txt > table.json";
+
 fn states_only<'a>(alloc: Global) -> Arg<'a>
     ensures { rule_of result ≡ states_only_rule }
 {
@@ -26,6 +29,18 @@ fn states_only<'a>(alloc: Global) -> Arg<'a>
             "Leaves the report out of the page, which then has states and reasons, but no tries and values",
         )
         .action(ArgAction::SetTrue)
+}
+
+fn journal<'a>(alloc: Global) -> Arg<'a>
+    ensures { rule_of result ≡ journal_rule }
+{
+    option(
+        alloc,
+        "journal",
+        "journal",
+        "PATH",
+        "Adds from this journal of the runs when each try started, how long it took, and its exit code",
+    )
 }
 
 fn run<'a>(alloc: Global) -> Arg<'a>
@@ -88,6 +103,7 @@ pub(crate) fn page<'a>(alloc: Global) -> Draft<'a>
         PAGE_EXAMPLE,
     )
     .arg(states_only(alloc))
+    .arg(journal(alloc))
 }
 
 pub(crate) fn explain<'a>(alloc: Global) -> Draft<'a>
@@ -103,4 +119,16 @@ pub(crate) fn explain<'a>(alloc: Global) -> Draft<'a>
     .arg(run(alloc))
     .arg(task(alloc))
     .arg(index(alloc))
+}
+
+pub(crate) fn answers<'a>(alloc: Global) -> Draft<'a>
+    ensures { IsDraftOf answers_app result }
+{
+    Draft::new(
+        alloc,
+        "answers",
+        "Prints the table of answers over which a dry backfill has a report again",
+        ANSWERS_EXAMPLE,
+    )
+    .arg(positional(alloc, "report", "REPORT", "The report"))
 }

@@ -136,6 +136,42 @@ pub fn seeds_bytes<S: Source>(
     file_bytes(alloc, path, LONGEST_FILE, files)
 }
 
+/// The bytes of a file, however many they are: memory has no room for more.
+fn whole_bytes<S: Source>(
+    alloc: Global,
+    path: String,
+    files: &mut S,
+) -> Result<Vec<u8>, CommandFault>
+    ensures whole { IfOk result (λ bytes. (held : List ℕ) → IsHeld (S.file files.old (string_bytes path)) held
+        → bytes.items ≡ held) }
+    ensures readable { OnOk result (IsReadable (S.file files.old (string_bytes path))) }
+    ensures fault { IfErr result (IsReadingFault (S.file files.old) (string_bytes path ∷ [])) }
+    ensures stays { (p : List ℕ) → S.file files.new p ≡ S.file files.old p }
+{
+    file_bytes(alloc, path, isize::MAX as usize, files)
+}
+
+/// The bytes of a journal where one is named.
+pub fn named_journal_bytes<S: Source>(
+    alloc: Global,
+    path: Option<String>,
+    files: &mut S,
+) -> Result<Option<Vec<u8>>, CommandFault>
+    ensures whole { IfOk result (λ bytes. (held : Option (List ℕ)) → IsHeldIfNamed (S.file files.old) (option_map string_bytes path) held
+        → bytes_of bytes ≡ held) }
+    ensures readable { OnOk result (AreReadable (S.file files.old) (named_paths (option_map string_bytes path))) }
+    ensures fault { IfErr result (IsReadingFault (S.file files.old) (named_paths (option_map string_bytes path))) }
+    ensures stays { (p : List ℕ) → S.file files.new p ≡ S.file files.old p }
+{
+    match path {
+        Some(path) => {
+            let bytes = whole_bytes(alloc, path, files)?;
+            Ok(Some(bytes))
+        }
+        None => Ok(None),
+    }
+}
+
 /// The report that a file holds. It is looked at as it is read, and read no further than its first fault.
 pub fn report_in<S: Source>(
     alloc: Global,
@@ -147,6 +183,7 @@ pub fn report_in<S: Source>(
     ensures rules { IfOk result IsShownReport }
     ensures readable { OnOk result (IsReadable (S.file files.old (string_bytes path))) }
     ensures fault { IfErr result (IsReportFault (string_bytes path) (S.file files.old (string_bytes path))) }
+    ensures stays { (p : List ℕ) → S.file files.new p ≡ S.file files.old p }
 {
     let mut device = match files.open(path.as_str()) {
         Ok(device) => device,

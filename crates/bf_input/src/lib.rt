@@ -5,7 +5,7 @@ mod files;
 mod moments;
 
 pub use files::{
-    FilesWithTable, GraphFiles, files_with_table, graph_files, named_table_bytes, report_in,
-    seeds_bytes,
+    FilesWithTable, GraphFiles, files_with_table, graph_files, named_journal_bytes,
+    named_table_bytes, report_in, seeds_bytes,
 };
 pub use moments::moment_of;

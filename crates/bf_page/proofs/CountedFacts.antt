@@ -46,9 +46,9 @@ told-length (text ∷ told) is =
     omega (arith, length-append (safe text) (concat (map safe told)), length-safe text, short text parts.0, told-length told parts.1)
 
 -- of so many pieces and texts, none of them long, 64 bits count the bytes
-pub woven-counted : (fixed told : List (List ℕ)) → length fixed ≤ 7 → length told ≤ 6 → list_any is_long fixed ≡ false → list_any is_long told ≡ false
+pub woven-counted : (fixed told : List (List ℕ)) → length fixed ≤ 8 → length told ≤ 7 → list_any is_long fixed ≡ false → list_any is_long told ≡ false
     → length (concat (woven fixed told)) < 18_446_744_073_709_551_616
-woven-counted fixed told seven six pieces texts = omega (arith, length-woven fixed told, fixed-length fixed pieces, told-length told texts, seven, six)
+woven-counted fixed told eight seven pieces texts = omega (arith, length-woven fixed told, fixed-length fixed pieces, told-length told texts, eight, seven)
 
 pub unset : (b : Bool) → not b ≡ true → b ≡ false
 unset true is = cc

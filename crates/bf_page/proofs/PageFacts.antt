@@ -6,28 +6,29 @@ use Rattle.std.proofs.lemmas.List.Elements.{filter-append}
 use Rattle.bf_page.specs.Safe.{safe, is_tag}
 use Rattle.bf_page.proofs.SafeFacts.{no_tags, read_off}
 
-in_a_row : (f0 t0 f1 t1 f2 t2 f3 t3 f4 t4 f5 t5 f6 : List ℕ) → (f0 ++ safe t0) ++ ((f1 ++ safe t1) ++ ((f2 ++ safe t2) ++ ((f3 ++ safe t3) ++ ((f4 ++ safe t4) ++ ((f5 ++ safe t5) ++ ((f6 ++ []) ++ [])))))) ≡ concat (f0 ∷ safe t0 ∷ f1 ∷ safe t1 ∷ f2 ∷ safe t2 ∷ f3 ∷ safe t3 ∷ f4 ∷ safe t4 ∷ f5 ∷ safe t5 ∷ f6 ∷ [])
-in_a_row f0 t0 f1 t1 f2 t2 f3 t3 f4 t4 f5 t5 f6 = simp append_assoc
+in_a_row : (f0 t0 f1 t1 f2 t2 f3 t3 f4 t4 f5 t5 f6 t6 f7 : List ℕ) → (f0 ++ safe t0) ++ ((f1 ++ safe t1) ++ ((f2 ++ safe t2) ++ ((f3 ++ safe t3) ++ ((f4 ++ safe t4) ++ ((f5 ++ safe t5) ++ ((f6 ++ safe t6) ++ ((f7 ++ []) ++ []))))))) ≡ concat (f0 ∷ safe t0 ∷ f1 ∷ safe t1 ∷ f2 ∷ safe t2 ∷ f3 ∷ safe t3 ∷ f4 ∷ safe t4 ∷ f5 ∷ safe t5 ∷ f6 ∷ safe t6 ∷ f7 ∷ [])
+in_a_row f0 t0 f1 t1 f2 t2 f3 t3 f4 t4 f5 t5 f6 t6 f7 = simp append_assoc
 
--- seven pieces, each the same as one of these
-pub pieces_in_a_row : {f0 t0 f1 t1 f2 t2 f3 t3 f4 f5 f6 g0 u0 g1 u1 g2 u2 g3 u3 g4 g5 g6 : List ℕ} (t4 t5 : List ℕ) → g0 ≡ f0 → u0 ≡ t0 → g1 ≡ f1 → u1 ≡ t1 → g2 ≡ f2 → u2 ≡ t2 → g3 ≡ f3 → u3 ≡ t3 → g4 ≡ f4 → g5 ≡ f5 → g6 ≡ f6 →
-    (g0 ++ safe u0) ++ ((g1 ++ safe u1) ++ ((g2 ++ safe u2) ++ ((g3 ++ safe u3) ++ ((g4 ++ safe t4) ++ ((g5 ++ safe t5) ++ ((g6 ++ []) ++ [])))))) ≡ concat (f0 ∷ safe t0 ∷ f1 ∷ safe t1 ∷ f2 ∷ safe t2 ∷ f3 ∷ safe t3 ∷ f4 ∷ safe t4 ∷ f5 ∷ safe t5 ∷ f6 ∷ [])
-pieces_in_a_row {f0} {t0} {f1} {t1} {f2} {t2} {f3} {t3} {f4} {f5} {f6} t4 t5 e0 d0 e1 d1 e2 d2 e3 d3 e4 e5 e6 =
-    rw (e0, d0, e1, d1, e2, d2, e3, d3, e4, e5, e6) (in_a_row f0 t0 f1 t1 f2 t2 f3 t3 f4 t4 f5 t5 f6)
+-- eight pieces, each the same as one of these
+pub pieces_in_a_row : {f0 t0 f1 t1 f2 t2 f3 t3 f4 f5 f6 t6 f7 g0 u0 g1 u1 g2 u2 g3 u3 g4 g5 g6 u6 g7 : List ℕ} (t4 t5 : List ℕ) → g0 ≡ f0 → u0 ≡ t0 → g1 ≡ f1 → u1 ≡ t1 → g2 ≡ f2 → u2 ≡ t2 → g3 ≡ f3 → u3 ≡ t3 → g4 ≡ f4 → g5 ≡ f5 → g6 ≡ f6 → u6 ≡ t6 → g7 ≡ f7 →
+    (g0 ++ safe u0) ++ ((g1 ++ safe u1) ++ ((g2 ++ safe u2) ++ ((g3 ++ safe u3) ++ ((g4 ++ safe t4) ++ ((g5 ++ safe t5) ++ ((g6 ++ safe u6) ++ ((g7 ++ []) ++ []))))))) ≡ concat (f0 ∷ safe t0 ∷ f1 ∷ safe t1 ∷ f2 ∷ safe t2 ∷ f3 ∷ safe t3 ∷ f4 ∷ safe t4 ∷ f5 ∷ safe t5 ∷ f6 ∷ safe t6 ∷ f7 ∷ [])
+pieces_in_a_row {f0} {t0} {f1} {t1} {f2} {t2} {f3} {t3} {f4} {f5} {f6} {t6} {f7} t4 t5 e0 d0 e1 d1 e2 d2 e3 d3 e4 e5 e6 d6 e7 =
+    rw (e0, d0, e1, d1, e2, d2, e3, d3, e4, e5, e6, d6, e7) (in_a_row f0 t0 f1 t1 f2 t2 f3 t3 f4 t4 f5 t5 f6 t6 f7)
 
-pub tags_in_a_row : (f0 t0 f1 t1 f2 t2 f3 t3 f4 t4 f5 t5 f6 : List ℕ) → filter is_tag (concat (f0 ∷ safe t0 ∷ f1 ∷ safe t1 ∷ f2 ∷ safe t2 ∷ f3 ∷ safe t3 ∷ f4 ∷ safe t4 ∷ f5 ∷ safe t5 ∷ f6 ∷ [])) ≡ filter is_tag (concat (f0 ∷ f1 ∷ f2 ∷ f3 ∷ f4 ∷ f5 ∷ f6 ∷ []))
-tags_in_a_row f0 t0 f1 t1 f2 t2 f3 t3 f4 t4 f5 t5 f6 = simp (filter-append is_tag, no_tags)
+pub tags_in_a_row : (f0 t0 f1 t1 f2 t2 f3 t3 f4 t4 f5 t5 f6 t6 f7 : List ℕ) → filter is_tag (concat (f0 ∷ safe t0 ∷ f1 ∷ safe t1 ∷ f2 ∷ safe t2 ∷ f3 ∷ safe t3 ∷ f4 ∷ safe t4 ∷ f5 ∷ safe t5 ∷ f6 ∷ safe t6 ∷ f7 ∷ [])) ≡ filter is_tag (concat (f0 ∷ f1 ∷ f2 ∷ f3 ∷ f4 ∷ f5 ∷ f6 ∷ f7 ∷ []))
+tags_in_a_row f0 t0 f1 t1 f2 t2 f3 t3 f4 t4 f5 t5 f6 t6 f7 = simp (filter-append is_tag, no_tags)
 
 -- where each fixed piece but the first begins a tag, the texts are read off
-pub texts_in_a_row : (f0 g1 g2 g3 g4 g5 g6 t0 t1 t2 t3 t4 t5 u0 u1 u2 u3 u4 u5 : List ℕ) →
-    concat (f0 ∷ safe t0 ∷ (60 ∷ g1) ∷ safe t1 ∷ (60 ∷ g2) ∷ safe t2 ∷ (60 ∷ g3) ∷ safe t3 ∷ (60 ∷ g4) ∷ safe t4 ∷ (60 ∷ g5) ∷ safe t5 ∷ (60 ∷ g6) ∷ [])
-    ≡ concat (f0 ∷ safe u0 ∷ (60 ∷ g1) ∷ safe u1 ∷ (60 ∷ g2) ∷ safe u2 ∷ (60 ∷ g3) ∷ safe u3 ∷ (60 ∷ g4) ∷ safe u4 ∷ (60 ∷ g5) ∷ safe u5 ∷ (60 ∷ g6) ∷ []) →
-    (t0 ≡ u0) × (t1 ≡ u1) × (t2 ≡ u2) × (t3 ≡ u3) × (t4 ≡ u4) × (t5 ≡ u5)
-texts_in_a_row f0 g1 g2 g3 g4 g5 g6 t0 t1 t2 t3 t4 t5 u0 u1 u2 u3 u4 u5 e =
+pub texts_in_a_row : (f0 g1 g2 g3 g4 g5 g6 g7 t0 t1 t2 t3 t4 t5 t6 u0 u1 u2 u3 u4 u5 u6 : List ℕ) →
+    concat (f0 ∷ safe t0 ∷ (60 ∷ g1) ∷ safe t1 ∷ (60 ∷ g2) ∷ safe t2 ∷ (60 ∷ g3) ∷ safe t3 ∷ (60 ∷ g4) ∷ safe t4 ∷ (60 ∷ g5) ∷ safe t5 ∷ (60 ∷ g6) ∷ safe t6 ∷ (60 ∷ g7) ∷ [])
+    ≡ concat (f0 ∷ safe u0 ∷ (60 ∷ g1) ∷ safe u1 ∷ (60 ∷ g2) ∷ safe u2 ∷ (60 ∷ g3) ∷ safe u3 ∷ (60 ∷ g4) ∷ safe u4 ∷ (60 ∷ g5) ∷ safe u5 ∷ (60 ∷ g6) ∷ safe u6 ∷ (60 ∷ g7) ∷ []) →
+    (t0 ≡ u0) × (t1 ≡ u1) × (t2 ≡ u2) × (t3 ≡ u3) × (t4 ≡ u4) × (t5 ≡ u5) × (t6 ≡ u6)
+texts_in_a_row f0 g1 g2 g3 g4 g5 g6 g7 t0 t1 t2 t3 t4 t5 t6 u0 u1 u2 u3 u4 u5 u6 e =
     let (s0, e0) = read_off t0 u0 g1 _ _ (append_cancel_left f0 _ _ e) in
     let (s1, e1) = read_off t1 u1 g2 _ _ e0 in
     let (s2, e2) = read_off t2 u2 g3 _ _ e1 in
     let (s3, e3) = read_off t3 u3 g4 _ _ e2 in
     let (s4, e4) = read_off t4 u4 g5 _ _ e3 in
-    let (s5, _) = read_off t5 u5 g6 _ _ e4 in
-    (s0, s1, s2, s3, s4, s5)
+    let (s5, e5) = read_off t5 u5 g6 _ _ e4 in
+    let (s6, _) = read_off t6 u6 g7 _ _ e5 in
+    (s0, s1, s2, s3, s4, s5, s6)

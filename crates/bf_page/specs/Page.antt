@@ -6,7 +6,7 @@ use Rattle.bf_texts.specs.declared.page.TheConstants as fixed
 use Rattle.bf_page.specs.declared.page.PageTexts.{PageTexts}
 use Rattle.bf_page.specs.Safe.{safe}
 
--- seven fixed pieces, and between them six texts
+-- eight fixed pieces, and between them seven texts
 abbrev pub page_text : PageTexts → List ℕ
 page_text texts = concat
     (fixed.TO_GRAPH_PATH.now ∷ safe texts.graph_path.now
@@ -15,19 +15,21 @@ page_text texts = concat
     ∷ fixed.TO_CELLS.now ∷ safe texts.cells.now
     ∷ fixed.TO_GRAPH.now ∷ safe texts.graph.now
     ∷ fixed.TO_REPORT.now ∷ safe texts.report.now
+    ∷ fixed.TO_TIMES.now ∷ safe texts.times.now
     ∷ fixed.END.now ∷ [])
 
 -- the pieces that are fixed
 abbrev pub fixed_text : List ℕ
 fixed_text = concat
     (fixed.TO_GRAPH_PATH.now ∷ fixed.TO_REPORT_PATH.now ∷ fixed.TO_ZONE_PATH.now ∷ fixed.TO_CELLS.now
-    ∷ fixed.TO_GRAPH.now ∷ fixed.TO_REPORT.now ∷ fixed.END.now ∷ [])
+    ∷ fixed.TO_GRAPH.now ∷ fixed.TO_REPORT.now ∷ fixed.TO_TIMES.now ∷ fixed.END.now ∷ [])
 
 -- two pages tell the same
 abbrev pub TellTheSame : PageTexts → PageTexts → Type 0
 TellTheSame one two = (one.graph_path.now ≡ two.graph_path.now) × (one.report_path.now ≡ two.report_path.now)
     × (one.zone_path.now ≡ two.zone_path.now) × (one.cells.now ≡ two.cells.now)
     × (one.graph.now ≡ two.graph.now) × (one.report.now ≡ two.report.now)
+    × (one.times.now ≡ two.times.now)
 
 -- just the first n bytes of the text went out behind what had gone out before, and a counter of 64 bits says n
 abbrev pub EndsAt : ℕ → List ℕ → Option (List ℕ) → Option (List ℕ) → Type 0

@@ -7,7 +7,7 @@ ghost use Rattle.bf_page.specs.Page.{page_text};
 use crate::page::PageTexts;
 use bf_texts::page;
 
-/// The longest text of which thirteen, each byte of them as three, have fewer bytes than 64 bits can say.
+/// The longest text of which fifteen, each byte of them as three, have fewer bytes than 64 bits can say.
 const LONGEST: usize = 288_230_376_151_711_744;
 
 fn has_long(texts: &[&[u8]]) -> bool
@@ -27,6 +27,7 @@ pub fn can_be_counted(texts: &PageTexts<'_>) -> bool
         page::TO_CELLS.as_bytes(),
         page::TO_GRAPH.as_bytes(),
         page::TO_REPORT.as_bytes(),
+        page::TO_TIMES.as_bytes(),
         page::END.as_bytes(),
     ];
     let told = [
@@ -36,6 +37,7 @@ pub fn can_be_counted(texts: &PageTexts<'_>) -> bool
         texts.cells.as_bytes(),
         texts.graph,
         texts.report,
+        texts.times.as_bytes(),
     ];
     !has_long(&fixed) && !has_long(&told)
 }

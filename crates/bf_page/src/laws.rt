@@ -26,7 +26,7 @@ pub fn all_tags_are_fixed()
     ensures { (texts : Texts) → filter is_tag (page_text texts) ≡ filter is_tag fixed_text }
 {}
 
-/// The six texts are read off a page: pages that are the same tell the same.
+/// The seven texts are read off a page: pages that are the same tell the same.
 pub fn pages_differ_where_texts_do()
     ensures { (one two : Texts) → page_text one ≡ page_text two → TellTheSame one two }
 {}

@@ -9,7 +9,7 @@ use bf_device::{Write, WriteFault};
 use bf_texts::page;
 
 /// What a page tells: the words of the line for the three paths, of which the zone file's is empty where there is none; the
-/// cells; the graph file; and the report, which is empty where it is left out.
+/// cells; the graph file; the report, which is empty where it is left out; and the times of a journal, where there is one.
 #[derive(Clone, Copy, Debug)]
 pub struct PageTexts<'a> {
     pub graph_path: &'a str,
@@ -18,6 +18,7 @@ pub struct PageTexts<'a> {
     pub cells: &'a str,
     pub graph: &'a [u8],
     pub report: &'a [u8],
+    pub times: &'a str,
 }
 
 /// Writes a page, in whatever parts the device takes. It gives up where a write fails or takes nothing, and at the 1,001st
@@ -57,6 +58,10 @@ pub fn write_page<W: Write>(texts: &PageTexts<'_>, out: &mut W) -> Result<(), Wr
         Piece {
             fixed: page::TO_REPORT.as_bytes(),
             told: texts.report,
+        },
+        Piece {
+            fixed: page::TO_TIMES.as_bytes(),
+            told: texts.times.as_bytes(),
         },
         Piece {
             fixed: page::END.as_bytes(),

@@ -12,6 +12,7 @@ const TOLD: PageTexts<'static> = PageTexts {
     cells: "@cells 1 d 0 0 26\n",
     graph: b"{\"dag_id\":\r\n",
     report: b"</script>%3C\0",
+    times: "@times 1\n",
 };
 
 /// Its text: each text by hand, between the fixed pieces.
@@ -29,6 +30,8 @@ fn text(alloc: Global) -> Result<String, Fail> {
         "{\"dag_id\":%0D\n",
         page::TO_REPORT,
         "%3C/script>%253C%00",
+        page::TO_TIMES,
+        "@times 1\n",
         page::END,
     ] {
         text.push_str(piece)?;

@@ -11,7 +11,7 @@ _backfill_files() {
 }
 
 _backfill() {
-    local word=$2 before=$3 commands='check list single dry run clear show page explain schema completions help' command='' options='' words='' at
+    local word=$2 before=$3 commands='check list single dry run clear show page explain answers schema completions help' command='' options='' words='' at
     COMPREPLY=()
     # --from=T comes in three words
     [[ $word != '=' ]] || word=''
@@ -45,8 +45,9 @@ _backfill() {
         run) options='--zone-file --from --to --on --some --workers --progress --out --keep --launcher --logs --journal --stop-after --retry-failed --quiet --help' ;;
         clear) options='--zone-file --task --run --index --seeds --failed --plan --table --from --to --on --some --workers --progress --out --launcher --logs --journal --stop-after --retry-failed --quiet --help' ;;
         show) options='--zone-file --from --to --failed --width --color --json --help' ;;
-        page) options='--zone-file --states-only --help' ;;
+        page) options='--zone-file --states-only --journal --help' ;;
         explain) options='--zone-file --run --task --index --help' ;;
+        answers) options='--help' ;;
         schema) options='--help' words='graph table' ;;
         completions) options='--help' words='bash zsh fish' ;;
     esac
@@ -69,7 +70,7 @@ pub const ZSH: &str = r#"#compdef backfill
 _backfill() {
     local curcontext=$curcontext state line
     typeset -A opt_args
-    local -a commands help version zone_file explain at from to on some task run index seeds failed plan table workers progress out keep launcher logs journal stop_after retry_failed quiet shown_from shown_to shown_failed width color json states_only one_run one_task one_index graph_file table_file report_file format shell
+    local -a commands help version zone_file explain at from to on some task run index seeds failed plan table workers progress out keep launcher logs journal stop_after retry_failed quiet shown_from shown_to shown_failed width color json states_only times one_run one_task one_index graph_file table_file report_file lone_report format shell
 
     commands=(
         'check:Checks the graph, and tells how many tasks and edges it has'
@@ -81,6 +82,7 @@ _backfill() {
         'show:Shows a report as a grid of characters'
         'page:Writes a page that shows a report'
         'explain:Tells why a task of a run, or a run, has its state'
+        'answers:Prints the table of answers that a report tells'
         'schema:Prints the JSON Schema of graph files or tables'
         'completions:Prints what a shell completes'
         'help:Prints help'
@@ -119,12 +121,14 @@ _backfill() {
     color=('--color[When to colour]:when:(auto always never)')
     json=('--json[Prints an object for each task instance of this report, in place of a grid]:report:_files')
     states_only=('--states-only[Leaves the report out of the page]')
+    times=('--journal[The journal whose times the page has]:journal:_files')
     one_run=('--run[The logical date of the run]:moment: ')
     one_task=('--task[The task; without it the run is explained]:task: ')
     one_index=('--index[The map index of one instance of an expanded task]:number: ')
     graph_file=('1:graph:_files')
     table_file=('2:table:_files')
     report_file=('2:report:_files')
+    lone_report=('1:report:_files')
     format=('1:format:(graph table)')
     shell=('1:shell:(bash zsh fish)')
 
@@ -141,8 +145,9 @@ _backfill() {
                 run) _arguments $help $zone_file $from $to $on $some $workers $progress $out $keep $launcher $logs $journal $stop_after $retry_failed $quiet $graph_file ;;
                 clear) _arguments $help $zone_file $task $run $index $seeds $failed $plan $table $from $to $on $some $workers $progress $out $launcher $logs $journal $stop_after $retry_failed $quiet $graph_file $report_file ;;
                 show) _arguments $help $zone_file $shown_from $shown_to $shown_failed $width $color $json $graph_file $report_file ;;
-                page) _arguments $help $zone_file $states_only $graph_file $report_file ;;
+                page) _arguments $help $zone_file $states_only $times $graph_file $report_file ;;
                 explain) _arguments $help $zone_file $one_run $one_task $one_index $graph_file $report_file ;;
+                answers) _arguments $help $lone_report ;;
                 schema) _arguments $help $format ;;
                 completions) _arguments $help $shell ;;
             esac
@@ -172,14 +177,15 @@ complete -c backfill -n __fish_use_subcommand -a clear -d 'Runs tasks of runs ag
 complete -c backfill -n __fish_use_subcommand -a show -d 'Shows a report as a grid of characters'
 complete -c backfill -n __fish_use_subcommand -a page -d 'Writes a page that shows a report'
 complete -c backfill -n __fish_use_subcommand -a explain -d 'Tells why a task of a run, or a run, has its state'
+complete -c backfill -n __fish_use_subcommand -a answers -d 'Prints the table of answers that a report tells'
 complete -c backfill -n __fish_use_subcommand -a schema -d 'Prints the JSON Schema of graph files or tables'
 complete -c backfill -n __fish_use_subcommand -a completions -d 'Prints what a shell completes'
 complete -c backfill -n __fish_use_subcommand -a help -d 'Prints help'
 
-complete -c backfill -n '__fish_seen_subcommand_from help' -a 'check list single dry run clear show page explain schema completions help'
+complete -c backfill -n '__fish_seen_subcommand_from help' -a 'check list single dry run clear show page explain answers schema completions help'
 complete -c backfill -n '__fish_seen_subcommand_from schema' -a 'graph table'
 complete -c backfill -n '__fish_seen_subcommand_from completions' -a 'bash zsh fish'
-complete -c backfill -n '__fish_seen_subcommand_from check list single dry run clear show page explain' -F
+complete -c backfill -n '__fish_seen_subcommand_from check list single dry run clear show page explain answers' -F
 
 complete -c backfill -n 'not __fish_seen_subcommand_from help' -s h -l help -d 'Prints help'
 complete -c backfill -n __fish_use_subcommand -s V -l version -d 'Prints the version'
@@ -214,6 +220,7 @@ complete -c backfill -n '__fish_seen_subcommand_from show' -l width -x -d 'The w
 complete -c backfill -n '__fish_seen_subcommand_from show' -l color -x -a 'auto always never' -d 'When to colour'
 complete -c backfill -n '__fish_seen_subcommand_from show' -l json -r -F -d 'Prints an object for each task instance of this report, in place of a grid'
 complete -c backfill -n '__fish_seen_subcommand_from page' -l states-only -d 'Leaves the report out of the page'
+complete -c backfill -n '__fish_seen_subcommand_from page' -l journal -r -F -d 'The journal whose times the page has'
 complete -c backfill -n '__fish_seen_subcommand_from explain' -l run -x -d 'The logical date of the run'
 complete -c backfill -n '__fish_seen_subcommand_from explain' -l task -x -d 'The task; without it the run is explained'
 complete -c backfill -n '__fish_seen_subcommand_from explain' -l index -x -d 'The map index of one instance of an expanded task'

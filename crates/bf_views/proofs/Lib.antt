@@ -1,6 +1,7 @@
 mod MatchingFacts
 mod Alike
 mod ReportedEnds
+mod RunFacts
 mod PageEnds
 mod GridEnds
 mod ExplainEnds

@@ -2,10 +2,12 @@ pub mod Matching
 pub mod Refused
 pub mod Planned
 pub mod Reported
+pub mod Times
 pub mod Pages
 pub mod PageFaults
 pub mod Writing
 pub mod Json
+pub mod Tables
 pub mod Canvases
 pub mod Bounds
 pub mod Grids

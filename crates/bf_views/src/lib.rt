@@ -1,6 +1,7 @@
 //! What the commands that show a report come to, by what the files hold that they name.
 #![tactic(auto)]
 
+mod answers;
 mod bounds;
 mod canvas;
 mod explain;
@@ -10,7 +11,9 @@ mod page;
 mod planned;
 mod report;
 mod show;
+mod times;
 
+pub use answers::answers_answered;
 pub use canvas::Canvas;
 pub use explain::explain_answered;
 pub use json::json_answered;

@@ -13,7 +13,7 @@ use bf_report::{Report, RunReport};
 use bf_value::OutOfMemory;
 use std::alloc::Global;
 
-fn intervals_of(alloc: Global, runs: &[RunReport]) -> Result<Vec<Interval>, OutOfMemory>
+pub(crate) fn intervals_of(alloc: Global, runs: &[RunReport]) -> Result<Vec<Interval>, OutOfMemory>
     ensures { IfOk result (λ intervals. intervals.items ≡ intervals_in runs.now) }
 {
     let mut intervals = Vec::with_capacity(alloc, runs.len())?;

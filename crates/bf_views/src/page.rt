@@ -10,8 +10,9 @@ ghost use Rattle.bf_views.specs.Pages.{IsPage, IsPageAnswer, report_shown, words
 ghost use Rattle.bf_views.specs.Writing.{IsWritingFault};
 
 use crate::matching::refuse_other;
-use crate::planned::plan_asked;
+use crate::planned::{Planned, plan_asked};
 use crate::report::report_bytes;
+use crate::times::times_asked;
 use bf_cells::cells_of;
 use bf_command_fault::{CommandFault, Status};
 use bf_command_line::PageAsked;
@@ -19,7 +20,6 @@ use bf_device::Write;
 use bf_disk::Source;
 use bf_input::report_in;
 use bf_page::{PageTexts, can_be_counted, write_page};
-use bf_plan::Plan;
 use bf_report::Report;
 use bf_value::{OutOfMemory, Text};
 use std::alloc::Global;
@@ -87,34 +87,35 @@ impl Words {
     }
 }
 
-/// Writes the page of a plan's graph file and of a report of it.
+/// Writes the page of a plan's graph file and of a report of it, with these times.
 fn write_shown<W: Write>(
     alloc: Global,
     words: &Words,
-    plan: &Plan,
-    graph: &[u8],
+    planned: &Planned,
     report: &Report,
+    times: &str,
     out: &mut W,
 ) -> Result<(), CommandFault>
     requires rules { IsShownReport report.now }
-    requires matches { is_of_graph plan.now.dag report.now ≡ true }
-    ensures page { OnOk result (Sends (IsPage words.now graph.now plan.now.dag report.now)
+    requires matches { is_of_graph planned.now.plan.dag report.now ≡ true }
+    ensures page { OnOk result (Sends (IsPage words.now planned.now.graph.items planned.now.plan.dag report.now times.now)
         (W.written out.old) (W.written out.new)) }
     ensures fault { IfErr result IsWritingFault }
     ensures left { IfErr result (Leaves (HasHalted (W.failures out.old) (W.failures out.new)
         (W.interruptions out.old) (W.interruptions out.new))
-        (IsPage words.now graph.now plan.now.dag report.now)
+        (IsPage words.now planned.now.graph.items planned.now.plan.dag report.now times.now)
         (W.written out.old) (W.written out.new)) }
 {
     let bytes = report_bytes(alloc, report)?;
-    let cells = cells_of(alloc, plan, report, bytes.len() as u64)?;
+    let cells = cells_of(alloc, &planned.plan, report, bytes.len() as u64)?;
     let texts = PageTexts {
         graph_path: words.graph.as_str(),
         report_path: words.report.as_str(),
         zone_path: words.zone_file.as_str(),
         cells: cells.as_str(),
-        graph,
+        graph: &planned.graph,
         report: words.shown(&bytes),
+        times,
     };
     if !can_be_counted(&texts) {
         return Err(CommandFault::OutOfMemory);
@@ -123,8 +124,8 @@ fn write_shown<W: Write>(
     Ok(())
 }
 
-/// Reads the graph file, the zone file where one is named, and checks the graph; then reads the report, and writes the page. The
-/// report may be one of `single`, and of any range.
+/// Reads the graph file, the zone file where one is named, and checks the graph; then reads the report, and the journal where one is
+/// named, and writes the page. The report may be one of `single`, and of any range.
 pub fn page_answered<S: Source, W: Write>(
     alloc: Global,
     asked: PageAsked,
@@ -143,6 +144,7 @@ pub fn page_answered<S: Source, W: Write>(
     let planned = plan_asked(alloc, asked.graph, files)?;
     let report = report_in(alloc, asked.report, files)?;
     refuse_other(alloc, planned.plan.dag(), &report)?;
-    write_shown(alloc, &words, &planned.plan, &planned.graph, &report, out)?;
+    let times = times_asked(alloc, asked.journal, &planned.plan, &report, files)?;
+    write_shown(alloc, &words, &planned, &report, times.as_str(), out)?;
     Ok(Status::Success)
 }

@@ -1,8 +1,9 @@
 #!/usr/bin/env python3
-"""Looks at pages of reports in a real browser: checks.py CHROMIUM WAREHOUSE HOSTILE [FOLDER ..]. Each folder has graph.json, report, page.html, and in `paths`
-the paths that its page was made with, each between two NULs. WAREHOUSE and HOSTILE are those of samples.py, over 90 days and over 2. What differs is told; the last
-line says how many rows held and how many didn't.
+"""Looks at pages of reports in a real browser: checks.py CHROMIUM WAREHOUSE HOSTILE TIMED [FOLDER ..]. Each folder has graph.json, report, page.html, and in
+`paths` the paths that its page was made with, each between two NULs. WAREHOUSE and HOSTILE are those of samples.py, over 90 days and over 2; TIMED has a journal
+beside its report. What differs is told; the last line says how many rows held and how many didn't.
 """
+import datetime
 import html.parser
 import json
 import pathlib
@@ -15,8 +16,9 @@ sys.path.insert(0, str(pathlib.Path(__file__).resolve().parents[2] / "oracles"))
 import chromium
 import explaining
 import showing
+import timing
 
-TEXTS = ["graph-path", "report-path", "zone-path", "cells", "graph", "report"]
+TEXTS = ["graph-path", "report-path", "zone-path", "cells", "graph", "report", "times"]
 FORBIDDEN = {"img", "iframe", "object", "embed", "link", "base", "form"}
 # What would move a terminal's text or turn it stands escaped.
 MOVES = re.compile("[\x7f-\x9f\xad\u061c\u200b-\u200f\u2028-\u202e\u2060-\u206f\ufeff\ufff9-\ufffb]")
@@ -51,6 +53,20 @@ ACTIVE = """(() => {
 NAMES = "[...document.querySelectorAll('.row:not([hidden]) .id')].map(e => e.textContent)"
 CHIPS = """Object.fromEntries([...document.querySelectorAll('.chip')].map(
   c => [c.childNodes[1].textContent, Number(c.querySelector('b').textContent.replace(/,/g, ''))]))"""
+TRIES = """(async () => {
+  const found = [];
+  for (const place of PLACES) {
+    await new Promise(done => { addEventListener('hashchange', done, {once: true}); location.hash = '#' + place; });
+    const heading = [...document.querySelectorAll('aside h3')].find(h => h.textContent === 'Tries');
+    found.push(heading ? [...heading.nextElementSibling.children].map(li => li.textContent) : []);
+  }
+  return found;
+})()"""
+BARS = """[...document.querySelectorAll('#bars .row:not([hidden])')].map(row => {
+  const bar = row.querySelector('.q'), track = row.querySelector('.track').clientWidth;
+  return [row.querySelector('.id').textContent, row.querySelector('.took').textContent, row.querySelector('.track').getAttribute('aria-label'),
+          bar.className.split(' ')[1], parseFloat(bar.style.left) / track, parseFloat(bar.style.width) / track];
+})"""
 COLOURS = """(() => {
   const style = getComputedStyle(document.documentElement);
   return Object.fromEntries(NAMES.map(name => [name, style.getPropertyValue('--' + name).trim()]));
@@ -101,6 +117,38 @@ def shown(value):
     return MOVES.sub(lambda m: f"\\u{ord(m[0]):04x}", value)
 
 
+def lasted(ms):
+    """So many milliseconds, in words; those that are cut off aren't rounded."""
+    if ms < 1000:
+        return f"{ms} ms"
+    assert ms < 60000
+    return f"{ms // 100 / 10:g} s"
+
+
+class Try:
+    """A line of the times."""
+
+    def __init__(self, run, task, *numbers):
+        self.run, self.task = run, task
+        self.index, self.number, self.start, self.end, self.code = map(int, numbers)
+
+    def place(self):
+        return f"{self.run}/{self.task}" + (f"/{self.index}" if self.index >= 0 else "")
+
+    def began(self):
+        moment = datetime.datetime.fromtimestamp(self.start // 1000, datetime.timezone.utc)
+        return f"{moment:%Y-%m-%dT%H:%M:%S}.{self.start % 1000:03d}Z"
+
+    def length(self):
+        return lasted(self.end - self.start)
+
+    def ended(self):
+        return "not started" if self.code == -1 else f"code {self.code}"
+
+    def name(self):
+        return self.task + (f" [{self.index}]" if self.index >= 0 else "") + f" try {self.number}"
+
+
 class Sample:
     def __init__(self, folder):
         self.folder = pathlib.Path(folder)
@@ -111,7 +159,10 @@ class Sample:
         self.report = showing.Report(self.report_text, self.graph)
         cells = showing.cells_text(self.graph, self.report, len(self.report_text.encode()))
         paths = (self.folder / "paths").read_bytes().decode().split("\0")
-        self.texts = [*paths[:3], cells, self.graph_text, self.report_text]
+        journal = self.folder / "journal"
+        times = timing.times_text(self.graph_text, self.report_text, journal.read_bytes()) if journal.exists() else ""
+        self.tries = [Try(*line.split(" ")) for line in times.splitlines()[1:]]
+        self.texts = [*paths[:3], cells, self.graph_text, self.report_text, times]
         self.explaining = explaining.Explaining(*paths[:2], self.graph_text, self.report_text)
 
     def places(self):
@@ -143,7 +194,7 @@ def looks_at_texts(browser, sample):
     reader = Texts()
     reader.feed(sample.page.read_bytes().decode())
     is_same(f"{name}: the texts by html.parser", sample.texts, [plain(reader.texts[text]) for text in TEXTS])
-    is_same(f"{name}: the scripts", 7, reader.tags.count("script"))
+    is_same(f"{name}: the scripts", 8, reader.tags.count("script"))
     is_same(f"{name}: elements that fetch or send", set(), FORBIDDEN & set(reader.tags))
     browser.open(sample.address)
     found = browser.script(f"{json.dumps(TEXTS)}.map(id => decodeURIComponent(document.getElementById(id).textContent))")
@@ -182,6 +233,114 @@ def looks_at_graph(browser, sample):
     left = [(graph.id(u), graph.id(t)) for t, ups in enumerate(graph.up) for u in ups if boxes[u][0] + boxes[u][2] >= boxes[t][0]]
     is_same(f"{name}: edges that don't go to the right", [], left)
     is_same(f"{name}: what the browser told of the graph", [], browser.problems())
+
+
+def looks_at_tries(browser, sample):
+    """The details of each instance have its tries, which took at least as long as they slept; the Gantt of a run has a bar for each."""
+    instances = [(place, instance) for place, instance, _ in sample.places() if instance]
+    browser.open(sample.address)
+    found = browser.script(TRIES.replace("PLACES", json.dumps([place for place, _ in instances])), True)
+    for (place, instance), lines in zip(instances, found):
+        own = [it for it in sample.tries if it.place() == place]
+        is_same(f"tries: how many of {place}", instance.tries, len(own))
+        is_same(f"tries: {place}", [f"try {it.number}{it.began()}{it.length()}, {it.ended()}" for it in own], lines)
+    least = {"first": 200, "slow": 1000, "each": 100}
+    short = [it.name() for it in sample.tries if it.end - it.start < least.get(it.task, 0)]
+    is_same("tries: shorter than they slept", [], short)
+    codes = {(it.run, it.task, it.index, it.number): it.code for it in sample.tries}
+    day = "2024-01-02T00:00:00Z"
+    wanted = [("first", -1, 1, 0), ("each", 0, 1, 7), ("each", 0, 2, 0), ("each", 1, 1, 0), ("slow", -1, 1, 137), ("absent", -1, 1, -1), ("last", -1, 1, 99)]
+    is_same("tries: the codes", [code for *_, code in wanted], [codes.get((day, *name)) for *name, _ in wanted])
+    looks_at_gantt(browser, sample, [it for it in sample.tries if it.run == day], day)
+    browser.open(f"{sample.address.replace('timed', 'failed_day')}#gantt/")
+    is_same("Gantt: none without a journal", [False, True], browser.script("['grid-view', 'tab-gantt'].map(id => document.getElementById(id).hidden)"))
+
+
+def bars_of(tries, states):
+    """What is drawn of each try: its name, how long it took, its words, its state, and where its bar begins and how long it is, of all."""
+    first, last = min(it.start for it in tries), max(it.end for it in tries)
+    bars = []
+    for it in tries:
+        state = states[it.name()]
+        words = f"{showing.STATES[state]}, {it.length()} from {it.began()}, {it.ended()}"
+        bars.append([it.name(), it.length(), words, f"s{state}", (it.start - first) / (last - first), (it.end - it.start) / (last - first)])
+    return bars
+
+
+def looks_at_gantt(browser, sample, tries, day):
+    def is_drawn(what, tries):
+        wanted, found = bars_of(tries, states), browser.script(BARS)
+        is_same(f"Gantt: {what}", [bar[:4] for bar in wanted], [bar[:4] for bar in found])
+        far = [(a[0], a[4:], b[4:]) for a, b in zip(wanted, found) if abs(a[4] - b[4]) > 0.002 or abs(a[5] - b[5]) > 0.002]
+        is_same(f"Gantt: bars elsewhere, {what}", [], far)
+
+    def is_at(what, place):
+        found = None
+        for _ in range(20):
+            time.sleep(0.1)
+            found = browser.script("location.hash")
+            if found == f"#gantt/{place}":
+                break
+        is_same(f"Gantt: {what}", f"#gantt/{place}", found)
+
+    states = {it.name(): showing.FAILED for it in tries}
+    states |= {"first try 1": showing.SUCCESS, "each [0] try 2": showing.SUCCESS, "each [1] try 1": showing.SUCCESS, "last try 1": showing.SKIPPED}
+    # (the rows of the grid: each, slow and absent behind first, and last behind each)
+    order = ["first", "each", "last", "slow", "absent"]
+
+    def by_task(it):
+        return order.index(it.task), it.index, it.number
+
+    browser.open(f"{sample.address}#gantt/{day}")
+    is_drawn("by start", sorted(tries, key=lambda it: (it.start, by_task(it))))
+    sorts = "[...document.querySelectorAll('#axis [role=columnheader]')].map(e => [e.textContent, e.getAttribute('aria-sort')])"
+    is_same("Gantt: what it is sorted by", [["task", None], ["start", "ascending"], ["duration", None]], browser.script(sorts))
+    browser.script("document.querySelectorAll('#axis button')[2].click()")
+    longest = sorted(tries, key=lambda it: (it.start - it.end, by_task(it)))
+    is_same("Gantt: the longest", "slow try 1", longest[0].name())
+    is_drawn("by duration", longest)
+    is_same("Gantt: what it is sorted by then", ["duration", "descending"], browser.script(sorts)[2])
+    browser.script("document.querySelectorAll('#axis button')[0].click()")
+    is_drawn("by task", sorted(tries, key=by_task))
+    told = f"run 2024-01-02, failed, 7 tries in {lasted(max(it.end for it in tries) - min(it.start for it in tries))}"
+    is_same("Gantt: what is told", told, browser.script("document.getElementById('shown').textContent"))
+    browser.script("document.getElementById('gantt').focus()")
+    for key, place in [("l", f"{day}/slow"), ("Home", f"{day}/first"), ("ArrowDown", f"{day}/each/0"), ("ArrowDown", f"{day}/each/0"),
+                       ("ArrowDown", f"{day}/each/1"), ("End", f"{day}/absent"), ("ArrowLeft", "2024-01-01T00:00:00Z/absent"), ("ArrowRight", f"{day}/absent")]:
+        browser.key(key)
+        is_at(key, place)
+    active = "document.getElementById(document.getElementById('gantt').getAttribute('aria-activedescendant')).getAttribute('aria-label')"
+    absent = next(it for it in tries if it.task == "absent")
+    is_same("Gantt: the name of the active row", f"absent try 1, failed, {absent.length()} from {absent.began()}, not started", browser.script(active))
+    browser.key("Enter")
+    is_same("Gantt: Enter, to the details", "details", browser.script("document.activeElement.id"))
+    browser.key("Escape")
+    is_same("Gantt: Escape, back", "gantt", browser.script("document.activeElement.id"))
+    browser.key("Escape")
+    is_at("Escape chooses the run", day)
+    browser.script("document.getElementById('find').value = 'EACH'; document.getElementById('find').oninput()")
+    is_same("Gantt: by a name", 3, len(browser.script(BARS)))
+    browser.script("document.getElementById('find').value = ''; document.getElementById('find').oninput()")
+    browser.script("[...document.querySelectorAll('.chip')].find(c => c.textContent.startsWith('skipped')).click()")
+    is_same("Gantt: by a state", ["last try 1"], [bar[0] for bar in browser.script(BARS)])
+    browser.script("document.getElementById('tab-gantt').focus()")
+    browser.key("ArrowRight")
+    is_same("Gantt: to the next tab", "tab-grid", browser.script("document.activeElement.id"))
+    browser.key("ArrowLeft")
+    is_same("Gantt: and back", ["tab-gantt", False], browser.script("[document.activeElement.id, document.getElementById('gantt-view').hidden]"))
+    is_same("Gantt: what the browser told", [], browser.problems())
+    browser.ask("Accessibility.enable")
+    nodes = [node for node in browser.ask("Accessibility.getFullAXTree")["nodes"] if not node.get("ignored")]
+    roles = {"button", "tab", "grid", "tabpanel", "rowheader", "columnheader", "gridcell"}
+    nameless = [node["role"]["value"] for node in nodes if node["role"].get("value") in roles and not node.get("name", {}).get("value")]
+    is_same("Gantt: roles without a name", [], nameless)
+    browser.ask("Accessibility.disable")
+    browser.has_size(390, 800, 2)
+    browser.open(f"{sample.address}#gantt/{day}/each/0")
+    width = browser.script("document.documentElement.scrollWidth")
+    is_so("Gantt: nothing is wider than a narrow screen", width <= 390, width)
+    browser.has_size(1440, 900)
+    is_so("Gantt: it is printed", browser.ask("Page.printToPDF", landscape=True)["data"])
 
 
 def looks_at_keys(browser, sample):
@@ -401,12 +560,13 @@ def looks_at_policy(browser, sample):
 
 def main(program, *folders):
     samples = [Sample(folder) for folder in folders]
-    warehouse, hostile = samples[:2]
+    warehouse, hostile, timed = samples[:3]
     browser = chromium.Browser(program)
     try:
         for look in (looks_at_keys, looks_at_filters, looks_at_addresses, looks_at_colours, looks_at_names, looks_at_screens, looks_at_policy):
             look(browser, warehouse)
         looks_at_copies(browser, [warehouse, hostile])
+        looks_at_tries(browser, timed)
         for sample in samples:
             looks_at_texts(browser, sample)
             looks_at_details(browser, sample)

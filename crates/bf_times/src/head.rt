@@ -1,0 +1,48 @@
+//! The head of a journal that a backfill of a graph and of these runs began, whatever it cleared.
+ghost use Rattle.std.specs.Prelude.{◌≡◌, ◌==◌, [], IfOk, option_map, position};
+ghost use Rattle.bf_journal.specs.Heads.{head_text};
+ghost use Rattle.bf_times.specs.Times.{first_line as first_line_of, is_head_like};
+
+use bf_interval::Runs;
+use bf_journal::head_of;
+use bf_plan::Plan;
+use bf_value::OutOfMemory;
+use std::alloc::Global;
+
+fn line_feed_in(bytes: &[u8]) -> Option<usize>
+    ensures { result ≡ position (λ b. b == 10) bytes.now }
+{
+    bytes.iter().position(|byte| *byte == b'\n')
+}
+
+/// The first line, with its line feed.
+pub(crate) fn first_line(bytes: &[u8]) -> Option<&[u8]>
+    ensures { option_map (λ line. line.now) result ≡ first_line_of bytes.now }
+{
+    match line_feed_in(bytes) {
+        Some(at) => Some(&bytes[..at + 1]),
+        None => None,
+    }
+}
+
+/// Whether a line is the same as a head up to the bracket that ends its list, and has a bracket or a comma there.
+fn is_like(line: &[u8], head: &[u8]) -> bool
+    ensures { result ≡ is_head_like head.now line.now }
+{
+    let front = head.len().saturating_sub(2);
+    line.len() > front
+        && (line[..front] == head[..front] && (line[front] == b']' || line[front] == b','))
+}
+
+/// Whether a line is the head of a journal of a plan and its runs.
+pub(crate) fn is_head(
+    alloc: Global,
+    plan: &Plan,
+    runs: &Runs,
+    line: &[u8],
+) -> Result<bool, OutOfMemory>
+    ensures { IfOk result (λ is. is ≡ is_head_like (head_text plan.now.dag runs.now []) line.now) }
+{
+    let head = head_of(alloc, plan, runs, &[])?;
+    Ok(is_like(line, head.as_bytes()))
+}

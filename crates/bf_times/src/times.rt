@@ -1,0 +1,44 @@
+//! The times of a journal.
+ghost use Rattle.std.specs.Prelude.{IfOk, IfErr, string_bytes};
+ghost use Rattle.bf_times.specs.Times.{AreTimesOf, IsTimesFault, IsTextOf};
+
+use crate::head::{first_line, is_head};
+use crate::lines::push_lines;
+use bf_interval::Runs;
+use bf_journal::{JournalFault, read_journal};
+use bf_plan::Plan;
+use bf_value::OutOfMemory;
+use std::alloc::Global;
+
+/// The times that the whole lines behind a head tell.
+fn text_of(alloc: Global, records: &[u8]) -> Result<String, OutOfMemory>
+    ensures { IfOk result (λ text. IsTextOf records.now (string_bytes text)) }
+{
+    let mut text = String::new(alloc);
+    text.push_str("@times 1\n")?;
+    if let Ok(records) = std::str::from_utf8(records) {
+        push_lines(alloc, &mut text, records)?;
+    }
+    Ok(text)
+}
+
+/// The times of a journal of a plan and of these runs, whatever it says is cleared. A piece of a line at its end is dropped.
+pub fn times_of(
+    alloc: Global,
+    plan: &Plan,
+    runs: &Runs,
+    bytes: &[u8],
+) -> Result<String, JournalFault>
+    ensures ok { IfOk result (λ text. AreTimesOf plan.now.dag runs.now bytes.now (string_bytes text)) }
+    ensures err { IfErr result (IsTimesFault plan.now.dag runs.now bytes.now) }
+{
+    let Some(head) = first_line(bytes) else {
+        return Err(JournalFault::Mismatch);
+    };
+    if !is_head(alloc, plan, runs, head)? {
+        return Err(JournalFault::Mismatch);
+    }
+    let found = read_journal(alloc, plan, runs, head, bytes)?;
+    let whole = found.whole.max(head.len());
+    Ok(text_of(alloc, &bytes[head.len()..whole])?)
+}

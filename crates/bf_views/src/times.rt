@@ -1,0 +1,65 @@
+//! The times of the journal that a line names.
+ghost use Rattle.std.specs.Prelude.{◌≡◌, List, Option, ℕ, IfOk, IfErr, OnOk, option_map, string_bytes};
+ghost use Rattle.bf_disk.specs.Files.{AreReadable, IsHeldIfNamed, named_paths};
+ghost use Rattle.bf_report_reader.specs.Rules.{IsShownReport};
+ghost use Rattle.bf_views.specs.Matching.{intervals_in};
+ghost use Rattle.bf_views.specs.Times.{AreTimesTold, IsJournalFault, IsNamedJournalFault};
+
+use crate::matching::intervals_of;
+use bf_command_fault::CommandFault;
+use bf_disk::Source;
+use bf_input::named_journal_bytes;
+use bf_interval::Runs;
+use bf_plan::Plan;
+use bf_report::Report;
+use bf_times::times_of;
+use bf_value::OutOfMemory;
+use std::alloc::Global;
+
+/// The runs of a report that was read.
+fn runs_of(alloc: Global, report: &Report) -> Result<Runs, OutOfMemory>
+    requires { IsShownReport report.now }
+    ensures { IfOk result (λ runs. runs ≡ intervals_in report.now.runs) }
+{
+    let intervals = intervals_of(alloc, report.runs.as_slice())?;
+    Ok(Runs::of(intervals))
+}
+
+/// The times of a journal where there is one.
+fn times_in(
+    alloc: Global,
+    plan: &Plan,
+    report: &Report,
+    journal: Option<&[u8]>,
+) -> Result<String, CommandFault>
+    requires { IsShownReport report.now }
+    ensures times { IfOk result (λ times.
+        AreTimesTold plan.now.dag (intervals_in report.now.runs) (option_map (λ j. j.now) journal.entry) (string_bytes times)) }
+    ensures fault { IfErr result (IsJournalFault plan.now.dag (intervals_in report.now.runs) (option_map (λ j. j.now) journal.entry)) }
+{
+    match journal {
+        Some(journal) => {
+            let runs = runs_of(alloc, report)?;
+            Ok(times_of(alloc, plan, &runs, journal)?)
+        }
+        None => Ok(String::new(alloc)),
+    }
+}
+
+/// Reads the journal where one is named, and makes the times of its tries.
+pub(crate) fn times_asked<S: Source>(
+    alloc: Global,
+    path: Option<String>,
+    plan: &Plan,
+    report: &Report,
+    files: &mut S,
+) -> Result<String, CommandFault>
+    requires { IsShownReport report.now }
+    ensures times { IfOk result (λ times. (journal : Option (List ℕ)) → IsHeldIfNamed (S.file files.old) (option_map string_bytes path) journal
+        → AreTimesTold plan.now.dag (intervals_in report.now.runs) journal (string_bytes times)) }
+    ensures readable { OnOk result (AreReadable (S.file files.old) (named_paths (option_map string_bytes path))) }
+    ensures fault { IfErr result (IsNamedJournalFault (S.file files.old) (option_map string_bytes path) plan.now.dag (intervals_in report.now.runs)) }
+{
+    let journal = named_journal_bytes(alloc, path, files)?;
+    times_in(alloc, plan, report, journal.as_deref())
+}
