@@ -1,7 +1,7 @@
 -- An instance rests on what its task rests on, and not on the task's other instances.
 use Rattle.std.proofs.Common.{◌≡◌, ℕ, suc, zero, ◌<◌, ◌≤◌, Bool, true, false, length, Option, None, Some, refl, sym, ap, ◌∙◌, arith}
 use Rattle.bf_core.specs.Terms.{Verdict, Dag, task_of, Given, Outcome, Entry, JobName, Ledger, result_of, name_of, outcome_at, outcome_of, last_try, TaskValue, IsOneOf, IsSettledAncestor, Direct, Above, IsSound}
-use Rattle.bf_core.specs.declared.deciding.Decision.{Decision}
+use Rattle.bf_core.specs.declared.decision.Decision.{Decision}
 use Rattle.bf_core.specs.Deciding.{Seen, settled, and_then_past, after_verdict, gate, decision}
 use Rattle.bf_core.specs.Recursion.{out, before, decided, value_of, results_from, Asks}
 use Rattle.bf_core.specs.Events.{place_in}

@@ -13,7 +13,7 @@ use Rattle.bf_interval.specs.declared.interval.Interval.{Interval}
 use Rattle.bf_plan.specs.declared.plan.Task.{Task}
 use Rattle.bf_plan.specs.Plans.{no_task}
 use Rattle.bf_core.specs.Terms.{Dag, Given, Ledger, TaskResult, Xval, IsOneOf, IsSettledAncestor, IsSound, result_of, task_of}
-use Rattle.bf_core.specs.declared.deciding.Decision.{Decision}
+use Rattle.bf_core.specs.declared.decision.Decision.{Decision}
 use Rattle.bf_core.specs.Recursion.{decided}
 use Rattle.bf_core.specs.Agreement.{final_cell, finished_from}
 use Rattle.bf_core.proofs.Depth.{pick}

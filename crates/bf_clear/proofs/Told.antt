@@ -6,7 +6,7 @@ use Rattle.bf_interval.specs.declared.interval.Interval.{Interval}
 use Rattle.bf_plan.specs.declared.plan.Task.{Task}
 use Rattle.bf_core.specs.Terms.{Dag, Entry, Given, JobName, Ledger, Outcome, TaskResult, TaskValue, Verdict, Xval, Items, items, result_of, name_of, task_of, map_index, place_of, is_failed, last_try, outcome_of, outcome_at}
 use Rattle.bf_core.specs.Deciding.{Seen, settled, decision, after_verdict, instances, mapped, pulled}
-use Rattle.bf_core.specs.declared.deciding.Decision.{Decision}
+use Rattle.bf_core.specs.declared.decision.Decision.{Decision}
 use Rattle.bf_core.specs.declared.state.Cell.{Cell}
 use Rattle.bf_core.specs.Recursion.{out, decided, Asks}
 use Rattle.bf_core.specs.Events.{place_in}

@@ -8,7 +8,7 @@ use Rattle.bf_core.specs.Events.{after, begun, cell_at, change_instance, ended, 
 use Rattle.bf_core.specs.Clocks.{after_end, clock_after}
 use Rattle.bf_core.specs.Cores.{Backfill, IsCore, MayCome}
 use Rattle.bf_core.specs.Tries.{IsBeginning, IsEnding}
-use Rattle.bf_core.specs.declared.ending.Ending.{Ending}
+use Rattle.bf_core.specs.declared.machine.Ending.{Ending}
 use Rattle.bf_core.proofs.Enabling.{has-room}
 use Rattle.bf_core.proofs.Kept.{replay-shaped}
 use Rattle.bf_core.proofs.Pools.{takes, occupied-begun, occupied-ended}

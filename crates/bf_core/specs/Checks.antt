@@ -1,7 +1,7 @@
 -- What the checks of an event look at.
 use Rattle.std.specs.Prelude.{◌≡◌, ◌<◌, ◌≤◌, ℕ, List, length, Some, slice_get, slice_index_or}
 use Rattle.bf_core.specs.Terms.{Dag, State, Cell, Phase, Run, RunPhase, RunState, JobName, Instance, TaskValue, task_of, map_index}
-use Rattle.bf_core.specs.declared.checks.Unfinished.{Unfinished}
+use Rattle.bf_core.specs.declared.names.Unfinished.{Unfinished}
 use Rattle.bf_core.specs.declared.event.Illegal.{Illegal}
 use Rattle.bf_core.specs.Recursion.{run_state_of}
 use Rattle.bf_core.specs.Events.{value_in, value_or_blocked, row_of, cell_at, phase_of, instance_of, place_in}

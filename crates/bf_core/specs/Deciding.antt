@@ -2,7 +2,7 @@
 -- The recursion over dates reads it over final values, and the machine over its cells.
 use Rattle.std.specs.Prelude.{ℕ, ◌==◌, Bool, true, false, not, ◌&&◌, ◌||◌, if◌then◌else◌, List, [], ◌∷◌, map, Option, None, Some, is_some, option_and_then}
 use Rattle.std.specs.List.{list_any, list_all}
-pub use Rattle.bf_core.specs.declared.deciding.Decision.{Decision}
+pub use Rattle.bf_core.specs.declared.decision.Decision.{Decision}
 use Rattle.bf_core.specs.Terms.{TaskValue, pull, items, Items, Xval, Task, Dag, task_of, is_branch, shape_of, followed, Counts, none_counted, add, Verdict, is_waiting, verdict, Outcome, TaskResult, is_failed}
 
 -- what is known of a task: its instances counted by state, and its value once it is settled

@@ -5,8 +5,8 @@ use Rattle.bf_core.specs.Events.{IsEnabled, IsPresent, begun, cell_at, ended, gi
 use Rattle.bf_core.specs.Clocks.{IsTimely, next_try}
 use Rattle.bf_core.specs.Cores.{Backfill}
 use Rattle.bf_core.specs.declared.clock.Retry.{Retry}
-use Rattle.bf_core.specs.declared.ending.Ending.{Ending}
-use Rattle.bf_core.specs.declared.trying.Change.{Change}
+use Rattle.bf_core.specs.declared.machine.Ending.{Ending}
+use Rattle.bf_core.specs.declared.state.Change.{Change}
 
 -- the try waits, and its moment is reached; what it takes
 pub record IsBeginning (backfill : Backfill) (name : JobName) (demand : Demand) : Type 0 where

@@ -1,15 +1,16 @@
 //! Backfills that have ended, and the states of their runs.
-ghost use Rattle.std.specs.Prelude.{◌≡◌, ◌<◌, ◌≤◌, length, slice_index_or};
-ghost use Rattle.std.specs.List.{list_any};
+ghost use Rattle.std.specs.Prelude.{◌≡◌, ◌<◌, ◌≤◌, ◌↔◌, length, slice_index_or, ℕ, vec_len, IsTrue, IfOk, IfErr, OnOk};
+ghost use Rattle.std.specs.List.{list_any, list_all};
 ghost use Rattle.bf_core.specs.Recursion.{is_leaf as leaf, fails_run, run_fails as fails, run_state_of};
-ghost use Rattle.bf_core.specs.Events.{value_in, value_or_blocked};
+ghost use Rattle.bf_core.specs.Events.{value_in, value_or_blocked, row_of, HasEnded, is_closed};
 ghost use Rattle.bf_core.specs.Words.{is_failed_instance, instances_fail};
-ghost use Rattle.bf_core.specs.Endings.{IsEnd};
+ghost use Rattle.bf_core.specs.Endings.{IsEnd, ending_of};
+ghost use Rattle.bf_core.specs.Checks.{AreStatesOf};
 ghost use Rattle.bf_core.specs.declared.state.Cell.{Cell as CellTerm};
 
 use crate::event::Event;
-use crate::seen::are_finished;
-use crate::state::{Cell, Instance, Phase, State};
+use crate::machine::Core;
+use crate::state::{Cell, Instance, Phase, Run, State, are_finished};
 use bf_plan::Plan;
 use bf_try::Outcome;
 use bf_value::Sequence;
@@ -139,7 +140,7 @@ fn run_fails(plan: &Plan, cells: &[Cell]) -> bool
 }
 
 /// The state of a closed run.
-pub(crate) fn run_state(plan: &Plan, cells: &[Cell]) -> RunState
+fn run_state(plan: &Plan, cells: &[Cell]) -> RunState
     requires few { length plan.now.dag.tasks ≤ 2_000 }
     requires one_each { length cells.now ≡ length plan.now.dag.tasks }
     ensures { result ≡ run_state_of plan.now.dag (λ t. value_or_blocked (value_in (slice_index_or cells.now t CellTerm.Undecided))) }
@@ -148,5 +149,63 @@ pub(crate) fn run_state(plan: &Plan, cells: &[Cell]) -> RunState
         RunState::Failed
     } else {
         RunState::Success
+    }
+}
+
+fn are_closed(runs: &[Run]) -> bool
+    ensures { result ≡ list_all (λ r. is_closed r.phase) runs.now }
+{
+    runs.iter().all(|run| run.phase.is_closed())
+}
+
+/// Writes the state of each run into its place.
+fn write_states(plan: &Plan, runs: &[Run], states: &mut Vec<RunState>)
+    requires few { length plan.now.dag.tasks ≤ 2_000 }
+    requires rows { (k : ℕ) → k < length runs.now → length (row_of runs.now k).cells ≡ length plan.now.dag.tasks }
+    requires room { vec_len states.old ≡ length runs.now }
+    ensures { AreStatesOf plan.now.dag runs.now states.new.items }
+{
+    for run in 0..runs.len() {
+        states[run] = run_state(plan, runs[run].cells.as_slice());
+    }
+}
+
+impl<'a> Core<'a> {
+    /// Whether every run is closed.
+    pub fn is_ended(&self) -> bool
+        ensures { IsTrue result ↔ HasEnded self.now.state }
+    {
+        are_closed(self.state.runs.as_slice())
+    }
+
+    /// What the backfill came to, where it has ended; else the core is handed back.
+    pub fn into_ended(self) -> Result<Ended<'a>, Core<'a>>
+        ensures ok { IfOk result (λ ended. ended ≡ ending_of self.entry ended.run_states) }
+        ensures closed { OnOk result (HasEnded self.entry.state) }
+        ensures back { IfErr result (λ core. (core ≡ self.entry) × ¬ (HasEnded self.entry.state)) }
+    {
+        if !self.is_ended() {
+            return Err(self);
+        }
+        let Core {
+            alloc: _,
+            plan,
+            runs,
+            pools: _,
+            state,
+            clock: _,
+            opened_runs: _,
+            active_runs: _,
+            mut run_states,
+            journal,
+        } = self;
+        write_states(plan, state.runs.as_slice(), &mut run_states);
+        Ok(Ended {
+            plan,
+            runs,
+            state,
+            run_states: Sequence::from_vec(run_states),
+            journal: Sequence::from_vec(journal),
+        })
     }
 }

@@ -1,23 +1,22 @@
 //! The core: the state of a backfill, the events that led to it, and what one more event does.
-ghost use Rattle.std.specs.Prelude.{◌≡◌, OnOk, OnErr, IfOk, IfErr, IfSome, IfNone};
-ghost use Rattle.bf_core.specs.Events.{next_run, decision_in};
+ghost use Rattle.std.specs.Prelude.{◌≡◌, ◌<◌, OnOk, OnErr, IfOk, IfErr, IfSome, IfNone, length};
+ghost use Rattle.bf_core.specs.Events.{next_run, decision_in, IsPresent, phase_of, AllSettled};
 ghost use Rattle.bf_core.specs.Cores.{deciding, opening, HasCome, IsRefusal, MayCome};
-ghost use Rattle.bf_core.specs.Tries.{IsBeginning};
+ghost use Rattle.bf_core.specs.Tries.{IsBeginning, IsEnding, IsRetry};
+ghost use Rattle.bf_core.specs.Terms.{Phase};
+ghost use Rattle.bf_core.specs.Checks.{HasRows, RefusedFor};
 
-use crate::checks::{Unfinished, closable, required, undecided};
-use crate::clock::{Clock, Moments};
-use crate::deciding::{Decision, decide, gate, goes_on};
+use crate::clock::{Clock, Moments, Retry, note_end};
+use crate::decision::{Decision, decide, gate, goes_on, undecided};
 use crate::event::{Event, Illegal};
-use crate::opening::unopened_runs;
-use crate::places::place_of;
-use crate::state::{RunPhase, State};
-use crate::trying::Change;
-use bf_plan::{Demand, Plan};
+use crate::names::{Unfinished, next_try, place_of, required};
+use crate::state::{Change, RunPhase, State, is_closable, is_retried, unopened_runs};
+use bf_plan::{Dag, Demand, Plan};
 use bf_pool::{NoRoom, Pools};
 use bf_runs::RunCount;
-use bf_try::Ledger;
+use bf_try::{Entry, Ledger, Outcome, fits};
 use bf_value::{JobName, OutOfMemory};
-use bf_xcom::RunState;
+use bf_xcom::{Given, RunState};
 use std::alloc::Global;
 use std::marker::Model;
 
@@ -92,6 +91,27 @@ impl<'a> Core<'a> {
         })
     }
 
+    /// Lets an event come, or refuses it and changes nothing: by `Stranger` where what it speaks of isn't there, else
+    /// by `NotEnabled` where it may not come for another cause than want of room, else by `NoRoom`. Want of memory may
+    /// stand in the place of any answer, and nothing else refuses an event that may come.
+    pub fn apply(&mut self, event: Event) -> Result<(), Illegal>
+        ensures ok { OnOk result (HasCome self.old event self.new) }
+        ensures err { IfErr result (IsRefusal self.old event) }
+        ensures memory { MayCome self.old event → IfErr result (λ fault. fault ≡ Illegal.OutOfMemory) }
+        ensures same { OnErr result (self.new ≡ self.old) }
+    {
+        let _replayed = self.journal();
+        match event {
+            Event::Open => self.open(),
+            Event::Settle { run, task } => self.decide(run, task, false),
+            Event::Expand { run, task } => self.decide(run, task, true),
+            Event::Begin(name) => self.begin(name),
+            Event::End(name, outcome) => self.end(name, outcome),
+            Event::Close { run } => self.close(run),
+            Event::Tick { moment } => self.tick(moment),
+        }
+    }
+
     /// The run that may be opened: the next one, unless as many are open as may be.
     pub(crate) fn next_to_open(&self) -> Option<u32>
         ensures some { IfSome result (λ k. (k ≡ next_run self.now.state) × MayCome self.now Event.Open) }
@@ -105,7 +125,7 @@ impl<'a> Core<'a> {
     }
 
     /// Opens the next run.
-    pub(crate) fn open(&mut self) -> Result<(), Illegal>
+    fn open(&mut self) -> Result<(), Illegal>
         ensures ok { OnOk result (HasCome self.old Event.Open self.new) }
         ensures err { IfErr result (IsRefusal self.old Event.Open) }
         ensures same { OnErr result (self.new ≡ self.old) }
@@ -120,9 +140,7 @@ impl<'a> Core<'a> {
         self.journal.push_reserved(Event::Open);
         Ok(())
     }
-}
 
-impl<'a> Core<'a> {
     /// What is decided of a task now, which goes on to its expansion or does not, as is asked.
     fn decided(&self, run: u32, task: u32, expands: bool) -> Result<Decision, Illegal>
         ensures ok { IfOk result (λ d. MayCome self.now (deciding expands run task) × (d ≡ decision_in self.now.dag self.now.state run task)) }
@@ -142,7 +160,7 @@ impl<'a> Core<'a> {
     }
 
     /// Decides a task: by its expansion, or without.
-    pub(crate) fn decide(&mut self, run: u32, task: u32, expands: bool) -> Result<(), Illegal>
+    fn decide(&mut self, run: u32, task: u32, expands: bool) -> Result<(), Illegal>
         ensures ok { OnOk result (HasCome self.old (deciding expands run task) self.new) }
         ensures err { IfErr result (IsRefusal self.old (deciding expands run task)) }
         ensures same { OnErr result (self.new ≡ self.old) }
@@ -156,8 +174,20 @@ impl<'a> Core<'a> {
         Ok(())
     }
 
+    /// What a try would take, refused where it does not wait, or waits for a later moment.
+    fn waiting_demand(&self, name: JobName) -> Result<Demand, Illegal>
+        ensures ok { IfOk result (IsBeginning self.now name) }
+        ensures err { IfErr result (IsRefusal self.now (Event.Begin name)) }
+    {
+        required(self.plan.dag(), &self.state, name, Unfinished::Waiting)?;
+        if !self.clock.lets_begin(name) {
+            return Err(Illegal::NotEnabled);
+        }
+        Ok(self.plan.demand(name.task))
+    }
+
     /// Begins a try, which takes its task's slots.
-    pub(crate) fn begin(&mut self, name: JobName) -> Result<(), Illegal>
+    fn begin(&mut self, name: JobName) -> Result<(), Illegal>
         ensures ok { OnOk result (HasCome self.old (Event.Begin name) self.new) }
         ensures err { IfErr result (IsRefusal self.old (Event.Begin name)) }
         ensures same { OnErr result (self.new ≡ self.old) }
@@ -176,20 +206,81 @@ impl<'a> Core<'a> {
         }
     }
 
-    /// What a try would take, refused where it does not wait, or waits for a later moment.
-    fn waiting_demand(&self, name: JobName) -> Result<Demand, Illegal>
-        ensures ok { IfOk result (IsBeginning self.now name) }
-        ensures err { IfErr result (IsRefusal self.now (Event.Begin name)) }
+    /// The next try of a try that runs and ends so.
+    fn retry_of(&self, name: JobName, outcome: &Outcome) -> Retry
+        requires { IsPresent self.now.dag self.now.state name Phase.Running }
+        ensures { IsRetry self.now name outcome.now result }
     {
-        required(self.plan.dag(), &self.state, name, Unfinished::Waiting)?;
-        if !self.clock.lets_begin(name) {
+        let task = self.plan.dag().task(name.task);
+        Retry {
+            next: next_try(name),
+            again: is_retried(task.retries, name.attempt, outcome),
+            delay: self.plan.demand(name.task).retry_delay,
+        }
+    }
+
+    /// What the end of a try notes, keeps and gives back; refused where the try does not run or could not end so.
+    fn ending(&self, name: JobName, outcome: &Outcome) -> Result<Ending, Illegal>
+        ensures ok { IfOk result (IsEnding self.now name outcome.now) }
+        ensures err { IfErr result (IsRefusal self.now (Event.End name outcome.now)) }
+    {
+        let instance = required(self.plan.dag(), &self.state, name, Unfinished::Running)?;
+        if !fits(self.plan, name.task, outcome) {
             return Err(Illegal::NotEnabled);
         }
-        Ok(self.plan.demand(name.task))
+        let (entry, kept) = noted(self.alloc, &instance.given, outcome)?;
+        Ok(Ending {
+            entry,
+            kept,
+            demand: self.plan.demand(name.task),
+            retries: self.plan.dag().task(name.task).retries,
+            place: place_of(self.plan.dag(), name) as usize,
+            retry: self.retry_of(name, outcome),
+        })
+    }
+
+    /// Ends a try: its slots are given back, and the ledger gets its entry.
+    fn end(&mut self, name: JobName, outcome: Outcome) -> Result<(), Illegal>
+        ensures ok { OnOk result (HasCome self.old (Event.End name outcome) self.new) }
+        ensures err { IfErr result (IsRefusal self.old (Event.End name outcome)) }
+        ensures same { OnErr result (self.new ≡ self.old) }
+    {
+        let Ending {
+            entry,
+            kept,
+            demand,
+            retries,
+            place,
+            retry,
+        } = self.ending(name, &outcome)?;
+        self.journal.reserve(1)?;
+        note_end(&mut self.clock, &mut self.state.ledger, name, entry, retry)?;
+        let change = Change::End {
+            retries,
+            outcome: kept,
+        };
+        self.state.change(name.run, name.task, place, change);
+        self.pools.give_back(demand.pool, demand.slots);
+        self.journal.push_reserved(Event::End(name, outcome));
+        Ok(())
+    }
+
+    /// Closes a run.
+    fn close(&mut self, run: u32) -> Result<(), Illegal>
+        ensures ok { OnOk result (HasCome self.old (Event.Close run) self.new) }
+        ensures err { IfErr result (IsRefusal self.old (Event.Close run)) }
+        ensures same { OnErr result (self.new ≡ self.old) }
+    {
+        closable(self.plan.dag(), &self.state, run)?;
+        self.journal.reserve(1)?;
+        self.state.set_phase(run, RunPhase::Closed);
+        self.active_runs -= 1;
+        self.journal.push_reserved(Event::Close { run });
+        Ok(())
     }
 
     /// Lets the clock come to a later moment.
-    pub(crate) fn tick(&mut self, moment: i64) -> Result<(), Illegal>
+    fn tick(&mut self, moment: i64) -> Result<(), Illegal>
         ensures ok { OnOk result (HasCome self.old (Event.Tick moment) self.new) }
         ensures err { IfErr result (IsRefusal self.old (Event.Tick moment)) }
         ensures same { OnErr result (self.new ≡ self.old) }
@@ -202,18 +293,44 @@ impl<'a> Core<'a> {
         self.journal.push_reserved(Event::Tick { moment });
         Ok(())
     }
+}
 
-    /// Closes a run.
-    pub(crate) fn close(&mut self, run: u32) -> Result<(), Illegal>
-        ensures ok { OnOk result (HasCome self.old (Event.Close run) self.new) }
-        ensures err { IfErr result (IsRefusal self.old (Event.Close run)) }
-        ensures same { OnErr result (self.new ≡ self.old) }
-    {
-        closable(self.plan.dag(), &self.state, run)?;
-        self.journal.reserve(1)?;
-        self.state.set_phase(run, RunPhase::Closed);
-        self.active_runs -= 1;
-        self.journal.push_reserved(Event::Close { run });
-        Ok(())
+/// What is at hand when a try ends.
+struct Ending {
+    entry: Entry,
+    kept: Outcome,
+    demand: Demand,
+    retries: u32,
+    place: usize,
+    retry: Retry,
+}
+
+/// The entry of a try that was given this and ends so, and the outcome that its instance keeps.
+fn noted(alloc: Global, given: &Given, outcome: &Outcome) -> Result<(Entry, Outcome), OutOfMemory>
+    ensures entry { IfOk result (λ both. both.0 ≡ record { given = given.now; outcome = outcome.now }) }
+    ensures kept { IfOk result (λ both. both.1 ≡ outcome.now) }
+{
+    let entry = Entry {
+        given: given.copy(alloc)?,
+        outcome: outcome.copy(alloc)?,
+    };
+    Ok((entry, outcome.copy(alloc)?))
+}
+
+/// Refuses a run that is not open, and one with a task that is not settled.
+fn closable(dag: &Dag, state: &State, run: u32) -> Result<(), Illegal>
+    requires { HasRows dag.now state.now }
+    ensures ok { OnOk result ((run < length state.now.runs) × (phase_of state.now run ≡ RunPhase.Open) × AllSettled dag.now state.now run) }
+    ensures err { IfErr result (RefusedFor (run < length state.now.runs) ((phase_of state.now run ≡ RunPhase.Open) × AllSettled dag.now state.now run)) }
+{
+    match state.runs.get(run as usize) {
+        None => Err(Illegal::Stranger),
+        Some(row) => {
+            if is_closable(row) {
+                Ok(())
+            } else {
+                Err(Illegal::NotEnabled)
+            }
+        }
     }
 }

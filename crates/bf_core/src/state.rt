@@ -1,10 +1,18 @@
-//! The state of a backfill.
-ghost use Rattle.std.specs.Prelude.{◌≡◌, ◌<◌, ◌↔◌, length, IsSome, IfSome, IfNone};
-ghost use Rattle.bf_core.specs.Events.{put, with_phase, row_of, cell_at, phase_of, is_open, is_closed};
+//! The state of a backfill: what each part of it is, and how that is read and changed.
+ghost use Rattle.std.specs.Prelude.{◌≡◌, ◌<◌, ◌↔◌, ◌≤◌, ◌&&◌, length, IsSome, IfSome, IfNone, is_some, IfOk};
+ghost use Rattle.std.specs.List.{list_all};
+ghost use Rattle.bf_try.specs.Grades.{most_items};
+ghost use Rattle.bf_core.specs.Events.{put, with_phase, row_of, cell_at, phase_of, is_open, is_closed, counts_of_instance, counts_of_instances, counts_of_cell, value_in, instance_of, change_instance, is_made_again, undecided_cells as undecided, empty_runs as unopened};
+ghost use Rattle.bf_core.specs.Deciding.{one_of};
+ghost use Rattle.bf_core.specs.Few.{IsFew};
+ghost use Rattle.bf_core.specs.Words.{is_finished};
+ghost use Rattle.bf_core.specs.Tries.{changed, IsCountable};
 
+use bf_rule::Counts;
 use bf_try::{Ledger, Outcome};
-use bf_value::Sequence;
+use bf_value::{OutOfMemory, Sequence};
 use bf_xcom::Given;
+use std::alloc::Global;
 
 /// Where an instance is.
 #[derive(Debug, Drop)]
@@ -16,6 +24,44 @@ pub enum Phase {
     Finished(Outcome),
 }
 
+const ONE_UNFINISHED: Counts = Counts {
+    success: 0,
+    failed: 0,
+    upstream_failed: 0,
+    skipped: 0,
+    blocked: 0,
+    unfinished: 1,
+};
+
+fn counts_of_outcome(outcome: &Outcome) -> Counts
+    ensures { result ≡ one_of outcome.now }
+{
+    let mut counts = Counts::NONE;
+    match outcome {
+        Outcome::Success(_) => counts.success = 1,
+        Outcome::Failed => counts.failed = 1,
+        Outcome::Skipped => counts.skipped = 1,
+    }
+    counts
+}
+
+impl Phase {
+    fn counts(&self) -> Counts
+        ensures { result ≡ counts_of_instance self.now }
+    {
+        match self {
+            Phase::Finished(outcome) => counts_of_outcome(outcome),
+            Phase::Waiting | Phase::Running => ONE_UNFINISHED,
+        }
+    }
+
+    fn is_finished(&self) -> bool
+        ensures { result ≡ is_finished self.now }
+    {
+        matches!(self, Phase::Finished(_))
+    }
+}
+
 /// An instance of a task in a run.
 #[derive(Debug, Drop)]
 pub struct Instance {
@@ -23,6 +69,59 @@ pub struct Instance {
     /// The number of its present try, from 1.
     pub attempt: u32,
     pub phase: Phase,
+}
+
+/// What becomes of the present try of an instance.
+#[derive(Drop)]
+pub(crate) enum Change {
+    Begin,
+    /// It ends so, where its task has that many retries. One that failed and may be made again waits for its next try.
+    End { retries: u32, outcome: Outcome },
+}
+
+/// Whether a try that ended so is made again, where its task has that many retries.
+pub(crate) fn is_retried(retries: u32, attempt: u32, outcome: &Outcome) -> bool
+    ensures { result ≡ is_made_again retries attempt outcome.now }
+{
+    matches!(outcome, Outcome::Failed) && attempt <= retries
+}
+
+impl Instance {
+    fn change(&mut self, change: Change)
+        requires { IsCountable change }
+        ensures { self.new ≡ changed change self.old }
+    {
+        match change {
+            Change::Begin => self.phase = Phase::Running,
+            Change::End { retries, outcome } => {
+                if is_retried(retries, self.attempt, &outcome) {
+                    self.attempt += 1;
+                    self.phase = Phase::Waiting;
+                } else {
+                    self.phase = Phase::Finished(outcome);
+                }
+            }
+        }
+    }
+}
+
+fn counts_of(instances: &[Instance]) -> Counts
+    requires { length instances.now ≤ most_items }
+    ensures { result ≡ counts_of_instances instances.now }
+{
+    let mut counts = Counts::NONE;
+    for instance in instances {
+        counts = counts.plus(instance.phase.counts());
+    }
+    counts
+}
+
+pub(crate) fn are_finished(instances: &[Instance]) -> bool
+    ensures { result ≡ list_all (λ x. is_finished x.phase) instances.now }
+{
+    instances
+        .iter()
+        .all(|instance| instance.phase.is_finished())
 }
 
 /// A task in a run.
@@ -34,6 +133,54 @@ pub enum Cell {
     UpstreamFailed,
     /// Its instances by map index: one for an unmapped task.
     Ran(Sequence<Instance>),
+}
+
+impl Cell {
+    /// How many instances are in each state.
+    pub(crate) fn counts(&self) -> Counts
+        requires { IsFew self.now }
+        ensures { result ≡ counts_of_cell self.now }
+    {
+        match self {
+            Cell::Undecided => ONE_UNFINISHED,
+            Cell::Blocked => Counts {
+                blocked: 1,
+                ..Counts::NONE
+            },
+            Cell::Skipped => Counts {
+                skipped: 1,
+                ..Counts::NONE
+            },
+            Cell::UpstreamFailed => Counts {
+                upstream_failed: 1,
+                ..Counts::NONE
+            },
+            Cell::Ran(instances) => counts_of(instances.as_slice()),
+        }
+    }
+
+    /// Whether the task is settled.
+    #[tactic(auto, using(crate::proofs::Sums::finished_settled))]
+    pub fn is_settled(&self) -> bool
+        ensures { result ≡ is_some (value_in self.now) }
+    {
+        match self {
+            Cell::Undecided => false,
+            Cell::Blocked | Cell::Skipped | Cell::UpstreamFailed => true,
+            Cell::Ran(instances) => are_finished(instances.as_slice()),
+        }
+    }
+
+    fn change(&mut self, place: usize, change: Change)
+        requires countable { IsCountable change }
+        requires there { IsSome (instance_of self.old place) }
+        ensures { self.new ≡ change_instance (changed change) self.old place }
+    {
+        if let Cell::Ran(instances) = self {
+            let instance = &mut instances.items[place];
+            instance.change(change);
+        }
+    }
 }
 
 #[derive(Clone, Copy, Debug, PartialEq, Eq)]
@@ -62,6 +209,48 @@ impl RunPhase {
 pub struct Run {
     pub phase: RunPhase,
     pub cells: Sequence<Cell>,
+}
+
+fn are_settled(cells: &[Cell]) -> bool
+    ensures { result ≡ list_all (λ c. is_some (value_in c)) cells.now }
+{
+    cells.iter().all(|cell| cell.is_settled())
+}
+
+pub(crate) fn is_closable(row: &Run) -> bool
+    ensures { result ≡ (is_open row.now.phase && list_all (λ c. is_some (value_in c)) row.now.cells) }
+{
+    row.phase.is_open() && are_settled(row.cells.as_slice())
+}
+
+#[tactic(auto, using(crate::proofs::Starting::one_more_cell))]
+fn undecided_cells(alloc: Global, tasks: usize) -> Result<Sequence<Cell>, OutOfMemory>
+    ensures { IfOk result (λ cells. cells ≡ undecided tasks) }
+{
+    let mut cells = Vec::with_capacity(alloc, tasks)?;
+    for _made in 0..tasks {
+        cells.push(Cell::Undecided)?;
+    }
+    Ok(Sequence::from_vec(cells))
+}
+
+/// Runs that are not opened, each with a cell for each task.
+#[tactic(auto, using(crate::proofs::Starting::one_more_run))]
+pub(crate) fn unopened_runs(
+    alloc: Global,
+    tasks: usize,
+    runs: usize,
+) -> Result<Sequence<Run>, OutOfMemory>
+    ensures { IfOk result (λ made. made ≡ unopened tasks runs) }
+{
+    let mut made = Vec::with_capacity(alloc, runs)?;
+    for _made in 0..runs {
+        made.push(Run {
+            phase: RunPhase::Unopened,
+            cells: undecided_cells(alloc, tasks)?,
+        })?;
+    }
+    Ok(Sequence::from_vec(made))
 }
 
 /// The runs in order of date, and the tries that have ended.
@@ -112,5 +301,18 @@ impl State {
     {
         let row = &mut self.runs.items[run as usize];
         row.phase = phase;
+    }
+
+    /// Changes an instance.
+    pub(crate) fn change(&mut self, run: u32, task: u32, place: usize, change: Change)
+        requires run { run < length self.old.runs }
+        requires task { task < length (row_of self.old.runs run).cells }
+        requires there { IsSome (instance_of (cell_at self.old run task) place) }
+        requires countable { IsCountable change }
+        ensures { self.new ≡ put self.old run task (change_instance (changed change) (cell_at self.old run task) place) }
+    {
+        let mut cell = self.put(run, task, Cell::Undecided);
+        cell.change(place, change);
+        let _ = self.put(run, task, cell);
     }
 }

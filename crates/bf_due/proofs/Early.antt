@@ -9,7 +9,7 @@ use Rattle.bf_core.specs.declared.state.Cell.{Cell}
 use Rattle.bf_core.specs.declared.state.Instance.{Instance}
 use Rattle.bf_core.specs.declared.state.Phase.{Phase}
 use Rattle.bf_core.specs.declared.event.Event.{Event}
-use Rattle.bf_core.specs.declared.deciding.Decision.{Decision}
+use Rattle.bf_core.specs.declared.decision.Decision.{Decision}
 use Rattle.bf_core.specs.Deciding.{Seen, after_verdict, and_then_past, branch_is, branch_skips, counts_over, decision, gate, is_blocked, lets_decide, one_blocked, one_of, one_skipped, one_unfinished, one_upstream_failed, ruling}
 use Rattle.bf_core.specs.Events.{after, before_in, cell_at, cell_of, change_at, change_instance, cons_result, counts_of_cell, counts_of_instance, counts_of_instances, decision_in, ended, fresh, instance_of, place_in, put, results, seen_in, value_in, IsDecidable, IsEnabled}
 use Rattle.bf_core.proofs.Instances.{instance-here}

@@ -10,7 +10,7 @@ use Rattle.bf_core.specs.declared.state.Instance.{Instance}
 use Rattle.bf_core.specs.declared.state.Phase.{Phase}
 use Rattle.bf_core.specs.declared.state.RunPhase.{RunPhase}
 use Rattle.bf_core.specs.declared.event.Event.{Event}
-use Rattle.bf_core.specs.declared.deciding.Decision.{Decision}
+use Rattle.bf_core.specs.declared.decision.Decision.{Decision}
 use Rattle.bf_core.specs.Deciding.{Seen, lets_decide, ruling, gate, pulled, instances, mapped, after_verdict, decision}
 use Rattle.bf_core.specs.Events.{cell_at, phase_of, results, cons_result, counts_of_instance, counts_of_instances, seen_in, before_in, decision_in, goes_on, is_run, instance_of, change_at, change_instance, begun, place_in, next_run, put, after, IsDecidable, IsEnabled}
 use Rattle.bf_core.proofs.Depth.{ruling-cong}

@@ -2,7 +2,7 @@
 use Rattle.std.proofs.Common.{◌≡◌, ℕ, Bool, true, false, not, ◌&&◌, ◌==◌, if◌then◌else◌, List, [], ◌∷◌, Option, Some, None, refl, sym}
 use Rattle.std.specs.List.{list_any, list_all}
 use Rattle.bf_core.specs.Terms.{Xval, Dag, TaskValue, Items, Verdict, task_of, items, verdict}
-use Rattle.bf_core.specs.declared.deciding.Decision.{Decision}
+use Rattle.bf_core.specs.declared.decision.Decision.{Decision}
 use Rattle.bf_core.specs.Deciding.{Seen, lets_decide, branch_is, branch_skips, is_blocked, counts_over, lets_pass, pulled, mapped, instances, after_verdict, past_after, past_ruling, ruling, gate, decision}
 use Rattle.bf_reason.specs.Reasons.{Reason, waits, not_followed, branch_is_blocked, past_has_not_passed, by_items, by_source, by_past, by_verdict, reason, decided_for}
 

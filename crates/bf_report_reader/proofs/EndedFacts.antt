@@ -28,7 +28,7 @@ use Rattle.bf_core.specs.declared.state.State.{State}
 use Rattle.bf_core.specs.declared.state.Cell.{Cell}
 use Rattle.bf_core.specs.declared.state.Instance.{Instance}
 use Rattle.bf_core.specs.Terms.{Limits, Verdict, items}
-use Rattle.bf_core.specs.declared.deciding.Decision.{Decision}
+use Rattle.bf_core.specs.declared.decision.Decision.{Decision}
 use Rattle.bf_core.specs.Deciding.{Seen, settled, decision, after_verdict, instances, mapped, pulled, gate}
 use Rattle.bf_core.specs.Recursion.{out, before, decided, results_from}
 use Rattle.bf_core.specs.Events.{IsLegal, replay, after, start, cell_at, value_in, entry_in, results}

@@ -23,7 +23,7 @@ use Rattle.bf_core.specs.declared.state.State.{State}
 use Rattle.bf_core.specs.declared.state.Cell.{Cell}
 use Rattle.bf_core.specs.declared.state.Instance.{Instance}
 use Rattle.bf_core.specs.Terms.{Limits}
-use Rattle.bf_core.specs.declared.deciding.Decision.{Decision}
+use Rattle.bf_core.specs.declared.decision.Decision.{Decision}
 use Rattle.bf_core.specs.Deciding.{settled, instances, pull_seen}
 use Rattle.bf_core.specs.Recursion.{out, decided}
 use Rattle.bf_core.specs.Events.{cell_at, entry_in}

@@ -1,14 +1,23 @@
-//! The tasks that wait for the same slots.
-ghost use Rattle.std.specs.Prelude.{◌≡◌, ◌≤◌, ◌+◌, ◌≤ℤ◌, ◌<ℤ◌, [], ◌∷◌, Contains, slice_get, IfSome, IfNone, OnOk};
+//! The tasks that wait for the same slots: what waits of them, and how that is kept over events.
+ghost use Rattle.std.specs.Prelude.{◌≡◌, ◌≤◌, ◌≤ℤ◌, ◌<ℤ◌, [], ◌∷◌, ◌<◌, Contains, slice_get, IfSome, IfNone, OnOk, ℕ, Bool, List, length, slice_index};
 ghost use Rattle.std.specs.List.Sorted.{IsPermutation};
+ghost use Rattle.bf_value.specs.declared.name.JobName.{JobName as NameTerm};
+ghost use Rattle.bf_xcom.specs.declared.values.Outcome.{Outcome as OutcomeTerm};
+ghost use Rattle.bf_core.specs.Cores.{deciding};
+ghost use Rattle.bf_core.specs.declared.event.Event.{Event as EventTerm};
 ghost use Rattle.bf_waiting.specs.Classes.{AreReleased, HasRoom, IsRoomy, batch_of, batch_to};
 ghost use Rattle.bf_waiting.specs.Heaps.{Leads};
+ghost use Rattle.bf_waiting.specs.Keeping.{Anywhere, At, HasDelayed, HasTakenUp, IsCleaned, IsOfPlace, KeepsOver};
+ghost use Rattle.bf_waiting.specs.Standings.{IsReadyAt};
+ghost use Rattle.bf_waiting.specs.Filling.{TakesIn};
 ghost use Rattle.bf_waiting.specs.declared.batches.Batch.{Batch as BatchTerm};
 ghost use Rattle.bf_waiting.specs.declared.delays.Delay.{Delay as DelayTerm};
 
 use crate::batches::{Batch, Batches};
 use crate::delays::{Delay, Delays};
-use crate::filling::weight_of;
+use crate::instances::{Standing, instances_of, is_ready, standing_at};
+use crate::weight::weight_of;
+use bf_core::Core;
 use bf_value::OutOfMemory;
 use std::alloc::Global;
 use std::cmp::Reverse;
@@ -39,7 +48,7 @@ impl Model for Class {
 }
 
 /// The batch of one instance.
-pub(crate) fn batch_of_one(weights: &[u32], run: u32, task: u32, place: u32) -> Batch
+fn batch_of_one(weights: &[u32], run: u32, task: u32, place: u32) -> Batch
     ensures { result ≡ batch_of weights.now run task place }
 {
     Batch {
@@ -52,7 +61,7 @@ pub(crate) fn batch_of_one(weights: &[u32], run: u32, task: u32, place: u32) -> 
 }
 
 /// The batch of the first instances, to one at a place.
-pub(crate) fn batch_to_place(weights: &[u32], run: u32, task: u32, place: usize) -> Batch
+fn batch_to_place(weights: &[u32], run: u32, task: u32, place: usize) -> Batch
     requires { place ≤ 1_024 }
     ensures { result ≡ batch_to weights.now run task place }
 {
@@ -75,6 +84,43 @@ fn release(batches: &mut Batches, delays: &mut Delays, weights: &[u32], now: i64
         }
         let _ = delays.take_first();
         batches.add(batch_of_one(weights, delay.run, delay.task, delay.place));
+    }
+}
+
+/// The first instance of a batch that is ready, by its place.
+fn first_ready(core: &Core<'_>, batch: Batch) -> Option<u32>
+    ensures ready { IfSome result (λ i. IsReadyAt core.now batch.run.0 batch.task.0 i) }
+    ensures within { IfSome result (λ i. (batch.first.0 ≤ i) × (i ≤ batch.last)) }
+    ensures first { IfSome result (λ i. (j : ℕ) → batch.first.0 ≤ j → IsReadyAt core.now batch.run.0 batch.task.0 j → i ≤ j) }
+    ensures none { IfNone result ((j : ℕ) → batch.first.0 ≤ j → j ≤ batch.last → ¬ (IsReadyAt core.now batch.run.0 batch.task.0 j)) }
+{
+    for place in batch.first.0..=batch.last {
+        if is_ready(core, batch.run.0, batch.task.0, place) {
+            return Some(place);
+        }
+    }
+    None
+}
+
+/// Passes over the first instances of the greatest batches until one is ready.
+fn clean(batches: &mut Batches, core: &Core<'_>)
+    requires { length batches.old.items ≤ batches.old.room }
+    ensures cleaned { IsCleaned core.now batches.old.items batches.new.items }
+    ensures fewer { length batches.new.items ≤ length batches.old.items }
+    ensures room { batches.old.room ≤ batches.new.room }
+{
+    while let Some(batch) = batches.first() {
+        let ready = first_ready(core, batch);
+        if ready == Some(batch.first.0) {
+            return;
+        }
+        let _ = batches.take_first();
+        if let Some(place) = ready {
+            batches.add(Batch {
+                first: Reverse(place),
+                ..batch
+            });
+        }
     }
 }
 
@@ -124,7 +170,7 @@ impl Class {
     }
 
     /// Adds a batch, for which there is room.
-    pub(crate) fn add_batch(&mut self, batch: Batch)
+    fn add_batch(&mut self, batch: Batch)
         requires { HasRoom self.old }
         ensures task { self.new.task ≡ self.old.task }
         ensures gained { IsPermutation (batch ∷ self.old.batches.items) self.new.batches.items }
@@ -134,7 +180,7 @@ impl Class {
     }
 
     /// Adds a delay, for which there is room.
-    pub(crate) fn add_delay(&mut self, delay: Delay)
+    fn add_delay(&mut self, delay: Delay)
         requires { HasRoom self.old }
         ensures task { self.new.task ≡ self.old.task }
         ensures batches { self.new.batches.items ≡ self.old.batches.items }
@@ -144,11 +190,148 @@ impl Class {
     }
 
     /// Lets the instances be ready whose moment has come.
-    pub(crate) fn release(&mut self, weights: &[u32], now: i64)
+    fn release(&mut self, weights: &[u32], now: i64)
         ensures task { self.new.task ≡ self.old.task }
         ensures released { AreReleased now weights.now self.old.batches.items self.old.delays.items self.new.batches.items self.new.delays.items }
         ensures later { (d : DelayTerm) → Contains self.new.delays.items d → now <ℤ d.moment.0 }
     {
         release(&mut self.batches, &mut self.delays, weights, now);
+    }
+
+    /// Passes over the first instances of the greatest batches until one is ready.
+    fn clean(&mut self, core: &Core<'_>)
+        ensures task { self.new.task ≡ self.old.task }
+        ensures cleaned { IsCleaned core.now self.old.batches.items self.new.batches.items }
+        ensures delays { self.new.delays.items ≡ self.old.delays.items }
+    {
+        clean(&mut self.batches, core);
+    }
+
+    /// Takes up all instances that a task has in a run, as one batch; those of them that are delayed aren't ready in it.
+    fn take_up(&mut self, core: &Core<'_>, weights: &[u32], run: u32, task: u32)
+        requires { HasRoom self.old }
+        ensures task { self.new.task ≡ self.old.task }
+        ensures taken { HasTakenUp core.now weights.now run task Anywhere self.old.batches.items self.new.batches.items }
+        ensures delays { self.new.delays.items ≡ self.old.delays.items }
+    {
+        let count = instances_of(core, run, task).len();
+        if count > 0 {
+            self.add_batch(batch_to_place(weights, run, task, count - 1));
+        }
+    }
+
+    /// Takes up the instance at a place.
+    fn take_up_one(&mut self, core: &Core<'_>, weights: &[u32], run: u32, task: u32, place: u32)
+        requires { HasRoom self.old }
+        ensures task { self.new.task ≡ self.old.task }
+        ensures taken { HasTakenUp core.now weights.now run task (At place) self.old.batches.items self.new.batches.items }
+        ensures delayed { HasDelayed core.now run task (At place) self.old.delays.items self.new.delays.items }
+    {
+        match standing_at(core, run, task, place) {
+            Standing::Away => {}
+            Standing::Ready => self.add_batch(batch_of_one(weights, run, task, place)),
+            Standing::Delayed(moment) => self.add_delay(Delay {
+                moment: Reverse(moment),
+                run,
+                task,
+                place,
+            }),
+        }
+    }
+
+    /// Takes up the instance at a place where it is delayed.
+    fn delay(&mut self, core: &Core<'_>, run: u32, task: u32, place: u32) -> Result<(), OutOfMemory>
+        ensures task { self.new.task ≡ self.old.task }
+        ensures batches { self.new.batches.items ≡ self.old.batches.items }
+        ensures delayed { OnOk result (HasDelayed core.now run task (At place) self.old.delays.items self.new.delays.items) }
+    {
+        self.make_room()?;
+        if let Standing::Delayed(moment) = standing_at(core, run, task, place) {
+            self.add_delay(Delay {
+                moment: Reverse(moment),
+                run,
+                task,
+                place,
+            });
+        }
+        Ok(())
+    }
+
+    /// Takes up the delayed instances that a task has in a run.
+    fn delay_all(&mut self, core: &Core<'_>, run: u32, task: u32) -> Result<(), OutOfMemory>
+        ensures task { self.new.task ≡ self.old.task }
+        ensures batches { self.new.batches.items ≡ self.old.batches.items }
+        ensures delayed { OnOk result (HasDelayed core.now run task Anywhere self.old.delays.items self.new.delays.items) }
+    {
+        let count = instances_of(core, run, task).len() as u32;
+        for place in 0..count {
+            self.delay(core, run, task, place)?;
+        }
+        Ok(())
+    }
+
+    /// Takes up all instances that a task has in a run.
+    pub(crate) fn take_in(
+        &mut self,
+        core: &Core<'_>,
+        weights: &[u32],
+        run: u32,
+        task: u32,
+    ) -> Result<(), OutOfMemory>
+        ensures task { self.new.task ≡ self.old.task }
+        ensures keeps { OnOk result (TakesIn core.now weights.now run task self.old self.new) }
+    {
+        self.make_room()?;
+        self.take_up(core, weights, run, task);
+        self.delay_all(core, run, task)?;
+        self.clean(core);
+        Ok(())
+    }
+}
+
+impl Class {
+    /// After a task is decided.
+    pub(crate) fn admit(&mut self, core: &Core<'_>, weights: &[u32], run: u32, task: u32)
+        requires { HasRoom self.old }
+        ensures task { self.new.task ≡ self.old.task }
+        ensures keeps { (expands : Bool) (class_of : List ℕ) (class : ℕ) → slice_index class_of task ≡ class → KeepsOver (deciding expands run task) core.now weights.now class_of class self.old self.new }
+    {
+        self.take_up(core, weights, run, task);
+        self.clean(core);
+    }
+
+    /// After a try began.
+    pub(crate) fn begin(&mut self, core: &Core<'_>)
+        ensures task { self.new.task ≡ self.old.task }
+        ensures keeps { (n : NameTerm) (weights class_of : List ℕ) (class : ℕ) → KeepsOver (EventTerm.Begin n) core.now weights class_of class self.old self.new }
+    {
+        self.clean(core);
+    }
+
+    /// After a try of the instance at a place ended.
+    pub(crate) fn readmit(
+        &mut self,
+        core: &Core<'_>,
+        weights: &[u32],
+        run: u32,
+        task: u32,
+        place: u32,
+    )
+        requires { HasRoom self.old }
+        ensures task { self.new.task ≡ self.old.task }
+        ensures keeps { (n : NameTerm) (o : OutcomeTerm) (class_of : List ℕ) (class : ℕ) → IsOfPlace core.now.dag n run task place → slice_index class_of task ≡ class →
+            KeepsOver (EventTerm.End n o) core.now weights.now class_of class self.old self.new }
+    {
+        self.take_up_one(core, weights, run, task, place);
+        self.clean(core);
+    }
+
+    /// After the clock moved.
+    pub(crate) fn tick(&mut self, core: &Core<'_>, weights: &[u32], now: i64)
+        ensures task { self.new.task ≡ self.old.task }
+        ensures keeps { (class_of : List ℕ) (class : ℕ) → KeepsOver (EventTerm.Tick now) core.now weights.now class_of class self.old self.new }
+    {
+        self.release(weights, now);
+        self.clean(core);
     }
 }

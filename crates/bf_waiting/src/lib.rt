@@ -1,16 +1,17 @@
 //! Which try begins next, and which moment is waited for, kept over the events of a backfill.
+//!
+//! The tasks that take as many slots of one pool are a `Class`: all of them have room, or none has. A class keeps its
+//! instances that wait for room as `Batches`, the one that begins first at hand, and those that wait for a later moment as
+//! `Delays`, the earliest at hand. `Waiting` has the classes: the next try is the first of those that have room.
 #![tactic(auto)]
 
 mod batches;
-mod choosing;
 mod class;
 mod delays;
-mod filling;
 mod instances;
-mod keeping;
 mod waiting;
+mod weight;
 
-pub use choosing::sooner;
-pub use filling::{weight_of, weights};
 pub use instances::instances_of;
-pub use waiting::Waiting;
+pub use waiting::{Waiting, sooner};
+pub use weight::{weight_of, weights};

@@ -1,16 +1,28 @@
-//! The tries that wait, kept over the events of a backfill.
-ghost use Rattle.std.specs.Prelude.{◌≡◌, ◌<◌, Bool, length, slice_index, IfSome, IfNone, MatchOption, OnOk};
+//! The tries that wait, kept over the events of a backfill: which begins next, and which moment is waited for.
+ghost use Rattle.std.specs.Prelude.{◌≡◌, ◌<◌, ◌+◌, ◌↔◌, Bool, length, slice_index, IfSome, IfNone, MatchOption, OnOk, ℕ, IfOk, IsTrue, slice_get, None, Some, Contains};
 ghost use Rattle.bf_value.specs.declared.name.JobName.{JobName as NameTerm};
+ghost use Rattle.bf_plan.specs.Sound.{demand_of};
 ghost use Rattle.bf_xcom.specs.declared.values.Outcome.{Outcome as OutcomeTerm};
 ghost use Rattle.bf_core.specs.declared.event.Event.{Event as EventTerm};
 ghost use Rattle.bf_core.specs.Cores.{Backfill, deciding};
+ghost use Rattle.bf_core.specs.Events.{has_room as has_room_now};
 ghost use Rattle.bf_waiting.specs.Keeping.{IsOfPlace};
+ghost use Rattle.bf_waiting.specs.Kept.{HasRoomFor, HasRoomOf, KeepsTries, KeepsTriesOver, IsClassOf};
+ghost use Rattle.bf_waiting.specs.Choices.{AreWeights, IsNextMoment, IsNextTry};
+ghost use Rattle.bf_waiting.specs.Filling.{AreClassedTo, AreEmpty, AreFilled};
+ghost use Rattle.bf_waiting.specs.Heaps.{Leads};
+ghost use Rattle.bf_waiting.specs.Looks.{IsBestOf, IsLeading, IsSoonestOf, IsTryOfBatch, MayTake, sooner_of};
 ghost use Rattle.bf_waiting.specs.declared.waiting.Waiting.{Waiting as WaitingTerm};
-ghost use Rattle.bf_waiting.specs.Kept.{HasRoomFor, HasRoomOf, KeepsTries, KeepsTriesOver};
+ghost use Rattle.bf_waiting.specs.declared.batches.Batch.{Batch as BatchTerm};
 
+use crate::batches::Batch;
 use crate::class::Class;
-use bf_core::{Core, Event, place_of};
-use bf_value::OutOfMemory;
+use crate::instances::instances_of;
+use crate::weight::weights;
+use bf_core::{Core, Event, name_of, place_of};
+use bf_plan::Plan;
+use bf_value::{JobName, OutOfMemory};
+use std::alloc::Global;
 
 /// The tries of a backfill that wait, kept over its events: those that wait for room in a pool, and those of later
 /// moments.
@@ -22,6 +34,230 @@ pub struct Waiting {
     pub(crate) class_of: Vec<usize>,
     /// The tasks by pool and slots: of one class all have room, or none has.
     pub(crate) classes: Vec<Class>,
+}
+
+/// Whether two tasks take as many slots of the same pool.
+fn take_alike(plan: &Plan, one: u32, other: u32) -> bool
+    requires one { one < length plan.now.dag.tasks }
+    requires other { other < length plan.now.dag.tasks }
+    ensures { IsTrue result ↔ (((demand_of plan.now.limits one).pool ≡ (demand_of plan.now.limits other).pool) × ((demand_of plan.now.limits one).slots ≡ (demand_of plan.now.limits other).slots)) }
+{
+    let one = plan.demand(one);
+    let other = plan.demand(other);
+    one.pool == other.pool && one.slots == other.slots
+}
+
+/// The first class of these whose tasks take what a task takes.
+fn class_like(plan: &Plan, classes: &[Class], task: u32) -> Option<usize>
+    requires task { task < length plan.now.dag.tasks }
+    requires empty { AreEmpty plan.now.dag classes.now }
+    ensures { IfSome result (λ j. IsClassOf plan.now.dag plan.now.limits classes.now j task) }
+{
+    for (place, class) in classes.iter().enumerate() {
+        if take_alike(plan, class.task, task) {
+            return Some(place);
+        }
+    }
+    None
+}
+
+/// The place of the class of a task, which is added where it isn't there.
+fn class_for(
+    alloc: Global,
+    plan: &Plan,
+    classes: &mut Vec<Class>,
+    task: u32,
+) -> Result<usize, OutOfMemory>
+    requires task { task < length plan.now.dag.tasks }
+    requires empty { AreEmpty plan.now.dag classes.old.items }
+    ensures class { IfOk result (λ j. IsClassOf plan.now.dag plan.now.limits classes.new.items j task) }
+    ensures kept { (i u : ℕ) → IsClassOf plan.now.dag plan.now.limits classes.old.items i u → IsClassOf plan.now.dag plan.now.limits classes.new.items i u }
+    ensures empty { OnOk result (AreEmpty plan.now.dag classes.new.items) }
+    ensures few { IfOk result (λ j. j < length classes.new.items) }
+{
+    if let Some(class) = class_like(plan, classes.as_slice(), task) {
+        return Ok(class);
+    }
+    let class = classes.len();
+    classes.push(Class::new(alloc, task))?;
+    Ok(class)
+}
+
+impl Waiting {
+    /// The tries of a core that wait.
+    pub fn new(alloc: Global, core: &Core<'_>) -> Result<Waiting, OutOfMemory>
+        ensures { IfOk result (λ w. KeepsTries core.now w) }
+    {
+        let mut waiting = Waiting::empty(alloc, core.plan())?;
+        waiting.fill(core)?;
+        Ok(waiting)
+    }
+
+    /// The classes of the tasks of a plan, of which nothing waits.
+    fn empty(alloc: Global, plan: &Plan) -> Result<Waiting, OutOfMemory>
+        ensures weights { IfOk result (λ w. AreWeights plan.now.dag plan.now.limits w.weights.items) }
+        ensures classes { IfOk result (λ w. AreClassedTo plan.now.dag plan.now.limits (length plan.now.dag.tasks) w.class_of.items w.classes.items) }
+    {
+        let weights = weights(alloc, plan)?;
+        let tasks = plan.dag().tasks.len();
+        let mut class_of = Vec::with_capacity(alloc, tasks)?;
+        let mut classes = Vec::new(alloc);
+        for task in 0..tasks {
+            class_of.push(class_for(alloc, plan, &mut classes, task as u32)?)?;
+        }
+        Ok(Waiting {
+            weights,
+            class_of,
+            classes,
+        })
+    }
+
+    /// Takes up what waits in a core.
+    fn fill(&mut self, core: &Core<'_>) -> Result<(), OutOfMemory>
+        requires { AreFilled core.now self.old 0 0 }
+        ensures { OnOk result (KeepsTries core.now self.new) }
+    {
+        let _replayed = core.journal();
+        for run in 0..core.runs() {
+            self.fill_run(core, run)?;
+        }
+        Ok(())
+    }
+
+    /// Takes up what waits in a run.
+    fn fill_run(&mut self, core: &Core<'_>, run: u32) -> Result<(), OutOfMemory>
+        requires { AreFilled core.now self.old run 0 }
+        ensures { OnOk result (AreFilled core.now self.new (run + 1) 0) }
+    {
+        let _replayed = core.journal();
+        for task in 0..core.plan().dag().tasks.len() {
+            self.fill_task(core, run, task as u32)?;
+        }
+        Ok(())
+    }
+
+    /// Takes up what waits of a task in a run.
+    fn fill_task(&mut self, core: &Core<'_>, run: u32, task: u32) -> Result<(), OutOfMemory>
+        requires task { task < length core.now.dag.tasks }
+        requires filled { AreFilled core.now self.old run task }
+        ensures { OnOk result (AreFilled core.now self.new run (task + 1)) }
+    {
+        match self.class_at(task) {
+            None => Ok(()),
+            Some(class) => {
+                let class = &mut self.classes[class];
+                class.take_in(core, self.weights.as_slice(), run, task)
+            }
+        }
+    }
+
+    /// The place of a task's class.
+    fn class_at(&self, task: u32) -> Option<usize>
+        ensures some { IfSome result (λ j. (j ≡ slice_index self.now.class_of.items task) × (j < length self.now.classes.items) × (task < length self.now.class_of.items)) }
+        ensures none { IfNone result (task < length self.now.class_of.items → ¬ (slice_index self.now.class_of.items task < length self.now.classes.items)) }
+    {
+        let class = *self.class_of.get(task as usize)?;
+        if class < self.classes.len() {
+            Some(class)
+        } else {
+            None
+        }
+    }
+}
+
+/// Whether a task is there, and its slots fit its pool beside those that are occupied.
+fn has_room(core: &Core<'_>, task: u32) -> bool
+    ensures { IsTrue result ↔ ((task < length core.now.dag.tasks) × IsTrue (has_room_now core.now.limits core.now.state task)) }
+{
+    let tasks = core.plan().dag().tasks.len();
+    (task as usize) < tasks && core.has_room(task)
+}
+
+/// The greater of two batches.
+fn leading(best: Option<Batch>, found: Option<Batch>) -> Option<Batch>
+    ensures { IsLeading best found result }
+{
+    match (best, found) {
+        (None, found) => found,
+        (Some(best), None) => Some(best),
+        (Some(best), Some(found)) => Some(best.max(found)),
+    }
+}
+
+/// The greatest batch of a class, where that has room.
+fn candidate(core: &Core<'_>, class: &Class) -> Option<Batch>
+    ensures some { IfSome result (λ x. MayTake core.now class.now × (Some x ≡ slice_get class.now.batches.items 0)) }
+    ensures first { IfSome result (λ x. (y : BatchTerm) → Contains class.now.batches.items y → Leads x y) }
+    ensures none { IfNone result (MayTake core.now class.now → slice_get class.now.batches.items 0 ≡ None) }
+{
+    if has_room(core, class.task) {
+        class.first()
+    } else {
+        None
+    }
+}
+
+/// The greatest batch of the classes that have room.
+fn best_of(classes: &[Class], core: &Core<'_>) -> Option<Batch>
+    ensures { IsBestOf core.now classes.now result }
+{
+    let mut best = None;
+    for class in classes {
+        best = leading(best, candidate(core, class));
+    }
+    best
+}
+
+/// The present try of the first instance of a batch.
+fn first_try(core: &Core<'_>, batch: Batch) -> Option<JobName>
+    ensures { IsTryOfBatch core.now batch result }
+{
+    let place = batch.first.0 as usize;
+    let instance = instances_of(core, batch.run.0, batch.task.0).get(place)?;
+    let dag = core.plan().dag();
+    Some(name_of(dag, batch.run.0, batch.task.0, place, instance.attempt))
+}
+
+/// The earlier of two moments.
+pub fn sooner(soonest: Option<i64>, found: Option<i64>) -> Option<i64>
+    ensures { result ≡ sooner_of soonest found }
+{
+    match (soonest, found) {
+        (None, found) => found,
+        (Some(soonest), None) => Some(soonest),
+        (Some(soonest), Some(found)) => Some(soonest.min(found)),
+    }
+}
+
+/// The earliest of the moments of the classes.
+fn soonest_of(classes: &[Class]) -> Option<i64>
+    ensures { IsSoonestOf classes.now result }
+{
+    let mut soonest = None;
+    for class in classes {
+        soonest = sooner(soonest, class.moment());
+    }
+    soonest
+}
+
+impl Waiting {
+    /// The try that begins next: of those that may begin now the one of the greatest total weight, and of several the
+    /// first by run, in the order of the file and by map index.
+    pub fn first(&self, core: &Core<'_>) -> Option<JobName>
+        ensures { KeepsTries core.now self.now → IsNextTry core.now result }
+    {
+        match best_of(self.classes.as_slice(), core) {
+            None => None,
+            Some(batch) => first_try(core, batch),
+        }
+    }
+
+    /// The least of the later moments for which tries wait, in seconds since 1970.
+    pub fn moment(&self) -> Option<i64>
+        ensures { (b : Backfill) → KeepsTries b self.now → IsNextMoment b result }
+    {
+        soonest_of(self.classes.as_slice())
+    }
 }
 
 /// The task whose instances an event may let wait.
@@ -36,60 +272,6 @@ fn task_to_wait(event: &Event) -> Option<u32>
 }
 
 impl Waiting {
-    /// The place of a task's class.
-    pub(crate) fn class_at(&self, task: u32) -> Option<usize>
-        ensures some { IfSome result (λ j. (j ≡ slice_index self.now.class_of.items task) × (j < length self.now.classes.items) × (task < length self.now.class_of.items)) }
-        ensures none { IfNone result (task < length self.now.class_of.items → ¬ (slice_index self.now.class_of.items task < length self.now.classes.items)) }
-    {
-        let class = *self.class_of.get(task as usize)?;
-        if class < self.classes.len() {
-            Some(class)
-        } else {
-            None
-        }
-    }
-
-    /// After a task is decided.
-    fn admit(&mut self, core: &Core<'_>, run: u32, task: u32)
-        requires { HasRoomOf task self.old }
-        ensures { (expands : Bool) → KeepsTriesOver (deciding expands run task) core.now self.old self.new }
-    {
-        if let Some(class) = self.class_at(task) {
-            let class = &mut self.classes[class];
-            class.admit(core, self.weights.as_slice(), run, task);
-        }
-    }
-
-    /// After a try of a task began.
-    fn begin(&mut self, core: &Core<'_>, task: u32)
-        ensures { (n : NameTerm) → n.task ≡ task → KeepsTriesOver (EventTerm.Begin n) core.now self.old self.new }
-    {
-        if let Some(class) = self.class_at(task) {
-            let class = &mut self.classes[class];
-            class.begin(core);
-        }
-    }
-
-    /// After a try of the instance at a place ended.
-    fn readmit(&mut self, core: &Core<'_>, run: u32, task: u32, place: u32)
-        requires { HasRoomOf task self.old }
-        ensures { (n : NameTerm) (o : OutcomeTerm) → IsOfPlace core.now.dag n run task place → KeepsTriesOver (EventTerm.End n o) core.now self.old self.new }
-    {
-        if let Some(class) = self.class_at(task) {
-            let class = &mut self.classes[class];
-            class.readmit(core, self.weights.as_slice(), run, task, place);
-        }
-    }
-
-    /// After the clock moved.
-    fn tick(&mut self, core: &Core<'_>, now: i64)
-        ensures { KeepsTriesOver (EventTerm.Tick now) core.now self.old self.new }
-    {
-        for class in self.classes.iter_mut() {
-            class.tick(core, self.weights.as_slice(), now);
-        }
-    }
-
     /// Makes room for what an event that may come lets wait. It is called before the event comes.
     pub fn make_room(&mut self, event: &Event) -> Result<(), OutOfMemory>
         ensures kept { (b : Backfill) → KeepsTries b self.old → KeepsTries b self.new }
@@ -131,6 +313,47 @@ impl Waiting {
                 self.readmit(core, name.run, name.task, place);
             }
             Event::Tick { moment } => self.tick(core, *moment),
+        }
+    }
+
+    /// After a task is decided.
+    fn admit(&mut self, core: &Core<'_>, run: u32, task: u32)
+        requires { HasRoomOf task self.old }
+        ensures { (expands : Bool) → KeepsTriesOver (deciding expands run task) core.now self.old self.new }
+    {
+        if let Some(class) = self.class_at(task) {
+            let class = &mut self.classes[class];
+            class.admit(core, self.weights.as_slice(), run, task);
+        }
+    }
+
+    /// After a try of a task began.
+    fn begin(&mut self, core: &Core<'_>, task: u32)
+        ensures { (n : NameTerm) → n.task ≡ task → KeepsTriesOver (EventTerm.Begin n) core.now self.old self.new }
+    {
+        if let Some(class) = self.class_at(task) {
+            let class = &mut self.classes[class];
+            class.begin(core);
+        }
+    }
+
+    /// After a try of the instance at a place ended.
+    fn readmit(&mut self, core: &Core<'_>, run: u32, task: u32, place: u32)
+        requires { HasRoomOf task self.old }
+        ensures { (n : NameTerm) (o : OutcomeTerm) → IsOfPlace core.now.dag n run task place → KeepsTriesOver (EventTerm.End n o) core.now self.old self.new }
+    {
+        if let Some(class) = self.class_at(task) {
+            let class = &mut self.classes[class];
+            class.readmit(core, self.weights.as_slice(), run, task, place);
+        }
+    }
+
+    /// After the clock moved.
+    fn tick(&mut self, core: &Core<'_>, now: i64)
+        ensures { KeepsTriesOver (EventTerm.Tick now) core.now self.old self.new }
+    {
+        for class in self.classes.iter_mut() {
+            class.tick(core, self.weights.as_slice(), now);
         }
     }
 }

@@ -1,6 +1,6 @@
 use Rattle.std.proofs.Common.{◌≡◌, not, is_some, subst}
 use Rattle.std.specs.Char.{is_ascii_digit}
-use Rattle.bf_core.specs.declared.deciding.Decision.{Decision}
+use Rattle.bf_core.specs.declared.decision.Decision.{Decision}
 use Rattle.bf_core.specs.Terms.{task_of}
 use Rattle.bf_reason.specs.Reasons.{reason}
 use Rattle.bf_reason.specs.Letters.{seen_at, before_at, letter_of, follows}

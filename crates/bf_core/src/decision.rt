@@ -1,0 +1,152 @@
+//! What is decided of a task in a run, and when.
+ghost use Rattle.std.specs.Prelude.{◌≡◌, ◌<◌, ◌↔◌, ◌&&◌, length, map, is_some, IsTrue, IfOk, OnOk, IfErr};
+ghost use Rattle.bf_core.specs.Terms.{task_of};
+ghost use Rattle.bf_core.specs.Events.{cell_at, seen_in, before_in, is_run, fresh, cell_of};
+ghost use Rattle.bf_core.specs.Deciding.{after_verdict, gate as gate_of};
+ghost use Rattle.bf_core.specs.Few.{AreFew};
+ghost use Rattle.bf_core.specs.Checks.{HasRows, RefusedFor, IsUndecidedNow};
+ghost use Rattle.bf_core.specs.Cores.{IsThere};
+
+use crate::event::Illegal;
+use crate::expansion::instances;
+use crate::past::with_past;
+use crate::state::{Cell, Instance, Phase, State};
+use crate::upstreams::{is_settled, ruling};
+use bf_plan::{Dag, Plan};
+use bf_rule::Verdict;
+use bf_value::{OutOfMemory, Sequence};
+use bf_xcom::Given;
+use std::alloc::Global;
+
+/// What is decided of a task in a run.
+#[derive(Drop)]
+pub enum Decision {
+    /// Too little is known of the tasks that it looks at.
+    Wait,
+    Blocked,
+    Skipped,
+    UpstreamFailed,
+    /// It gets an instance for each of these, by map index.
+    Instances(Sequence<Given>),
+}
+
+fn fresh_instances(
+    alloc: Global,
+    givens: Sequence<Given>,
+) -> Result<Sequence<Instance>, OutOfMemory>
+    ensures { IfOk result (λ xs. xs ≡ map fresh givens) }
+{
+    let mut instances = Vec::with_capacity(alloc, givens.len())?;
+    for given in givens.into_vec() {
+        instances.push(Instance {
+            given,
+            attempt: 1,
+            phase: Phase::Waiting,
+        })?;
+    }
+    Ok(Sequence::from_vec(instances))
+}
+
+impl Decision {
+    pub(crate) fn waits(&self) -> bool
+        ensures { IsTrue result ↔ (self.now ≡ Decision.Wait) }
+    {
+        matches!(self, Decision::Wait)
+    }
+
+    /// The cell of a task of which this is decided: its instances wait for their first try.
+    pub(crate) fn into_cell(self, alloc: Global) -> Result<Cell, OutOfMemory>
+        ensures { IfOk result (λ c. c ≡ cell_of self) }
+    {
+        match self {
+            Decision::Wait => Ok(Cell::Undecided),
+            Decision::Blocked => Ok(Cell::Blocked),
+            Decision::Skipped => Ok(Cell::Skipped),
+            Decision::UpstreamFailed => Ok(Cell::UpstreamFailed),
+            Decision::Instances(givens) => Ok(Cell::Ran(fresh_instances(alloc, givens)?)),
+        }
+    }
+}
+
+/// Refuses a task that is not undecided in an open run.
+pub(crate) fn undecided(dag: &Dag, state: &State, run: u32, task: u32) -> Result<(), Illegal>
+    requires { HasRows dag.now state.now }
+    ensures ok { OnOk result (IsThere dag.now state.now run task × IsUndecidedNow state.now run task) }
+    ensures err { IfErr result (RefusedFor (IsThere dag.now state.now run task) (IsUndecidedNow state.now run task)) }
+{
+    let Some(cell) = state.cell(run, task) else {
+        return Err(Illegal::Stranger);
+    };
+    if !state.is_open(run) || !matches!(cell, Cell::Undecided) {
+        return Err(Illegal::NotEnabled);
+    }
+    Ok(())
+}
+
+/// Whether a task is undecided in an open run.
+pub(crate) fn is_undecided(dag: &Dag, state: &State, run: u32, task: u32) -> bool
+    requires { HasRows dag.now state.now }
+    ensures { IsTrue result ↔ (IsThere dag.now state.now run task × IsUndecidedNow state.now run task) }
+{
+    match state.cell(run, task) {
+        Some(cell) => state.is_open(run) && matches!(cell, Cell::Undecided),
+        None => false,
+    }
+}
+
+/// What the upstreams and the past say of a task.
+#[tactic(auto, unfolding(crate::specs::Deciding::gate))]
+pub(crate) fn gate(plan: &Plan, state: &State, run: u32, task: u32) -> Verdict
+    requires task { task < length plan.now.dag.tasks }
+    requires few { AreFew state.now }
+    ensures { result ≡ gate_of plan.now.dag run (λ u. seen_in (cell_at state.now run u)) (before_in state.now run task) task }
+{
+    let depends_on_past = plan.dag().task(task).depends_on_past;
+    let verdict = ruling(plan, state, run, task);
+    with_past(state, run, task, depends_on_past, verdict)
+}
+
+/// Whether a task goes on to its expansion by this verdict.
+pub(crate) fn goes_on(dag: &Dag, task: u32, verdict: Verdict) -> bool
+    requires { task < length dag.now.tasks }
+    ensures { result ≡ (is_some (task_of dag.now task).expand && is_run verdict) }
+{
+    dag.task(task).expand.is_some() && verdict == Verdict::Run
+}
+
+/// Whether what is decided of a task by this verdict is to wait.
+pub(crate) fn awaits(dag: &Dag, state: &State, run: u32, task: u32, verdict: Verdict) -> bool
+    requires { task < length dag.now.tasks }
+    ensures { IsTrue result ↔ (after_verdict dag.now (λ u. seen_in (cell_at state.now run u)) task verdict ≡ Decision.Wait) }
+{
+    match verdict {
+        Verdict::Wait => true,
+        Verdict::Run => match dag.task(task).expand {
+            None => false,
+            Some(source) => !is_settled(state, run, source),
+        },
+        Verdict::Blocked | Verdict::Skip | Verdict::UpstreamFailed => false,
+    }
+}
+
+/// What is decided of a task by this verdict of upstreams and past.
+pub(crate) fn decide(
+    alloc: Global,
+    dag: &Dag,
+    state: &State,
+    run: u32,
+    task: u32,
+    verdict: Verdict,
+) -> Result<Decision, OutOfMemory>
+    requires task { task < length dag.now.tasks }
+    requires rows { HasRows dag.now state.now }
+    ensures { IfOk result (λ d. d ≡ after_verdict dag.now (λ u. seen_in (cell_at state.now run u)) task verdict) }
+{
+    match verdict {
+        Verdict::Wait => Ok(Decision::Wait),
+        Verdict::Blocked => Ok(Decision::Blocked),
+        Verdict::Skip => Ok(Decision::Skipped),
+        Verdict::UpstreamFailed => Ok(Decision::UpstreamFailed),
+        Verdict::Run => instances(alloc, dag, state, run, dag.task(task)),
+    }
+}

@@ -1,0 +1,171 @@
+//! The instances of a task that goes on: one, or one for each item that its source gives.
+ghost use Rattle.std.specs.Prelude.{◌≡◌, [], ◌∷◌, map, IfOk, None, Some, option_map};
+ghost use Rattle.bf_core.specs.Terms.{items as given_by, source_values as values_for, task_of};
+ghost use Rattle.bf_core.specs.Deciding.{instances as instances_of, mapped, pull_seen};
+ghost use Rattle.bf_core.specs.Events.{cell_at, seen_in, value_in};
+ghost use Rattle.bf_core.specs.Checks.{HasRows};
+ghost use Rattle.bf_core.specs.Words.{pushed_by_one, sourced_from};
+
+use crate::decision::Decision;
+use crate::pulls::{pull_all, pushed_by_first_of};
+use crate::state::{Cell, Instance, State, are_finished};
+use bf_mapped::{Items, SourceValues, items};
+use bf_plan::{Dag, Task};
+use bf_value::{OutOfMemory, Sequence, Xval};
+use bf_xcom::Given;
+use std::alloc::Global;
+
+/// What each instance pushed, or nothing, by map index.
+fn pushed_by_each(alloc: Global, instances: &[Instance]) -> Result<Vec<Option<Xval>>, OutOfMemory>
+    ensures { IfOk result (λ values. values.items ≡ map pushed_by_one instances.now) }
+{
+    let mut values = Vec::with_capacity(alloc, instances.len())?;
+    for instance in instances {
+        values.push(instance.copy_of_pushed(alloc)?)?;
+    }
+    Ok(values)
+}
+
+/// What a source has for an expansion by its instances, where all have finished.
+fn values_of_instances(
+    alloc: Global,
+    source: &Task,
+    instances: &[Instance],
+) -> Result<Option<SourceValues>, OutOfMemory>
+    ensures { IfOk result (λ found. found ≡ sourced_from source.now instances.now) }
+{
+    if !are_finished(instances) {
+        return Ok(None);
+    }
+    if source.expand.is_none() {
+        let pushed = pushed_by_first_of(alloc, instances)?;
+        return Ok(Some(SourceValues::Pushed(pushed)));
+    }
+    let pushed = pushed_by_each(alloc, instances)?;
+    Ok(Some(SourceValues::Each(Sequence::from_vec(pushed))))
+}
+
+impl Cell {
+    /// What a source that has this cell has for an expansion; nothing is known of one that is not settled.
+    #[tactic(auto, using(crate::proofs::Expanded::ran_source))]
+    fn source_values(
+        &self,
+        alloc: Global,
+        source: &Task,
+    ) -> Result<Option<SourceValues>, OutOfMemory>
+        ensures { IfOk result (λ found. found ≡ option_map (values_for source.now) (value_in self.now)) }
+    {
+        match self {
+            Cell::Undecided => Ok(None),
+            Cell::Blocked | Cell::Skipped | Cell::UpstreamFailed => Ok(Some(SourceValues::Absent)),
+            Cell::Ran(instances) => values_of_instances(alloc, source, instances.as_slice()),
+        }
+    }
+
+    /// The items that a source that has this cell gives; nothing is known of one that is not settled.
+    fn items(&self, alloc: Global, source: &Task) -> Result<Option<Items>, OutOfMemory>
+        ensures { IfOk result (λ found. found ≡ option_map (given_by source.now) (value_in self.now)) }
+    {
+        match self.source_values(alloc, source)? {
+            Some(values) => Ok(Some(items(alloc, values)?)),
+            None => Ok(None),
+        }
+    }
+}
+
+/// The items that a source gives in a run; nothing is known of one that is not settled.
+fn items_from(
+    alloc: Global,
+    dag: &Dag,
+    state: &State,
+    run: u32,
+    source: u32,
+) -> Result<Option<Items>, OutOfMemory>
+    requires { HasRows dag.now state.now }
+    ensures { IfOk result (λ found. found ≡ option_map (given_by (task_of dag.now source)) (value_in (cell_at state.now run source))) }
+{
+    match state.cell(run, source) {
+        Some(cell) => cell.items(alloc, dag.task(source)),
+        None => Ok(None),
+    }
+}
+
+/// One instance, which is given what was pulled.
+fn unmapped(alloc: Global, pulled: Vec<Option<Xval>>) -> Result<Decision, OutOfMemory>
+    ensures { IfOk result (λ d. d ≡ Decision.Instances (record { item = None; pulled = pulled.items } ∷ [])) }
+{
+    let mut givens = Vec::with_capacity(alloc, 1)?;
+    givens.push(Given {
+        item: None,
+        pulled: Sequence::from_vec(pulled),
+    })?;
+    Ok(Decision::Instances(Sequence::from_vec(givens)))
+}
+
+/// What the instance of an item is given: the item, and what all are given alike.
+fn given_with(alloc: Global, item: Xval, alike: &Given) -> Result<Given, OutOfMemory>
+    ensures { IfOk result (λ given. given ≡ record { item = Some item; pulled = alike.now.pulled }) }
+{
+    let mut given = alike.copy(alloc)?;
+    given.item = Some(item);
+    Ok(given)
+}
+
+/// An instance for each item, which is given the item and what was pulled.
+fn givens_of(
+    alloc: Global,
+    items: Sequence<Xval>,
+    pulled: Vec<Option<Xval>>,
+) -> Result<Sequence<Given>, OutOfMemory>
+    ensures { IfOk result (λ givens. givens ≡ map (λ item. record { item = Some item; pulled = pulled.items }) items) }
+{
+    let alike = Given {
+        item: None,
+        pulled: Sequence::from_vec(pulled),
+    };
+    let mut givens = Vec::with_capacity(alloc, items.len())?;
+    for item in items.into_vec() {
+        givens.push(given_with(alloc, item, &alike)?)?;
+    }
+    Ok(Sequence::from_vec(givens))
+}
+
+/// What the items of a source make of a task that goes on.
+fn expanded(alloc: Global, items: Items, pulled: Vec<Option<Xval>>) -> Result<Decision, OutOfMemory>
+    ensures { IfOk result (λ d. d ≡ mapped pulled.items items) }
+{
+    match items {
+        Items::Missing => Ok(Decision::UpstreamFailed),
+        Items::List(items) => {
+            if items.is_empty() {
+                return Ok(Decision::Skipped);
+            }
+            Ok(Decision::Instances(givens_of(alloc, items, pulled)?))
+        }
+    }
+}
+
+/// The instances of a task that goes on: of one that is expanded one for each item, and it waits while its source is
+/// not settled; of any other a single one.
+pub(crate) fn instances(
+    alloc: Global,
+    dag: &Dag,
+    state: &State,
+    run: u32,
+    task: &Task,
+) -> Result<Decision, OutOfMemory>
+    requires { HasRows dag.now state.now }
+    ensures { IfOk result (λ d. d ≡ instances_of dag.now (λ u. seen_in (cell_at state.now run u)) (map (pull_seen dag.now (λ u. seen_in (cell_at state.now run u))) task.now.pulls) task.now.expand) }
+{
+    let Some(source) = task.expand else {
+        let pulled = pull_all(alloc, dag, state, run, task.pulls.as_slice())?;
+        return unmapped(alloc, pulled);
+    };
+    match items_from(alloc, dag, state, run, source)? {
+        Some(items) => {
+            let pulled = pull_all(alloc, dag, state, run, task.pulls.as_slice())?;
+            expanded(alloc, items, pulled)
+        }
+        None => Ok(Decision::Wait),
+    }
+}

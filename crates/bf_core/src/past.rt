@@ -1,0 +1,83 @@
+//! What the previous run says of a task that depends on its past.
+ghost use Rattle.std.specs.Prelude.{◌≡◌};
+ghost use Rattle.std.specs.List.{list_all};
+ghost use Rattle.bf_core.specs.Events.{value_in, cell_at, before_in};
+ghost use Rattle.bf_core.specs.Deciding.{past_ruling, past_after};
+ghost use Rattle.bf_core.specs.Words.{passed, ran_ruling};
+
+use crate::expansion::instances;
+use crate::state::{Cell, Instance, Phase, State, are_finished};
+use bf_rule::Verdict;
+use bf_try::Outcome;
+
+impl Phase {
+    /// Finished, and not as failed.
+    fn passed(&self) -> bool
+        ensures { result ≡ passed self.now }
+    {
+        match self {
+            Phase::Finished(outcome) => !matches!(outcome, Outcome::Failed),
+            Phase::Waiting | Phase::Running => false,
+        }
+    }
+}
+
+fn have_passed(instances: &[Instance]) -> bool
+    ensures { result ≡ list_all (λ x. passed x.phase) instances.now }
+{
+    instances.iter().all(|instance| instance.phase.passed())
+}
+
+fn ran_verdict(instances: &[Instance]) -> Verdict
+    ensures { result ≡ ran_ruling instances.now }
+{
+    if !are_finished(instances) {
+        Verdict::Wait
+    } else if have_passed(instances) {
+        Verdict::Run
+    } else {
+        Verdict::Blocked
+    }
+}
+
+impl Cell {
+    /// What this says, as a previous run's, of a task that depends on its past.
+    #[tactic(auto, using(crate::proofs::Sums::past_ran))]
+    fn past_verdict(&self) -> Verdict
+        ensures { result ≡ past_ruling (value_in self.now) }
+    {
+        match self {
+            Cell::Undecided => Verdict::Wait,
+            Cell::Blocked | Cell::UpstreamFailed => Verdict::Blocked,
+            Cell::Skipped => Verdict::Run,
+            Cell::Ran(instances) => ran_verdict(instances.as_slice()),
+        }
+    }
+}
+
+/// What the previous run says of a task that depends on its past.
+fn past_verdict(state: &State, run: u32, task: u32) -> Verdict
+    ensures { result ≡ past_ruling (value_in (cell_at state.now run task)) }
+{
+    match state.cell(run, task) {
+        Some(cell) => cell.past_verdict(),
+        None => Verdict::Wait,
+    }
+}
+
+/// What comes of a verdict on a task once its past is looked at.
+pub(crate) fn with_past(
+    state: &State,
+    run: u32,
+    task: u32,
+    depends_on_past: bool,
+    verdict: Verdict,
+) -> Verdict
+    ensures { result ≡ past_after depends_on_past run (before_in state.now run task) verdict }
+{
+    if verdict == Verdict::Run && depends_on_past && run > 0 {
+        past_verdict(state, run - 1, task)
+    } else {
+        verdict
+    }
+}

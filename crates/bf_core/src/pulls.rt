@@ -1,0 +1,122 @@
+//! What tasks pull from the cells of their run.
+ghost use Rattle.std.specs.Prelude.{◌≡◌, map, IfOk, option_copied, option_and_then};
+ghost use Rattle.std.specs.List.{filter_map};
+ghost use Rattle.bf_core.specs.Terms.{pull as pull_of};
+ghost use Rattle.bf_core.specs.Deciding.{pull_seen};
+ghost use Rattle.bf_core.specs.Events.{cell_at, seen_in, value_in};
+ghost use Rattle.bf_core.specs.Checks.{HasRows};
+ghost use Rattle.bf_core.specs.Words.{pushed_by_one, pushed_by_first, pulled_from};
+
+use crate::state::{Cell, Instance, Phase, State, are_finished};
+use bf_plan::{Dag, Task};
+use bf_value::{OutOfMemory, Values, Xval, copy_option};
+use std::alloc::Global;
+
+impl Instance {
+    /// What it pushed, where it has finished.
+    fn pushed(&self) -> Option<&Xval>
+        ensures { option_copied result ≡ pushed_by_one self.now }
+    {
+        match &self.phase {
+            Phase::Finished(outcome) => outcome.pushed(),
+            Phase::Waiting | Phase::Running => None,
+        }
+    }
+
+    pub(crate) fn copy_of_pushed(&self, alloc: Global) -> Result<Option<Xval>, OutOfMemory>
+        ensures { IfOk result (λ value. value ≡ pushed_by_one self.now) }
+    {
+        copy_option(alloc, self.pushed())
+    }
+}
+
+pub(crate) fn pushed_by_first_of(
+    alloc: Global,
+    instances: &[Instance],
+) -> Result<Option<Xval>, OutOfMemory>
+    ensures { IfOk result (λ value. value ≡ pushed_by_first instances.now) }
+{
+    match instances {
+        [] => Ok(None),
+        [instance, ..] => instance.copy_of_pushed(alloc),
+    }
+}
+
+/// What instances pushed, by map index.
+fn pushed_by_all(alloc: Global, instances: &[Instance]) -> Result<Vec<Xval>, OutOfMemory>
+    ensures { IfOk result (λ values. values.items ≡ filter_map pushed_by_one instances.now) }
+{
+    let mut values = Vec::new(alloc);
+    for instance in instances {
+        if let Some(value) = instance.pushed() {
+            values.push(value.copy(alloc)?)?;
+        }
+    }
+    Ok(values)
+}
+
+/// What is pulled from a task by its instances, where all have finished.
+fn pull_from(
+    alloc: Global,
+    source: &Task,
+    instances: &[Instance],
+) -> Result<Option<Xval>, OutOfMemory>
+    ensures { IfOk result (λ value. value ≡ pulled_from source.now instances.now) }
+{
+    if !are_finished(instances) {
+        return Ok(None);
+    }
+    if source.expand.is_none() {
+        return pushed_by_first_of(alloc, instances);
+    }
+    let values = pushed_by_all(alloc, instances)?;
+    Ok(Some(Xval::List(Values::new(values))))
+}
+
+impl Cell {
+    /// What is pulled from a task that has this cell; nothing, while it is not settled.
+    #[tactic(auto, using(crate::proofs::Pulled::ran_pull))]
+    fn pull(&self, alloc: Global, source: &Task) -> Result<Option<Xval>, OutOfMemory>
+        ensures { IfOk result (λ value. value ≡ option_and_then (pull_of source.now) (value_in self.now)) }
+    {
+        match self {
+            Cell::Ran(instances) => pull_from(alloc, source, instances.as_slice()),
+            Cell::Undecided | Cell::Blocked | Cell::Skipped | Cell::UpstreamFailed => Ok(None),
+        }
+    }
+}
+
+/// What is pulled from a task in a run.
+fn pull(
+    alloc: Global,
+    dag: &Dag,
+    state: &State,
+    run: u32,
+    source: u32,
+) -> Result<Option<Xval>, OutOfMemory>
+    requires { HasRows dag.now state.now }
+    ensures { IfOk result (λ value. value ≡ pull_seen dag.now (λ u. seen_in (cell_at state.now run u)) source) }
+{
+    match state.cell(run, source) {
+        Some(cell) => cell.pull(alloc, dag.task(source)),
+        None => Ok(None),
+    }
+}
+
+/// What is pulled from each of these tasks in a run.
+pub(crate) fn pull_all(
+    alloc: Global,
+    dag: &Dag,
+    state: &State,
+    run: u32,
+    sources: &[u32],
+) -> Result<Vec<Option<Xval>>, OutOfMemory>
+    requires { HasRows dag.now state.now }
+    ensures { IfOk result (λ values. values.items ≡ map (pull_seen dag.now (λ u. seen_in (cell_at state.now run u))) sources.now) }
+{
+    let mut values = Vec::with_capacity(alloc, sources.len())?;
+    for source in sources {
+        values.push(pull(alloc, dag, state, run, *source)?)?;
+    }
+    Ok(values)
+}

@@ -1,0 +1,172 @@
+//! What the upstreams say of a task.
+ghost use Rattle.std.specs.Prelude.{◌≡◌, ◌<◌, ◌≤◌, length, is_some};
+ghost use Rattle.std.specs.List.{list_all, list_any};
+ghost use Rattle.bf_rule.specs.Verdicts.{total};
+ghost use Rattle.bf_core.specs.Deciding.{branch_is, branch_skips, is_blocked, counts_over, lets_decide as lets_be_decided, ruling as ruling_of};
+ghost use Rattle.bf_core.specs.Events.{cell_at, seen_in, counts_of_cell, value_in};
+ghost use Rattle.bf_core.specs.Few.{AreFew};
+ghost use Rattle.bf_core.specs.Words.{known_to_be, phase_skips as skipped_at, instances_skip as skipped_by};
+
+use crate::state::{Cell, Instance, Phase, State, are_finished};
+use bf_plan::{Dag, Plan, Task};
+use bf_rule::{Counts, Verdict, followed, verdict};
+use bf_try::Outcome;
+
+/// How many instances of a task are in each state; of one that isn't there as of one that is undecided.
+fn counts_at(state: &State, run: u32, task: u32) -> Counts
+    requires { AreFew state.now }
+    ensures counts { result ≡ counts_of_cell (cell_at state.now run task) }
+    ensures few { total result ≤ 1_024 }
+{
+    match state.cell(run, task) {
+        Some(cell) => cell.counts(),
+        None => Counts {
+            unfinished: 1,
+            ..Counts::NONE
+        },
+    }
+}
+
+/// How many instances of these upstreams are in each state.
+fn counts_of_upstreams(state: &State, run: u32, upstreams: &[u32]) -> Counts
+    requires few { AreFew state.now }
+    requires few_upstreams { length upstreams.now ≤ 20_000 }
+    ensures { result ≡ counts_over (λ u. seen_in (cell_at state.now run u)) upstreams.now }
+{
+    let mut counts = Counts::NONE;
+    for upstream in upstreams {
+        counts = counts.plus(counts_at(state, run, *upstream));
+    }
+    counts
+}
+
+pub(crate) fn is_settled(state: &State, run: u32, task: u32) -> bool
+    ensures { result ≡ is_some (value_in (cell_at state.now run task)) }
+{
+    match state.cell(run, task) {
+        Some(cell) => cell.is_settled(),
+        None => false,
+    }
+}
+
+/// Whether a task can be decided as far as one of its upstreams goes.
+fn lets_decide(dag: &Dag, state: &State, run: u32, task: &Task, upstream: u32) -> bool
+    ensures { result ≡ lets_be_decided dag.now task.now (λ u. seen_in (cell_at state.now run u)) upstream }
+{
+    is_settled(state, run, upstream) || (!task.rule.waits() && !dag.is_branch(upstream))
+}
+
+fn all_let_decide(dag: &Dag, state: &State, run: u32, task: &Task, upstreams: &[u32]) -> bool
+    ensures { result ≡ list_all (lets_be_decided dag.now task.now (λ u. seen_in (cell_at state.now run u))) upstreams.now }
+{
+    upstreams
+        .iter()
+        .all(|upstream| lets_decide(dag, state, run, task, *upstream))
+}
+
+/// Whether a branch whose instance is in this phase succeeded and does not follow a task.
+fn phase_skips(plan: &Plan, branch: u32, task: u32, phase: &Phase) -> bool
+    requires { task < length plan.now.dag.tasks }
+    ensures { result ≡ skipped_at plan.now.dag task branch phase.now }
+{
+    match phase {
+        Phase::Finished(Outcome::Success(value)) => {
+            !followed(plan.graph(), branch, value.as_ref(), task)
+        }
+        _ => false,
+    }
+}
+
+fn instances_skip(plan: &Plan, branch: u32, task: u32, instances: &[Instance]) -> bool
+    requires { task < length plan.now.dag.tasks }
+    ensures { result ≡ skipped_by plan.now.dag task branch instances.now }
+{
+    match instances {
+        [] => false,
+        [instance, ..] => {
+            are_finished(instances) && phase_skips(plan, branch, task, &instance.phase)
+        }
+    }
+}
+
+impl Cell {
+    /// Whether a branch that has this cell succeeded and does not follow a task.
+    #[tactic(auto, using(crate::proofs::Branching::ran_skips))]
+    fn skips(&self, plan: &Plan, branch: u32, task: u32) -> bool
+        requires { task < length plan.now.dag.tasks }
+        ensures { result ≡ known_to_be (branch_skips plan.now.dag task branch) (value_in self.now) }
+    {
+        match self {
+            Cell::Ran(instances) => instances_skip(plan, branch, task, instances.as_slice()),
+            Cell::Undecided | Cell::Blocked | Cell::Skipped | Cell::UpstreamFailed => false,
+        }
+    }
+
+    #[tactic(auto, using(crate::proofs::Branching::ran_not_blocked))]
+    fn is_blocked(&self) -> bool
+        ensures { result ≡ known_to_be is_blocked (value_in self.now) }
+    {
+        match self {
+            Cell::Blocked => true,
+            Cell::Undecided | Cell::Skipped | Cell::UpstreamFailed | Cell::Ran(_) => false,
+        }
+    }
+}
+
+#[tactic(auto, using(crate::proofs::Branching::known_branch))]
+fn branch_skips_task(plan: &Plan, state: &State, run: u32, upstream: u32, task: u32) -> bool
+    requires { task < length plan.now.dag.tasks }
+    ensures { result ≡ branch_is plan.now.dag (branch_skips plan.now.dag task upstream) upstream (value_in (cell_at state.now run upstream)) }
+{
+    match state.cell(run, upstream) {
+        Some(cell) => plan.dag().is_branch(upstream) && cell.skips(plan, upstream, task),
+        None => false,
+    }
+}
+
+#[tactic(auto, using(crate::proofs::Branching::known_branch))]
+fn branch_is_blocked(dag: &Dag, state: &State, run: u32, upstream: u32) -> bool
+    ensures { result ≡ branch_is dag.now is_blocked upstream (value_in (cell_at state.now run upstream)) }
+{
+    match state.cell(run, upstream) {
+        Some(cell) => dag.is_branch(upstream) && cell.is_blocked(),
+        None => false,
+    }
+}
+
+fn any_skips(plan: &Plan, state: &State, run: u32, task: u32, upstreams: &[u32]) -> bool
+    requires { task < length plan.now.dag.tasks }
+    ensures { result ≡ list_any (λ u. branch_is plan.now.dag (branch_skips plan.now.dag task u) u (value_in (cell_at state.now run u))) upstreams.now }
+{
+    upstreams.iter().any(|upstream| branch_skips_task(plan, state, run, *upstream, task))
+}
+
+fn any_blocks(dag: &Dag, state: &State, run: u32, upstreams: &[u32]) -> bool
+    ensures { result ≡ list_any (λ u. branch_is dag.now is_blocked u (value_in (cell_at state.now run u))) upstreams.now }
+{
+    upstreams
+        .iter()
+        .any(|upstream| branch_is_blocked(dag, state, run, *upstream))
+}
+
+/// What the upstreams of a task say of it: a branch that does not follow it skips it, and a branch that is blocked
+/// blocks it; else its rule decides. A task waits for its branches whatever its rule.
+pub(crate) fn ruling(plan: &Plan, state: &State, run: u32, task: u32) -> Verdict
+    requires task { task < length plan.now.dag.tasks }
+    requires few { AreFew state.now }
+    ensures { result ≡ ruling_of plan.now.dag (λ u. seen_in (cell_at state.now run u)) task }
+{
+    let dag = plan.dag();
+    let decided = dag.task(task);
+    let upstreams = decided.upstreams.as_slice();
+    if !all_let_decide(dag, state, run, decided, upstreams) {
+        Verdict::Wait
+    } else if any_skips(plan, state, run, task, upstreams) {
+        Verdict::Skip
+    } else if any_blocks(dag, state, run, upstreams) {
+        Verdict::Blocked
+    } else {
+        let counts = counts_of_upstreams(state, run, upstreams);
+        verdict(decided.rule, &counts)
+    }
+}
