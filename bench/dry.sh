@@ -24,9 +24,9 @@ def graph_of(tasks, active_runs=16):
     return json.dumps({**json.loads(text.stdout), "max_active_runs": active_runs})
 
 
-def mapped():
+def mapped(**further):
     """A task that is expanded over another."""
-    tasks = [{"id": "src"}, {"id": "m", "upstream": ["src"], "expand": "src"}]
+    tasks = [{"id": "src"}, {"id": "m", "upstream": ["src"], "expand": "src", **further}]
     return json.dumps({"dag_id": "d", "schedule": "@daily", "tasks": tasks})
 
 
@@ -62,6 +62,7 @@ for name, graph, table, runs, instances in (
     ("200 tasks x 1,000 runs, 1,000 open", graph_of(200, 4_096), "[]", 1_000, 200_000),
     ("512 items x 50 runs", mapped(), items(512), 50, 513 * 50),
     ("1,024 items x 50 runs", mapped(), items(1_024), 50, 1_025 * 50),
+    ("1,024 items x 50 runs, each pulls all", mapped(command=["true", {"pull": "src"}]), items(1_024), 50, 1_025 * 50),
 ):
     seconds, peak = measured(graph, table, runs)
     print(f"{name}: {seconds:.2f} s, {seconds / instances * 1e6:.2f} us and {peak / instances:.0f} bytes a task instance")

@@ -186,7 +186,7 @@ if [[ -z ${seeds[$name]:-} ]]; then
 fi
 [[ -n $(command -v python3) ]] || skips_rest "the oracle $name, since there is no python3"
 count=${seeds[$name]}
-[[ ${TEST_SEEDS:-} == whole ]] || count=$((count / 10))
+[[ ${TEST_SEEDS:-} == whole ]] || count=$((count / 20))
 count=${3:-$count}
 python3 -B "$root/tests/oracles/$name.py" "$work" "${2:-1}" "$count"
 # (paths in a folder that mktemp made have no blanks)

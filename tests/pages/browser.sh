@@ -1,7 +1,7 @@
 #!/usr/bin/env bash
 # Looks at pages in a real browser: the texts that they have, the details of each place beside the report and the reasons beside a second reading's, the
 # graph, the tries of a journal and their Gantt, keys, filters, addresses, colours, names for readers of screens, copies, narrow and printed, and what the
-# policy refuses, over examples, a warehouse of 90 days, programs that sleep, hostile values and 2 graphs by chance, or 20 in ./test --whole. It takes
+# policy refuses, over examples, a warehouse of 90 days, programs that sleep, hostile values and 1 graph by chance, or 20 in ./test --whole. It takes
 # Chromium and python3. The last line is the sum, and the status is 1 where
 # something differs.
 set -euo pipefail
@@ -42,7 +42,7 @@ cp -r "$root/tests/pages/browser/timed" .
 "$program" run timed/graph.json --from 2024-01-01 --to 2024-01-02 --workers 4 --journal timed/journal --out timed/report 2> /dev/null || true
 makes_page timed --journal timed/journal
 mkdir chance
-graphs=2
+graphs=1
 [[ ${TEST_SEEDS:-} != whole ]] || graphs=20
 python3 -B "$root/tests/oracles/views.py" chance 1 "$graphs"
 folders=(warehouse hostile timed failed_day branch mapped)

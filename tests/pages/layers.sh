@@ -1,6 +1,7 @@
 #!/usr/bin/env bash
 # Holds the picture of docs/ARCHITECTURE.md to crates.txt: both have the same layers, in one order, with the same crates, and a crate
-# stands on none of a line above its own. The last line is the sum, and the status is 1 where something differs.
+# stands on none of a line above its own. No two crates have a public type of one name. The last line is the sum, and the status is 1
+# where something differs.
 set -euo pipefail
 
 source "$(dirname "$(readlink -f "${BASH_SOURCE[0]}")")/../shared/count.sh"
@@ -33,5 +34,10 @@ while IFS=: read -r crate libraries; do
         [[ $(line_of "$library") -ge $(line_of "$crate") ]] || differs "$crate stands on $library, which is drawn above it"
     done
 done < <(sed '/^# tests/q' "$root/crates.txt" | grep '^[a-z]')
+
+types() {
+    grep -rhoE --include='*.rt' '^ *pub (struct|enum|trait) [A-Za-z]+' "$root"/crates/*/src | awk '{ print $3 }'
+}
+is_same 'public types of one name' '' "$(types | sort | uniq -d)"
 
 sum

@@ -7,18 +7,18 @@ use crate::working::was_worked_out;
 use bf_plan::Plan;
 use bf_report::{InstanceReport, Pull, Report, Version};
 use bf_try::{Outcome, Raw, answer_for, fits};
-use bf_value::{JobName, OutOfMemory, Xval, is_same_option};
-use bf_xcom::{Given, TaskResult};
+use bf_value::{JobName, OutOfMemory, is_same_option};
+use bf_xcom::{Given, Pulled, TaskResult};
 use std::alloc::Global;
 
-fn are_pulled(pulls: &[Pull], values: &[Option<Xval>]) -> bool
+fn are_pulled(pulls: &[Pull], values: &[Pulled]) -> bool
     ensures { IsTrue result ↔ (map (λ p. p.value) pulls.now ≡ values.now) }
 {
     if pulls.len() != values.len() {
         return false;
     }
     for i in 0..pulls.len() {
-        if !is_same_option(pulls[i].value.as_ref(), values[i].as_ref()) {
+        if !pulls[i].value.is_same(&values[i]) {
             return false;
         }
     }

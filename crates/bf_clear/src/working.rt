@@ -6,7 +6,7 @@ use crate::looking::task_at;
 use bf_plan::Dag;
 use bf_report::{InstanceReport, Report, TaskReport};
 use bf_value::{JobName, OutOfMemory, Sequence, Xval, copy_option};
-use bf_xcom::{Given, TaskResult, TaskValue, pull};
+use bf_xcom::{Given, Pulled, TaskResult, TaskValue, pull};
 use std::alloc::Global;
 
 fn results_of(
@@ -75,12 +75,13 @@ fn all_pulled(
     report: &Report,
     run: u32,
     sources: &[u32],
-) -> Result<Sequence<Option<Xval>>, OutOfMemory>
+) -> Result<Sequence<Pulled>, OutOfMemory>
     ensures { IfOk result (λ values. values ≡ map (pull_from dag.now report.now run) sources.now) }
 {
     let mut values = Vec::with_capacity(alloc, sources.len())?;
     for source in sources {
-        values.push(pulled_from(alloc, dag, report, run, *source)?)?;
+        let value = pulled_from(alloc, dag, report, run, *source)?;
+        values.push(Pulled::new(alloc, value)?)?;
     }
     Ok(Sequence::from_vec(values))
 }

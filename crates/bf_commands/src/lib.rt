@@ -1,4 +1,8 @@
 //! What each command makes of the bytes of its files, of moments, and of the programs that it starts, and what it writes.
+//!
+//! A command is in the file of its name. `single`, `dry`, `run` and `clear` go one way: a `Crew` (the machine, its workers, and what is
+//! told beside) goes on from tries that are kept, none, a report's or a journal's, by `write_backfill` to the report. With a
+//! journal the way leads through `record_backfill`, which records each try before the scheduler hears of it.
 #![tactic(auto)]
 
 mod backfill;

@@ -12,7 +12,7 @@ use crate::state::{Cell, Instance, State, are_finished};
 use bf_mapped::{Items, SourceValues, items};
 use bf_plan::{Dag, Task};
 use bf_value::{OutOfMemory, Sequence, Xval};
-use bf_xcom::Given;
+use bf_xcom::{Given, Pulled};
 use std::alloc::Global;
 
 /// What each instance pushed, or nothing, by map index.
@@ -91,7 +91,7 @@ fn items_from(
 }
 
 /// One instance, which is given what was pulled.
-fn unmapped(alloc: Global, pulled: Vec<Option<Xval>>) -> Result<Decision, OutOfMemory>
+fn unmapped(alloc: Global, pulled: Vec<Pulled>) -> Result<Decision, OutOfMemory>
     ensures { IfOk result (λ d. d ≡ Decision.Instances (record { item = None; pulled = pulled.items } ∷ [])) }
 {
     let mut givens = Vec::with_capacity(alloc, 1)?;
@@ -115,7 +115,7 @@ fn given_with(alloc: Global, item: Xval, alike: &Given) -> Result<Given, OutOfMe
 fn givens_of(
     alloc: Global,
     items: Sequence<Xval>,
-    pulled: Vec<Option<Xval>>,
+    pulled: Vec<Pulled>,
 ) -> Result<Sequence<Given>, OutOfMemory>
     ensures { IfOk result (λ givens. givens ≡ map (λ item. record { item = Some item; pulled = pulled.items }) items) }
 {
@@ -131,7 +131,7 @@ fn givens_of(
 }
 
 /// What the items of a source make of a task that goes on.
-fn expanded(alloc: Global, items: Items, pulled: Vec<Option<Xval>>) -> Result<Decision, OutOfMemory>
+fn expanded(alloc: Global, items: Items, pulled: Vec<Pulled>) -> Result<Decision, OutOfMemory>
     ensures { IfOk result (λ d. d ≡ mapped pulled.items items) }
 {
     match items {

@@ -10,6 +10,7 @@ ghost use Rattle.bf_core.specs.Words.{pushed_by_one, pushed_by_first, pulled_fro
 use crate::state::{Cell, Instance, Phase, State, are_finished};
 use bf_plan::{Dag, Task};
 use bf_value::{OutOfMemory, Values, Xval, copy_option};
+use bf_xcom::Pulled;
 use std::alloc::Global;
 
 impl Instance {
@@ -110,13 +111,14 @@ pub(crate) fn pull_all(
     state: &State,
     run: u32,
     sources: &[u32],
-) -> Result<Vec<Option<Xval>>, OutOfMemory>
+) -> Result<Vec<Pulled>, OutOfMemory>
     requires { HasRows dag.now state.now }
     ensures { IfOk result (λ values. values.items ≡ map (pull_seen dag.now (λ u. seen_in (cell_at state.now run u))) sources.now) }
 {
     let mut values = Vec::with_capacity(alloc, sources.len())?;
     for source in sources {
-        values.push(pull(alloc, dag, state, run, *source)?)?;
+        let value = pull(alloc, dag, state, run, *source)?;
+        values.push(Pulled::new(alloc, value)?)?;
     }
     Ok(values)
 }

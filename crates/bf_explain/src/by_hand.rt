@@ -11,10 +11,10 @@ use bf_moment::Moment;
 use bf_plan::{Plan, Word};
 use bf_quoted::push_line;
 use bf_report::{InstanceReport, Pull, RunReport, TaskReport, Version};
-use bf_value::{OutOfMemory, Sequence, Text, Xval, copy_option};
+use bf_value::{OutOfMemory, Sequence, Text, copy_option};
 use bf_wording::one_line;
 use bf_words::{JobContext, words};
-use bf_xcom::Given;
+use bf_xcom::{Given, Pulled};
 use std::alloc::Global;
 
 fn tells_word(version: Version, instance: &InstanceReport, word: &Word) -> bool
@@ -52,12 +52,12 @@ pub(crate) fn index_of(told: &TaskReport, index: Option<i32>) -> i32
     }
 }
 
-fn pulled_values(alloc: Global, pulls: &[Pull]) -> Result<Sequence<Option<Xval>>, OutOfMemory>
+fn pulled_values(alloc: Global, pulls: &[Pull]) -> Result<Sequence<Pulled>, OutOfMemory>
     ensures { IfOk result (λ values. values ≡ map (λ pull. pull.value) pulls.now) }
 {
     let mut values = Vec::with_capacity(alloc, pulls.len())?;
     for pull in pulls {
-        values.push(copy_option(alloc, pull.value.as_ref())?)?;
+        values.push(pull.value.share()?)?;
     }
     Ok(Sequence::from_vec(values))
 }

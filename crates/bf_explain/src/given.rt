@@ -24,7 +24,7 @@ fn pull_line(alloc: Global, pull: &Pull) -> Result<Text, OutOfMemory>
     ensures { IfOk result (λ text. text ≡ pull_words pull.now) }
 {
     let task = pull.task.as_str();
-    let value = value_text(alloc, pull.value.as_ref(), MOST_CHARACTERS)?;
+    let value = value_text(alloc, pull.value.get(), MOST_CHARACTERS)?;
     Ok(Text::new(format!(in alloc; "pulled {task}  {value}")?))
 }
 

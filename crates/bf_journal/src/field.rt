@@ -8,7 +8,7 @@ ghost use Rattle.bf_journal.specs.Records.{optional, outcome_word};
 ghost use Rattle.bf_journal.specs.Tells.{IsFound};
 
 use bf_value::{OutOfMemory, Xval};
-use bf_xcom::Outcome;
+use bf_xcom::{Outcome, Pulled};
 use std::alloc::Global;
 
 /// The text at a place.
@@ -74,13 +74,13 @@ pub(crate) fn optional_at(
 }
 
 /// The values of lists of one or none.
-fn all_optional_in(alloc: Global, values: &[Xval]) -> Result<Option<Vec<Option<Xval>>>, OutOfMemory>
+fn all_optional_in(alloc: Global, values: &[Xval]) -> Result<Option<Vec<Pulled>>, OutOfMemory>
     ensures { IfOk result (λ o. IsFound (λ all. values.now ≡ map optional all) (option_map (λ v. v.items) o)) }
 {
     let mut all = Vec::with_capacity(alloc, values.len())?;
     for value in values {
         match optional_in(alloc, value)? {
-            Some(one) => all.push(one)?,
+            Some(one) => all.push(Pulled::new(alloc, one)?)?,
             None => return Ok(None),
         }
     }
@@ -88,7 +88,7 @@ fn all_optional_in(alloc: Global, values: &[Xval]) -> Result<Option<Vec<Option<X
 }
 
 /// The values of a list of such lists.
-fn optionals_in(alloc: Global, value: &Xval) -> Result<Option<Vec<Option<Xval>>>, OutOfMemory>
+fn optionals_in(alloc: Global, value: &Xval) -> Result<Option<Vec<Pulled>>, OutOfMemory>
     ensures { IfOk result (λ o. IsFound (λ all. value.now ≡ list_of (map optional all)) (option_map (λ v. v.items) o)) }
 {
     let Xval::List(values) = value else {
@@ -102,7 +102,7 @@ pub(crate) fn optionals_at(
     alloc: Global,
     fields: &[Xval],
     at: usize,
-) -> Result<Option<Vec<Option<Xval>>>, OutOfMemory>
+) -> Result<Option<Vec<Pulled>>, OutOfMemory>
     ensures { IfOk result (λ o. IsFound (λ all. slice_get fields.now at ≡ Some (list_of (map optional all)))
         (option_map (λ v. v.items) o)) }
 {

@@ -12,7 +12,7 @@ use bf_interval::{Interval, Runs};
 use bf_plan::Plan;
 use bf_try::{Done, Exit};
 use bf_value::{OutOfMemory, Values, Xval, text_of};
-use bf_xcom::Outcome;
+use bf_xcom::{Outcome, Pulled};
 use std::alloc::Global;
 
 /// How deep the lists of a record may nest: as deep as JSON is read.
@@ -32,12 +32,12 @@ fn optional(alloc: Global, value: Option<&Xval>) -> Result<Xval, OutOfMemory>
     }
 }
 
-fn all_optional(alloc: Global, values: &[Option<Xval>]) -> Result<Vec<Xval>, OutOfMemory>
+fn all_optional(alloc: Global, values: &[Pulled]) -> Result<Vec<Xval>, OutOfMemory>
     ensures { IfOk result (λ all. all.items ≡ map optional_value values.now) }
 {
     let mut all = Vec::with_capacity(alloc, values.len())?;
     for value in values {
-        all.push(optional(alloc, value.as_ref())?)?;
+        all.push(optional(alloc, value.get())?)?;
     }
     Ok(all)
 }

@@ -37,7 +37,7 @@ fn id_of(dag: &Dag, task: u32) -> &str {
 /// What is pulled by a place among the pulls.
 fn pulled(given: &Given, place: usize) -> Option<&Xval> {
     match given.pulled.get(place) {
-        Some(value) => value.as_ref(),
+        Some(pulled) => pulled.get(),
         None => None,
     }
 }

@@ -10,7 +10,7 @@ use crate::report::{InstanceReport, Pull};
 use bf_core::{Instance, Phase};
 use bf_plan::Dag;
 use bf_value::{OutOfMemory, Sequence, Xval, copy_option};
-use bf_xcom::{Outcome, TaskResult};
+use bf_xcom::{Outcome, Pulled, TaskResult};
 use std::alloc::Global;
 
 /// What a pushed value's numbers and texts are is known to their types.
@@ -44,14 +44,25 @@ fn copy_of(alloc: Global, value: &Option<Xval>) -> Result<Option<Xval>, OutOfMem
     copy_option(alloc, value.as_ref())
 }
 
-fn pull_of(alloc: Global, dag: &Dag, task: u32, value: &Option<Xval>) -> Result<Pull, OutOfMemory>
+/// What came of a pull, shared with the instance that was given it.
+fn share_of(pulled: &Pulled) -> Result<Pulled, OutOfMemory>
+    ensures value { IfOk result (λ v. v ≡ pulled.now) }
+    ensures sound { IfOk result IsSoundValue }
+{
+    if let Some(value) = pulled.get() {
+        value.known();
+    }
+    pulled.share()
+}
+
+fn pull_of(alloc: Global, dag: &Dag, task: u32, pulled: &Pulled) -> Result<Pull, OutOfMemory>
     requires { task < length dag.now.tasks }
-    ensures pull { IfOk result (λ pull. pull ≡ record { task = (task_of dag.now task).id; value = value.now }) }
+    ensures pull { IfOk result (λ pull. pull ≡ record { task = (task_of dag.now task).id; value = pulled.now }) }
     ensures sound { IfOk result (λ pull. IsSoundValue pull.value) }
 {
     Ok(Pull {
         task: dag.task(task).id.copy(alloc)?,
-        value: copy_of(alloc, value)?,
+        value: share_of(pulled)?,
     })
 }
 
@@ -60,7 +71,7 @@ fn pulls_of(
     alloc: Global,
     dag: &Dag,
     tasks: &[u32],
-    values: &[Option<Xval>],
+    values: &[Pulled],
 ) -> Result<Sequence<Pull>, OutOfMemory>
     requires { All (λ task. task < length dag.now.tasks) tasks.now }
     ensures pulls { IfOk result (λ pulls. pulls ≡ pulls_in dag.now tasks.now values.now) }

@@ -53,7 +53,7 @@ fn push_pull(alloc: Global, text: &mut String, pull: &Pull) -> Result<(), OutOfM
 {
     let task = pull.task.as_str();
     write!(text, "@pull {task} ")?;
-    push_value(alloc, text, pull.value.as_ref())?;
+    push_value(alloc, text, pull.value.get())?;
     text.push_str("\n")?;
     Ok(())
 }

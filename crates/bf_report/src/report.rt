@@ -5,7 +5,7 @@ ghost use Rattle.bf_report.specs.Told.{told_by};
 
 use bf_interval::Interval;
 use bf_value::{OutOfMemory, Sequence, Text, Xval};
-use bf_xcom::{Outcome, RunState, TaskResult};
+use bf_xcom::{Outcome, Pulled, RunState, TaskResult};
 use std::alloc::Global;
 use std::marker::Model;
 
@@ -21,7 +21,7 @@ pub enum Version {
 #[derive(Debug, Drop)]
 pub struct Pull {
     pub task: Text,
-    pub value: Option<Xval>,
+    pub value: Pulled,
 }
 
 /// What is told of an instance that pushed a value or was given something.

@@ -12,7 +12,7 @@ use crate::entry::Untried;
 use crate::part::GivenPart;
 use bf_interval::Interval;
 use bf_read::MOST_PULLS;
-use bf_report::{InstanceReport, RunReport, TaskReport, Version};
+use bf_report::{InstanceReport, Pull, RunReport, TaskReport, Version};
 use bf_value::{OutOfMemory, Sequence};
 use bf_xcom::TaskResult;
 use std::alloc::Global;
@@ -97,6 +97,33 @@ fn tell(alloc: Global, instance: &mut InstanceReport, part: GivenPart) -> Result
     }
 }
 
+/// A pull of the last of these instances, whose value is that of the instance before it where the two are equal, so that what all
+/// instances of a task pull is held once.
+fn with_known_value(instances: &[InstanceReport], pull: Pull) -> Result<Pull, OutOfMemory>
+    ensures { IfOk result (λ same. same ≡ pull) }
+{
+    let [.., before, last] = instances else {
+        return Ok(pull);
+    };
+    match before.pulls().get(last.pulls().len()) {
+        Some(known) if known.value.is_same(&pull.value) => Ok(Pull {
+            task: pull.task,
+            value: known.value.share()?,
+        }),
+        _ => Ok(pull),
+    }
+}
+
+/// A part of what the last of these instances was given, which shares what it can.
+fn with_known_part(instances: &[InstanceReport], part: GivenPart) -> Result<GivenPart, OutOfMemory>
+    ensures { IfOk result (λ same. same ≡ part) }
+{
+    match part {
+        GivenPart::Pull(pull) => Ok(GivenPart::Pull(with_known_value(instances, pull)?)),
+        GivenPart::Item(item) => Ok(GivenPart::Item(item)),
+    }
+}
+
 /// Tells a part of what the last of these instances was given.
 fn tell_last(
     alloc: Global,
@@ -117,7 +144,10 @@ fn tell_task(alloc: Global, task: &mut TaskReport, part: GivenPart) -> Result<()
 {
     match task {
         TaskReport::Ran(instance) => tell(alloc, instance, part),
-        TaskReport::Mapped(instances) => tell_last(alloc, instances, part),
+        TaskReport::Mapped(instances) => {
+            let part = with_known_part(instances.as_slice(), part)?;
+            tell_last(alloc, instances, part)
+        }
         TaskReport::NoStatus | TaskReport::Skipped | TaskReport::UpstreamFailed => Ok(()),
     }
 }

@@ -11,6 +11,7 @@ use bf_plan::is_id;
 use bf_report::Pull;
 use bf_try::{LONGEST_VALUE, MOST_ITEMS};
 use bf_value::{DEEPEST, OutOfMemory, Text, Xval, read_text};
+use bf_xcom::Pulled;
 use std::alloc::Global;
 
 /// A part of what the tries of an instance were given, which has a line of its own.
@@ -89,7 +90,7 @@ pub(crate) fn pull_in(alloc: Global, text: &[u8]) -> Result<Option<Pull>, OutOfM
     match pulled_in(alloc, value)? {
         Some(value) => Ok(Some(Pull {
             task: Text::copied(alloc, id)?,
-            value,
+            value: Pulled::new(alloc, value)?,
         })),
         None => Ok(None),
     }

@@ -58,7 +58,7 @@ fn push_pull(alloc: Global, text: &mut String, pull: &Pull) -> Result<(), OutOfM
 {
     push_string(alloc, text, pull.task.as_str())?;
     text.push_str(":")?;
-    match &pull.value {
+    match pull.value.get() {
         Some(value) => text.push_str(text_of(alloc, value)?.as_str())?,
         None => text.push_str("null")?,
     }

@@ -3,7 +3,8 @@ use crate::steps::{Answered, End, Step, core_after, list_of};
 use bf_core::Core;
 use bf_plan::Plan;
 use bf_tests_graphs::{job, plan_of};
-use bf_value::{JobName, Xval};
+use bf_value::{JobName, Xval, is_same_option};
+use bf_xcom::Pulled;
 use std::alloc::Global;
 use std::process::Abort;
 use std::test::Fail;
@@ -17,10 +18,18 @@ const EXPANDED: &str = r#"{"dag_id":"d","schedule":"@daily","tasks":[{"id":"src"
     {"id":"m","upstream":["src"],"expand":"src"},
     {"id":"sum","upstream":["m"],"command":["echo",{"pull":"m"}]}]}"#;
 
+fn are_same(noted: &[Pulled], pulled: &[Option<Xval>]) -> bool {
+    noted.len() == pulled.len()
+        && noted
+            .iter()
+            .zip(pulled)
+            .all(|(one, other)| is_same_option(one.get(), other.as_ref()))
+}
+
 /// Requires what the ledger says that a try was given of its task's pulls.
 fn is_noted(rt: &impl Abort, core: &Core<'_>, name: JobName, pulled: &[Option<Xval>]) {
     match core.ledger().get(name) {
-        Some(entry) => assert!(rt; entry.given.pulled.as_slice() == pulled),
+        Some(entry) => assert!(rt; are_same(entry.given.pulled.as_slice(), pulled)),
         None => assert!(rt; false, "the try has not ended"),
     }
 }

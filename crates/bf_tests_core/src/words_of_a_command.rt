@@ -3,7 +3,7 @@ use bf_moment::Moment;
 use bf_plan::{ContextVariable, Word};
 use bf_value::{OutOfMemory, Sequence, Text, Values, Xval};
 use bf_words::{JobContext, words};
-use bf_xcom::Given;
+use bf_xcom::{Given, Pulled};
 use jiff::Timestamp;
 use std::alloc::Global;
 use std::test::Fail;
@@ -48,7 +48,11 @@ fn given(alloc: Global) -> Result<Given, OutOfMemory> {
     let text = Xval::Text(Text::copied(alloc, "a\"b")?);
     let list = vec![in alloc; Xval::Int(3), Xval::Nil, Xval::Flag(true)]?;
     let list = Xval::List(Values::new(list));
-    let pulled = vec![in alloc; Some(text), None, Some(list)]?;
+    let pulled = vec![in alloc;
+        Pulled::new(alloc, Some(text))?,
+        Pulled::new(alloc, None)?,
+        Pulled::new(alloc, Some(list))?,
+    ]?;
     Ok(Given {
         item: Some(Xval::Nil),
         pulled: Sequence::from_vec(pulled),

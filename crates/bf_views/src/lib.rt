@@ -1,4 +1,7 @@
-//! What the commands that show a report come to, by what the files hold that they name.
+//! The commands that show a report: `show`, `explain`, `page`, and `answers`, each in the file of its name.
+//!
+//! Each reads its files in the order of its line, refuses a report of another graph, and writes one text. None starts a program
+//! or a thread. What the texts are is said in bf_grid and bf_show (`show`), bf_explain, bf_cells and bf_page (`page`), and bf_answers.
 #![tactic(auto)]
 
 mod answers;

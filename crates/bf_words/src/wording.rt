@@ -50,7 +50,7 @@ fn pulled(given: &Given, place: u32) -> Option<&Xval>
     ensures { option_map (λ v. v.now) result ≡ slice_index_or given.now.pulled place None }
 {
     match given.pulled.get(place as usize) {
-        Some(value) => value.as_ref(),
+        Some(pulled) => pulled.get(),
         None => None,
     }
 }

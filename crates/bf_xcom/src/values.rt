@@ -2,6 +2,7 @@
 ghost use Rattle.std.specs.Prelude.{◌≡◌, ◌↔◌, IfOk, IsTrue, option_copied};
 ghost use Rattle.bf_xcom.specs.Pulls.{pushed_by};
 
+use crate::pulled::Pulled;
 use bf_value::{OutOfMemory, Sequence, Xval, copy_option, is_same_option};
 use std::alloc::Global;
 
@@ -10,7 +11,7 @@ use std::alloc::Global;
 #[derive(Debug, Drop)]
 pub struct Given {
     pub item: Option<Xval>,
-    pub pulled: Sequence<Option<Xval>>,
+    pub pulled: Sequence<Pulled>,
 }
 
 /// How a try ended. A success pushes a value or nothing.
@@ -55,12 +56,12 @@ impl Given {
             && are_same(self.pulled.as_slice(), other.pulled.as_slice())
     }
 
-    /// An equal one.
+    /// An equal one, which shares what is pulled.
     pub fn copy(&self, alloc: Global) -> Result<Given, OutOfMemory>
         ensures { IfOk result (λ given. given ≡ self.now) }
     {
         let item = copy_option(alloc, self.item.as_ref())?;
-        let pulled = copies_of(alloc, self.pulled.as_slice())?;
+        let pulled = shares_of(alloc, self.pulled.as_slice())?;
         Ok(Given {
             item,
             pulled: Sequence::from_vec(pulled),
@@ -68,28 +69,28 @@ impl Given {
     }
 }
 
-fn are_same(one: &[Option<Xval>], other: &[Option<Xval>]) -> bool
+fn are_same(one: &[Pulled], other: &[Pulled]) -> bool
     ensures { IsTrue result ↔ (one.now ≡ other.now) }
 {
     if one.len() != other.len() {
         return false;
     }
     for i in 0..one.len() {
-        if !is_same_option(one[i].as_ref(), other[i].as_ref()) {
+        if !one[i].is_same(&other[i]) {
             return false;
         }
     }
     true
 }
 
-fn copies_of(alloc: Global, values: &[Option<Xval>]) -> Result<Vec<Option<Xval>>, OutOfMemory>
-    ensures { IfOk result (λ copies. copies.items ≡ values.now) }
+fn shares_of(alloc: Global, all: &[Pulled]) -> Result<Vec<Pulled>, OutOfMemory>
+    ensures { IfOk result (λ shares. shares.items ≡ all.now) }
 {
-    let mut copies = Vec::with_capacity(alloc, values.len())?;
-    for value in values {
-        copies.push(copy_option(alloc, value.as_ref())?)?;
+    let mut shares = Vec::with_capacity(alloc, all.len())?;
+    for pulled in all {
+        shares.push(pulled.share()?)?;
     }
-    Ok(copies)
+    Ok(shares)
 }
 
 impl Outcome {
