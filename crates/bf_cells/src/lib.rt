@@ -9,4 +9,4 @@ mod cells;
 mod laws;
 
 pub use cells::cells_of;
-pub use laws::{cells_stand_as_they_are, each_task_has_a_letter};
+pub use laws::{cells_stand_as_they_are, each_task_has_a_letter, own_letters_have_no_digit};

@@ -16,6 +16,7 @@ use Rattle.bf_core.specs.Terms.{Dag, Given, Ledger, TaskResult, Xval, IsOneOf, I
 use Rattle.bf_core.specs.declared.decision.Decision.{Decision}
 use Rattle.bf_core.specs.Recursion.{decided}
 use Rattle.bf_core.specs.Agreement.{final_cell, finished_from}
+use Rattle.bf_core.proofs.Confluence.{ancestor-in}
 use Rattle.bf_core.proofs.Depth.{pick}
 use Rattle.bf_report.specs.declared.report.Version.{Version}
 use Rattle.bf_report.specs.declared.report.InstanceReport.{InstanceReport}
@@ -53,9 +54,9 @@ ids-shown dag (interval ∷ intervals) = rw (ids-are dag.tasks) (or-true (length
 
 -- ---- pulls
 
-settled-in : (dag : Dag) → IsSound dag → (t a : ℕ) → IsSettledAncestor dag t a → a < length dag.tasks
-settled-in dag sound t a (IsSettledAncestor.Direct w h) = sound.in_range t a h
-settled-in dag sound t a (IsSettledAncestor.Above {u = u} w h above) = settled-in dag sound u a above
+-- a task pulls from tasks of the graph
+pub pull-in : (dag : Dag) → IsSound dag → (t p : ℕ) → IsOneOf (task_of dag t).pulls p → p < length dag.tasks
+pull-in dag sound t p one = ancestor-in dag sound t p (pick (IsSettledAncestor dag t) (task_of dag t).pulls p (sound.pulls_settled t) one)
 
 pull-is : (dag : Dag) (p : ℕ) → p < length dag.tasks → has_id (slice_get dag.tasks p) (task_of dag p).id ≡ true
 unfolding task_of
@@ -72,10 +73,7 @@ pulls-len dag f (p ∷ ps) = ap suc (pulls-len dag f ps)
 has-pulls : (dag : Dag) → IsSound dag → (t : ℕ) (f : ℕ → Option Xval) (g : Given) (r : TaskResult) → g.pulled ≡ map f (task_of dag t).pulls → has_pulls_of dag (task_of dag t) (instance_report dag t g r) ≡ true
 has-pulls dag sound t f g r same =
     ap (λ vs. (length (pulls_of dag (task_of dag t).pulls vs) == length (task_of dag t).pulls) && list_all (λ q. is_pull_of dag q.0 q.1) (zip (pulls_of dag (task_of dag t).pulls vs) (task_of dag t).pulls)) same
-    ∙ and_from _ _ (same-count _ _ (pulls-len dag f (task_of dag t).pulls)) (each-pull dag f (task_of dag t).pulls low)
-  where
-    low : (p : ℕ) → IsOneOf (task_of dag t).pulls p → p < length dag.tasks
-    low p one = settled-in dag sound t p (pick (IsSettledAncestor dag t) (task_of dag t).pulls p (sound.pulls_settled t) one)
+    ∙ and_from _ _ (same-count _ _ (pulls-len dag f (task_of dag t).pulls)) (each-pull dag f (task_of dag t).pulls (pull-in dag sound t))
 
 -- ---- tasks
 

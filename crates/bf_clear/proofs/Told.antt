@@ -210,7 +210,7 @@ by-tasks : (o : Option RunReport) (ts : List TaskReport) (t : ℕ) → tasks_in 
 by-tasks None ts t e = cc
 by-tasks (Some run) ts t e = let same : run.tasks ≡ ts = cc in ap (λ l. slice_get l t) same
 
-task-at : (dag : Dag) (ledger : Ledger) (intervals : List Interval) (report : Report) → IsDated dag intervals ledger report → (k t : ℕ) → k < length intervals → t < length dag.tasks →
+pub task-at : (dag : Dag) (ledger : Ledger) (intervals : List Interval) (report : Report) → IsDated dag intervals ledger report → (k t : ℕ) → k < length intervals → t < length dag.tasks →
     report_at report k t ≡ Some (reported dag t (cell_by dag ledger k t))
 task-at dag ledger intervals report is k t l m =
     by-tasks (slice_get report.runs k) _ t (run-at dag ledger 0 intervals report.runs is.runs k l ∙ ap (λ n. Some (reports_from dag (cell_by dag ledger n) 0 dag.tasks)) at)
@@ -226,16 +226,24 @@ less-or : (a b : ℕ) → (a < b) ⊎ (b ≤ a)
 less-or a b = grind arith
 
 -- what stands in the report is of a task in a run that is there
-task-there : (dag : Dag) (ledger : Ledger) (intervals : List Interval) (report : Report) → IsDated dag intervals ledger report → IsWithin dag (length intervals) report
-task-there dag ledger intervals report is k t index x e = go (less-or k (length intervals)) (less-or t (length dag.tasks))
+pub reported-there : (dag : Dag) (ledger : Ledger) (intervals : List Interval) (report : Report) → IsDated dag intervals ledger report → (k t : ℕ) (r : TaskReport) → report_at report k t ≡ Some r →
+    (k < length intervals) × (t < length dag.tasks)
+reported-there dag ledger intervals report is k t r e = go (less-or k (length intervals)) (less-or t (length dag.tasks))
   where
     none : report_at report k t ≡ None → ⊥
-    none same = let wrong : ◌≡◌ {A = Option InstanceReport} None (Some x) = ap (option_and_then (λ r. instance_at r index)) (sym same) ∙ e in cc
+    none same = let wrong : ◌≡◌ {A = Option TaskReport} None (Some r) = sym same ∙ e in cc
 
     go : (k < length intervals) ⊎ (length intervals ≤ k) → (t < length dag.tasks) ⊎ (length dag.tasks ≤ t) → (k < length intervals) × (t < length dag.tasks)
     go (inl l) (inl m) = (l, m)
     go (inr l) m = absurd (none (ap (option_and_then (λ run. slice_get run.tasks t)) (run-none dag ledger 0 intervals report.runs is.runs k l)))
     go (inl l) (inr m) = absurd (none (by-tasks (slice_get report.runs k) _ t (run-at dag ledger 0 intervals report.runs is.runs k l) ∙ reports-none dag (cell_by dag ledger (0 + k)) 0 dag.tasks t m))
+
+task-there : (dag : Dag) (ledger : Ledger) (intervals : List Interval) (report : Report) → IsDated dag intervals ledger report → IsWithin dag (length intervals) report
+task-there dag ledger intervals report is k t index x e = go (report_at report k t) refl e
+  where
+    go : (o : Option TaskReport) → report_at report k t ≡ o → option_and_then (λ r. instance_at r index) o ≡ Some x → (k < length intervals) × (t < length dag.tasks)
+    go None same h = cc
+    go (Some r) same h = reported-there dag ledger intervals report is k t r same
 
 -- ---- by what was decided
 

@@ -1,4 +1,5 @@
 pub mod Ends
 pub mod FiledReports
+mod OwnPages
 mod Printing
 pub mod Unasked

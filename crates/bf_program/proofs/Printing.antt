@@ -27,6 +27,7 @@ use Rattle.bf_core.specs.Answered.{AreGraded}
 use Rattle.bf_report.specs.declared.report.Report.{Report}
 use Rattle.bf_report.specs.Dated.{IsDated}
 use Rattle.bf_report.specs.Report.{report_text}
+use Rattle.bf_report_reader.specs.Reading.{IsReadAs}
 use Rattle.bf_report_reader.specs.Rules.{IsShownReport}
 use Rattle.bf_report_reader.proofs.Reports.{one_text_each}
 use Rattle.bf_kept.specs.Kept.{AreFit}
@@ -43,11 +44,15 @@ use Rattle.bf_commands.proofs.OneList.{one_list}
 use Rattle.bf_views.specs.Tables.{IsTableOf}
 
 -- the bytes of a graph file say the tasks of one plan
-same_dag : (graph : List ℕ) (file : Option (List ℕ)) (one two : Draft) → IsGraph graph file one → IsGraph graph file two → dag_of one ≡ dag_of two
+pub same_dag : (graph : List ℕ) (file : Option (List ℕ)) (one two : Draft) → IsGraph graph file one → IsGraph graph file two → dag_of one ≡ dag_of two
 same_dag graph file one two a b =
     let said : Ok (graph_file_of one) ≡ Ok (graph_file_of two) = sym a.says ∙ b.says in
     let one_file : graph_file_of one ≡ graph_file_of two = cc in
     ap (λ (f : GraphFile). record { id = f.dag_id; tasks = map (task_in (ids_of f.tasks)) f.tasks }) one_file
+
+-- the bytes of a report say no other
+pub same_report : (held : List ℕ) (one report : Report) → IsReadAs held one → IsShownReport report → held ≡ report_text report → one ≡ report
+same_report held one report says kept is = one_text_each one report [] says.shown kept (sym is ∙ says.text_is ∙ sym (append-nil (report_text one)))
 
 -- what is read as a table isn't too long for one
 short_table : (bytes : List ℕ) (entries : List TableEntry) → table_of bytes ≡ Ok entries → length bytes ≤ longest_table
@@ -74,9 +79,7 @@ module _ (back : ReadBack) (again : MadeAgain) (may_answer : JobName → Given �
   report = was.reported.report
 
   table_is : table ≡ answers_text report
-  table_is =
-      let same : told.0 ≡ report = one_text_each told.0 report [] told.1.shown was.reported.kept (sym was.reported.text_is ∙ told.1.text_is ∙ sym (append-nil (report_text told.0))) in
-      told.2 ∙ ap answers_text same
+  table_is = told.2 ∙ ap answers_text (same_report held told.0 report told.1 was.reported.kept was.reported.text_is)
 
   entries_are : made.entries ≡ answers_in report
   entries_are =

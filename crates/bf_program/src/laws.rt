@@ -1,17 +1,24 @@
-//! What holds of commands over what others print. This function does nothing but call other laws: its contract is the law, over the
-//! definitions alone.
-ghost use Rattle.std.specs.Prelude.{◌≡◌, ℕ, Bool, List, Option, Ok};
+//! What holds of commands over what others print. These functions do nothing but call other laws: their contracts are the laws, over
+//! the definitions alone.
+ghost use Rattle.std.specs.Char.{is_ascii_digit};
+ghost use Rattle.std.specs.List.{list_any};
+ghost use Rattle.std.specs.Prelude.{◌≡◌, ℕ, Bool, false, List, Option, Ok, Some, slice_get};
 ghost use Rattle.bf_read.specs.declared.draft.Draft.{Draft as DraftTerm};
 ghost use Rattle.bf_check.specs.Checking.{dag_of};
 ghost use Rattle.bf_interval.specs.declared.interval.Interval.{Interval as IntervalTerm};
+ghost use Rattle.bf_try.specs.Tries.{Look};
+ghost use Rattle.bf_report.specs.declared.report.RunReport.{RunReport as RunReportTerm};
+ghost use Rattle.bf_cells.specs.Cells.{letters_from};
 ghost use Rattle.bf_planning.specs.Graphs.{IsGraph};
 ghost use Rattle.bf_planning.specs.Lists.{HasListing};
 ghost use Rattle.bf_planning.specs.declared.range.RunRange.{RunRange as RunRangeTerm};
 ghost use Rattle.bf_commands.specs.DatedRuns.{IsReportIn};
-ghost use Rattle.bf_commands.specs.Reported.{IsReportBy};
+ghost use Rattle.bf_commands.specs.Reported.{IsReportBy, IsReportOf};
+ghost use Rattle.bf_views.specs.Pages.{IsPageOf, PageWords};
 ghost use Rattle.bf_views.specs.Tables.{IsTableOf};
 
 use bf_answers::{reports_are_made_again, tables_are_read_back};
+use bf_cells::own_letters_have_no_digit;
 use bf_try::TaskRunner;
 
 /// Over the table that `answers` prints of the report of a backfill, whatever runner answered its tries, `dry` of the same graph and
@@ -24,4 +31,18 @@ pub fn reports_are_printed_again<R: TaskRunner>(runner: &R)
 {
     tables_are_read_back();
     reports_are_made_again();
+}
+
+/// On the page of a report that a backfill of the graph printed, no digit stands among the letters of a run.
+pub fn own_pages_have_no_digit()
+    ensures { (graph : List ℕ) (zone : Option (List ℕ)) (draft : DraftTerm) → IsGraph graph zone draft
+        → (found : List IntervalTerm) (ledger : Look) (report : List ℕ) (success : Bool)
+        → IsReportOf (dag_of draft) found ledger report success
+        → (words : PageWords) (journal : Option (List ℕ)) (text : List ℕ)
+        → (page : IsPageOf words graph zone report journal text)
+        → (number : ℕ) (run : RunReportTerm) → slice_get page.report.runs number ≡ Some run
+        → list_any is_ascii_digit (letters_from (dag_of page.draft) page.report number 0 run.tasks)
+        ≡ false }
+{
+    own_letters_have_no_digit();
 }

@@ -12,5 +12,5 @@ mod program;
 mod texts;
 
 pub use explaining::explain;
-pub use laws::reports_are_printed_again;
+pub use laws::{own_pages_have_no_digit, reports_are_printed_again};
 pub use program::answer;

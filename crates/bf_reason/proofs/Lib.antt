@@ -1,4 +1,5 @@
 mod CauseFacts
 mod LetterFacts
 mod LetterSteps
+mod OwnReports
 mod ReasonFacts

@@ -14,7 +14,7 @@ pub use cause::{
     skips,
 };
 pub use laws::{
-    digits_tell_what_does_not_follow, letters_tell_the_states,
+    digits_tell_what_does_not_follow, letters_tell_the_states, own_reports_have_no_digit,
     the_reasons_are_those_of_the_decision,
 };
 pub use letter::{ended_letter, letter_at, letter_by};

@@ -1,4 +1,4 @@
-use Rattle.std.proofs.Common.{◌≡◌, true, sym, ap, ◌∙◌}
+use Rattle.std.proofs.Common.{◌≡◌, true, sym, ◌∙◌}
 use Rattle.bf_clear.specs.Matching.{is_report_of}
 use Rattle.bf_clear.proofs.Within.{matches-within}
 use Rattle.bf_clear.proofs.clearing.clear_places.Goals as goal
