@@ -1,5 +1,5 @@
 -- Bytes that begin with a head, or are the beginning of it.
-use Rattle.std.proofs.Common.{◌≡◌, ◌+◌, ℕ, List, ◌++◌, refl}
+use Rattle.std.proofs.Common.{◌≡◌, ℕ, List, ◌++◌, refl}
 use Rattle.std.specs.FinMap as map
 use Rattle.bf_value.specs.Names.{name_cmp}
 use Rattle.bf_try.specs.declared.ledger.Entry.{Entry}

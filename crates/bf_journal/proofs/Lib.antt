@@ -1,6 +1,7 @@
 pub mod Going
 mod Cutting
 mod Finding
+mod Pieces
 mod Telling
 mod Reading
 mod Optionals

@@ -29,12 +29,12 @@ use Rattle.bf_journal.proofs.Telling.{items_back, items_in}
 -- ---- runs and tasks
 
 -- there is such a run
-run_of : (o : Option Interval) (bytes : List ℕ) → StartsAt o bytes → (r : Interval) × (o ≡ Some r) × (bytes ≡ moment_text r.start.nanosecond)
+pub run_of : (o : Option Interval) (bytes : List ℕ) → StartsAt o bytes → (r : Interval) × (o ≡ Some r) × (bytes ≡ moment_text r.start.nanosecond)
 run_of None bytes starts = absurd starts
 run_of (Some r) bytes starts = (r, refl, starts)
 
 -- there is such a task, and that is its id
-id_of : (dag : Dag) (id : List ℕ) (t : ℕ) → position (bytes_eq id) (shape_of dag).ids ≡ Some t → (t < length dag.tasks) × (id ≡ (task_of dag t).id)
+pub id_of : (dag : Dag) (id : List ℕ) (t : ℕ) → position (bytes_eq id) (shape_of dag).ids ≡ Some t → (t < length dag.tasks) × (id ≡ (task_of dag t).id)
 unfolding task_of
 id_of dag id t found =
     let ids : List (List ℕ) = map (λ (task : Task). task.id) dag.tasks in

@@ -1,11 +1,12 @@
 //! What is found of a journal.
-ghost use Rattle.std.specs.Prelude.{◌≡◌, ◌≢◌, ◌<◌, ◌≤◌, ◌+◌, ◌++◌, ℕ, List, length, IfOk, IfErr, MatchOption};
+ghost use Rattle.std.specs.Prelude.{◌≡◌, ◌≢◌, ◌<◌, ◌≤◌, ◌+◌, ◌++◌, ℕ, List, length, IfOk, IfErr};
 ghost use Rattle.std.specs.FinMap as map;
 ghost use Rattle.bf_kept.specs.Kept.{AreFit};
 ghost use Rattle.bf_journal.specs.Found.{IsCutHead, IsFault, IsGoneOnWith};
 
 use crate::fault::JournalFault;
 use crate::last::last_of;
+use crate::part::behind;
 use crate::told::{Told, told_in};
 use bf_interval::Runs;
 use bf_plan::Plan;
@@ -19,14 +20,6 @@ pub struct Found {
     pub tries: Ledger,
     pub whole: usize,
     pub torn: usize,
-}
-
-/// What stands behind a front, where the bytes begin with it.
-fn behind<'b>(bytes: &'b [u8], front: &[u8]) -> Option<&'b [u8]>
-    ensures { MatchOption result ((rest : List ℕ) → bytes.entry.now ≢ front.now ++ rest)
-        (λ rest. bytes.entry.now ≡ front.now ++ rest.now) }
-{
-    bytes.strip_prefix(front)
 }
 
 /// What is found where the bytes don't begin with the head: nothing is kept of a head that was cut short.

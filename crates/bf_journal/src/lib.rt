@@ -7,6 +7,7 @@
 //! or `WithoutFailed` ones. The laws say that what is read of any beginning of a journal is what was written there.
 #![tactic(auto)]
 
+mod bare;
 mod cuttable;
 mod durable;
 mod fault;
@@ -17,6 +18,7 @@ mod journaled;
 mod last;
 mod laws;
 mod lines;
+mod part;
 mod record;
 mod recorder;
 mod recording;

@@ -1,13 +1,8 @@
 //! Lines of a text that may be cut short anywhere.
-ghost use Rattle.std.specs.Prelude.{◌≡◌, ◌++◌, ◌∷◌, [], IfSome, IfNone, position, ◌==◌};
+ghost use Rattle.std.specs.Prelude.{◌≡◌, ◌++◌, ◌∷◌, [], IfSome, IfNone};
 ghost use Rattle.bf_journal.specs.Lines.{IsInLine, whole_lines};
 
-/// Where the first line feed stands.
-fn line_feed_in(bytes: &[u8]) -> Option<usize>
-    ensures { result ≡ position (λ b. b == 10) bytes.now }
-{
-    bytes.iter().position(|byte| *byte == b'\n')
-}
+use memchr::memchr;
 
 /// The first whole line, and what stands behind its line feed.
 #[tactic(auto, using(crate::proofs::Finding::first_found, crate::proofs::Finding::none_found))]
@@ -16,7 +11,7 @@ pub(crate) fn first_line(bytes: &[u8]) -> Option<(&[u8], &[u8])>
         × (whole_lines bytes.now ≡ p.0.now ∷ whole_lines p.1.now)) }
     ensures none { IfNone result (IsInLine bytes.now × (whole_lines bytes.now ≡ [])) }
 {
-    match line_feed_in(bytes) {
+    match memchr(b'\n', bytes) {
         Some(at) => Some((&bytes[..at], &bytes[at + 1..])),
         None => None,
     }

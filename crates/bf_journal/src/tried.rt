@@ -3,6 +3,7 @@ ghost use Rattle.std.specs.Prelude.{IfOk};
 ghost use Rattle.bf_value.specs.Views.{list_of};
 ghost use Rattle.bf_journal.specs.Tells.{IsFound, Tells, TellsEntry, TellsLine, TellsName, TellsOutcome, TellsText};
 
+use crate::bare::bare_in;
 use crate::field::{attempt_in, index_in, int_at, optional_at, optionals_at, outcome_in, text_at};
 use crate::record::DEEPEST_RECORD;
 use crate::run::run_in;
@@ -109,6 +110,9 @@ pub(crate) fn tried_in(
 ) -> Result<Option<(JobName, Entry)>, OutOfMemory>
     ensures { IfOk result (IsFound (λ t. TellsLine plan.now.dag runs.now line.now t.0 t.1)) }
 {
+    if let Some(tried) = bare_in(alloc, plan, runs, line) {
+        return Ok(Some(tried));
+    }
     match std::str::from_utf8(line) {
         Ok(text) => tried_in_text(alloc, plan, runs, text),
         Err(_) => Ok(None),

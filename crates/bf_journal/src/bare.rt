@@ -1,0 +1,129 @@
+//! Bare records: of tries that were given nothing and pushed nothing. They are read as they are written; any other by `tried`.
+ghost use Rattle.std.specs.Prelude.{◌≡◌, ◌++◌, FitsSigned, IfSome, IsUtf8, None, codes};
+ghost use Rattle.std.specs.Fmt.{signed_decimal};
+ghost use Rattle.std.specs.Int.{w64};
+ghost use Rattle.std.specs.List.{list_all};
+ghost use Rattle.json.specs.Print.{quoted};
+ghost use Rattle.json.specs.Run.{is_plain as is_plain_byte};
+ghost use Rattle.bf_xcom.specs.Pulls.{pushed_by};
+ghost use Rattle.bf_journal.specs.Bare.{BeginsRecord, IsStamp};
+ghost use Rattle.bf_journal.specs.Records.{outcome_word};
+ghost use Rattle.bf_journal.specs.Tells.{TellsLine};
+
+use crate::field::{attempt_in, index_in};
+use crate::part::{before, behind, split_comma};
+use crate::run::run_in;
+use bf_interval::Runs;
+use bf_plan::Plan;
+use bf_try::Entry;
+use bf_value::{JobName, Sequence};
+use bf_xcom::{Given, Outcome};
+use itoa::Buffer;
+use std::alloc::Global;
+
+/// Whether a byte stands for itself in JSON.
+fn is_plain(byte: u8) -> bool
+    ensures { result ≡ is_plain_byte byte }
+{
+    byte != b'"' && byte != b'\\' && byte >= 32
+}
+
+fn are_plain(bytes: &[u8]) -> bool
+    ensures { result ≡ list_all is_plain_byte bytes.now }
+{
+    bytes.iter().all(|byte| is_plain(*byte))
+}
+
+/// The text whose JSON this is.
+#[tactic(auto, using(crate::proofs::Pieces::escape_plain))]
+fn text_in(json: &[u8]) -> Option<&str>
+    ensures text { IfSome result (λ t. json.now ≡ quoted t.now) }
+    ensures utf8 { IfSome result (λ t. IsUtf8 t.now) }
+{
+    let bytes = before(behind(json, b"\"")?, b"\"")?;
+    if !are_plain(bytes) {
+        return None;
+    }
+    std::str::from_utf8(bytes).ok()
+}
+
+/// The number whose JSON this is.
+fn number_in(json: &[u8]) -> Option<i64>
+    ensures { IfSome result (λ n. FitsSigned w64 n × (json.now ≡ signed_decimal n)) }
+{
+    let Ok(digits) = std::str::from_utf8(json) else {
+        return None;
+    };
+    let Ok(number) = digits.parse::<i64>() else {
+        return None;
+    };
+    if Buffer::new().format(number).as_bytes() != json {
+        return None;
+    }
+    Some(number)
+}
+
+/// The name of the try whose record begins so, and what stands behind its name.
+fn named_in<'l>(plan: &Plan, runs: &Runs, line: &'l [u8]) -> Option<(JobName, &'l [u8])>
+    ensures { IfSome result (λ p. BeginsRecord plan.now.dag runs.now line.entry.now p.0 p.1.now) }
+{
+    let (run, fields) = split_comma(behind(line, b"[")?)?;
+    let (task, fields) = split_comma(fields)?;
+    let (index, fields) = split_comma(fields)?;
+    let (attempt, fields) = split_comma(fields)?;
+    let run = run_in(runs, text_in(run)?)?;
+    let task = plan.graph().number_of(text_in(task)?)?;
+    let index = index_in(number_in(index)?)?;
+    let attempt = attempt_in(number_in(attempt)?)?;
+    let name = JobName {
+        run,
+        task,
+        index,
+        attempt,
+    };
+    Some((name, fields))
+}
+
+/// How a try ended that pushed nothing and was given nothing, and what stands behind that.
+fn ended_in(fields: &[u8]) -> Option<(Outcome, &[u8])>
+    ensures pushed { IfSome result (λ p. pushed_by p.0 ≡ None) }
+    ensures fields { IfSome result (λ p. fields.now ≡ quoted (outcome_word p.0) ++ (codes ",[],[],[]," ++ p.1.now)) }
+{
+    if let Some(stamp) = behind(fields, b"\"success\",[],[],[],") {
+        return Some((Outcome::Success(None), stamp));
+    }
+    if let Some(stamp) = behind(fields, b"\"failed\",[],[],[],") {
+        return Some((Outcome::Failed, stamp));
+    }
+    let stamp = behind(fields, b"\"skipped\",[],[],[],")?;
+    Some((Outcome::Skipped, stamp))
+}
+
+/// The numbers of a stamp that ends a record.
+fn stamp_in(text: &[u8]) -> Option<(i64, i64, i64)>
+    ensures { IfSome result (λ s. IsStamp text.now s.0 s.1 s.2) }
+{
+    let numbers = before(behind(text, b"[")?, b"]]")?;
+    let (start, numbers) = split_comma(numbers)?;
+    let (end, code) = split_comma(numbers)?;
+    Some((number_in(start)?, number_in(end)?, number_in(code)?))
+}
+
+/// The try whose bare record the line is, as it is written.
+pub(crate) fn bare_in(
+    alloc: Global,
+    plan: &Plan,
+    runs: &Runs,
+    line: &[u8],
+) -> Option<(JobName, Entry)>
+    ensures { IfSome result (λ t. TellsLine plan.now.dag runs.now line.now t.0 t.1) }
+{
+    let (name, fields) = named_in(plan, runs, line)?;
+    let (outcome, stamp) = ended_in(fields)?;
+    let _numbers = stamp_in(stamp)?;
+    let given = Given {
+        item: None,
+        pulled: Sequence::from_vec(Vec::new(alloc)),
+    };
+    Some((name, Entry { given, outcome }))
+}
