@@ -2,8 +2,7 @@
 # Looks at pages in a real browser: the texts that they have, the details of each place beside the report and the reasons beside a second reading's, the
 # graph, the tries of a journal and their Gantt, keys, filters, addresses, colours, names for readers of screens, copies, narrow and printed, and what the
 # policy refuses, over examples, a warehouse of 90 days, programs that sleep, hostile values and 1 graph by chance, or 20 in ./test --whole. It takes
-# Chromium and python3. The last line is the sum, and the status is 1 where
-# something differs.
+# Chromium and python3. The last line is the sum, and the status is 1 where something differs.
 set -euo pipefail
 
 source "$(dirname "$(readlink -f "${BASH_SOURCE[0]}")")/../shared/count.sh"

@@ -29,7 +29,8 @@ pub(crate) struct InstanceName<'a> {
 
 /// Adds a map index.
 fn push_index(text: &mut String, index: Option<usize>) -> Result<(), OutOfMemory>
-    ensures { OnOk result (string_bytes text.new ≡ string_bytes text.old ++ number_text (of_integer (number_of index))) }
+    ensures { OnOk result (string_bytes text.new ≡ string_bytes text.old
+        ++ number_text (of_integer (number_of index))) }
 {
     match index {
         Some(index) => write!(text, "{index}")?,
@@ -47,7 +48,8 @@ fn push_named(
 ) -> Result<(), OutOfMemory>
     ensures { OnOk result ((members : Members) → string_bytes text.new ++ members_text true members
         ≡ string_bytes text.old ++ 44 ∷ 10 ∷ compact_text (object
-        (named_members name.now.run.now name.now.task.now (number_of name.now.index) attempt members))) }
+        (named_members name.now.run.now name.now.task.now (number_of name.now.index) attempt
+        members))) }
 {
     text.push_str(",\n{\"task\":")?;
     push_string(alloc, text, name.task)?;
@@ -70,7 +72,8 @@ fn push_status(
 ) -> Result<(), OutOfMemory>
     requires { 0 < status }
     ensures { OnOk result (string_bytes text.new ≡ string_bytes text.old
-        ++ entry_line (entry_at name.now.run.now name.now.task.now (number_of name.now.index) attempt status [])) }
+        ++ entry_line (entry_at name.now.run.now name.now.task.now (number_of name.now.index)
+        attempt status [])) }
 {
     push_named(alloc, text, name, attempt)?;
     text.push_str(",\"status\":")?;
@@ -88,7 +91,8 @@ fn push_pushed(
     value: &Xval,
 ) -> Result<(), OutOfMemory>
     ensures { OnOk result (string_bytes text.new ≡ string_bytes text.old
-        ++ entry_line (entry_at name.now.run.now name.now.task.now (number_of name.now.index) attempt 0 (json_of value.now))) }
+        ++ entry_line (entry_at name.now.run.now name.now.task.now (number_of name.now.index)
+        attempt 0 (json_of value.now))) }
 {
     push_named(alloc, text, name, attempt)?;
     text.push_str(",\"out\":")?;
@@ -105,7 +109,8 @@ pub(crate) fn push_failed(
     attempt: u32,
 ) -> Result<(), OutOfMemory>
     ensures { OnOk result (string_bytes text.new ≡ string_bytes text.old
-        ++ entry_line (entry_at name.now.run.now name.now.task.now (number_of name.now.index) attempt 1 [])) }
+        ++ entry_line (entry_at name.now.run.now name.now.task.now (number_of name.now.index)
+        attempt 1 [])) }
 {
     push_status(alloc, text, name, attempt, FAILED)
 }
@@ -119,7 +124,8 @@ pub(crate) fn push_ended(
     outcome: &Outcome,
 ) -> Result<(), OutOfMemory>
     ensures { OnOk result (string_bytes text.new ≡ string_bytes text.old
-        ++ entry_lines (entries_for name.now.run.now name.now.task.now (number_of name.now.index) attempt outcome.now)) }
+        ++ entry_lines (entries_for name.now.run.now name.now.task.now (number_of name.now.index)
+        attempt outcome.now)) }
 {
     match outcome {
         Outcome::Success(None) => Ok(()),

@@ -27,7 +27,8 @@ use bf_moment::{long_form, moments_differ_in_text};
 
 /// What is written of a report that can be read is a table of just its entries, where it isn't too long for one.
 pub fn tables_are_read_back()
-    ensures { (report : ReportTerm) → IsShownReport report → length (answers_text report) ≤ longest_table
+    ensures { (report : ReportTerm) → IsShownReport report
+        → length (answers_text report) ≤ longest_table
         → table_in (answers_text report) ≡ Ok (answers_in report) }
 {
     long_form();
@@ -35,11 +36,14 @@ pub fn tables_are_read_back()
 
 /// Over the table each try that the report tells of ends as it tells, where its task can end so.
 pub fn tries_end_as_told()
-    ensures { (dag : DagTerm) (intervals : List IntervalTerm) (report : ReportTerm) → IsShownReport report
-        → report.tasks ≡ map (λ task. task.id) dag.tasks → map (λ run. run.interval) report.runs ≡ intervals
+    ensures { (dag : DagTerm) (intervals : List IntervalTerm) (report : ReportTerm)
+        → IsShownReport report
+        → report.tasks ≡ map (λ task. task.id) dag.tasks → map (λ run. run.interval) report.runs
+        ≡ intervals
         → (name : JobNameTerm) (instance : InstanceTerm) (outcome : OutcomeTerm)
         → found_at report name.run name.task name.index ≡ Some instance
-        → outcome_of_try instance.result name.attempt ≡ Some outcome → fits dag name.task outcome ≡ true
+        → outcome_of_try instance.result name.attempt ≡ Some outcome → fits dag name.task outcome
+        ≡ true
         → grade_of dag name.task (answer_of (answering dag intervals report) name) ≡ outcome }
 {
     moments_differ_in_text();
@@ -47,10 +51,12 @@ pub fn tries_end_as_told()
 
 /// A backfill over the table of a report of the same plan and data intervals has that report.
 pub fn reports_are_made_again()
-    ensures { (dag : DagTerm) → IsSound dag → (intervals : List IntervalTerm) (was again : finite.FinMap name_cmp EntryTerm)
+    ensures { (dag : DagTerm) → IsSound dag
+        → (intervals : List IntervalTerm) (was again : finite.FinMap name_cmp EntryTerm)
         → HoldsItsTries dag (length intervals) (finite.get was) → AreFit dag (finite.get was)
         → HoldsItsTries dag (length intervals) (finite.get again)
-        → (report : ReportTerm) → IsDated dag intervals (finite.get was) report → IsShownReport report
+        → (report : ReportTerm) → IsDated dag intervals (finite.get was) report
+        → IsShownReport report
         → AreGraded (MayAnswer dag intervals report) dag (finite.get again)
         → (other : ReportTerm) → IsDated dag intervals (finite.get again) other → other ≡ report }
 {

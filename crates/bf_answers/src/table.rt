@@ -18,7 +18,8 @@ fn push_retried(
     tries: u32,
 ) -> Result<(), OutOfMemory>
     ensures { OnOk result (string_bytes text.new ≡ string_bytes text.old
-        ++ entry_lines (retried_entries name.now.run.now name.now.task.now (number_of name.now.index) tries)) }
+        ++ entry_lines (retried_entries name.now.run.now name.now.task.now
+        (number_of name.now.index) tries)) }
 {
     for attempt in 1..tries {
         push_failed(alloc, text, name, attempt)?;
@@ -33,7 +34,8 @@ fn push_instance(
     instance: &InstanceReport,
 ) -> Result<(), OutOfMemory>
     ensures { OnOk result (string_bytes text.new ≡ string_bytes text.old
-        ++ entry_lines (instance_entries name.now.run.now name.now.task.now (number_of name.now.index) instance.now.result)) }
+        ++ entry_lines (instance_entries name.now.run.now name.now.task.now
+        (number_of name.now.index) instance.now.result)) }
 {
     let ended = instance.result(alloc)?;
     push_retried(alloc, text, name, ended.tries)?;

@@ -15,10 +15,13 @@ pub fn write_answers<W: Write>(
     report: &Report,
     out: &mut W,
 ) -> Result<(), WriteFault>
-    ensures ok { OnOk result (W.written out.new ≡ sent (W.written out.old) (answers_text report.now)) }
+    ensures ok { OnOk result (W.written out.new
+        ≡ sent (W.written out.old) (answers_text report.now)) }
     ensures part { IfErr result (λ fault. (fault.sent ≤ length (answers_text report.now))
-        × (W.written out.new ≡ sent (W.written out.old) (take fault.sent (answers_text report.now)))) }
-    ensures io { IfErr result (λ fault. fault.cause ≡ Cause.Io → HasHalted (W.failures out.old) (W.failures out.new)
+        × (W.written out.new ≡ sent (W.written out.old)
+        (take fault.sent (answers_text report.now)))) }
+    ensures io { IfErr result (λ fault. fault.cause ≡ Cause.Io
+        → HasHalted (W.failures out.old) (W.failures out.new)
         (W.interruptions out.old) (W.interruptions out.new)) }
     ensures went_on { OnOk result (HasGoneOn (W.failures out.old) (W.failures out.new)
         (W.interruptions out.old) (W.interruptions out.new)) }

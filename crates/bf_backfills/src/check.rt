@@ -29,7 +29,8 @@ pub fn check_answered<S: Source, W: Write>(
     files: &mut S,
     out: &mut W,
 ) -> Result<Status, CommandFault>
-    ensures answer { IfOk result (λ status. Sends (λ text. IsCheckAnswer (S.file files.old) asked text status)
+    ensures answer { IfOk result (λ status. Sends
+        (λ text. IsCheckAnswer (S.file files.old) asked text status)
         (W.written out.old) (W.written out.new)) }
     ensures fault { IfErr result (IsCheckFault (S.file files.old) asked) }
     ensures left { IfErr result (Leaves (HasHalted (W.failures out.old) (W.failures out.new)

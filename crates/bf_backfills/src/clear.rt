@@ -70,11 +70,16 @@ fn clear_files<S: Source>(
     named: Named,
     files: &mut S,
 ) -> Result<ClearFiles, CommandFault>
-    ensures alike { IfOk result (λ f. OfFilesAndNamedTable (S.file files.old) graph (option_map string_bytes table) (λ held zone other.
-        AreAlike f.graph.graph.items held (bytes_of f.graph.zone_file) zone × (option_map table_of (bytes_of f.table) ≡ option_map table_of other))) }
+    ensures alike { IfOk result (λ f. OfFilesAndNamedTable (S.file files.old) graph
+        (option_map string_bytes table) (λ held zone other.
+        AreAlike f.graph.graph.items held (bytes_of f.graph.zone_file) zone
+        × (option_map table_of (bytes_of f.table) ≡ option_map table_of other))) }
     ensures what { IfOk result (λ f. IsReadFor (S.file files.old) named f.what) }
-    ensures readable { OnOk result (AreReadable (S.file files.old) (clear_paths graph (option_map string_bytes table) (path_of named))) }
-    ensures fault { IfErr result (IsReadingFault (S.file files.old) (clear_paths graph (option_map string_bytes table) (path_of named))) }
+    ensures readable { OnOk result
+        (AreReadable (S.file files.old)
+        (clear_paths graph (option_map string_bytes table) (path_of named))) }
+    ensures fault { IfErr result (IsReadingFault (S.file files.old)
+        (clear_paths graph (option_map string_bytes table) (path_of named))) }
     ensures stays { (p : List ℕ) → S.file files.new p ≡ S.file files.old p }
 {
     let graph = graph_files(alloc, graph, files)?;
@@ -99,11 +104,16 @@ pub(crate) fn prepared_in<S: Source>(
     range: RunRange,
     files: &mut S,
 ) -> Result<PreparedToClear, CommandFault>
-    ensures said { IfOk result (λ p. IsOfBytes (S.file files.old) graph (option_map string_bytes table) (λ bytes zone entries.
-        IsPrepared bytes zone entries range p.prepared.dated.plan.dag p.prepared.dated.runs (clocks_in p.prepared.dated) p.prepared.answers)) }
+    ensures said { IfOk result (λ p. IsOfBytes (S.file files.old) graph
+        (option_map string_bytes table) (λ bytes zone entries.
+        IsPrepared bytes zone entries range p.prepared.dated.plan.dag p.prepared.dated.runs
+        (clocks_in p.prepared.dated) p.prepared.answers)) }
     ensures what { IfOk result (λ p. IsReadFor (S.file files.old) named p.what) }
-    ensures readable { OnOk result (AreReadable (S.file files.old) (clear_paths graph (option_map string_bytes table) (path_of named))) }
-    ensures fault { IfErr result (IsPreparingFault (S.file files.old) graph (option_map string_bytes table) (path_of named) range) }
+    ensures readable { OnOk result
+        (AreReadable (S.file files.old)
+        (clear_paths graph (option_map string_bytes table) (path_of named))) }
+    ensures fault { IfErr result (IsPreparingFault (S.file files.old) graph
+        (option_map string_bytes table) (path_of named) range) }
     ensures stays { (p : List ℕ) → S.file files.new p ≡ S.file files.old p }
 {
     let read = clear_files(alloc, graph, table, named, files)?;
@@ -129,15 +139,23 @@ fn go_on<RT: Starter + Screen + Threads + Wait + Clock + Sync, S: Source, W: Wri
     files: &mut S,
     out: &mut W,
 ) -> Result<bool, CommandFault>
-    ensures ok { IfOk result (λ success. Sends (λ text. IsReportAfterFile (launched_in prepared.dated (launching_of crew.now.launching) (RT.may_hear crew.now.rt.now))
-        prepared.answers prepared.dated.plan.dag prepared.dated.runs (S.file files.old (string_bytes report)) what text success)
+    ensures ok { IfOk result (λ success. Sends
+        (λ text. IsReportAfterFile (launched_in prepared.dated (launching_of crew.now.launching)
+        (RT.may_hear crew.now.rt.now))
+        prepared.answers prepared.dated.plan.dag prepared.dated.runs
+        (S.file files.old (string_bytes report)) what text success)
         (W.written out.old) (W.written out.new)) }
-    ensures fault { IfErr result (IsFaultAfterFile (is_alone crew.now.progress) (with_clocks (launching_of crew.now.launching) (clocks_in prepared.dated)) (RT.may_lose crew.now.rt.now)
-        prepared.answers prepared.dated.plan.dag prepared.dated.runs (string_bytes report) (S.file files.old (string_bytes report)) what) }
+    ensures fault { IfErr result (IsFaultAfterFile (is_alone crew.now.progress)
+        (with_clocks (launching_of crew.now.launching) (clocks_in prepared.dated))
+        (RT.may_lose crew.now.rt.now)
+        prepared.answers prepared.dated.plan.dag prepared.dated.runs (string_bytes report)
+        (S.file files.old (string_bytes report)) what) }
     ensures left { IfErr result (Leaves (HasHalted (W.failures out.old) (W.failures out.new)
         (W.interruptions out.old) (W.interruptions out.new))
-        (λ text. (success : Bool) × IsReportAfterFile (launched_in prepared.dated (launching_of crew.now.launching) (RT.may_hear crew.now.rt.now))
-        prepared.answers prepared.dated.plan.dag prepared.dated.runs (S.file files.old (string_bytes report)) what text success)
+        (λ text. (success : Bool) × IsReportAfterFile
+        (launched_in prepared.dated (launching_of crew.now.launching) (RT.may_hear crew.now.rt.now))
+        prepared.answers prepared.dated.plan.dag prepared.dated.runs
+        (S.file files.old (string_bytes report)) what text success)
         (W.written out.old) (W.written out.new)) }
 {
     let report = report_in(crew.alloc, report, files)?;
@@ -158,16 +176,23 @@ fn go_on_recorded<RT, J: Journals, S: Source, W: Write>(
 where
     RT: Starter + Screen + Threads + Wait + Clock + Sync,
     J::Device: Send,
-    ensures ok { IfOk result (λ success. Sends (λ text. IsJournaledAfterFile (launched_in prepared.dated (launching_of crew.now.launching) (RT.may_hear crew.now.rt.now))
+    ensures ok { IfOk result (λ success. Sends
+        (λ text. IsJournaledAfterFile (launched_in prepared.dated (launching_of crew.now.launching)
+        (RT.may_hear crew.now.rt.now))
         (J.journal journals.now) prepared.answers prepared.dated.plan.dag prepared.dated.runs
-        (S.file files.old (string_bytes report)) what journal text success) (W.written out.old) (W.written out.new)) }
-    ensures fault { IfErr result (IsFaultSinceFile (launching_of crew.now.launching).logs (J.journal journals.now)
-        prepared.dated.plan.dag prepared.dated.runs (string_bytes report) (S.file files.old (string_bytes report)) what journal) }
+        (S.file files.old (string_bytes report)) what journal text success) (W.written out.old)
+        (W.written out.new)) }
+    ensures fault { IfErr result (IsFaultSinceFile (launching_of crew.now.launching).logs
+        (J.journal journals.now)
+        prepared.dated.plan.dag prepared.dated.runs (string_bytes report)
+        (S.file files.old (string_bytes report)) what journal) }
     ensures left { IfErr result (Leaves (HasHalted (W.failures out.old) (W.failures out.new)
         (W.interruptions out.old) (W.interruptions out.new))
-        (λ text. (success : Bool) × IsJournaledAfterFile (launched_in prepared.dated (launching_of crew.now.launching) (RT.may_hear crew.now.rt.now))
+        (λ text. (success : Bool) × IsJournaledAfterFile
+        (launched_in prepared.dated (launching_of crew.now.launching) (RT.may_hear crew.now.rt.now))
         (J.journal journals.now) prepared.answers prepared.dated.plan.dag prepared.dated.runs
-        (S.file files.old (string_bytes report)) what journal text success) (W.written out.old) (W.written out.new)) }
+        (S.file files.old (string_bytes report)) what journal text success) (W.written out.old)
+        (W.written out.new)) }
 {
     let report = report_in(crew.alloc, report, files)?;
     let Prepared { dated, answers } = prepared;
@@ -189,17 +214,26 @@ fn gone_on<RT, J: Journals, S: Source, W: Write>(
 where
     RT: Starter + Screen + Threads + Wait + Clock + Sync,
     J::Device: Send,
-    ensures ok { IfOk result (λ success. Sends (λ text. IsReportAfterFileBy (launched_in prepared.dated (launching_of crew.now.launching) (RT.may_hear crew.now.rt.now))
-        (J.journal journals.now) journal prepared.answers prepared.dated.plan.dag prepared.dated.runs
-        (S.file files.old (string_bytes report)) what text success) (W.written out.old) (W.written out.new)) }
+    ensures ok { IfOk result (λ success. Sends
+        (λ text. IsReportAfterFileBy (launched_in prepared.dated (launching_of crew.now.launching)
+        (RT.may_hear crew.now.rt.now))
+        (J.journal journals.now) journal prepared.answers prepared.dated.plan.dag
+        prepared.dated.runs
+        (S.file files.old (string_bytes report)) what text success) (W.written out.old)
+        (W.written out.new)) }
     ensures fault { IfErr result (IsFaultAfterFileBy (is_alone crew.now.progress)
-        (with_clocks (launching_of crew.now.launching) (clocks_in prepared.dated)) (RT.may_lose crew.now.rt.now) (J.journal journals.now) journal
-        prepared.answers prepared.dated.plan.dag prepared.dated.runs (string_bytes report) (S.file files.old (string_bytes report)) what) }
+        (with_clocks (launching_of crew.now.launching) (clocks_in prepared.dated))
+        (RT.may_lose crew.now.rt.now) (J.journal journals.now) journal
+        prepared.answers prepared.dated.plan.dag prepared.dated.runs (string_bytes report)
+        (S.file files.old (string_bytes report)) what) }
     ensures left { IfErr result (Leaves (HasHalted (W.failures out.old) (W.failures out.new)
         (W.interruptions out.old) (W.interruptions out.new))
-        (λ text. (success : Bool) × IsReportAfterFileBy (launched_in prepared.dated (launching_of crew.now.launching) (RT.may_hear crew.now.rt.now))
-        (J.journal journals.now) journal prepared.answers prepared.dated.plan.dag prepared.dated.runs
-        (S.file files.old (string_bytes report)) what text success) (W.written out.old) (W.written out.new)) }
+        (λ text. (success : Bool) × IsReportAfterFileBy
+        (launched_in prepared.dated (launching_of crew.now.launching) (RT.may_hear crew.now.rt.now))
+        (J.journal journals.now) journal prepared.answers prepared.dated.plan.dag
+        prepared.dated.runs
+        (S.file files.old (string_bytes report)) what text success) (W.written out.old)
+        (W.written out.new)) }
 {
     match journal {
         Some(journal) => go_on_recorded(
@@ -226,12 +260,17 @@ pub fn clear_answered<
 ) -> Result<Status, CommandFault>
 where
     J::Device: Send,
-    ensures answer { IfOk result (λ status. Sends (λ text. IsClearAnswer (RT.may_hear rt.now) (S.file files.old) (machine_of (J.journal journals.now) (J.startable journals.now)) asked text status)
+    ensures answer { IfOk result (λ status. Sends
+        (λ text. IsClearAnswer (RT.may_hear rt.now) (S.file files.old)
+        (machine_of (J.journal journals.now) (J.startable journals.now)) asked text status)
         (W.written out.old) (W.written out.new)) }
-    ensures fault { IfErr result (IsClearFault (RT.may_lose rt.now) (S.file files.old) (machine_of (J.journal journals.now) (J.startable journals.now)) asked) }
+    ensures fault { IfErr result (IsClearFault (RT.may_lose rt.now) (S.file files.old)
+        (machine_of (J.journal journals.now) (J.startable journals.now)) asked) }
     ensures left { IfErr result (Leaves (HasHalted (W.failures out.old) (W.failures out.new)
         (W.interruptions out.old) (W.interruptions out.new))
-        (λ text. (status : StatusTerm) × IsClearAnswer (RT.may_hear rt.now) (S.file files.old) (machine_of (J.journal journals.now) (J.startable journals.now)) asked text status)
+        (λ text. (status : StatusTerm)
+        × IsClearAnswer (RT.may_hear rt.now) (S.file files.old)
+        (machine_of (J.journal journals.now) (J.startable journals.now)) asked text status)
         (W.written out.old) (W.written out.new)) }
 {
     let range = range_of(&asked.range)?;

@@ -25,7 +25,8 @@ pub fn clear_plan_answered<S: Source, W: Write>(
     files: &mut S,
     out: &mut W,
 ) -> Result<Status, CommandFault>
-    ensures answer { IfOk result (λ status. Sends (λ text. IsClearPlanAnswer (S.file files.old) asked text status)
+    ensures answer { IfOk result (λ status. Sends
+        (λ text. IsClearPlanAnswer (S.file files.old) asked text status)
         (W.written out.old) (W.written out.new)) }
     ensures fault { IfErr result (IsClearPlanFault (S.file files.old) asked) }
     ensures left { IfErr result (Leaves (HasHalted (W.failures out.old) (W.failures out.new)

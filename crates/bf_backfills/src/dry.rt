@@ -27,7 +27,8 @@ pub fn dry_answered<RT: Starter + Screen + Threads + Wait + Clock + Sync, S: Sou
     files: &mut S,
     out: &mut W,
 ) -> Result<Status, CommandFault>
-    ensures answer { IfOk result (λ status. Sends (λ text. IsDryAnswer (S.file files.old) asked text status)
+    ensures answer { IfOk result (λ status. Sends
+        (λ text. IsDryAnswer (S.file files.old) asked text status)
         (W.written out.old) (W.written out.new)) }
     ensures fault { IfErr result (IsDryFault (S.file files.old) asked) }
     ensures left { IfErr result (Leaves (HasHalted (W.failures out.old) (W.failures out.new)

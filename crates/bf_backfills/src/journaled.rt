@@ -65,7 +65,8 @@ fn named_journal<J: Journals>(
     alloc: Global,
     asked: JournalAsked,
 ) -> Result<NamedJournal<J::Device>, CommandFault>
-    ensures held { IfOk result (λ named. OfJournal (J.journal journals.now) asked (λ held. named.journal.held.items ≡ held)) }
+    ensures held { IfOk result (λ named. OfJournal (J.journal journals.now) asked
+        (λ held. named.journal.held.items ≡ held)) }
     ensures stop_after { IfOk result (λ named. named.journal.stop_after ≡ asked.stop_after) }
     ensures retry_failed { IfOk result (λ named. named.journal.retry_failed ≡ asked.retry_failed) }
     ensures path { IfOk result (λ named. string_bytes named.path ≡ string_bytes asked.path) }
@@ -102,14 +103,18 @@ where
     RT: Starter + Screen + Threads + Wait + Clock + Sync,
     J::Device: Send,
     W: Write,
-    ensures ok { IfOk result (λ success. Sends (λ text. IsReportOver (J.journal journals.now) asked nothing []
-        (MayAnswer (launched_in dated.now (launching_of crew.now.launching) (RT.may_hear crew.now.rt.now)) dated.now.plan.dag dated.now.runs)
+    ensures ok { IfOk result (λ success. Sends
+        (λ text. IsReportOver (J.journal journals.now) asked nothing []
+        (MayAnswer (launched_in dated.now (launching_of crew.now.launching)
+        (RT.may_hear crew.now.rt.now)) dated.now.plan.dag dated.now.runs)
         dated.now.plan.dag dated.now.runs text success) (W.written out.old) (W.written out.new)) }
-    ensures fault { IfErr result (IsFaultOver (J.journal journals.now) asked nothing [] (launching_of crew.now.launching).logs dated.now.plan.dag dated.now.runs) }
+    ensures fault { IfErr result (IsFaultOver (J.journal journals.now) asked nothing []
+        (launching_of crew.now.launching).logs dated.now.plan.dag dated.now.runs) }
     ensures left { IfErr result (Leaves (HasHalted (W.failures out.old) (W.failures out.new)
         (W.interruptions out.old) (W.interruptions out.new))
         (λ text. (success : Bool) × IsReportOver (J.journal journals.now) asked nothing []
-        (MayAnswer (launched_in dated.now (launching_of crew.now.launching) (RT.may_hear crew.now.rt.now)) dated.now.plan.dag dated.now.runs)
+        (MayAnswer (launched_in dated.now (launching_of crew.now.launching)
+        (RT.may_hear crew.now.rt.now)) dated.now.plan.dag dated.now.runs)
         dated.now.plan.dag dated.now.runs text success) (W.written out.old) (W.written out.new)) }
 {
     let NamedJournal { journal, path } = named_journal(journals, crew.alloc, asked)?;
@@ -133,15 +138,20 @@ where
     RT: Starter + Screen + Threads + Wait + Clock + Sync,
     J::Device: Send,
     W: Write,
-    ensures ok { IfOk result (λ success. Sends (λ text. IsRunReportBy (launching_of crew.now.launching) (RT.may_hear crew.now.rt.now)
-        (J.journal journals.now) (Some asked) range files.now.graph.items (bytes_of files.now.zone_file) text success)
+    ensures ok { IfOk result (λ success. Sends
+        (λ text. IsRunReportBy (launching_of crew.now.launching) (RT.may_hear crew.now.rt.now)
+        (J.journal journals.now) (Some asked) range files.now.graph.items
+        (bytes_of files.now.zone_file) text success)
         (W.written out.old) (W.written out.new)) }
-    ensures fault { IfErr result (IsFaultOfRecorded (launching_of crew.now.launching).logs (J.journal journals.now) asked range
+    ensures fault { IfErr result (IsFaultOfRecorded (launching_of crew.now.launching).logs
+        (J.journal journals.now) asked range
         files.now.graph.items (bytes_of files.now.zone_file)) }
     ensures left { IfErr result (Leaves (HasHalted (W.failures out.old) (W.failures out.new)
         (W.interruptions out.old) (W.interruptions out.new))
-        (λ text. (success : Bool) × IsRunReportBy (launching_of crew.now.launching) (RT.may_hear crew.now.rt.now)
-        (J.journal journals.now) (Some asked) range files.now.graph.items (bytes_of files.now.zone_file) text success)
+        (λ text. (success : Bool) × IsRunReportBy (launching_of crew.now.launching)
+        (RT.may_hear crew.now.rt.now)
+        (J.journal journals.now) (Some asked) range files.now.graph.items
+        (bytes_of files.now.zone_file) text success)
         (W.written out.old) (W.written out.new)) }
 {
     let dated = dated_plan_in(crew.alloc, &files.graph, files.zone_file(), range)?;
@@ -161,15 +171,21 @@ where
     RT: Starter + Screen + Threads + Wait + Clock + Sync,
     J::Device: Send,
     W: Write,
-    ensures ok { IfOk result (λ success. Sends (λ text. IsRunReportBy (launching_of crew.now.launching) (RT.may_hear crew.now.rt.now)
-        (J.journal journals.now) journal range files.now.graph.items (bytes_of files.now.zone_file) text success)
+    ensures ok { IfOk result (λ success. Sends
+        (λ text. IsRunReportBy (launching_of crew.now.launching) (RT.may_hear crew.now.rt.now)
+        (J.journal journals.now) journal range files.now.graph.items (bytes_of files.now.zone_file)
+        text success)
         (W.written out.old) (W.written out.new)) }
-    ensures fault { IfErr result (IsFaultOfRunBy (launching_of crew.now.launching) (RT.may_lose crew.now.rt.now)
-        (J.journal journals.now) journal range files.now.graph.items (bytes_of files.now.zone_file)) }
+    ensures fault { IfErr result (IsFaultOfRunBy (launching_of crew.now.launching)
+        (RT.may_lose crew.now.rt.now)
+        (J.journal journals.now) journal range files.now.graph.items
+        (bytes_of files.now.zone_file)) }
     ensures left { IfErr result (Leaves (HasHalted (W.failures out.old) (W.failures out.new)
         (W.interruptions out.old) (W.interruptions out.new))
-        (λ text. (success : Bool) × IsRunReportBy (launching_of crew.now.launching) (RT.may_hear crew.now.rt.now)
-        (J.journal journals.now) journal range files.now.graph.items (bytes_of files.now.zone_file) text success)
+        (λ text. (success : Bool) × IsRunReportBy (launching_of crew.now.launching)
+        (RT.may_hear crew.now.rt.now)
+        (J.journal journals.now) journal range files.now.graph.items (bytes_of files.now.zone_file)
+        text success)
         (W.written out.old) (W.written out.new)) }
 {
     match journal {
@@ -194,17 +210,24 @@ where
     requires { AreFit clearing.now.dated.now.plan.dag (kept_in clearing.now.kept) }
     ensures ok { IfOk result (λ success. Sends (λ text. IsReportOver (J.journal journals.now) asked
         (kept_in clearing.now.kept) clearing.now.cleared.items
-        (MayAnswerBy (launched_in clearing.now.dated.now (launching_of crew.now.launching) (RT.may_hear crew.now.rt.now)) answers clearing.now.dated.now.plan.dag clearing.now.dated.now.runs)
-        clearing.now.dated.now.plan.dag clearing.now.dated.now.runs text success) (W.written out.old) (W.written out.new)) }
+        (MayAnswerBy (launched_in clearing.now.dated.now (launching_of crew.now.launching)
+        (RT.may_hear crew.now.rt.now)) answers clearing.now.dated.now.plan.dag
+        clearing.now.dated.now.runs)
+        clearing.now.dated.now.plan.dag clearing.now.dated.now.runs text success)
+        (W.written out.old) (W.written out.new)) }
     ensures fault { IfErr result (IsFaultOver (J.journal journals.now) asked
-        (kept_in clearing.now.kept) clearing.now.cleared.items (launching_of crew.now.launching).logs
+        (kept_in clearing.now.kept) clearing.now.cleared.items
+        (launching_of crew.now.launching).logs
         clearing.now.dated.now.plan.dag clearing.now.dated.now.runs) }
     ensures left { IfErr result (Leaves (HasHalted (W.failures out.old) (W.failures out.new)
         (W.interruptions out.old) (W.interruptions out.new))
         (λ text. (success : Bool) × IsReportOver (J.journal journals.now) asked
         (kept_in clearing.now.kept) clearing.now.cleared.items
-        (MayAnswerBy (launched_in clearing.now.dated.now (launching_of crew.now.launching) (RT.may_hear crew.now.rt.now)) answers clearing.now.dated.now.plan.dag clearing.now.dated.now.runs)
-        clearing.now.dated.now.plan.dag clearing.now.dated.now.runs text success) (W.written out.old) (W.written out.new)) }
+        (MayAnswerBy (launched_in clearing.now.dated.now (launching_of crew.now.launching)
+        (RT.may_hear crew.now.rt.now)) answers clearing.now.dated.now.plan.dag
+        clearing.now.dated.now.runs)
+        clearing.now.dated.now.plan.dag clearing.now.dated.now.runs text success)
+        (W.written out.old) (W.written out.new)) }
 {
     let NamedJournal { journal, path } = named_journal(journals, crew.alloc, asked)?;
     let Recorded { report, device: _ } = record_again(crew, clearing, answers, journal, out);

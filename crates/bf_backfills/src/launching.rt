@@ -24,8 +24,10 @@ pub(crate) fn look_at<L: Launchers>(
     alloc: Global,
     launcher: Option<&str>,
 ) -> Result<(), CommandFault>
-    ensures ok { OnOk result (IsLaunchable (L.startable launchers.now) (option_map (λ l. l.now) launcher.entry)) }
-    ensures fault { IfErr result (IsFaultOfLauncher (L.startable launchers.now) (option_map (λ l. l.now) launcher.entry)) }
+    ensures ok { OnOk result (IsLaunchable (L.startable launchers.now)
+        (option_map (λ l. l.now) launcher.entry)) }
+    ensures fault { IfErr result (IsFaultOfLauncher (L.startable launchers.now)
+        (option_map (λ l. l.now) launcher.entry)) }
 {
     let Some(path) = launcher else {
         return Ok(());

@@ -37,12 +37,17 @@ pub fn run_answered<
 ) -> Result<Status, CommandFault>
 where
     J::Device: Send,
-    ensures answer { IfOk result (λ status. Sends (λ text. IsRunAnswer (RT.may_hear rt.now) (S.file files.old) (machine_of (J.journal journals.now) (J.startable journals.now)) asked text status)
+    ensures answer { IfOk result (λ status. Sends
+        (λ text. IsRunAnswer (RT.may_hear rt.now) (S.file files.old)
+        (machine_of (J.journal journals.now) (J.startable journals.now)) asked text status)
         (W.written out.old) (W.written out.new)) }
-    ensures fault { IfErr result (IsRunFault (RT.may_lose rt.now) (S.file files.old) (machine_of (J.journal journals.now) (J.startable journals.now)) asked) }
+    ensures fault { IfErr result (IsRunFault (RT.may_lose rt.now) (S.file files.old)
+        (machine_of (J.journal journals.now) (J.startable journals.now)) asked) }
     ensures left { IfErr result (Leaves (HasHalted (W.failures out.old) (W.failures out.new)
         (W.interruptions out.old) (W.interruptions out.new))
-        (λ text. (status : StatusTerm) × IsRunAnswer (RT.may_hear rt.now) (S.file files.old) (machine_of (J.journal journals.now) (J.startable journals.now)) asked text status)
+        (λ text. (status : StatusTerm)
+        × IsRunAnswer (RT.may_hear rt.now) (S.file files.old)
+        (machine_of (J.journal journals.now) (J.startable journals.now)) asked text status)
         (W.written out.old) (W.written out.new)) }
 {
     let range = range_of(&asked.range)?;

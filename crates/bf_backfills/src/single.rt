@@ -26,7 +26,8 @@ pub fn single_answered<RT: Starter + Screen + Threads + Wait + Clock + Sync, S: 
     files: &mut S,
     out: &mut W,
 ) -> Result<Status, CommandFault>
-    ensures answer { IfOk result (λ status. Sends (λ text. IsSingleAnswer (S.file files.old) asked text status)
+    ensures answer { IfOk result (λ status. Sends
+        (λ text. IsSingleAnswer (S.file files.old) asked text status)
         (W.written out.old) (W.written out.new)) }
     ensures fault { IfErr result (IsSingleFault (S.file files.old) asked) }
     ensures left { IfErr result (Leaves (HasHalted (W.failures out.old) (W.failures out.new)

@@ -22,7 +22,7 @@ use Rattle.bf_report.specs.declared.report.RunReport.{RunReport}
 use Rattle.bf_report.specs.declared.report.Report.{Report}
 use Rattle.bf_report.specs.Report.{line, run_state_word}
 use Rattle.bf_xcom.specs.declared.values.RunState.{RunState}
-use Rattle.bf_reason.specs.declared.cause.Cause.{Cause}
+use Rattle.bf_reason.specs.declared.cause.StateCause.{StateCause}
 use Rattle.bf_reason.specs.Causes.{cause_of}
 use Rattle.bf_reason.specs.Reasons.{reason}
 use Rattle.bf_reason.specs.Letters.{before_at, digit_for, ended_letter, expanded_letter, first_letter, foreign_letter, instance_letter, letter_for, letter_of, seen_at}
@@ -174,21 +174,21 @@ digit_plain (Outcome.Success value) = refl
 digit_plain Outcome.Failed = refl
 digit_plain Outcome.Skipped = refl
 
-skipped_plain : (expanded : Bool) (cause : Cause) → is_ascii_alphanumeric (letter_for expanded cause TaskReport.Skipped) ≡ true
-skipped_plain expanded Cause.NotFollowed = refl
+skipped_plain : (expanded : Bool) (cause : StateCause) → is_ascii_alphanumeric (letter_for expanded cause TaskReport.Skipped) ≡ true
+skipped_plain expanded StateCause.NotFollowed = refl
 skipped_plain expanded _ = refl
 
-upstream_failed_plain : (expanded : Bool) (cause : Cause) → is_ascii_alphanumeric (letter_for expanded cause TaskReport.UpstreamFailed) ≡ true
-upstream_failed_plain expanded Cause.RuleFails = refl
+upstream_failed_plain : (expanded : Bool) (cause : StateCause) → is_ascii_alphanumeric (letter_for expanded cause TaskReport.UpstreamFailed) ≡ true
+upstream_failed_plain expanded StateCause.RuleFails = refl
 upstream_failed_plain expanded _ = refl
 
-no_status_plain : (expanded : Bool) (cause : Cause) → is_ascii_alphanumeric (letter_for expanded cause TaskReport.NoStatus) ≡ true
-no_status_plain expanded Cause.BranchIsBlocked = refl
+no_status_plain : (expanded : Bool) (cause : StateCause) → is_ascii_alphanumeric (letter_for expanded cause TaskReport.NoStatus) ≡ true
+no_status_plain expanded StateCause.BranchIsBlocked = refl
 no_status_plain expanded _ = refl
 
-ran_plain : (expanded : Bool) (cause : Cause) (instance : InstanceReport) → is_ascii_alphanumeric (letter_for expanded cause (TaskReport.Ran instance)) ≡ true
-ran_plain true (Cause.Runs count) instance = digit_plain instance.result.outcome
-ran_plain false (Cause.Runs count) instance = ended_plain instance.result.outcome instance.result.tries
+ran_plain : (expanded : Bool) (cause : StateCause) (instance : InstanceReport) → is_ascii_alphanumeric (letter_for expanded cause (TaskReport.Ran instance)) ≡ true
+ran_plain true (StateCause.Runs count) instance = digit_plain instance.result.outcome
+ran_plain false (StateCause.Runs count) instance = ended_plain instance.result.outcome instance.result.tries
 ran_plain expanded _ instance = digit_plain instance.result.outcome
 
 one_of_three : (a b : Bool) → is_ascii_alphanumeric (if a then byte "8" else (if b then byte "9" else byte "7")) ≡ true
@@ -202,13 +202,13 @@ one_of_four false true c = refl
 one_of_four false false true = refl
 one_of_four false false false = refl
 
-mapped_plain : (expanded : Bool) (cause : Cause) (instances : List InstanceReport) → is_ascii_alphanumeric (letter_for expanded cause (TaskReport.Mapped instances)) ≡ true
-mapped_plain expanded (Cause.Runs count) instances =
+mapped_plain : (expanded : Bool) (cause : StateCause) (instances : List InstanceReport) → is_ascii_alphanumeric (letter_for expanded cause (TaskReport.Mapped instances)) ≡ true
+mapped_plain expanded (StateCause.Runs count) instances =
     cond_both (expanded && length instances == count) (expanded_letter instances) (foreign_letter (TaskReport.Mapped instances)) (λ letter. is_ascii_alphanumeric letter ≡ true)
     (λ _. one_of_four (first_letter instances == byte "f") (first_letter instances == byte "r") (first_letter instances == byte "s")) (λ _. one_of_three (first_letter instances == byte "f") (first_letter instances == byte "x"))
 mapped_plain expanded _ instances = one_of_three (first_letter instances == byte "f") (first_letter instances == byte "x")
 
-letter_plain : (expanded : Bool) (cause : Cause) (task : TaskReport) → is_ascii_alphanumeric (letter_for expanded cause task) ≡ true
+letter_plain : (expanded : Bool) (cause : StateCause) (task : TaskReport) → is_ascii_alphanumeric (letter_for expanded cause task) ≡ true
 letter_plain expanded cause TaskReport.NoStatus = no_status_plain expanded cause
 letter_plain expanded cause TaskReport.Skipped = skipped_plain expanded cause
 letter_plain expanded cause TaskReport.UpstreamFailed = upstream_failed_plain expanded cause

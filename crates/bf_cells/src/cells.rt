@@ -27,7 +27,8 @@ fn push_letters(
     before: &[Settled<'_>],
 ) -> Result<(), OutOfMemory>
     requires { length settled.now ≡ length plan.now.dag.tasks }
-    ensures { (report : ReportTerm) → settled.now ≡ tasks_at report run → before.now ≡ tasks_before report run →
+    ensures { (report : ReportTerm) → settled.now ≡ tasks_at report run → before.now
+        ≡ tasks_before report run →
         OnOk result (string_bytes text.new
         ≡ string_bytes text.old ++ letters_from plan.now.dag report run 0 settled.now) }
 {
@@ -42,7 +43,8 @@ fn push_letters(
 /// The letter of each instance.
 fn push_results(text: &mut String, results: &[TaskResult]) -> Result<(), OutOfMemory>
     ensures { OnOk result (string_bytes text.new
-        ≡ string_bytes text.old ++ map (λ ended. ended_letter ended.outcome ended.tries) results.now) }
+        ≡ string_bytes text.old ++ map (λ ended. ended_letter ended.outcome ended.tries)
+        results.now) }
 {
     for ended in results {
         text.push(char::from(ended_letter(ended)))?;
@@ -83,7 +85,8 @@ fn state_word(state: RunState) -> &'static str
 /// When a run starts and ends, and its state.
 fn push_run(text: &mut String, run: &RunReport) -> Result<(), OutOfMemory>
     ensures { OnOk result (string_bytes text.new ≡ string_bytes text.old
-        ++ (moment_text run.now.interval.start.nanosecond ++ 32 ∷ (moment_text run.now.interval.end.nanosecond
+        ++ (moment_text run.now.interval.start.nanosecond
+        ++ 32 ∷ (moment_text run.now.interval.end.nanosecond
         ++ 32 ∷ (run_state_word run.now.state ++ 32 ∷ [])))) }
 {
     let start = Moment::new(run.interval.start);
@@ -103,7 +106,8 @@ fn push_row(
 ) -> Result<(), OutOfMemory>
     requires all { length settled.now ≡ length plan.now.dag.tasks }
     requires tasks { settled.now ≡ run.now.tasks }
-    ensures { (report : ReportTerm) → settled.now ≡ tasks_at report number → before.now ≡ tasks_before report number →
+    ensures { (report : ReportTerm) → settled.now ≡ tasks_at report number → before.now
+        ≡ tasks_before report number →
         OnOk result (string_bytes text.new
         ≡ string_bytes text.old ++ row plan.now.dag report number run.now) }
 {

@@ -34,7 +34,8 @@ pub fn own_letters_have_no_digit()
 
 /// The cells of a report, whose dag id is an id and whose moments are whole seconds, stand on a page as they are.
 pub fn cells_stand_as_they_are()
-    ensures { (dag : Dag) (report : Report) (bytes : ℕ) → is_id report.dag_id ≡ true → HasWholeMoments report.runs →
+    ensures { (dag : Dag) (report : Report) (bytes : ℕ) → is_id report.dag_id ≡ true
+        → HasWholeMoments report.runs →
         length dag.tasks < 2 ^ 64 → length report.runs < 2 ^ 64 → bytes < 2 ^ 64 →
         safe (cells_text dag report bytes) ≡ cells_text dag report bytes }
 {

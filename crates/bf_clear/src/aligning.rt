@@ -25,7 +25,8 @@ fn place_of(ids: &[Text], task: &Task) -> Option<usize>
 
 /// Where each task's id stands among these.
 fn places_of(alloc: Global, ids: &[Text], tasks: &[Task]) -> Result<Vec<Option<usize>>, OutOfMemory>
-    ensures { IfOk result (λ places. places.items ≡ map (λ task. position (bytes_eq task.id) ids.now) tasks.now) }
+    ensures { IfOk result (λ places. places.items
+        ≡ map (λ task. position (bytes_eq task.id) ids.now) tasks.now) }
 {
     let mut places = Vec::with_capacity(alloc, tasks.len())?;
     for task in tasks {

@@ -26,8 +26,10 @@ fn kept_beside<'a>(
     places: &[Place],
 ) -> Result<Cleared<'a>, OutOfMemory>
     requires { IsWithin plan.now.dag (length runs.now) report }
-    ensures kept { IfOk result (λ kept. AreKept plan.entry.now.dag places.now report (kept_in kept)) }
-    ensures follows { IfOk result (λ kept. AreDependents plan.entry.now.dag places.now (length runs.now) kept.cleared) }
+    ensures kept { IfOk result (λ kept. AreKept plan.entry.now.dag places.now report
+        (kept_in kept)) }
+    ensures follows { IfOk result (λ kept. AreDependents plan.entry.now.dag places.now
+        (length runs.now) kept.cleared) }
     ensures fit { IfOk result (λ kept. AreFit plan.entry.now.dag (kept_in kept)) }
 {
     let intervals = runs.intervals();
@@ -48,8 +50,10 @@ pub fn keep_places<'a>(
     places: &[Place],
 ) -> Result<Cleared<'a>, ClearFault>
     ensures ok { IfOk result (λ kept. keep_fault plan.entry.now.dag report ≡ None) }
-    ensures kept { IfOk result (λ kept. AreKeptByIds plan.entry.now.dag runs.now places.now report (kept_in kept)) }
-    ensures follows { IfOk result (λ kept. AreDependents plan.entry.now.dag places.now (length runs.now) kept.cleared) }
+    ensures kept { IfOk result (λ kept. AreKeptByIds plan.entry.now.dag runs.now places.now report
+        (kept_in kept)) }
+    ensures follows { IfOk result (λ kept. AreDependents plan.entry.now.dag places.now
+        (length runs.now) kept.cleared) }
     ensures fit { IfOk result (λ kept. AreFit plan.entry.now.dag (kept_in kept)) }
     ensures err { IfErr result (λ fault. keep_fault plan.entry.now.dag report ≡ refusal fault) }
 {
@@ -74,10 +78,13 @@ pub fn clear_places<'a>(
     places: &[Place],
 ) -> Result<Cleared<'a>, ClearFault>
     ensures ok { IfOk result (λ kept. clear_fault plan.entry.now.dag runs.now report [] ≡ None) }
-    ensures kept { IfOk result (λ kept. AreKept plan.entry.now.dag places.now report (kept_in kept)) }
-    ensures follows { IfOk result (λ kept. AreDependents plan.entry.now.dag places.now (length runs.now) kept.cleared) }
+    ensures kept { IfOk result (λ kept. AreKept plan.entry.now.dag places.now report
+        (kept_in kept)) }
+    ensures follows { IfOk result (λ kept. AreDependents plan.entry.now.dag places.now
+        (length runs.now) kept.cleared) }
     ensures fit { IfOk result (λ kept. AreFit plan.entry.now.dag (kept_in kept)) }
-    ensures err { IfErr result (λ fault. clear_fault plan.entry.now.dag runs.now report [] ≡ refusal fault) }
+    ensures err { IfErr result (λ fault. clear_fault plan.entry.now.dag runs.now report []
+        ≡ refusal fault) }
 {
     if !is_report_of(plan.dag(), runs.intervals(), &report) {
         return Err(ClearFault::ReportMismatch);

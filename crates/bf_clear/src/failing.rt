@@ -41,7 +41,8 @@ fn add_failed(
     name: JobName,
     found: &mut Vec<Place>,
 ) -> Result<(), OutOfMemory>
-    ensures { OnOk result (found.new.items ≡ found.old.items ++ failed_at report.now name.run name.task name.index) }
+    ensures { OnOk result (found.new.items ≡ found.old.items
+        ++ failed_at report.now name.run name.task name.index) }
 {
     let Some(instance) = instance_at(report, name) else {
         return Ok(());
@@ -90,7 +91,8 @@ fn add_of_run(
     tasks: u32,
     found: &mut Vec<Place>,
 ) -> Result<(), OutOfMemory>
-    ensures { OnOk result (found.new.items ≡ found.old.items ++ failed_of_run report.now tasks run) }
+    ensures { OnOk result (found.new.items ≡ found.old.items
+        ++ failed_of_run report.now tasks run) }
 {
     for task in 0..tasks {
         add_of_task(alloc, report, run, task, found)?;

@@ -20,29 +20,38 @@ ghost use Rattle.bf_clear.specs.Matching.{is_report_of};
 
 /// The report of a backfill that has ended tells of the entries of its ledger, and of no other.
 pub fn reports_tell_ledgers()
-    ensures { (dag : DagTerm) (intervals : List IntervalTerm) (ledger : Look) → HoldsItsTries dag (length intervals) ledger →
-        (report : ReportTerm) → IsDated dag intervals ledger report → (n : JobNameTerm) → told dag report n ≡ ledger n }
+    ensures { (dag : DagTerm) (intervals : List IntervalTerm) (ledger : Look)
+        → HoldsItsTries dag (length intervals) ledger →
+        (report : ReportTerm) → IsDated dag intervals ledger report → (n : JobNameTerm)
+        → told dag report n ≡ ledger n }
 {}
 
 /// A backfill that goes on from what is kept of the report of another has the entries of that one, but for what is cleared.
 pub fn resumed_backfills_keep_the_rest()
-    ensures { (dag : DagTerm) → IsSound dag → (intervals : List IntervalTerm) (seeds : List Place) (was kept resumed : Look) (report : ReportTerm) →
-        HoldsItsTries dag (length intervals) was → AreFit dag was → IsDated dag intervals was report → AreKept dag seeds report kept →
+    ensures { (dag : DagTerm) → IsSound dag
+        → (intervals : List IntervalTerm) (seeds : List Place) (was kept resumed : Look)
+        (report : ReportTerm) →
+        HoldsItsTries dag (length intervals) was → AreFit dag was → IsDated dag intervals was report
+        → AreKept dag seeds report kept →
         HoldsItsTries dag (length intervals) resumed → AreAlike kept resumed →
         (n : JobNameTerm) → IsBeside dag seeds n → resumed n ≡ was n }
 {}
 
 /// The report of a backfill of a plan over data intervals is never refused there as another's.
 pub fn own_reports_match()
-    ensures { (dag : DagTerm) → IsSound dag → (intervals : List IntervalTerm) (ledger : Look) (report : ReportTerm) →
+    ensures { (dag : DagTerm) → IsSound dag
+        → (intervals : List IntervalTerm) (ledger : Look) (report : ReportTerm) →
         IsDated dag intervals ledger report → is_report_of dag intervals report ≡ true }
 {}
 
 /// What a report of a backfill of the plan tells by ids and data intervals are the entries of its ledger, in each run over a data interval that was one
 /// of its own.
 pub fn kept_reports_tell_ledgers()
-    ensures { (dag : DagTerm) → IsNamed dag → (before intervals : List IntervalTerm) → AreOfRuns before → (ledger : Look) → HoldsItsTries dag (length before) ledger →
-        (report aligned : ReportTerm) → IsDated dag before ledger report → IsAligned dag intervals report aligned →
-        (interval : IntervalTerm) (j : ℕ) (n : JobNameTerm) → slice_get before j ≡ Some interval → slice_get intervals n.run ≡ Some interval →
+    ensures { (dag : DagTerm) → IsNamed dag → (before intervals : List IntervalTerm)
+        → AreOfRuns before → (ledger : Look) → HoldsItsTries dag (length before) ledger →
+        (report aligned : ReportTerm) → IsDated dag before ledger report
+        → IsAligned dag intervals report aligned →
+        (interval : IntervalTerm) (j : ℕ) (n : JobNameTerm) → slice_get before j ≡ Some interval
+        → slice_get intervals n.run ≡ Some interval →
         told dag aligned n ≡ ledger (record n { run = j }) }
 {}

@@ -43,7 +43,9 @@ fn was_given(
     given: &Given,
 ) -> Result<bool, OutOfMemory>
     requires { name.task < length plan.now.dag.tasks }
-    ensures { IfOk result (λ was. IsTrue was ↔ (given_by report.now.version (worked_out plan.now.dag report.now name.run name.task name.index) instance.now ≡ Some given.now)) }
+    ensures { IfOk result (λ was. IsTrue was ↔
+        (given_by report.now.version (worked_out plan.now.dag report.now name.run name.task
+        name.index) instance.now ≡ Some given.now)) }
 {
     match report.version {
         Version::Two => Ok(tells_given(instance, given)),
@@ -61,7 +63,8 @@ fn answer_of_try(
     attempt: u32,
 ) -> Result<Option<Raw>, OutOfMemory>
     requires { task < length plan.now.dag.tasks }
-    ensures { IfOk result (IsRawFor (fit_outcome plan.now.dag task (outcome_by instance.now attempt))) }
+    ensures { IfOk result (IsRawFor
+        (fit_outcome plan.now.dag task (outcome_by instance.now attempt))) }
 {
     if attempt == instance.tries {
         if !fits(plan, task, &instance.outcome) {
@@ -85,7 +88,9 @@ pub(crate) fn answer_of_instance(
     given: &Given,
 ) -> Result<Option<Raw>, OutOfMemory>
     requires { name.task < length plan.now.dag.tasks }
-    ensures { IfOk result (IsAnswerOf plan.now.dag (given_by report.now.version (worked_out plan.now.dag report.now name.run name.task name.index) instance.now) instance.now name given.now) }
+    ensures { IfOk result (IsAnswerOf plan.now.dag
+        (given_by report.now.version (worked_out plan.now.dag report.now name.run name.task
+        name.index) instance.now) instance.now name given.now) }
 {
     let was_given = was_given(alloc, plan, report, name, instance, given)?;
     if !was_given {

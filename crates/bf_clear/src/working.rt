@@ -107,7 +107,8 @@ fn worked_out(
     name: JobName,
 ) -> Result<Option<Given>, OutOfMemory>
     requires { name.task < length dag.now.tasks }
-    ensures { IfOk result (λ given. given ≡ worked_by dag.now report.now name.run name.task name.index) }
+    ensures { IfOk result (λ given. given
+        ≡ worked_by dag.now report.now name.run name.task name.index) }
 {
     let task = dag.task(name.task);
     let pulled = all_pulled(alloc, dag, report, name.run, task.pulls.as_slice())?;
@@ -137,7 +138,8 @@ pub(crate) fn was_worked_out(
     given: &Given,
 ) -> Result<bool, OutOfMemory>
     requires { name.task < length dag.now.tasks }
-    ensures { IfOk result (λ was. IsTrue was ↔ (worked_by dag.now report.now name.run name.task name.index ≡ Some given.now)) }
+    ensures { IfOk result (λ was. IsTrue was ↔
+        (worked_by dag.now report.now name.run name.task name.index ≡ Some given.now)) }
 {
     match worked_out(alloc, dag, report, name)? {
         Some(worked) => Ok(worked.is_same(given)),

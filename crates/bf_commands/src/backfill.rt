@@ -62,7 +62,8 @@ fn ended_alone<'p, K: KeptTries>(
     keeping: &Keeping<'_, K, TableRunner<'_>>,
 ) -> Result<Ended<'p>, CommandFault>
     requires { AreFit plan.now.dag (K.kept keeping.now.kept.now) }
-    ensures end { IfOk result (IsEndFrom (K.kept keeping.now.kept.now) (λ n given raw. raw ≡ answer_of keeping.now.runner.now n)
+    ensures end { IfOk result (IsEndFrom (K.kept keeping.now.kept.now)
+        (λ n given raw. raw ≡ answer_of keeping.now.runner.now n)
         plan.entry.now.dag plan.entry.now.limits (length runs.now) 1) }
     ensures memory { IfErr result (λ fault. fault ≡ CommandFault.OutOfMemory) }
 {
@@ -81,7 +82,8 @@ fn ended_over_table<'p, RT: Screen + Threads + Wait + Clock + Sync, K: KeptTries
     table: Table,
 ) -> Result<Ended<'p>, CommandFault>
     requires { AreFit plan.now.dag (K.kept kept.now) }
-    ensures end { IfOk result (IsEndFrom (K.kept kept.now) (AnswersByTable plan.entry.now.dag table runs.now)
+    ensures end { IfOk result (IsEndFrom (K.kept kept.now)
+        (AnswersByTable plan.entry.now.dag table runs.now)
         plan.entry.now.dag plan.entry.now.limits (length runs.now) crew.now.workers) }
     ensures wanting { IfErr result (IsWantingWorkers (is_alone crew.now.progress)) }
     ensures unsent { IfErr result IsUnsent }
@@ -111,10 +113,12 @@ fn ended_by_programs<'p, RT: Starter + Screen + Threads + Wait + Clock + Sync, K
 ) -> Result<Ended<'p>, CommandFault>
     requires { AreFit plan.now.dag (K.kept kept.now) }
     ensures end { IfOk result (IsEndFrom (K.kept kept.now)
-        (MayAnswer (through (launching_of crew.now.launching) (RT.may_hear crew.now.rt.now)) plan.entry.now.dag runs.now)
+        (MayAnswer (through (launching_of crew.now.launching) (RT.may_hear crew.now.rt.now))
+        plan.entry.now.dag runs.now)
         plan.entry.now.dag plan.entry.now.limits (length runs.now) crew.now.workers) }
     ensures stop { IfErr result (IsStopOrWantingAnew (K.kept kept.now)
-        (launching_of crew.now.launching) (RT.may_lose crew.now.rt.now) plan.entry.now.dag runs.now) }
+        (launching_of crew.now.launching) (RT.may_lose crew.now.rt.now) plan.entry.now.dag
+        runs.now) }
     ensures unsent { IfErr result IsUnsent }
 {
     let programs = programs_of(crew, plan, runs);
@@ -145,10 +149,12 @@ fn ended<'p, RT: Starter + Screen + Threads + Wait + Clock + Sync, K: KeptTries 
 ) -> Result<Ended<'p>, CommandFault>
     requires { AreFit plan.now.dag (K.kept kept.now) }
     ensures end { IfOk result (IsEndFrom (K.kept kept.now)
-        (MayAnswerBy (through (launching_of crew.now.launching) (RT.may_hear crew.now.rt.now)) answers plan.entry.now.dag runs.now)
+        (MayAnswerBy (through (launching_of crew.now.launching) (RT.may_hear crew.now.rt.now))
+        answers plan.entry.now.dag runs.now)
         plan.entry.now.dag plan.entry.now.limits (length runs.now) crew.now.workers) }
     ensures stop { IfErr result (IsStopOrWantingFrom (is_alone crew.now.progress) (K.kept kept.now)
-        (launching_of crew.now.launching) (RT.may_lose crew.now.rt.now) answers plan.entry.now.dag runs.now) }
+        (launching_of crew.now.launching) (RT.may_lose crew.now.rt.now) answers plan.entry.now.dag
+        runs.now) }
     ensures unsent { IfErr result IsUnsent }
 {
     match answers {
@@ -173,14 +179,17 @@ pub(crate) fn write_backfill<
 ) -> Result<bool, CommandFault>
     requires fit { AreFit plan.now.dag (K.kept kept.now) }
     ensures ok { IfOk result (λ success. Sends (λ text. IsReportFrom (K.kept kept.now)
-        (MayAnswerBy (through (launching_of crew.now.launching) (RT.may_hear crew.now.rt.now)) answers plan.now.dag runs.now)
+        (MayAnswerBy (through (launching_of crew.now.launching) (RT.may_hear crew.now.rt.now))
+        answers plan.now.dag runs.now)
         plan.now.dag runs.now text success) (W.written out.old) (W.written out.new)) }
     ensures stop { IfErr result (IsStopOrWantingFrom (is_alone crew.now.progress) (K.kept kept.now)
-        (launching_of crew.now.launching) (RT.may_lose crew.now.rt.now) answers plan.now.dag runs.now) }
+        (launching_of crew.now.launching) (RT.may_lose crew.now.rt.now) answers plan.now.dag
+        runs.now) }
     ensures left { IfErr result (Leaves (HasHalted (W.failures out.old) (W.failures out.new)
         (W.interruptions out.old) (W.interruptions out.new))
         (λ text. (success : Bool) × IsReportFrom (K.kept kept.now)
-        (MayAnswerBy (through (launching_of crew.now.launching) (RT.may_hear crew.now.rt.now)) answers plan.now.dag runs.now)
+        (MayAnswerBy (through (launching_of crew.now.launching) (RT.may_hear crew.now.rt.now))
+        answers plan.now.dag runs.now)
         plan.now.dag runs.now text success) (W.written out.old) (W.written out.new)) }
 {
     let ended = ended(crew, plan, runs, kept, answers)?;

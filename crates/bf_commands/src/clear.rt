@@ -35,7 +35,8 @@ use std::time::Clock;
 
 /// The answers that a table's bytes say, where there is one.
 fn answers_in(alloc: Global, table: Option<&[u8]>) -> Result<Option<Table>, CommandFault>
-    ensures ok { IfOk result (λ answers. AreAnswersIn (option_map (λ s. s.now) table.entry) answers) }
+    ensures ok { IfOk result (λ answers. AreAnswersIn (option_map (λ s. s.now) table.entry)
+        answers) }
     ensures fault { IfErr result (IsFaultOfNamed (option_map (λ s. s.now) table.entry)) }
 {
     match table {
@@ -62,9 +63,11 @@ pub fn prepare(
     table: Option<&[u8]>,
     range: RunRange,
 ) -> Result<Prepared, CommandFault>
-    ensures ok { IfOk result (λ p. IsPrepared graph.now (option_map (λ s. s.now) zone_file.entry) (option_map (λ s. s.now) table.entry)
+    ensures ok { IfOk result (λ p. IsPrepared graph.now (option_map (λ s. s.now) zone_file.entry)
+        (option_map (λ s. s.now) table.entry)
         range p.dated.plan.dag p.dated.runs (clocks_in p.dated) p.answers) }
-    ensures fault { IfErr result (IsFaultBefore graph.now (option_map (λ s. s.now) zone_file.entry) (option_map (λ s. s.now) table.entry)
+    ensures fault { IfErr result (IsFaultBefore graph.now (option_map (λ s. s.now) zone_file.entry)
+        (option_map (λ s. s.now) table.entry)
         range) }
 {
     let timed = timed_plan_in(alloc, graph, zone_file)?;
@@ -90,9 +93,11 @@ pub fn clear_in<'a>(
     what: ToClear,
 ) -> Result<Clearing<'a>, CommandFault>
     ensures dated { IfOk result (λ c. c.dated ≡ dated.entry) }
-    ensures cleared { IfOk result (λ c. IsClearedBy dated.entry.now.plan.dag dated.entry.now.runs report what (kept_in c.kept) c.cleared.items) }
+    ensures cleared { IfOk result (λ c. IsClearedBy dated.entry.now.plan.dag dated.entry.now.runs
+        report what (kept_in c.kept) c.cleared.items) }
     ensures fit { IfOk result (λ c. AreFit dated.entry.now.plan.dag (kept_in c.kept)) }
-    ensures fault { IfErr result (IsUncleared dated.entry.now.plan.dag dated.entry.now.runs report what) }
+    ensures fault { IfErr result (IsUncleared dated.entry.now.plan.dag dated.entry.now.runs report
+        what) }
 {
     let places = places_to_clear(alloc, dated, &report, &what)?;
     let kept = kept_of(alloc, dated, report, &what, places.as_slice())?;
@@ -113,15 +118,19 @@ pub fn run_again<RT: Starter + Screen + Threads + Wait + Clock + Sync, W: Write>
     what: ToClear,
     out: &mut W,
 ) -> Result<bool, CommandFault>
-    ensures ok { IfOk result (λ success. Sends (λ text. IsReportAfter (launched_in prepared.dated (launching_of crew.now.launching) (RT.may_hear crew.now.rt.now))
+    ensures ok { IfOk result (λ success. Sends
+        (λ text. IsReportAfter (launched_in prepared.dated (launching_of crew.now.launching)
+        (RT.may_hear crew.now.rt.now))
         prepared.answers prepared.dated.plan.dag prepared.dated.runs report what text success)
         (W.written out.old) (W.written out.new)) }
     ensures fault { IfErr result (IsFaultAgain (is_alone crew.now.progress)
-        (with_clocks (launching_of crew.now.launching) (clocks_in prepared.dated)) (RT.may_lose crew.now.rt.now)
+        (with_clocks (launching_of crew.now.launching) (clocks_in prepared.dated))
+        (RT.may_lose crew.now.rt.now)
         prepared.answers prepared.dated.plan.dag prepared.dated.runs report what) }
     ensures left { IfErr result (Leaves (HasHalted (W.failures out.old) (W.failures out.new)
         (W.interruptions out.old) (W.interruptions out.new))
-        (λ text. (success : Bool) × IsReportAfter (launched_in prepared.dated (launching_of crew.now.launching) (RT.may_hear crew.now.rt.now))
+        (λ text. (success : Bool) × IsReportAfter
+        (launched_in prepared.dated (launching_of crew.now.launching) (RT.may_hear crew.now.rt.now))
         prepared.answers prepared.dated.plan.dag prepared.dated.runs report what text success)
         (W.written out.old) (W.written out.new)) }
 {
@@ -153,22 +162,34 @@ where
     W: Write,
     requires { AreFit clearing.now.dated.now.plan.dag (kept_in clearing.now.kept) }
     ensures ok { IfOk result.report (λ success. Sends (λ text.
-        IsReportSince (kept_in clearing.now.kept) journal.retry_failed journal.held.items clearing.now.cleared.items
-        (MayAnswerBy (launched_in clearing.now.dated.now (launching_of crew.now.launching) (RT.may_hear crew.now.rt.now)) answers clearing.now.dated.now.plan.dag clearing.now.dated.now.runs)
-        clearing.now.dated.now.plan.dag clearing.now.dated.now.runs text success) (W.written out.old) (W.written out.new)) }
-    ensures fault { IfErr result.report (IsFaultSince journal.stop_after (kept_in clearing.now.kept) journal.retry_failed
+        IsReportSince (kept_in clearing.now.kept) journal.retry_failed journal.held.items
+        clearing.now.cleared.items
+        (MayAnswerBy (launched_in clearing.now.dated.now (launching_of crew.now.launching)
+        (RT.may_hear crew.now.rt.now)) answers clearing.now.dated.now.plan.dag
+        clearing.now.dated.now.runs)
+        clearing.now.dated.now.plan.dag clearing.now.dated.now.runs text success)
+        (W.written out.old) (W.written out.new)) }
+    ensures fault { IfErr result.report
+        (IsFaultSince journal.stop_after (kept_in clearing.now.kept) journal.retry_failed
         journal.held.items clearing.now.cleared.items (launching_of crew.now.launching).logs
         clearing.now.dated.now.plan.dag clearing.now.dated.now.runs) }
     ensures left { IfErr result.report (Leaves (HasHalted (W.failures out.old) (W.failures out.new)
         (W.interruptions out.old) (W.interruptions out.new))
         (λ text. (success : Bool)
-        × IsReportSince (kept_in clearing.now.kept) journal.retry_failed journal.held.items clearing.now.cleared.items
-        (MayAnswerBy (launched_in clearing.now.dated.now (launching_of crew.now.launching) (RT.may_hear crew.now.rt.now)) answers clearing.now.dated.now.plan.dag clearing.now.dated.now.runs)
-        clearing.now.dated.now.plan.dag clearing.now.dated.now.runs text success) (W.written out.old) (W.written out.new)) }
+        × IsReportSince (kept_in clearing.now.kept) journal.retry_failed journal.held.items
+        clearing.now.cleared.items
+        (MayAnswerBy (launched_in clearing.now.dated.now (launching_of crew.now.launching)
+        (RT.may_hear crew.now.rt.now)) answers clearing.now.dated.now.plan.dag
+        clearing.now.dated.now.runs)
+        clearing.now.dated.now.plan.dag clearing.now.dated.now.runs text success)
+        (W.written out.old) (W.written out.new)) }
     ensures journal { KeepsJournal
-        (MayAnswerBy (launched_in clearing.now.dated.now (launching_of crew.now.launching) (RT.may_hear crew.now.rt.now)) answers clearing.now.dated.now.plan.dag clearing.now.dated.now.runs)
+        (MayAnswerBy (launched_in clearing.now.dated.now (launching_of crew.now.launching)
+        (RT.may_hear crew.now.rt.now)) answers clearing.now.dated.now.plan.dag
+        clearing.now.dated.now.runs)
         clearing.now.dated.now.plan.dag clearing.now.dated.now.runs
-        (head_text clearing.now.dated.now.plan.dag clearing.now.dated.now.runs clearing.now.cleared.items)
+        (head_text clearing.now.dated.now.plan.dag clearing.now.dated.now.runs
+        clearing.now.cleared.items)
         journal.held.items (D.written journal.device) (D.written result.device) }
 {
     let backfill = Backfill {

@@ -18,7 +18,8 @@ use bf_value::OutOfMemory;
 use std::alloc::Global;
 
 fn push_cleared(text: &mut String, cleared: &ClearedTask) -> Result<(), OutOfMemory>
-    ensures { OnOk result (string_bytes text.new ≡ string_bytes text.old ++ cleared_line cleared.now) }
+    ensures { OnOk result (string_bytes text.new ≡ string_bytes text.old
+        ++ cleared_line cleared.now) }
 {
     let ClearedTask { task, run, index } = cleared;
     match index {
@@ -100,7 +101,8 @@ fn plan_text(
     report: Report,
     what: &ToClear,
 ) -> Result<String, CommandFault>
-    ensures ok { IfOk result (λ text. IsClearPlan dated.now.plan.dag dated.now.runs report what.now (string_bytes text)) }
+    ensures ok { IfOk result (λ text. IsClearPlan dated.now.plan.dag dated.now.runs report what.now
+        (string_bytes text)) }
     ensures fault { IfErr result (IsUncleared dated.now.plan.dag dated.now.runs report what.now) }
 {
     let seeds = places_to_clear(alloc, dated, &report, what)?;
@@ -124,7 +126,8 @@ pub fn write_clear_plan<W: Write>(
 ) -> Result<(), CommandFault>
     ensures ok { OnOk result (Sends (IsClearPlan dated.now.plan.dag dated.now.runs report what.now)
         (W.written out.old) (W.written out.new)) }
-    ensures fault { IfErr result (IsFaultOfClearPlan dated.now.plan.dag dated.now.runs report what.now) }
+    ensures fault { IfErr result (IsFaultOfClearPlan dated.now.plan.dag dated.now.runs report
+        what.now) }
     ensures left { IfErr result (Leaves (HasHalted (W.failures out.old) (W.failures out.new)
         (W.interruptions out.old) (W.interruptions out.new))
         (IsClearPlan dated.now.plan.dag dated.now.runs report what.now)

@@ -33,8 +33,10 @@ fn places_of_seeds(
     dated: &DatedPlan,
     seeds: &[Seed],
 ) -> Result<Vec<Place>, CommandFault>
-    ensures known { IfOk result (λ _. seed_fault dated.now.plan.dag dated.now.runs seeds.now ≡ None) }
-    ensures ok { IfOk result (λ places. places.items ≡ places_in dated.now.plan.dag dated.now.runs seeds.now) }
+    ensures known { IfOk result (λ _. seed_fault dated.now.plan.dag dated.now.runs seeds.now
+        ≡ None) }
+    ensures ok { IfOk result (λ places. places.items
+        ≡ places_in dated.now.plan.dag dated.now.runs seeds.now) }
     ensures fault { IfErr result (IsUnknownNamed dated.now.plan.dag dated.now.runs seeds.now) }
 {
     let intervals = dated.runs.intervals();
@@ -49,7 +51,8 @@ pub(crate) fn places_to_clear(
     report: &Report,
     what: &ToClear,
 ) -> Result<Vec<Place>, CommandFault>
-    ensures ok { IfOk result (λ places. AreCleared dated.now.plan.dag dated.now.runs report.now what.now places.items) }
+    ensures ok { IfOk result (λ places. AreCleared dated.now.plan.dag dated.now.runs report.now
+        what.now places.items) }
     ensures fault { IfErr result (IsUnknown dated.now.plan.dag dated.now.runs what.now) }
 {
     match what {
@@ -72,11 +75,15 @@ pub(crate) fn kept_of<'a>(
     what: &ToClear,
     places: &[Place],
 ) -> Result<Cleared<'a>, ClearFault>
-    ensures ok { IfOk result (λ kept. report_fault what.now dated.entry.now.plan.dag dated.entry.now.runs report ≡ None) }
-    ensures kept { IfOk result (λ kept. AreKeptFor what.now dated.entry.now.plan.dag dated.entry.now.runs places.now report (kept_in kept)) }
-    ensures follows { IfOk result (λ kept. AreDependents dated.entry.now.plan.dag places.now (length dated.entry.now.runs) kept.cleared) }
+    ensures ok { IfOk result (λ kept. report_fault what.now dated.entry.now.plan.dag
+        dated.entry.now.runs report ≡ None) }
+    ensures kept { IfOk result (λ kept. AreKeptFor what.now dated.entry.now.plan.dag
+        dated.entry.now.runs places.now report (kept_in kept)) }
+    ensures follows { IfOk result (λ kept. AreDependents dated.entry.now.plan.dag places.now
+        (length dated.entry.now.runs) kept.cleared) }
     ensures fit { IfOk result (λ kept. AreFit dated.entry.now.plan.dag (kept_in kept)) }
-    ensures err { IfErr result (λ fault. report_fault what.now dated.entry.now.plan.dag dated.entry.now.runs report ≡ refusal fault) }
+    ensures err { IfErr result (λ fault. report_fault what.now dated.entry.now.plan.dag
+        dated.entry.now.runs report ≡ refusal fault) }
 {
     match what {
         ToClear::Nothing => keep_places(alloc, &dated.plan, &dated.runs, report, places),

@@ -11,6 +11,7 @@ use bf_core::{BackfillFault, Ended};
 use bf_exec::{Observer, Silent, Watch, resume};
 use bf_interval::Runs;
 use bf_kept::{Keeping, KeptTries};
+use bf_lane::TimeSource;
 use bf_moment::Moment;
 use bf_plan::Plan;
 use bf_process::{Launching, LogFaults};
@@ -153,10 +154,11 @@ impl<'m, RT: Screen + Threads + Wait + Clock + Sync> Crew<'m, RT> {
     where
         K: KeptTries + Sync,
         R: TaskRunner + Sync,
-        C: bf_lane::Clock + Drop,
+        C: TimeSource + Drop,
         O: Observer + Drop,
         requires { AreFit plan.now.dag (K.kept keeping.now.kept.now) }
-        ensures end { IfOk result (IsEndFrom (K.kept keeping.now.kept.now) (R.may_answer keeping.now.runner.now)
+        ensures end { IfOk result (IsEndFrom (K.kept keeping.now.kept.now)
+            (R.may_answer keeping.now.runner.now)
             plan.entry.now.dag plan.entry.now.limits (length runs.now) self.now.workers) }
         ensures err { IfErr result (MayFail
             (MayGiveUpAnew (K.kept keeping.now.kept.now) (R.may_give_up keeping.now.runner.now))) }
@@ -186,9 +188,10 @@ impl<'m, RT: Screen + Threads + Wait + Clock + Sync> Crew<'m, RT> {
     where
         K: KeptTries + Sync,
         R: TaskRunner + Sync,
-        C: bf_lane::Clock + Drop,
+        C: TimeSource + Drop,
         requires { AreFit plan.now.dag (K.kept keeping.now.kept.now) }
-        ensures end { IfOk result (IsEndFrom (K.kept keeping.now.kept.now) (R.may_answer keeping.now.runner.now)
+        ensures end { IfOk result (IsEndFrom (K.kept keeping.now.kept.now)
+            (R.may_answer keeping.now.runner.now)
             plan.entry.now.dag plan.entry.now.limits (length runs.now) self.now.workers) }
         ensures err { IfErr result (MayFail
             (MayGiveUpAnew (K.kept keeping.now.kept.now) (R.may_give_up keeping.now.runner.now))) }
@@ -205,7 +208,7 @@ impl<'m, RT: Screen + Threads + Wait + Clock + Sync> Crew<'m, RT> {
 
     /// The end of a backfill by the workers, which goes on from tries that are kept. Its progress is told where that is asked
     /// for, and where it is told without being asked.
-    pub(crate) fn resumed<'p, K: KeptTries + Sync, R: TaskRunner + Sync, C: bf_lane::Clock + Drop>(
+    pub(crate) fn resumed<'p, K: KeptTries + Sync, R: TaskRunner + Sync, C: TimeSource + Drop>(
         &self,
         plan: &'p Plan,
         runs: &Runs,
@@ -213,7 +216,8 @@ impl<'m, RT: Screen + Threads + Wait + Clock + Sync> Crew<'m, RT> {
         clock: C,
     ) -> Result<Ended<'p>, BackfillFault>
         requires { AreFit plan.now.dag (K.kept keeping.now.kept.now) }
-        ensures end { IfOk result (IsEndFrom (K.kept keeping.now.kept.now) (R.may_answer keeping.now.runner.now)
+        ensures end { IfOk result (IsEndFrom (K.kept keeping.now.kept.now)
+            (R.may_answer keeping.now.runner.now)
             plan.entry.now.dag plan.entry.now.limits (length runs.now) self.now.workers) }
         ensures err { IfErr result (MayFail
             (MayGiveUpAnew (K.kept keeping.now.kept.now) (R.may_give_up keeping.now.runner.now))) }
@@ -228,10 +232,13 @@ impl<'m, RT: Screen + Threads + Wait + Clock + Sync> Crew<'m, RT> {
             self.rt,
             |scope| -> Result<Ended<'_>, BackfillFault>
                 requires { AreFit plan.now.dag (K.kept keeping.now.kept.now) }
-                ensures end { IfOk result (IsEndFrom (K.kept keeping.entry.now.kept.now) (R.may_answer keeping.entry.now.runner.now)
-                    plan.entry.now.dag plan.entry.now.limits (length runs.entry.now) self.entry.now.workers) }
+                ensures end { IfOk result (IsEndFrom (K.kept keeping.entry.now.kept.now)
+                    (R.may_answer keeping.entry.now.runner.now)
+                    plan.entry.now.dag plan.entry.now.limits (length runs.entry.now)
+                    self.entry.now.workers) }
                 ensures err { IfErr result (MayFail
-                    (MayGiveUpAnew (K.kept keeping.entry.now.kept.now) (R.may_give_up keeping.entry.now.runner.now))) }
+                    (MayGiveUpAnew (K.kept keeping.entry.now.kept.now)
+                    (R.may_give_up keeping.entry.now.runner.now))) }
             { self.told(scope, lent, plan, runs, keeping, clock) },
         )
     }

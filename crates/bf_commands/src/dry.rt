@@ -31,11 +31,13 @@ pub fn run_dry<RT: Starter + Screen + Threads + Wait + Clock + Sync, W: Write>(
     ensures ok { IfOk result (λ success. Sends (λ text.
         IsReportIn graph.now (option_map (λ s. s.now) zone_file.entry) table.now range text success)
         (W.written out.old) (W.written out.new)) }
-    ensures fault { IfErr result (IsFaultOfDry (is_alone crew.now.progress) graph.now (option_map (λ s. s.now) zone_file.entry) table.now range) }
+    ensures fault { IfErr result (IsFaultOfDry (is_alone crew.now.progress) graph.now
+        (option_map (λ s. s.now) zone_file.entry) table.now range) }
     ensures left { IfErr result (Leaves (HasHalted (W.failures out.old) (W.failures out.new)
         (W.interruptions out.old) (W.interruptions out.new))
         (λ text. (success : Bool)
-        × IsReportIn graph.now (option_map (λ s. s.now) zone_file.entry) table.now range text success)
+        × IsReportIn graph.now (option_map (λ s. s.now) zone_file.entry) table.now range text
+        success)
         (W.written out.old) (W.written out.new)) }
 {
     let timed = timed_plan_in(crew.alloc, graph, zone_file)?;

@@ -37,7 +37,8 @@ fn add_heading(
     place: Place,
     cleared: &mut Vec<ClearedTask>,
 ) -> Result<(), OutOfMemory>
-    ensures { OnOk result (AddsTold dag.now (slice_get runs.now place.run) place cleared.old.items cleared.new.items) }
+    ensures { OnOk result (AddsTold dag.now (slice_get runs.now place.run) place cleared.old.items
+        cleared.new.items) }
 {
     let Some(interval) = runs.intervals().get(place.run as usize) else {
         return Ok(());

@@ -37,11 +37,15 @@ pub(crate) fn tries_of<RT: Screen, D: Cuttable + Drop>(
     cleared: &[ClearedTask],
     journal: &mut Journal<D>,
 ) -> Result<Ledger, CommandFault>
-    ensures tries { IfOk result (λ tries. HasTries plan.now.dag runs.now cleared.now journal.old.held.items (map.get tries)) }
+    ensures tries { IfOk result (λ tries. HasTries plan.now.dag runs.now cleared.now
+        journal.old.held.items (map.get tries)) }
     ensures fit { IfOk result (λ tries. AreFit plan.now.dag (map.get tries)) }
-    ensures fault { IfErr result (IsFaultOfJournal plan.now.dag runs.now cleared.now journal.old.held.items) }
-    ensures made_whole { IfOk result (λ tries. IsMadeWhole plan.now.dag runs.now (head_text plan.now.dag runs.now cleared.now)
-        journal.old.held.items (map.get tries) (D.written journal.old.device) (D.written journal.new.device)) }
+    ensures fault { IfErr result (IsFaultOfJournal plan.now.dag runs.now cleared.now
+        journal.old.held.items) }
+    ensures made_whole { IfOk result
+        (λ tries. IsMadeWhole plan.now.dag runs.now (head_text plan.now.dag runs.now cleared.now)
+        journal.old.held.items (map.get tries) (D.written journal.old.device)
+        (D.written journal.new.device)) }
     ensures part { IfErr result (λ _. IsLeftPart (head_text plan.now.dag runs.now cleared.now)
         journal.old.held.items (D.written journal.old.device) (D.written journal.new.device)) }
     ensures stop_after { journal.new.stop_after ≡ journal.old.stop_after }

@@ -68,12 +68,14 @@ where
     K: KeptTries + Sync,
     D: Cuttable + Drop + Send,
     requires { AreFit plan.now.dag (K.kept kept.now) }
-    ensures end { IfOk result.ended (IsEndFrom (K.kept kept.now) (AnswersByTable plan.entry.now.dag table runs.now)
+    ensures end { IfOk result.ended
+        (IsEndFrom (K.kept kept.now) (AnswersByTable plan.entry.now.dag table runs.now)
         plan.entry.now.dag plan.entry.now.limits (length runs.now) crew.now.workers) }
     ensures stop { IfErr result.ended (IsStopRecordedOrWanting record.most_failed (K.kept kept.now)
         (launching_of crew.now.launching).logs plan.entry.now.dag runs.now) }
     ensures unsent { IfErr result.ended IsUnsent }
-    ensures written { IsWritten (IsRecordBy (AnswersByTable plan.entry.now.dag table runs.now) plan.entry.now.dag runs.now)
+    ensures written { IsWritten (IsRecordBy (AnswersByTable plan.entry.now.dag table runs.now)
+        plan.entry.now.dag runs.now)
         (D.written record.device) (D.written result.device) (is_write_failed result.stop) }
 {
     let runner = match runner_over(crew.alloc, plan, table, runs) {
@@ -108,13 +110,15 @@ where
     D: Cuttable + Drop + Send,
     requires { AreFit plan.now.dag (K.kept kept.now) }
     ensures end { IfOk result.ended (IsEndFrom (K.kept kept.now)
-        (MayAnswer (through (launching_of crew.now.launching) (RT.may_hear crew.now.rt.now)) plan.entry.now.dag runs.now)
+        (MayAnswer (through (launching_of crew.now.launching) (RT.may_hear crew.now.rt.now))
+        plan.entry.now.dag runs.now)
         plan.entry.now.dag plan.entry.now.limits (length runs.now) crew.now.workers) }
     ensures stop { IfErr result.ended (IsStopRecordedOrWanting record.most_failed (K.kept kept.now)
         (launching_of crew.now.launching).logs plan.entry.now.dag runs.now) }
     ensures unsent { IfErr result.ended IsUnsent }
     ensures written { IsWritten (IsRecordBy
-        (MayAnswer (through (launching_of crew.now.launching) (RT.may_hear crew.now.rt.now)) plan.entry.now.dag runs.now) plan.entry.now.dag runs.now)
+        (MayAnswer (through (launching_of crew.now.launching) (RT.may_hear crew.now.rt.now))
+        plan.entry.now.dag runs.now) plan.entry.now.dag runs.now)
         (D.written record.device) (D.written result.device) (is_write_failed result.stop) }
 {
     let programs = programs_of(crew, plan, runs);
@@ -145,13 +149,15 @@ where
     D: Cuttable + Drop + Send,
     requires { AreFit plan.now.dag (K.kept kept.now) }
     ensures end { IfOk result.ended (IsEndFrom (K.kept kept.now)
-        (MayAnswerBy (through (launching_of crew.now.launching) (RT.may_hear crew.now.rt.now)) answers plan.entry.now.dag runs.now)
+        (MayAnswerBy (through (launching_of crew.now.launching) (RT.may_hear crew.now.rt.now))
+        answers plan.entry.now.dag runs.now)
         plan.entry.now.dag plan.entry.now.limits (length runs.now) crew.now.workers) }
     ensures stop { IfErr result.ended (IsStopRecordedOrWanting record.most_failed (K.kept kept.now)
         (launching_of crew.now.launching).logs plan.entry.now.dag runs.now) }
     ensures unsent { IfErr result.ended IsUnsent }
     ensures written { IsWritten (IsRecordBy
-        (MayAnswerBy (through (launching_of crew.now.launching) (RT.may_hear crew.now.rt.now)) answers plan.entry.now.dag runs.now) plan.entry.now.dag runs.now)
+        (MayAnswerBy (through (launching_of crew.now.launching) (RT.may_hear crew.now.rt.now))
+        answers plan.entry.now.dag runs.now) plan.entry.now.dag runs.now)
         (D.written record.device) (D.written result.device) (is_write_failed result.stop) }
 {
     match answers {
@@ -169,12 +175,14 @@ fn report_told<RT: Screen, W: Write>(
     out: &mut W,
 ) -> Result<bool, CommandFault>
     requires { length runs.now ≡ ended.now.runs }
-    ensures ok { IfOk result (λ success. Sends (λ text. IsReportOf ended.now.dag runs.now (entry_in ended.now.state.ledger) text success)
+    ensures ok { IfOk result (λ success. Sends
+        (λ text. IsReportOf ended.now.dag runs.now (entry_in ended.now.state.ledger) text success)
         (W.written out.old) (W.written out.new)) }
     ensures wanting { IfErr result IsWanting }
     ensures left { IfErr result (Leaves (HasHalted (W.failures out.old) (W.failures out.new)
         (W.interruptions out.old) (W.interruptions out.new))
-        (λ text. (success : Bool) × IsReportOf ended.now.dag runs.now (entry_in ended.now.state.ledger) text success)
+        (λ text. (success : Bool) × IsReportOf ended.now.dag runs.now
+        (entry_in ended.now.state.ledger) text success)
         (W.written out.old) (W.written out.new)) }
 {
     let success = write_ended(crew.alloc, runs, ended, out)?;
@@ -201,17 +209,20 @@ where
     W: Write,
     requires { AreFit plan.now.dag (K.kept kept.now) }
     ensures ok { IfOk result.report (λ success. Sends (λ text. IsReportFrom (K.kept kept.now)
-        (MayAnswerBy (through (launching_of crew.now.launching) (RT.may_hear crew.now.rt.now)) answers plan.now.dag runs.now)
+        (MayAnswerBy (through (launching_of crew.now.launching) (RT.may_hear crew.now.rt.now))
+        answers plan.now.dag runs.now)
         plan.now.dag runs.now text success) (W.written out.old) (W.written out.new)) }
     ensures stop { IfErr result.report (IsStopRecordedOrWanting record.most_failed (K.kept kept.now)
         (launching_of crew.now.launching).logs plan.now.dag runs.now) }
     ensures left { IfErr result.report (Leaves (HasHalted (W.failures out.old) (W.failures out.new)
         (W.interruptions out.old) (W.interruptions out.new))
         (λ text. (success : Bool) × IsReportFrom (K.kept kept.now)
-        (MayAnswerBy (through (launching_of crew.now.launching) (RT.may_hear crew.now.rt.now)) answers plan.now.dag runs.now)
+        (MayAnswerBy (through (launching_of crew.now.launching) (RT.may_hear crew.now.rt.now))
+        answers plan.now.dag runs.now)
         plan.now.dag runs.now text success) (W.written out.old) (W.written out.new)) }
     ensures written { (failed : Bool) × IsWritten (IsRecordBy
-        (MayAnswerBy (through (launching_of crew.now.launching) (RT.may_hear crew.now.rt.now)) answers plan.now.dag runs.now) plan.now.dag runs.now)
+        (MayAnswerBy (through (launching_of crew.now.launching) (RT.may_hear crew.now.rt.now))
+        answers plan.now.dag runs.now) plan.now.dag runs.now)
         (D.written record.device) (D.written result.device) failed }
 {
     let RecordedEnd {
@@ -248,21 +259,30 @@ where
     W: Write,
     requires { AreFit backfill.now.plan.now.dag (K.kept backfill.now.before.now) }
     ensures ok { IfOk result.report (λ success. Sends (λ text.
-        IsReportSince (K.kept backfill.now.before.now) journal.retry_failed journal.held.items backfill.now.cleared.now
-        (MayAnswerBy (through (launching_of crew.now.launching) (RT.may_hear crew.now.rt.now)) answers backfill.now.plan.now.dag backfill.now.runs.now)
-        backfill.now.plan.now.dag backfill.now.runs.now text success) (W.written out.old) (W.written out.new)) }
-    ensures fault { IfErr result.report (IsFaultSince journal.stop_after (K.kept backfill.now.before.now) journal.retry_failed
+        IsReportSince (K.kept backfill.now.before.now) journal.retry_failed journal.held.items
+        backfill.now.cleared.now
+        (MayAnswerBy (through (launching_of crew.now.launching) (RT.may_hear crew.now.rt.now))
+        answers backfill.now.plan.now.dag backfill.now.runs.now)
+        backfill.now.plan.now.dag backfill.now.runs.now text success) (W.written out.old)
+        (W.written out.new)) }
+    ensures fault { IfErr result.report
+        (IsFaultSince journal.stop_after (K.kept backfill.now.before.now) journal.retry_failed
         journal.held.items backfill.now.cleared.now (launching_of crew.now.launching).logs
         backfill.now.plan.now.dag backfill.now.runs.now) }
     ensures left { IfErr result.report (Leaves (HasHalted (W.failures out.old) (W.failures out.new)
         (W.interruptions out.old) (W.interruptions out.new))
         (λ text. (success : Bool)
-        × IsReportSince (K.kept backfill.now.before.now) journal.retry_failed journal.held.items backfill.now.cleared.now
-        (MayAnswerBy (through (launching_of crew.now.launching) (RT.may_hear crew.now.rt.now)) answers backfill.now.plan.now.dag backfill.now.runs.now)
-        backfill.now.plan.now.dag backfill.now.runs.now text success) (W.written out.old) (W.written out.new)) }
+        × IsReportSince (K.kept backfill.now.before.now) journal.retry_failed journal.held.items
+        backfill.now.cleared.now
+        (MayAnswerBy (through (launching_of crew.now.launching) (RT.may_hear crew.now.rt.now))
+        answers backfill.now.plan.now.dag backfill.now.runs.now)
+        backfill.now.plan.now.dag backfill.now.runs.now text success) (W.written out.old)
+        (W.written out.new)) }
     ensures journal { KeepsJournal
-        (MayAnswerBy (through (launching_of crew.now.launching) (RT.may_hear crew.now.rt.now)) answers backfill.now.plan.now.dag backfill.now.runs.now)
-        backfill.now.plan.now.dag backfill.now.runs.now (head_text backfill.now.plan.now.dag backfill.now.runs.now backfill.now.cleared.now)
+        (MayAnswerBy (through (launching_of crew.now.launching) (RT.may_hear crew.now.rt.now))
+        answers backfill.now.plan.now.dag backfill.now.runs.now)
+        backfill.now.plan.now.dag backfill.now.runs.now
+        (head_text backfill.now.plan.now.dag backfill.now.runs.now backfill.now.cleared.now)
         journal.held.items (D.written journal.device) (D.written result.device) }
 {
     let plan = backfill.plan;

@@ -22,13 +22,16 @@ use bf_try::TaskRunner;
 
 /// A graph file, a zone file and a range have one listing.
 pub fn one_list()
-    ensures { (graph : List ℕ) (file : Option (List ℕ)) (range : RunRangeTerm) (xs ys : List IntervalTerm)
+    ensures { (graph : List ℕ) (file : Option (List ℕ)) (range : RunRangeTerm)
+        (xs ys : List IntervalTerm)
         → HasListing graph file range (Ok xs) → HasListing graph file range (Ok ys) → xs ≡ ys }
 {}
 
 /// A plan, a table and data intervals have one report, whatever the order in which the tries ran.
 pub fn one_report()
-    ensures { (dag : DagTerm) → IsSound dag → (table : List TableEntryTerm) (intervals : List IntervalTerm) (one two : List ℕ) (success other : Bool)
+    ensures { (dag : DagTerm) → IsSound dag
+        → (table : List TableEntryTerm) (intervals : List IntervalTerm) (one two : List ℕ)
+        (success other : Bool)
         → IsReportOver dag table intervals one success → IsReportOver dag table intervals two other
         → (one ≡ two) × (success ≡ other) }
 {}
@@ -36,14 +39,17 @@ pub fn one_report()
 /// The bytes of a graph file, of a zone file and of a table, and a range, have one report. So what `dry` prints rests on them
 /// alone, and not on how many workers there are.
 pub fn one_dry_report()
-    ensures { (graph : List ℕ) (file : Option (List ℕ)) (table : List ℕ) (range : RunRangeTerm) (one two : List ℕ) (success other : Bool)
-        → IsReportIn graph file table range one success → IsReportIn graph file table range two other
+    ensures { (graph : List ℕ) (file : Option (List ℕ)) (table : List ℕ) (range : RunRangeTerm)
+        (one two : List ℕ) (success other : Bool)
+        → IsReportIn graph file table range one success
+        → IsReportIn graph file table range two other
         → (one ≡ two) × (success ≡ other) }
 {}
 
 /// So it is with a moment, and what `single` prints.
 pub fn one_single_report()
-    ensures { (graph : List ℕ) (file : Option (List ℕ)) (table : List ℕ) (at : TimestampTerm) (one two : List ℕ) (success other : Bool)
+    ensures { (graph : List ℕ) (file : Option (List ℕ)) (table : List ℕ) (at : TimestampTerm)
+        (one two : List ℕ) (success other : Bool)
         → IsReportAt graph file table at one success → IsReportAt graph file table at two other
         → (one ≡ two) × (success ≡ other) }
 {}
@@ -52,9 +58,13 @@ pub fn one_single_report()
 /// one that a backfill from nothing may write, where what was kept before it could have been answered too. (What a command leaves
 /// in its journal is again what crashes leave, and so is each beginning of that.)
 pub fn crashes_change_no_report<R: TaskRunner>(runner: &R)
-    ensures { (dag : DagTerm) (intervals : List IntervalTerm) → IsNamed dag → AreOfRuns intervals → (cleared : Heading)
-        → (before : Look) → AreGraded (R.may_answer runner.now) dag before → (retry : Bool) (held : List ℕ)
-        → IsLeftByCrashes (R.may_answer runner.now) dag intervals (head_text dag intervals cleared) held → (text : List ℕ) (success : Bool)
-        → IsReportSince before retry held cleared (R.may_answer runner.now) dag intervals text success
+    ensures { (dag : DagTerm) (intervals : List IntervalTerm) → IsNamed dag → AreOfRuns intervals
+        → (cleared : Heading)
+        → (before : Look) → AreGraded (R.may_answer runner.now) dag before
+        → (retry : Bool) (held : List ℕ)
+        → IsLeftByCrashes (R.may_answer runner.now) dag intervals (head_text dag intervals cleared)
+        held → (text : List ℕ) (success : Bool)
+        → IsReportSince before retry held cleared (R.may_answer runner.now) dag intervals text
+        success
         → IsReportBy (R.may_answer runner.now) dag intervals text success }
 {}

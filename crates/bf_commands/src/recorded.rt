@@ -16,6 +16,7 @@ use bf_failure::DetailedRunner;
 use bf_interval::Runs;
 use bf_journal::{Durable, Journaled, Recorder, Recording, Stop};
 use bf_kept::{Keeping, KeptTries};
+use bf_lane::TimeSource;
 use bf_plan::Plan;
 use bf_process::LogFaults;
 use bf_progress::Screen;
@@ -57,7 +58,11 @@ where
     D: Durable + Drop,
     requires base { J.base ≡ D.written record.device }
     requires may { MayRecord J.may_record (R.may_answer runner.now) plan.now.dag runs.now }
-    ensures { result ≡ record { runner = runner.entry.now; dag = plan.entry.now.dag; intervals = runs.entry.now } }
+    ensures { result ≡ record {
+      runner = runner.entry.now;
+      dag = plan.entry.now.dag;
+      intervals = runs.entry.now;
+    } }
 {
     let now = rt.monotonic().unwrap_or(Duration::ZERO);
     let recorder = Recorder::<J, D>::new(record.device, record.most_failed, now);
@@ -79,16 +84,20 @@ impl<'m, RT: Screen + Threads + Wait + Clock + Sync> Crew<'m, RT> {
         K: KeptTries + Sync,
         R: DetailedRunner + Sync,
         D: Durable + Drop + Send,
-        C: bf_lane::Clock + Drop,
+        C: TimeSource + Drop,
         requires fit { AreFit plan.now.dag (K.kept keeping.now.kept.now) }
         requires base { J.base ≡ D.written record.device }
-        requires may { MayRecord J.may_record (R.may_answer keeping.now.runner.now) plan.now.dag runs.now }
-        ensures end { IfOk result.ended (IsEndFrom (K.kept keeping.now.kept.now) (R.may_answer keeping.now.runner.now)
+        requires may { MayRecord J.may_record (R.may_answer keeping.now.runner.now) plan.now.dag
+            runs.now }
+        ensures end { IfOk result.ended
+            (IsEndFrom (K.kept keeping.now.kept.now) (R.may_answer keeping.now.runner.now)
             plan.entry.now.dag plan.entry.now.limits (length runs.now) self.now.workers) }
         ensures stop { IfErr result.ended (IsStopRecordedOrWanting record.most_failed
-            (K.kept keeping.now.kept.now) (launching_of self.now.launching).logs plan.entry.now.dag runs.now) }
+            (K.kept keeping.now.kept.now) (launching_of self.now.launching).logs plan.entry.now.dag
+            runs.now) }
         ensures unsent { IfErr result.ended IsUnsent }
-        ensures written { IsWritten J.may_record J.base (D.written result.device) (is_write_failed result.stop) }
+        ensures written { IsWritten J.may_record J.base (D.written result.device)
+            (is_write_failed result.stop) }
     {
         let most_failed = record.most_failed;
         let recording = recording_of::<J, RT, R, D>(
@@ -140,14 +149,17 @@ impl<'m, RT: Screen + Threads + Wait + Clock + Sync> Crew<'m, RT> {
         K: KeptTries + Sync,
         R: DetailedRunner + Sync,
         D: Durable + Drop + Send,
-        C: bf_lane::Clock + Drop,
+        C: TimeSource + Drop,
         requires { AreFit plan.now.dag (K.kept keeping.now.kept.now) }
-        ensures end { IfOk result.ended (IsEndFrom (K.kept keeping.now.kept.now) (R.may_answer keeping.now.runner.now)
+        ensures end { IfOk result.ended
+            (IsEndFrom (K.kept keeping.now.kept.now) (R.may_answer keeping.now.runner.now)
             plan.entry.now.dag plan.entry.now.limits (length runs.now) self.now.workers) }
         ensures stop { IfErr result.ended (IsStopRecordedOrWanting record.most_failed
-            (K.kept keeping.now.kept.now) (launching_of self.now.launching).logs plan.entry.now.dag runs.now) }
+            (K.kept keeping.now.kept.now) (launching_of self.now.launching).logs plan.entry.now.dag
+            runs.now) }
         ensures unsent { IfErr result.ended IsUnsent }
-        ensures written { IsWritten (IsRecordBy (R.may_answer keeping.now.runner.now) plan.entry.now.dag runs.now)
+        ensures written { IsWritten (IsRecordBy (R.may_answer keeping.now.runner.now)
+            plan.entry.now.dag runs.now)
             (D.written record.device) (D.written result.device) (is_write_failed result.stop) }
     {
         self.recorded::<Brand, K, R, D, C>(plan, runs, keeping, record, clock, log_faults)

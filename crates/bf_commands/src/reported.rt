@@ -35,12 +35,14 @@ pub(crate) fn write_ended<W: Write>(
     out: &mut W,
 ) -> Result<bool, CommandFault>
     requires { length runs.now ≡ ended.now.runs }
-    ensures ok { IfOk result (λ success. Sends (λ text. IsReportOf ended.now.dag runs.now (entry_in ended.now.state.ledger) text success)
+    ensures ok { IfOk result (λ success. Sends
+        (λ text. IsReportOf ended.now.dag runs.now (entry_in ended.now.state.ledger) text success)
         (W.written out.old) (W.written out.new)) }
     ensures wanting { IfErr result IsWanting }
     ensures left { IfErr result (Leaves (HasHalted (W.failures out.old) (W.failures out.new)
         (W.interruptions out.old) (W.interruptions out.new))
-        (λ text. (success : Bool) × IsReportOf ended.now.dag runs.now (entry_in ended.now.state.ledger) text success)
+        (λ text. (success : Bool) × IsReportOf ended.now.dag runs.now
+        (entry_in ended.now.state.ledger) text success)
         (W.written out.old) (W.written out.new)) }
 {
     let _named = ended.plan().dag();

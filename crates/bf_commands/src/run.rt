@@ -35,13 +35,16 @@ pub fn run_programs<RT: Starter + Screen + Threads + Wait + Clock + Sync, W: Wri
     out: &mut W,
 ) -> Result<bool, CommandFault>
     ensures ok { IfOk result (λ success. Sends (λ text.
-        IsRunReport (launching_of crew.now.launching) (RT.may_hear crew.now.rt.now) graph.now (option_map (λ s. s.now) zone_file.entry) range text success)
+        IsRunReport (launching_of crew.now.launching) (RT.may_hear crew.now.rt.now) graph.now
+        (option_map (λ s. s.now) zone_file.entry) range text success)
         (W.written out.old) (W.written out.new)) }
-    ensures fault { IfErr result (IsFaultOfRun (launching_of crew.now.launching) (RT.may_lose crew.now.rt.now) graph.now (option_map (λ s. s.now) zone_file.entry) range) }
+    ensures fault { IfErr result (IsFaultOfRun (launching_of crew.now.launching)
+        (RT.may_lose crew.now.rt.now) graph.now (option_map (λ s. s.now) zone_file.entry) range) }
     ensures left { IfErr result (Leaves (HasHalted (W.failures out.old) (W.failures out.new)
         (W.interruptions out.old) (W.interruptions out.new))
         (λ text. (success : Bool)
-        × IsRunReport (launching_of crew.now.launching) (RT.may_hear crew.now.rt.now) graph.now (option_map (λ s. s.now) zone_file.entry) range text success)
+        × IsRunReport (launching_of crew.now.launching) (RT.may_hear crew.now.rt.now) graph.now
+        (option_map (λ s. s.now) zone_file.entry) range text success)
         (W.written out.old) (W.written out.new)) }
 {
     let dated = dated_plan_in(crew.alloc, graph, zone_file, range)?;
@@ -63,17 +66,22 @@ where
     W: Write,
     ensures ok { IfOk result.report (λ success. Sends (λ text.
         IsReportSince nothing journal.retry_failed journal.held.items []
-        (MayAnswer (launched_in dated.now (launching_of crew.now.launching) (RT.may_hear crew.now.rt.now)) dated.now.plan.dag dated.now.runs)
+        (MayAnswer (launched_in dated.now (launching_of crew.now.launching)
+        (RT.may_hear crew.now.rt.now)) dated.now.plan.dag dated.now.runs)
         dated.now.plan.dag dated.now.runs text success) (W.written out.old) (W.written out.new)) }
-    ensures fault { IfErr result.report (IsFaultSince journal.stop_after nothing journal.retry_failed
-        journal.held.items [] (launching_of crew.now.launching).logs dated.now.plan.dag dated.now.runs) }
+    ensures fault { IfErr result.report
+        (IsFaultSince journal.stop_after nothing journal.retry_failed
+        journal.held.items [] (launching_of crew.now.launching).logs dated.now.plan.dag
+        dated.now.runs) }
     ensures left { IfErr result.report (Leaves (HasHalted (W.failures out.old) (W.failures out.new)
         (W.interruptions out.old) (W.interruptions out.new))
         (λ text. (success : Bool) × IsReportSince nothing journal.retry_failed journal.held.items []
-        (MayAnswer (launched_in dated.now (launching_of crew.now.launching) (RT.may_hear crew.now.rt.now)) dated.now.plan.dag dated.now.runs)
+        (MayAnswer (launched_in dated.now (launching_of crew.now.launching)
+        (RT.may_hear crew.now.rt.now)) dated.now.plan.dag dated.now.runs)
         dated.now.plan.dag dated.now.runs text success) (W.written out.old) (W.written out.new)) }
     ensures journal { KeepsJournal
-        (MayAnswer (launched_in dated.now (launching_of crew.now.launching) (RT.may_hear crew.now.rt.now)) dated.now.plan.dag dated.now.runs)
+        (MayAnswer (launched_in dated.now (launching_of crew.now.launching)
+        (RT.may_hear crew.now.rt.now)) dated.now.plan.dag dated.now.runs)
         dated.now.plan.dag dated.now.runs (head_text dated.now.plan.dag dated.now.runs [])
         journal.held.items (D.written journal.device) (D.written result.device) }
 {

@@ -34,12 +34,16 @@ pub fn run_single<RT: Starter + Screen + Threads + Wait + Clock + Sync, W: Write
     out: &mut W,
 ) -> Result<bool, CommandFault>
     requires { IsInYears at.nanosecond → IsWhole at.nanosecond }
-    ensures ok { IfOk result (λ success. Sends (λ text. IsReportAt graph.now (option_map (λ s. s.now) zone_file.entry) table.now at text success)
+    ensures ok { IfOk result (λ success. Sends
+        (λ text. IsReportAt graph.now (option_map (λ s. s.now) zone_file.entry) table.now at text
+        success)
         (W.written out.old) (W.written out.new)) }
-    ensures fault { IfErr result (IsFaultOfSingle graph.now (option_map (λ s. s.now) zone_file.entry) table.now at) }
+    ensures fault { IfErr result (IsFaultOfSingle graph.now
+        (option_map (λ s. s.now) zone_file.entry) table.now at) }
     ensures left { IfErr result (Leaves (HasHalted (W.failures out.old) (W.failures out.new)
         (W.interruptions out.old) (W.interruptions out.new))
-        (λ text. (success : Bool) × IsReportAt graph.now (option_map (λ s. s.now) zone_file.entry) table.now at text success)
+        (λ text. (success : Bool) × IsReportAt graph.now (option_map (λ s. s.now) zone_file.entry)
+        table.now at text success)
         (W.written out.old) (W.written out.new)) }
 {
     let timed = timed_plan_in(alloc, graph, zone_file)?;

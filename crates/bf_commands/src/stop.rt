@@ -52,7 +52,8 @@ pub(crate) struct Stopping<'a> {
 impl<'a> Stopping<'a> {
     /// The fault of a try whose logs can't be made. There is none of a try of no task or of no run, or without a folder of logs.
     fn unlogged(&self, name: JobName) -> Option<CommandFault>
-        ensures told { IfSome result (IsGivenUp (option_map (λ l. l.now) self.now.logs) self.now.plan.now.dag self.now.runs.now name) }
+        ensures told { IfSome result (IsGivenUp (option_map (λ l. l.now) self.now.logs)
+            self.now.plan.now.dag self.now.runs.now name) }
         ensures unsent { IfSome result IsUnsent }
     {
         let (Some(folder), Some(context)) = (self.logs, context_of(self.plan, self.runs, name))
@@ -67,7 +68,8 @@ impl<'a> Stopping<'a> {
 
     /// The fault of a try whose program can't be waited for.
     fn lost(&self, name: JobName) -> CommandFault
-        ensures told { IsGivenUp (option_map (λ l. l.now) self.now.logs) self.now.plan.now.dag self.now.runs.now name result }
+        ensures told { IsGivenUp (option_map (λ l. l.now) self.now.logs) self.now.plan.now.dag
+            self.now.runs.now name result }
         ensures unsent { IsUnsent result }
     {
         match String::from_str(self.alloc, id_of(self.plan.dag(), name.task)) {
@@ -82,7 +84,8 @@ impl<'a> Stopping<'a> {
 
     /// The fault of a try that was given up.
     fn given_up(&self, name: JobName) -> CommandFault
-        ensures told { IsGivenUp (option_map (λ l. l.now) self.now.logs) self.now.plan.now.dag self.now.runs.now name result }
+        ensures told { IsGivenUp (option_map (λ l. l.now) self.now.logs) self.now.plan.now.dag
+            self.now.runs.now name result }
         ensures unsent { IsUnsent result }
     {
         if !self.cannot_log {
@@ -97,7 +100,8 @@ impl<'a> Stopping<'a> {
 
 /// What stopped a backfill with the programs of the tasks.
 pub(crate) fn stopped_by_programs(stopping: &Stopping<'_>, fault: &BackfillFault) -> CommandFault
-    ensures told { IsToldOf (option_map (λ l. l.now) stopping.now.logs) stopping.now.plan.now.dag stopping.now.runs.now fault.now result }
+    ensures told { IsToldOf (option_map (λ l. l.now) stopping.now.logs) stopping.now.plan.now.dag
+        stopping.now.runs.now fault.now result }
     ensures unsent { IsUnsent result }
 {
     match fault {
@@ -114,7 +118,8 @@ fn stopped_at(
     stop: Option<Stop>,
     most_failed: Option<u32>,
 ) -> CommandFault
-    ensures told { IsToldAt most_failed (option_map (λ l. l.now) stopping.now.logs) stopping.now.plan.now.dag stopping.now.runs.now name result }
+    ensures told { IsToldAt most_failed (option_map (λ l. l.now) stopping.now.logs)
+        stopping.now.plan.now.dag stopping.now.runs.now name result }
     ensures unsent { IsUnsent result }
 {
     match (stop, most_failed) {
@@ -134,7 +139,8 @@ pub(crate) fn stopped_recording(
     stop: Option<Stop>,
     most_failed: Option<u32>,
 ) -> CommandFault
-    ensures told { IsToldOfRecorded most_failed (option_map (λ l. l.now) stopping.now.logs) stopping.now.plan.now.dag stopping.now.runs.now
+    ensures told { IsToldOfRecorded most_failed (option_map (λ l. l.now) stopping.now.logs)
+        stopping.now.plan.now.dag stopping.now.runs.now
         fault.now result }
     ensures unsent { IsUnsent result }
 {

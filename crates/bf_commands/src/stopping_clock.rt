@@ -1,7 +1,7 @@
 //! A clock for which nothing waits once no further try is begun.
 use bf_failure::DetailedRunner;
 use bf_journal::{Durable, Journaled, Recording};
-use bf_lane::Clock;
+use bf_lane::TimeSource;
 use std::sync::Wait;
 use std::thread::Parker;
 
@@ -32,7 +32,7 @@ pub(crate) struct StoppingClock<'a, C: Drop, S> {
     pub(crate) told: i64,
 }
 
-impl<'a, C: Clock + Drop, S: Stops> Clock for StoppingClock<'a, C, S> {
+impl<'a, C: TimeSource + Drop, S: Stops> TimeSource for StoppingClock<'a, C, S> {
     ghost last = { λ clock. clock.told };
 
     fn now(&mut self) -> i64 {

@@ -66,7 +66,8 @@ impl<'a> Core<'a> {
         ensures there { IsSome result ↔ IsThere self.now.dag self.now.state run task }
         ensures cell { IfSome result (λ c. c.now ≡ cell_at self.now.state run task) }
         ensures few { AreFew self.now.state }
-        ensures agrees { (ledger : Look) → Holds ledger (entry_in self.now.state.ledger) → Agrees self.now.dag self.now.state ledger }
+        ensures agrees { (ledger : Look) → Holds ledger (entry_in self.now.state.ledger)
+            → Agrees self.now.dag self.now.state ledger }
     {
         self.state.cell(run, task)
     }
@@ -80,7 +81,8 @@ impl<'a> Core<'a> {
 
     /// The instance that stands at the place of a name's map index, whichever of its tries the name is of.
     pub fn instance(&self, name: JobName) -> Option<&Instance>
-        ensures { option_copied result ≡ instance_of (cell_at self.now.state name.run name.task) (place_in self.now.dag name) }
+        ensures { option_copied result
+            ≡ instance_of (cell_at self.now.state name.run name.task) (place_in self.now.dag name) }
     {
         let place = place_of(self.plan.dag(), name) as usize;
         instance_at(&self.state, name.run, name.task, place)
@@ -89,8 +91,10 @@ impl<'a> Core<'a> {
     /// The instance of a try that runs.
     pub fn running(&self, name: JobName) -> Option<&Instance>
         ensures present { OnSome result (IsPresent self.now.dag self.now.state name Phase.Running) }
-        ensures given { IfSome result (λ x. given_in (cell_at self.now.state name.run name.task) (place_in self.now.dag name) ≡ x.now.given) }
-        ensures none { IfNone result (¬ (IsPresent self.now.dag self.now.state name Phase.Running)) }
+        ensures given { IfSome result (λ x. given_in (cell_at self.now.state name.run name.task)
+            (place_in self.now.dag name) ≡ x.now.given) }
+        ensures none { IfNone result (¬
+            (IsPresent self.now.dag self.now.state name Phase.Running)) }
     {
         present(self.plan.dag(), &self.state, name, Unfinished::Running)
     }
@@ -134,7 +138,8 @@ impl<'a> Core<'a> {
     /// The event that decides a task, where it may be decided now: by its expansion, or without.
     pub fn decision_event(&self, run: u32, task: u32) -> Option<Event>
         ensures may_come { IfSome result (MayCome self.now) }
-        ensures decides { IfSome result (λ e. e ≡ deciding (goes_on_now self.now.dag self.now.state run task) run task) }
+        ensures decides { IfSome result
+            (λ e. e ≡ deciding (goes_on_now self.now.dag self.now.state run task) run task) }
         ensures none { IfNone result (¬ (IsDecidable self.now.dag self.now.state run task)) }
     {
         let dag = self.plan.dag();

@@ -123,7 +123,8 @@ impl Clock {
     fn wait(&mut self, retry: Retry) -> Result<(), OutOfMemory>
         requires begun { pos 0 ≤ℤ self.old.time }
         requires within { self.old.time ≤ℤ last_moment }
-        ensures ok { OnOk result (self.new ≡ after_end self.old retry.next retry.again retry.delay) }
+        ensures ok { OnOk result (self.new
+            ≡ after_end self.old retry.next retry.again retry.delay) }
         ensures same { OnErr result (self.new ≡ self.old) }
     {
         let moment = self.moment_after(retry.delay);
@@ -156,7 +157,8 @@ pub(crate) fn note_end(
     requires within { clock.old.time ≤ℤ last_moment }
     requires unrecorded { map.get ledger.old name ≡ None }
     requires free { map.get clock.old.moments retry.next ≡ None }
-    ensures clock { OnOk result (clock.new ≡ after_end clock.old retry.next retry.again retry.delay) }
+    ensures clock { OnOk result (clock.new
+        ≡ after_end clock.old retry.next retry.again retry.delay) }
     ensures ledger { OnOk result (ledger.new ≡ map.insert ledger.old name entry) }
     ensures same_clock { OnErr result (clock.new ≡ clock.old) }
     ensures same_ledger { OnErr result (ledger.new ≡ ledger.old) }

@@ -71,8 +71,10 @@ impl Decision {
 /// Refuses a task that is not undecided in an open run.
 pub(crate) fn undecided(dag: &Dag, state: &State, run: u32, task: u32) -> Result<(), Illegal>
     requires { HasRows dag.now state.now }
-    ensures ok { OnOk result (IsThere dag.now state.now run task × IsUndecidedNow state.now run task) }
-    ensures err { IfErr result (RefusedFor (IsThere dag.now state.now run task) (IsUndecidedNow state.now run task)) }
+    ensures ok { OnOk result (IsThere dag.now state.now run task
+        × IsUndecidedNow state.now run task) }
+    ensures err { IfErr result (RefusedFor (IsThere dag.now state.now run task)
+        (IsUndecidedNow state.now run task)) }
 {
     let Some(cell) = state.cell(run, task) else {
         return Err(Illegal::Stranger);
@@ -86,7 +88,8 @@ pub(crate) fn undecided(dag: &Dag, state: &State, run: u32, task: u32) -> Result
 /// Whether a task is undecided in an open run.
 pub(crate) fn is_undecided(dag: &Dag, state: &State, run: u32, task: u32) -> bool
     requires { HasRows dag.now state.now }
-    ensures { IsTrue result ↔ (IsThere dag.now state.now run task × IsUndecidedNow state.now run task) }
+    ensures { IsTrue result ↔ (IsThere dag.now state.now run task
+        × IsUndecidedNow state.now run task) }
 {
     match state.cell(run, task) {
         Some(cell) => state.is_open(run) && matches!(cell, Cell::Undecided),
@@ -99,7 +102,8 @@ pub(crate) fn is_undecided(dag: &Dag, state: &State, run: u32, task: u32) -> boo
 pub(crate) fn gate(plan: &Plan, state: &State, run: u32, task: u32) -> Verdict
     requires task { task < length plan.now.dag.tasks }
     requires few { AreFew state.now }
-    ensures { result ≡ gate_of plan.now.dag run (λ u. seen_in (cell_at state.now run u)) (before_in state.now run task) task }
+    ensures { result ≡ gate_of plan.now.dag run (λ u. seen_in (cell_at state.now run u))
+        (before_in state.now run task) task }
 {
     let depends_on_past = plan.dag().task(task).depends_on_past;
     let verdict = ruling(plan, state, run, task);
@@ -117,7 +121,8 @@ pub(crate) fn goes_on(dag: &Dag, task: u32, verdict: Verdict) -> bool
 /// Whether what is decided of a task by this verdict is to wait.
 pub(crate) fn awaits(dag: &Dag, state: &State, run: u32, task: u32, verdict: Verdict) -> bool
     requires { task < length dag.now.tasks }
-    ensures { IsTrue result ↔ (after_verdict dag.now (λ u. seen_in (cell_at state.now run u)) task verdict ≡ Decision.Wait) }
+    ensures { IsTrue result ↔ (after_verdict dag.now (λ u. seen_in (cell_at state.now run u)) task
+        verdict ≡ Decision.Wait) }
 {
     match verdict {
         Verdict::Wait => true,
@@ -140,7 +145,8 @@ pub(crate) fn decide(
 ) -> Result<Decision, OutOfMemory>
     requires task { task < length dag.now.tasks }
     requires rows { HasRows dag.now state.now }
-    ensures { IfOk result (λ d. d ≡ after_verdict dag.now (λ u. seen_in (cell_at state.now run u)) task verdict) }
+    ensures { IfOk result (λ d. d ≡ after_verdict dag.now (λ u. seen_in (cell_at state.now run u))
+        task verdict) }
 {
     match verdict {
         Verdict::Wait => Ok(Decision::Wait),

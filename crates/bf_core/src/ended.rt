@@ -129,7 +129,8 @@ fn ran_fails(plan: &Plan, task: u32, instances: &[Instance]) -> bool
 fn run_fails(plan: &Plan, cells: &[Cell]) -> bool
     requires few { length plan.now.dag.tasks ≤ 2_000 }
     requires one_each { length cells.now ≡ length plan.now.dag.tasks }
-    ensures { result ≡ fails plan.now.dag (λ t. value_or_blocked (value_in (slice_index_or cells.now t CellTerm.Undecided))) }
+    ensures { result ≡ fails plan.now.dag
+        (λ t. value_or_blocked (value_in (slice_index_or cells.now t CellTerm.Undecided))) }
 {
     for task in 0..cells.len() {
         if fails_its_run(plan, task as u32, &cells[task]) {
@@ -143,7 +144,8 @@ fn run_fails(plan: &Plan, cells: &[Cell]) -> bool
 fn run_state(plan: &Plan, cells: &[Cell]) -> RunState
     requires few { length plan.now.dag.tasks ≤ 2_000 }
     requires one_each { length cells.now ≡ length plan.now.dag.tasks }
-    ensures { result ≡ run_state_of plan.now.dag (λ t. value_or_blocked (value_in (slice_index_or cells.now t CellTerm.Undecided))) }
+    ensures { result ≡ run_state_of plan.now.dag
+        (λ t. value_or_blocked (value_in (slice_index_or cells.now t CellTerm.Undecided))) }
 {
     if run_fails(plan, cells) {
         RunState::Failed
@@ -161,7 +163,8 @@ fn are_closed(runs: &[Run]) -> bool
 /// Writes the state of each run into its place.
 fn write_states(plan: &Plan, runs: &[Run], states: &mut Vec<RunState>)
     requires few { length plan.now.dag.tasks ≤ 2_000 }
-    requires rows { (k : ℕ) → k < length runs.now → length (row_of runs.now k).cells ≡ length plan.now.dag.tasks }
+    requires rows { (k : ℕ) → k < length runs.now → length (row_of runs.now k).cells
+        ≡ length plan.now.dag.tasks }
     requires room { vec_len states.old ≡ length runs.now }
     ensures { AreStatesOf plan.now.dag runs.now states.new.items }
 {

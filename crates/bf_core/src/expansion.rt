@@ -53,7 +53,8 @@ impl Cell {
         alloc: Global,
         source: &Task,
     ) -> Result<Option<SourceValues>, OutOfMemory>
-        ensures { IfOk result (λ found. found ≡ option_map (values_for source.now) (value_in self.now)) }
+        ensures { IfOk result (λ found. found
+            ≡ option_map (values_for source.now) (value_in self.now)) }
     {
         match self {
             Cell::Undecided => Ok(None),
@@ -64,7 +65,8 @@ impl Cell {
 
     /// The items that a source that has this cell gives; nothing is known of one that is not settled.
     fn items(&self, alloc: Global, source: &Task) -> Result<Option<Items>, OutOfMemory>
-        ensures { IfOk result (λ found. found ≡ option_map (given_by source.now) (value_in self.now)) }
+        ensures { IfOk result (λ found. found
+            ≡ option_map (given_by source.now) (value_in self.now)) }
     {
         match self.source_values(alloc, source)? {
             Some(values) => Ok(Some(items(alloc, values)?)),
@@ -82,7 +84,9 @@ fn items_from(
     source: u32,
 ) -> Result<Option<Items>, OutOfMemory>
     requires { HasRows dag.now state.now }
-    ensures { IfOk result (λ found. found ≡ option_map (given_by (task_of dag.now source)) (value_in (cell_at state.now run source))) }
+    ensures { IfOk result (λ found. found
+        ≡ option_map (given_by (task_of dag.now source))
+        (value_in (cell_at state.now run source))) }
 {
     match state.cell(run, source) {
         Some(cell) => cell.items(alloc, dag.task(source)),
@@ -92,7 +96,8 @@ fn items_from(
 
 /// One instance, which is given what was pulled.
 fn unmapped(alloc: Global, pulled: Vec<Pulled>) -> Result<Decision, OutOfMemory>
-    ensures { IfOk result (λ d. d ≡ Decision.Instances (record { item = None; pulled = pulled.items } ∷ [])) }
+    ensures { IfOk result (λ d. d ≡ Decision.Instances
+        (record { item = None; pulled = pulled.items } ∷ [])) }
 {
     let mut givens = Vec::with_capacity(alloc, 1)?;
     givens.push(Given {
@@ -104,7 +109,8 @@ fn unmapped(alloc: Global, pulled: Vec<Pulled>) -> Result<Decision, OutOfMemory>
 
 /// What the instance of an item is given: the item, and what all are given alike.
 fn given_with(alloc: Global, item: Xval, alike: &Given) -> Result<Given, OutOfMemory>
-    ensures { IfOk result (λ given. given ≡ record { item = Some item; pulled = alike.now.pulled }) }
+    ensures { IfOk result (λ given. given
+        ≡ record { item = Some item; pulled = alike.now.pulled }) }
 {
     let mut given = alike.copy(alloc)?;
     given.item = Some(item);
@@ -117,7 +123,8 @@ fn givens_of(
     items: Sequence<Xval>,
     pulled: Vec<Pulled>,
 ) -> Result<Sequence<Given>, OutOfMemory>
-    ensures { IfOk result (λ givens. givens ≡ map (λ item. record { item = Some item; pulled = pulled.items }) items) }
+    ensures { IfOk result (λ givens. givens
+        ≡ map (λ item. record { item = Some item; pulled = pulled.items }) items) }
 {
     let alike = Given {
         item: None,
@@ -155,7 +162,9 @@ pub(crate) fn instances(
     task: &Task,
 ) -> Result<Decision, OutOfMemory>
     requires { HasRows dag.now state.now }
-    ensures { IfOk result (λ d. d ≡ instances_of dag.now (λ u. seen_in (cell_at state.now run u)) (map (pull_seen dag.now (λ u. seen_in (cell_at state.now run u))) task.now.pulls) task.now.expand) }
+    ensures { IfOk result (λ d. d ≡ instances_of dag.now (λ u. seen_in (cell_at state.now run u))
+        (map (pull_seen dag.now (λ u. seen_in (cell_at state.now run u))) task.now.pulls)
+        task.now.expand) }
 {
     let Some(source) = task.expand else {
         let pulled = pull_all(alloc, dag, state, run, task.pulls.as_slice())?;

@@ -64,7 +64,8 @@ impl<'a> Core<'a> {
         plan: &'a Plan,
         runs: &R,
     ) -> Result<Core<'a>, OutOfMemory>
-        ensures { IfOk result (λ core. core ≡ opening plan.entry.now.dag plan.entry.now.limits (R.runs runs.now)) }
+        ensures { IfOk result (λ core. core
+            ≡ opening plan.entry.now.dag plan.entry.now.limits (R.runs runs.now)) }
     {
         let count = runs.count();
         let cells = unopened_runs(alloc, plan.dag().tasks.len(), count)?;
@@ -97,7 +98,8 @@ impl<'a> Core<'a> {
     pub fn apply(&mut self, event: Event) -> Result<(), Illegal>
         ensures ok { OnOk result (HasCome self.old event self.new) }
         ensures err { IfErr result (IsRefusal self.old event) }
-        ensures memory { MayCome self.old event → IfErr result (λ fault. fault ≡ Illegal.OutOfMemory) }
+        ensures memory { MayCome self.old event
+            → IfErr result (λ fault. fault ≡ Illegal.OutOfMemory) }
         ensures same { OnErr result (self.new ≡ self.old) }
     {
         let _replayed = self.journal();
@@ -114,7 +116,8 @@ impl<'a> Core<'a> {
 
     /// The run that may be opened: the next one, unless as many are open as may be.
     pub(crate) fn next_to_open(&self) -> Option<u32>
-        ensures some { IfSome result (λ k. (k ≡ next_run self.now.state) × MayCome self.now Event.Open) }
+        ensures some { IfSome result (λ k. (k ≡ next_run self.now.state)
+            × MayCome self.now Event.Open) }
         ensures none { IfNone result (¬ (MayCome self.now Event.Open)) }
     {
         if self.opened_runs < self.runs && self.active_runs < self.plan.limits().max_active_runs {
@@ -143,7 +146,8 @@ impl<'a> Core<'a> {
 
     /// What is decided of a task now, which goes on to its expansion or does not, as is asked.
     fn decided(&self, run: u32, task: u32, expands: bool) -> Result<Decision, Illegal>
-        ensures ok { IfOk result (λ d. MayCome self.now (deciding expands run task) × (d ≡ decision_in self.now.dag self.now.state run task)) }
+        ensures ok { IfOk result (λ d. MayCome self.now (deciding expands run task)
+            × (d ≡ decision_in self.now.dag self.now.state run task)) }
         ensures err { IfErr result (IsRefusal self.now (deciding expands run task)) }
     {
         let dag = self.plan.dag();
@@ -307,7 +311,8 @@ struct Ending {
 
 /// The entry of a try that was given this and ends so, and the outcome that its instance keeps.
 fn noted(alloc: Global, given: &Given, outcome: &Outcome) -> Result<(Entry, Outcome), OutOfMemory>
-    ensures entry { IfOk result (λ both. both.0 ≡ record { given = given.now; outcome = outcome.now }) }
+    ensures entry { IfOk result (λ both. both.0
+        ≡ record { given = given.now; outcome = outcome.now }) }
     ensures kept { IfOk result (λ both. both.1 ≡ outcome.now) }
 {
     let entry = Entry {
@@ -320,8 +325,10 @@ fn noted(alloc: Global, given: &Given, outcome: &Outcome) -> Result<(Entry, Outc
 /// Refuses a run that is not open, and one with a task that is not settled.
 fn closable(dag: &Dag, state: &State, run: u32) -> Result<(), Illegal>
     requires { HasRows dag.now state.now }
-    ensures ok { OnOk result ((run < length state.now.runs) × (phase_of state.now run ≡ RunPhase.Open) × AllSettled dag.now state.now run) }
-    ensures err { IfErr result (RefusedFor (run < length state.now.runs) ((phase_of state.now run ≡ RunPhase.Open) × AllSettled dag.now state.now run)) }
+    ensures ok { OnOk result ((run < length state.now.runs)
+        × (phase_of state.now run ≡ RunPhase.Open) × AllSettled dag.now state.now run) }
+    ensures err { IfErr result (RefusedFor (run < length state.now.runs)
+        ((phase_of state.now run ≡ RunPhase.Open) × AllSettled dag.now state.now run)) }
 {
     match state.runs.get(run as usize) {
         None => Err(Illegal::Stranger),

@@ -55,7 +55,8 @@ pub fn place_of(dag: &Dag, name: JobName) -> u32
 /// Whether its task may have an instance of the map index of a name: an unmapped task only -1, an expanded one none
 /// below 0.
 fn has_index_of_task(dag: &Dag, name: JobName) -> bool
-    ensures { IsTrue result ↔ (map_index (task_of dag.now name.task) (place_in dag.now name) ≡ name.index) }
+    ensures { IsTrue result ↔ (map_index (task_of dag.now name.task) (place_in dag.now name)
+        ≡ name.index) }
 {
     if is_expanded(dag, name.task) {
         name.index >= 0
@@ -88,7 +89,8 @@ pub(crate) fn instance_at(state: &State, run: u32, task: u32, place: usize) -> O
 /// The instance of a name, where the task has one of that index now.
 fn named<'a>(dag: &Dag, state: &'a State, name: JobName) -> Option<&'a Instance>
     ensures some { IfSome result (λ x. IsOfName dag.now state.entry.now name x.now) }
-    ensures none { IfNone result ((x : InstanceTerm) → IsOfName dag.now state.entry.now name x → ⊥) }
+    ensures none { IfNone result ((x : InstanceTerm) → IsOfName dag.now state.entry.now name x
+        → ⊥) }
 {
     let instance = instance_at(state, name.run, name.task, place_of(dag, name) as usize)?;
     if has_index_of_task(dag, name) {
@@ -101,7 +103,8 @@ fn named<'a>(dag: &Dag, state: &'a State, name: JobName) -> Option<&'a Instance>
 /// The instance of a name, where it has come to that try.
 fn known<'a>(dag: &Dag, state: &'a State, name: JobName) -> Option<&'a Instance>
     ensures some { IfSome result (λ x. IsKnownAs dag.now state.entry.now name x.now) }
-    ensures none { IfNone result ((x : InstanceTerm) → IsKnownAs dag.now state.entry.now name x → ⊥) }
+    ensures none { IfNone result ((x : InstanceTerm) → IsKnownAs dag.now state.entry.now name x
+        → ⊥) }
 {
     let instance = named(dag, state, name)?;
     if 1 <= name.attempt && name.attempt <= instance.attempt {
@@ -119,7 +122,8 @@ pub(crate) enum Unfinished {
 }
 
 fn is_as_asked(instance: &Instance, attempt: u32, asked: Unfinished) -> bool
-    ensures { IsTrue result ↔ ((instance.now.attempt ≡ attempt) × (instance.now.phase ≡ asked_phase asked)) }
+    ensures { IsTrue result ↔ ((instance.now.attempt ≡ attempt)
+        × (instance.now.phase ≡ asked_phase asked)) }
 {
     let is_in_phase = match asked {
         Unfinished::Waiting => matches!(instance.phase, Phase::Waiting),
@@ -136,7 +140,8 @@ pub(crate) fn present<'a>(
     asked: Unfinished,
 ) -> Option<&'a Instance>
     ensures present { OnSome result (IsPresent dag.now state.entry.now name (asked_phase asked)) }
-    ensures held { IfSome result (λ x. instance_of (cell_at state.entry.now name.run name.task) (place_in dag.now name) ≡ Some x.now) }
+    ensures held { IfSome result (λ x. instance_of (cell_at state.entry.now name.run name.task)
+        (place_in dag.now name) ≡ Some x.now) }
     ensures none { IfNone result (¬ (IsPresent dag.now state.entry.now name (asked_phase asked))) }
 {
     let instance = named(dag, state, name)?;
@@ -156,8 +161,10 @@ pub(crate) fn required<'a>(
 ) -> Result<&'a Instance, Illegal>
     requires { HasRows dag.now state.now }
     ensures ok { OnOk result (IsPresent dag.now state.entry.now name (asked_phase asked)) }
-    ensures held { IfOk result (λ x. instance_of (cell_at state.entry.now name.run name.task) (place_in dag.now name) ≡ Some x.now) }
-    ensures err { IfErr result (RefusedFor (IsKnown dag.now state.entry.now name) (IsPresent dag.now state.entry.now name (asked_phase asked))) }
+    ensures held { IfOk result (λ x. instance_of (cell_at state.entry.now name.run name.task)
+        (place_in dag.now name) ≡ Some x.now) }
+    ensures err { IfErr result (RefusedFor (IsKnown dag.now state.entry.now name)
+        (IsPresent dag.now state.entry.now name (asked_phase asked))) }
 {
     match known(dag, state, name) {
         None => Err(Illegal::Stranger),

@@ -78,7 +78,8 @@ impl Cell {
     /// What is pulled from a task that has this cell; nothing, while it is not settled.
     #[tactic(auto, using(crate::proofs::Pulled::ran_pull))]
     fn pull(&self, alloc: Global, source: &Task) -> Result<Option<Xval>, OutOfMemory>
-        ensures { IfOk result (λ value. value ≡ option_and_then (pull_of source.now) (value_in self.now)) }
+        ensures { IfOk result (λ value. value
+            ≡ option_and_then (pull_of source.now) (value_in self.now)) }
     {
         match self {
             Cell::Ran(instances) => pull_from(alloc, source, instances.as_slice()),
@@ -96,7 +97,8 @@ fn pull(
     source: u32,
 ) -> Result<Option<Xval>, OutOfMemory>
     requires { HasRows dag.now state.now }
-    ensures { IfOk result (λ value. value ≡ pull_seen dag.now (λ u. seen_in (cell_at state.now run u)) source) }
+    ensures { IfOk result (λ value. value
+        ≡ pull_seen dag.now (λ u. seen_in (cell_at state.now run u)) source) }
 {
     match state.cell(run, source) {
         Some(cell) => cell.pull(alloc, dag.task(source)),
@@ -113,7 +115,8 @@ pub(crate) fn pull_all(
     sources: &[u32],
 ) -> Result<Vec<Pulled>, OutOfMemory>
     requires { HasRows dag.now state.now }
-    ensures { IfOk result (λ values. values.items ≡ map (pull_seen dag.now (λ u. seen_in (cell_at state.now run u))) sources.now) }
+    ensures { IfOk result (λ values. values.items
+        ≡ map (pull_seen dag.now (λ u. seen_in (cell_at state.now run u))) sources.now) }
 {
     let mut values = Vec::with_capacity(alloc, sources.len())?;
     for source in sources {

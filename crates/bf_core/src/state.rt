@@ -218,7 +218,8 @@ fn are_settled(cells: &[Cell]) -> bool
 }
 
 pub(crate) fn is_closable(row: &Run) -> bool
-    ensures { result ≡ (is_open row.now.phase && list_all (λ c. is_some (value_in c)) row.now.cells) }
+    ensures { result ≡ (is_open row.now.phase
+        && list_all (λ c. is_some (value_in c)) row.now.cells) }
 {
     row.phase.is_open() && are_settled(row.cells.as_slice())
 }
@@ -263,7 +264,8 @@ pub struct State {
 impl State {
     /// The cell of a task in a run, where both are there.
     pub fn cell(&self, run: u32, task: u32) -> Option<&Cell>
-        ensures there { IsSome result ↔ ((run < length self.now.runs) × (task < length (row_of self.now.runs run).cells)) }
+        ensures there { IsSome result ↔
+            ((run < length self.now.runs) × (task < length (row_of self.now.runs run).cells)) }
         ensures cell { IfSome result (λ c. c.now ≡ cell_at self.now run task) }
         ensures none { IfNone result (cell_at self.now run task ≡ Cell.Undecided) }
     {
@@ -309,7 +311,8 @@ impl State {
         requires task { task < length (row_of self.old.runs run).cells }
         requires there { IsSome (instance_of (cell_at self.old run task) place) }
         requires countable { IsCountable change }
-        ensures { self.new ≡ put self.old run task (change_instance (changed change) (cell_at self.old run task) place) }
+        ensures { self.new ≡ put self.old run task
+            (change_instance (changed change) (cell_at self.old run task) place) }
     {
         let mut cell = self.put(run, task, Cell::Undecided);
         cell.change(place, change);

@@ -51,13 +51,15 @@ pub(crate) fn is_settled(state: &State, run: u32, task: u32) -> bool
 
 /// Whether a task can be decided as far as one of its upstreams goes.
 fn lets_decide(dag: &Dag, state: &State, run: u32, task: &Task, upstream: u32) -> bool
-    ensures { result ≡ lets_be_decided dag.now task.now (λ u. seen_in (cell_at state.now run u)) upstream }
+    ensures { result ≡ lets_be_decided dag.now task.now (λ u. seen_in (cell_at state.now run u))
+        upstream }
 {
     is_settled(state, run, upstream) || (!task.rule.waits() && !dag.is_branch(upstream))
 }
 
 fn all_let_decide(dag: &Dag, state: &State, run: u32, task: &Task, upstreams: &[u32]) -> bool
-    ensures { result ≡ list_all (lets_be_decided dag.now task.now (λ u. seen_in (cell_at state.now run u))) upstreams.now }
+    ensures { result ≡ list_all (lets_be_decided dag.now task.now
+        (λ u. seen_in (cell_at state.now run u))) upstreams.now }
 {
     upstreams
         .iter()
@@ -116,7 +118,8 @@ impl Cell {
 #[tactic(auto, using(crate::proofs::Branching::known_branch))]
 fn branch_skips_task(plan: &Plan, state: &State, run: u32, upstream: u32, task: u32) -> bool
     requires { task < length plan.now.dag.tasks }
-    ensures { result ≡ branch_is plan.now.dag (branch_skips plan.now.dag task upstream) upstream (value_in (cell_at state.now run upstream)) }
+    ensures { result ≡ branch_is plan.now.dag (branch_skips plan.now.dag task upstream) upstream
+        (value_in (cell_at state.now run upstream)) }
 {
     match state.cell(run, upstream) {
         Some(cell) => plan.dag().is_branch(upstream) && cell.skips(plan, upstream, task),
@@ -126,7 +129,8 @@ fn branch_skips_task(plan: &Plan, state: &State, run: u32, upstream: u32, task: 
 
 #[tactic(auto, using(crate::proofs::Branching::known_branch))]
 fn branch_is_blocked(dag: &Dag, state: &State, run: u32, upstream: u32) -> bool
-    ensures { result ≡ branch_is dag.now is_blocked upstream (value_in (cell_at state.now run upstream)) }
+    ensures { result ≡ branch_is dag.now is_blocked upstream
+        (value_in (cell_at state.now run upstream)) }
 {
     match state.cell(run, upstream) {
         Some(cell) => dag.is_branch(upstream) && cell.is_blocked(),
@@ -136,13 +140,15 @@ fn branch_is_blocked(dag: &Dag, state: &State, run: u32, upstream: u32) -> bool
 
 fn any_skips(plan: &Plan, state: &State, run: u32, task: u32, upstreams: &[u32]) -> bool
     requires { task < length plan.now.dag.tasks }
-    ensures { result ≡ list_any (λ u. branch_is plan.now.dag (branch_skips plan.now.dag task u) u (value_in (cell_at state.now run u))) upstreams.now }
+    ensures { result ≡ list_any (λ u. branch_is plan.now.dag (branch_skips plan.now.dag task u) u
+        (value_in (cell_at state.now run u))) upstreams.now }
 {
     upstreams.iter().any(|upstream| branch_skips_task(plan, state, run, *upstream, task))
 }
 
 fn any_blocks(dag: &Dag, state: &State, run: u32, upstreams: &[u32]) -> bool
-    ensures { result ≡ list_any (λ u. branch_is dag.now is_blocked u (value_in (cell_at state.now run u))) upstreams.now }
+    ensures { result ≡ list_any (λ u. branch_is dag.now is_blocked u
+        (value_in (cell_at state.now run u))) upstreams.now }
 {
     upstreams
         .iter()

@@ -85,7 +85,8 @@ fn found_in<'a>(files: &'a [StoredFile], path: &str) -> Option<&'a [u8]>
 }
 
 fn file_at<'a>(files: &'a [StoredFile], path: &str) -> Option<&'a StoredFile>
-    ensures { option_copied result ≡ find (λ f. bytes_eq (string_bytes f.path) path.now) files.entry.now }
+    ensures { option_copied result
+        ≡ find (λ f. bytes_eq (string_bytes f.path) path.now) files.entry.now }
 {
     files.iter().find(|f| f.path.as_str() == path)
 }

@@ -16,7 +16,7 @@ use Rattle.bf_core.proofs.Shape.{open-run}
 use Rattle.bf_core.proofs.Numbers.{below-or}
 use Rattle.bf_due.specs.declared.agenda.Step.{Step}
 use Rattle.bf_due.specs.declared.agenda.Turn.{Turn}
-use Rattle.bf_due.specs.declared.progress.Progress.{Progress}
+use Rattle.bf_due.specs.declared.cursors.Cursors.{Cursors}
 use Rattle.bf_due.specs.declared.news.News.{News}
 use Rattle.bf_due.specs.Cursors.{AreNoted}
 use Rattle.bf_due.specs.Stirring.{is_settled, matters}
@@ -185,11 +185,11 @@ is-opening (Step.Expand y) of = absurd of
 
 -- ---- with what is noted
 
-pub asks-none : (b : Backfill) (k : ℕ) (P : Step → Type 0) (row : Progress) (old : List Step) → ((x : Step) → P x → IsDueStep b x → ⊥) → Asks b k P row row old old
+pub asks-none : (b : Backfill) (k : ℕ) (P : Step → Type 0) (row : Cursors) (old : List Step) → ((x : Step) → P x → IsDueStep b x → ⊥) → Asks b k P row row old old
 asks-none b k P row old none = λ is. (is, none-added b P old none)
 
 -- those of one kind, and then those of another
-then-asks : (b : Backfill) (k : ℕ) (P Q R : Step → Type 0) (first second third : Progress) (old mid new : List Step) → ((x : Step) → R x → IsDueStep b x → P x ⊎ Q x) →
+then-asks : (b : Backfill) (k : ℕ) (P Q R : Step → Type 0) (first second third : Cursors) (old mid new : List Step) → ((x : Step) → R x → IsDueStep b x → P x ⊎ Q x) →
     Asks b k P first second old mid → Asks b k Q second third mid new → Asks b k R first third old new
 then-asks b k P Q R first second third old mid new split p q = λ is.
     let here : _ = p is in
@@ -200,36 +200,36 @@ then-asks b k P Q R first second third old mid new split p q = λ is.
 pub not-stirred : (b : Backfill) (s : State) (n : News) (t : ℕ) → matters b.dag s n t ≡ false → (old : List Step) → HasAdded b (IsStirred b.dag s n t) old old
 not-stirred b s n t calm old = none-added b _ old (λ x of due. both_ways _ calm of.1)
 
-pub one-stirred : (b : Backfill) (s : State) (n : News) (ts : List ℕ) (m : ℕ) (first second third : Progress) (old mid new : List Step) →
+pub one-stirred : (b : Backfill) (s : State) (n : News) (ts : List ℕ) (m : ℕ) (first second third : Cursors) (old mid new : List Step) →
     Asks b n.run (IsOfFirst b.dag s n ts m) first second old mid → Asks b n.run (IsStirred b.dag s n (get_or ts m 0)) second third mid new → Asks b n.run (IsOfFirst b.dag s n ts (m + 1)) first third old new
 one-stirred b s n ts m first second third old mid new = then-asks b n.run _ _ _ first second third old mid new (λ x of due. first-more b.dag s n ts m x of)
 
-pub none-stirred : (b : Backfill) (s : State) (n : News) (ts : List ℕ) (row : Progress) (old : List Step) → Asks b n.run (IsOfFirst b.dag s n ts 0) row row old old
+pub none-stirred : (b : Backfill) (s : State) (n : News) (ts : List ℕ) (row : Cursors) (old : List Step) → Asks b n.run (IsOfFirst b.dag s n ts 0) row row old old
 none-stirred b s n ts row old = asks-none b n.run _ row old (λ x of due. omega (arith, of.1))
 
-pub below-asked : (b : Backfill) (k n : ℕ) (first second third : Progress) (old mid new : List Step) →
+pub below-asked : (b : Backfill) (k n : ℕ) (first second third : Cursors) (old mid new : List Step) →
     Asks b k (IsBelow k n) first second old mid → Asks b k (IsOfTask k n) second third mid new → Asks b k (IsBelow k (n + 1)) first third old new
 below-asked b k n first second third old mid new = then-asks b k _ _ _ first second third old mid new (λ x of due. below-more k n x of)
 
-pub none-below : (b : Backfill) (k : ℕ) (row : Progress) (old : List Step) → Asks b k (IsBelow k 0) row row old old
+pub none-below : (b : Backfill) (k : ℕ) (row : Cursors) (old : List Step) → Asks b k (IsBelow k 0) row row old old
 none-below b k row old = asks-none b k _ row old (λ x of due. none-below-zero k x of)
 
-pub run-asked : (b : Backfill) (k : ℕ) (first second third : Progress) (old mid new : List Step) →
+pub run-asked : (b : Backfill) (k : ℕ) (first second third : Cursors) (old mid new : List Step) →
     Asks b k (IsBelow k (length b.dag.tasks)) first second old mid → Asks b k (IsCloseOf k) second third mid new → Asks b k (IsOfRun k) first third old new
 run-asked b k first second third old mid new = then-asks b k _ _ _ first second third old mid new (run-split b k)
 
-pub under-asked : (b : Backfill) (s : State) (n : News) (ds : List ℕ) → IsRisingListOf (IsUpstream (shape_of b.dag).upstreams n.task) ds → (first second third : Progress) (old mid new : List Step) →
+pub under-asked : (b : Backfill) (s : State) (n : News) (ds : List ℕ) → IsRisingListOf (IsUpstream (shape_of b.dag).upstreams n.task) ds → (first second third : Cursors) (old mid new : List Step) →
     Asks b n.run (IsOfFirst b.dag s n ds (length ds)) first second old mid → Asks b n.run (IsCloseOf n.run) second third mid new → Asks b n.run (IsUnder b.dag s n) first third old new
 under-asked b s n ds rising first second third old mid new = then-asks b n.run _ _ _ first second third old mid new (λ x of due. under-split b s n ds rising x of)
 
 -- a run is asked by its row
-pub row-asked : (b : Backfill) (k : ℕ) (P : Step → Type 0) (rows : List Progress) (row after : Progress) (old new : List Step) → k < length rows → row ≡ get_or rows k row → Asks b k P row after old new →
+pub row-asked : (b : Backfill) (k : ℕ) (P : Step → Type 0) (rows : List Cursors) (row after : Cursors) (old new : List Step) → k < length rows → row ≡ get_or rows k row → Asks b k P row after old new →
     AsksAll b P rows (slice_set rows k after) old new
 row-asked b k P rows row after old new l at asks = λ reached.
     let r : _ = asks (reached k row (held-at rows k row l at)) in
     (row-put b rows k after reached r.0, r.1)
 
-pub around-asked : (b : Backfill) (s : State) (n : News) (first second third : List Progress) (old mid new : List Step) →
+pub around-asked : (b : Backfill) (s : State) (n : News) (first second third : List Cursors) (old mid new : List Step) →
     AsksAll b (IsUnder b.dag s n) first second old mid → AsksAll b (IsOfTask (n.run + 1) n.task) second third mid new → AsksAll b (IsAround b.dag s n) first third old new
 around-asked b s n first second third old mid new p q = λ reached.
     let here : _ = p reached in
@@ -240,7 +240,7 @@ around-asked b s n first second third old mid new p q = λ reached.
     behind-or x of = elim (around-split b.dag s n x of) [ inl under ↦ inl under | inr behind ↦ inr behind.0 ]
 
 -- while the task isn't settled there is nothing to ask of the next run
-pub around-open : (b : Backfill) (s : State) (n : News) (first second : List Progress) (old new : List Step) →
+pub around-open : (b : Backfill) (s : State) (n : News) (first second : List Cursors) (old new : List Step) →
     AsksAll b (IsUnder b.dag s n) first second old new → (AreNoted b first → is_settled s n.run n.task ≡ false) → AsksAll b (IsAround b.dag s n) first second old new
 around-open b s n first second old new p unsettled = λ reached.
     ((p reached).0, fewer-added b _ _ old new (λ x of. only x (unsettled reached) (around-split b.dag s n x of)) (p reached).1)
@@ -270,5 +270,5 @@ no-task b k t n few l Step.Open of due = of
 no-task b k t n few l (Step.Settle y) of due = no-run b k n few l (Step.Settle y) of.0 due
 no-task b k t n few l (Step.Expand y) of due = no-run b k n few l (Step.Expand y) of.0 due
 
-pub skipped : (b : Backfill) (P : Step → Type 0) (rows : List Progress) (old : List Step) → ((x : Step) → P x → IsDueStep b x → ⊥) → AsksAll b P rows rows old old
+pub skipped : (b : Backfill) (P : Step → Type 0) (rows : List Cursors) (old : List Step) → ((x : Step) → P x → IsDueStep b x → ⊥) → AsksAll b P rows rows old old
 skipped b P rows old none = λ reached. (reached, none-added b P old none)

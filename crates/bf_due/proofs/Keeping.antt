@@ -18,7 +18,7 @@ use Rattle.bf_due.specs.declared.agenda.Step.{Step}
 use Rattle.bf_due.specs.declared.agenda.Turn.{Turn}
 use Rattle.bf_due.specs.Steps.{ComesBefore, IsEarlier, IsNextStep, IsStep}
 use Rattle.bf_due.specs.Agendas.{Comes, TurnComes, event_of}
-use Rattle.bf_due.specs.declared.progress.Progress.{Progress}
+use Rattle.bf_due.specs.declared.cursors.Cursors.{Cursors}
 use Rattle.bf_due.specs.Cursors.{AreNoted}
 use Rattle.bf_due.specs.Dues.{AsksAll, Concerns, HasAdded, IsPruned, IsOfRunBelow, IsOpening, IsRanked, IsUpToDate, Kept, SpeaksOfTask}
 use Rattle.bf_due.proofs.Adding.{one-rank}
@@ -57,7 +57,7 @@ pub speaks : (b now : Backfill) (e : Event) → IsReplay b → IsReplay now → 
 speaks b now e is was able same = speaks-as now.dag b.dag now.state b.state (ap (λ (n : Backfill). n.dag) same) (same-runs b now e is was same) e (speaks-before b is e able)
 
 -- what is kept is up to date after the event, where it was so before it
-pub keeps : (b now : Backfill) (e : Event) → IsReplay now → MayCome b e → now ≡ moved b e → (old : Kept) → IsUpToDate b old → (rows after : List Progress) (mid new : List Step) →
+pub keeps : (b now : Backfill) (e : Event) → IsReplay now → MayCome b e → now ≡ moved b e → (old : Kept) → IsUpToDate b old → (rows after : List Cursors) (mid new : List Step) →
     AsksAll now (Concerns now.dag now.state e) old.progress rows old.steps mid → ((n : Backfill) → AreNoted n rows → AreNoted n after) → IsPruned now mid new → (room : ℕ) → IsUpToDate now (record { steps = new; room = room; progress = after })
 keeps b now e was able same old is rows after mid new asks forgets cleaned room = record {
   replayed = was;
@@ -105,7 +105,7 @@ opened-step b is (Step.Expand x) may = inl (open-before b.dag b.runs b.state (re
 
 -- the steps of the opened runs, and then the opening of the next
 pub starts : (b : Backfill) → IsReplay b → Ranking (shape_of b.dag).upstreams → (first second new : List Step) →
-    HasAdded b (IsOfRunBelow (next_run b.state)) [] first → HasAdded b IsOpening first second → IsPruned b second new → (room : ℕ) (rows : List Progress) → rows ≡ [] → IsUpToDate b (record { steps = new; room = room; progress = rows })
+    HasAdded b (IsOfRunBelow (next_run b.state)) [] first → HasAdded b IsOpening first second → IsPruned b second new → (room : ℕ) (rows : List Cursors) → rows ≡ [] → IsUpToDate b (record { steps = new; room = room; progress = rows })
 starts b is ranking first second new runs opening cleaned room rows no_rows = record {
   replayed = is;
   ranking = ranking;

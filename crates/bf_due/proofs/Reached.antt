@@ -20,7 +20,7 @@ use Rattle.bf_core.proofs.Numbers.{below-or, le-from, lt-from}
 use Rattle.bf_core.proofs.Sums.{finished_settled}
 use Rattle.bf_plan.proofs.ListLemmas.{some_same}
 use Rattle.bf_due.proofs.Locality.{awaits-upstream}
-use Rattle.bf_due.specs.declared.progress.Progress.{Progress}
+use Rattle.bf_due.specs.declared.cursors.Cursors.{Cursors}
 use Rattle.bf_due.specs.Cursors.{AreFinished, ArePassed, AreNoted, Awaits, HasFinished, IsFinished, IsNoted, is_early, lets}
 use Rattle.bf_due.specs.Stirring.{all_settled, is_settled}
 
@@ -86,7 +86,7 @@ finished-stays dag limits s (Event.Close k) able j u i h = rw (with_phase-cell s
 finished-stays dag limits s (Event.Tick m) able j u i h = h
 
 -- what is noted of the runs is right after each event, and need not be touched
-pub reached-stays : (b now : Backfill) (e : Event) → MayCome b e → now ≡ moved b e → (rows : List Progress) → AreNoted b rows → AreNoted now rows
+pub reached-stays : (b now : Backfill) (e : Event) → MayCome b e → now ≡ moved b e → (rows : List Cursors) → AreNoted b rows → AreNoted now rows
 reached-stays b now e able same rows reached = subst (λ (n : Backfill). AreNoted n rows) (sym same) (λ k row at. record {
   passed = λ t. passed-stays b.dag b.limits b.state e able.0 (is_early b.dag t) k t _ ((reached k row at).passed t);
   upstreams = λ t. passed-stays b.dag b.limits b.state e able.0 false k t _ ((reached k row at).upstreams t);
@@ -97,7 +97,7 @@ reached-stays b now e able same rows reached = subst (λ (n : Backfill). AreNote
 -- ---- of a row
 
 -- nothing is known where nothing is noted
-pub unknown : (b : Backfill) (k : ℕ) (row : Progress) → ((t : ℕ) → get_or row.passed.items t 0 ≡ 0) → ((t : ℕ) → get_or row.settled_upstreams.items t 0 ≡ 0) → ((t : ℕ) → get_or row.finished.items t 0 ≡ 0) → row.settled ≡ 0 → IsNoted b k row
+pub unknown : (b : Backfill) (k : ℕ) (row : Cursors) → ((t : ℕ) → get_or row.passed.items t 0 ≡ 0) → ((t : ℕ) → get_or row.settled_upstreams.items t 0 ≡ 0) → ((t : ℕ) → get_or row.finished.items t 0 ≡ 0) → row.settled ≡ 0 → IsNoted b k row
 unknown b k row passed upstreams finished settled = record {
   passed = λ t i l m. absurd (omega (arith, l, passed t));
   upstreams = λ t i l m. absurd (omega (arith, l, upstreams t));
@@ -105,7 +105,7 @@ unknown b k row passed upstreams finished settled = record {
   settled = λ t l. absurd (omega (arith, l, settled));
 }
 
-pub finished-noted : (b : Backfill) (k t n : ℕ) (old new : Progress) → IsNoted b k old → AreFinished (cell_at b.state k t) n → new.passed.items ≡ old.passed.items → new.settled_upstreams.items ≡ old.settled_upstreams.items → new.finished.items ≡ slice_set old.finished.items t n → new.settled ≡ old.settled → IsNoted b k new
+pub finished-noted : (b : Backfill) (k t n : ℕ) (old new : Cursors) → IsNoted b k old → AreFinished (cell_at b.state k t) n → new.passed.items ≡ old.passed.items → new.settled_upstreams.items ≡ old.settled_upstreams.items → new.finished.items ≡ slice_set old.finished.items t n → new.settled ≡ old.settled → IsNoted b k new
 finished-noted b k t n old new is here passed upstreams finished settled = record {
   passed = λ u. rw passed (is.passed u);
   upstreams = λ u. rw upstreams (is.upstreams u);
@@ -173,7 +173,7 @@ held-at (y ∷ ys) zero x l e = ap Some (sym e)
 held-at (y ∷ ys) (suc i) x l e = held-at ys i x (omega arith) e
 
 -- what was noted of the instances of a cell
-pub noted-finished : (b : Backfill) (k t : ℕ) (row : Progress) → IsNoted b k row → (xs : List Instance) → cell_at b.state k t ≡ Cell.Ran xs → (n : ℕ) → n ≡ get_or row.finished.items t 0 → AreFinished (Cell.Ran xs) n
+pub noted-finished : (b : Backfill) (k t : ℕ) (row : Cursors) → IsNoted b k row → (xs : List Instance) → cell_at b.state k t ≡ Cell.Ran xs → (n : ℕ) → n ≡ get_or row.finished.items t 0 → AreFinished (Cell.Ran xs) n
 noted-finished b k t row is xs cell n e = rw e (subst (λ (c : Cell). AreFinished c (get_or row.finished.items t 0)) cell (is.finished t))
 
 -- a cell is settled where as many of its instances have finished as it has
@@ -188,7 +188,7 @@ settled-by xs n within finished unfinished = go (nat_le (length xs) n) refl
 
 -- ---- of the rows of all runs
 
-set-cases : (rows : List Progress) (k : ℕ) (row : Progress) (j : ℕ) (x : Progress) → slice_get (slice_set rows k row) j ≡ Some x → ((j ≡ k) × (x ≡ row)) ⊎ (slice_get rows j ≡ Some x)
+set-cases : (rows : List Cursors) (k : ℕ) (row : Cursors) (j : ℕ) (x : Cursors) → slice_get (slice_set rows k row) j ≡ Some x → ((j ≡ k) × (x ≡ row)) ⊎ (slice_get rows j ≡ Some x)
 set-cases [] k row j x e = inr e
 set-cases (r ∷ rows) zero row zero x e = let same : row ≡ x = cc in inl (refl, sym same)
 set-cases (r ∷ rows) zero row (suc j) x e = inr e
@@ -196,24 +196,24 @@ set-cases (r ∷ rows) (suc k) row zero x e = inr e
 set-cases (r ∷ rows) (suc k) row (suc j) x e = elim (set-cases rows k row j x e) [ inl p ↦ inl (ap suc p.0, p.1) | inr h ↦ inr h ]
 
 -- a row that is right is put in the place of another
-pub row-put : (b : Backfill) (rows : List Progress) (k : ℕ) (row : Progress) → AreNoted b rows → IsNoted b k row → AreNoted b (slice_set rows k row)
+pub row-put : (b : Backfill) (rows : List Cursors) (k : ℕ) (row : Cursors) → AreNoted b rows → IsNoted b k row → AreNoted b (slice_set rows k row)
 row-put b rows k row reached is j x at = elim (set-cases rows k row j x at) [
-  | inl p ↦ subst₂ (λ (i : ℕ) (y : Progress). IsNoted b i y) (sym p.0) (sym p.1) is
+  | inl p ↦ subst₂ (λ (i : ℕ) (y : Cursors). IsNoted b i y) (sym p.0) (sym p.1) is
   | inr h ↦ reached j x h
 ]
 
-push-cases : (rows : List Progress) (row : Progress) (j : ℕ) (x : Progress) → slice_get (rows ++ row ∷ []) j ≡ Some x → (x ≡ row) ⊎ (slice_get rows j ≡ Some x)
+push-cases : (rows : List Cursors) (row : Cursors) (j : ℕ) (x : Cursors) → slice_get (rows ++ row ∷ []) j ≡ Some x → (x ≡ row) ⊎ (slice_get rows j ≡ Some x)
 push-cases [] row zero x e = let same : row ≡ x = cc in inl (sym same)
 push-cases [] row (suc j) x e = cc
 push-cases (r ∷ rows) row zero x e = inr e
 push-cases (r ∷ rows) row (suc j) x e = push-cases rows row j x e
 
-pub row-pushed : (b : Backfill) (rows : List Progress) (row : Progress) → AreNoted b rows → ((k : ℕ) → IsNoted b k row) → AreNoted b (rows ++ row ∷ [])
-row-pushed b rows row reached is j x at = elim (push-cases rows row j x at) [ inl same ↦ subst (λ (y : Progress). IsNoted b j y) (sym same) (is j) | inr h ↦ reached j x h ]
+pub row-pushed : (b : Backfill) (rows : List Cursors) (row : Cursors) → AreNoted b rows → ((k : ℕ) → IsNoted b k row) → AreNoted b (rows ++ row ∷ [])
+row-pushed b rows row reached is j x at = elim (push-cases rows row j x at) [ inl same ↦ subst (λ (y : Cursors). IsNoted b j y) (sym same) (is j) | inr h ↦ reached j x h ]
 
-pub none-reached : (b : Backfill) (rows : List Progress) → rows ≡ [] → AreNoted b rows
-none-reached b rows e k row at = let f : None ≡ Some row = subst (λ (rs : List Progress). slice_get rs k ≡ Some row) e at in cc
+pub none-reached : (b : Backfill) (rows : List Cursors) → rows ≡ [] → AreNoted b rows
+none-reached b rows e k row at = let f : None ≡ Some row = subst (λ (rs : List Cursors). slice_get rs k ≡ Some row) e at in cc
 
-pub length-pushed : (rows : List Progress) (row : Progress) → length (rows ++ row ∷ []) ≡ length rows + 1
+pub length-pushed : (rows : List Cursors) (row : Cursors) → length (rows ++ row ∷ []) ≡ length rows + 1
 length-pushed [] row = omega arith
 length-pushed (r ∷ rows) row = let h : length (rows ++ row ∷ []) ≡ length rows + 1 = length-pushed rows row in omega (arith, h)

@@ -10,7 +10,7 @@ use Rattle.bf_core.specs.declared.state.Phase.{Phase}
 use Rattle.bf_core.specs.declared.state.State.{State}
 use Rattle.bf_core.specs.Events.{cell_at, instance_of, value_in}
 use Rattle.bf_core.specs.Cores.{Backfill}
-use Rattle.bf_due.specs.declared.progress.Progress.{Progress}
+use Rattle.bf_due.specs.declared.cursors.Cursors.{Cursors}
 
 -- nothing more of the upstream is waited for in the run: it is settled, or it is early and the upstream is no branch
 abbrev pub lets : Bool → Dag → State → ℕ → ℕ → Bool
@@ -41,12 +41,12 @@ abbrev pub AreFinished : Cell → ℕ → Type 0
 AreFinished cell count = (place : ℕ) → place < count → HasFinished cell place
 
 -- what is noted of the run is right
-pub record IsNoted (backfill : Backfill) (run : ℕ) (row : Progress) : Type 0 where
+pub record IsNoted (backfill : Backfill) (run : ℕ) (row : Cursors) : Type 0 where
   pub passed : (task : ℕ) → ArePassed (is_early backfill.dag task) backfill.dag backfill.state run task (slice_index row.passed.items task)
   pub upstreams : (task : ℕ) → ArePassed false backfill.dag backfill.state run task (slice_index row.settled_upstreams.items task)
   pub finished : (task : ℕ) → AreFinished (cell_at backfill.state run task) (slice_index row.finished.items task)
   pub settled : (task : ℕ) → task < row.settled → is_some (value_in (cell_at backfill.state run task)) ≡ true
 
 -- the same, of the row of each run
-abbrev pub AreNoted : Backfill → List Progress → Type 0
-AreNoted backfill rows = (run : ℕ) (row : Progress) → slice_get rows run ≡ Some row → IsNoted backfill run row
+abbrev pub AreNoted : Backfill → List Cursors → Type 0
+AreNoted backfill rows = (run : ℕ) (row : Cursors) → slice_get rows run ≡ Some row → IsNoted backfill run row

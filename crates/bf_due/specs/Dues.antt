@@ -10,7 +10,7 @@ use Rattle.bf_core.specs.Cores.{Backfill, IsReplay, IsThere, MayCome}
 use Rattle.bf_core.specs.Events.{next_run}
 use Rattle.bf_due.specs.declared.agenda.Step.{Step}
 use Rattle.bf_due.specs.declared.news.News.{News}
-use Rattle.bf_due.specs.declared.progress.Progress.{Progress}
+use Rattle.bf_due.specs.declared.cursors.Cursors.{Cursors}
 use Rattle.bf_due.specs.Cursors.{AreNoted, IsNoted}
 use Rattle.bf_due.specs.Agendas.{event_of}
 use Rattle.bf_due.specs.Stirring.{decided_at, ended_at, is_settled, matters}
@@ -19,7 +19,7 @@ use Rattle.bf_due.specs.Stirring.{decided_at, ended_at, is_settled, matters}
 pub record Kept : Type 0 where
   pub steps : List Step
   pub room : ℕ
-  pub progress : List Progress
+  pub progress : List Cursors
 
 -- ---- the agenda
 
@@ -167,9 +167,9 @@ pub record IsPruned (backfill : Backfill) (old new : List Step) : Type 0 where
   pub live : IfSome (slice_get new 0) (λ step. MayCome backfill (event_of step))
 
 -- what was noted of the run is still right, where it was, and of these steps those that may come now were added
-abbrev pub Asks : Backfill → ℕ → (Step → Type 0) → Progress → Progress → List Step → List Step → Type 0
+abbrev pub Asks : Backfill → ℕ → (Step → Type 0) → Cursors → Cursors → List Step → List Step → Type 0
 Asks backfill run These before after old new = IsNoted backfill run before → IsNoted backfill run after × HasAdded backfill These old new
 
 -- so it is with what was noted of all runs
-abbrev pub AsksAll : Backfill → (Step → Type 0) → List Progress → List Progress → List Step → List Step → Type 0
+abbrev pub AsksAll : Backfill → (Step → Type 0) → List Cursors → List Cursors → List Step → List Step → Type 0
 AsksAll backfill These before after old new = AreNoted backfill before → AreNoted backfill after × HasAdded backfill These old new

@@ -92,7 +92,8 @@ impl Agenda {
     pub fn first(&self) -> Option<Step>
         ensures top { result ≡ slice_get self.now.items 0 }
         ensures some { IfSome result (λ x. Contains self.now.items x) }
-        ensures first { IfSome result (λ x. (y : StepTerm) → Contains self.now.items y → Comes x y) }
+        ensures first { IfSome result (λ x. (y : StepTerm) → Contains self.now.items y
+            → Comes x y) }
     {
         match self.heap.peek() {
             None => None,
@@ -105,7 +106,8 @@ impl Agenda {
         requires { length self.old.items + 1 ≤ self.old.room }
         ensures added { Contains self.new.items step }
         ensures kept { (y : StepTerm) → Contains self.old.items y → Contains self.new.items y }
-        ensures only { (y : StepTerm) → Contains self.new.items y → (y ≡ step) ⊎ Contains self.old.items y }
+        ensures only { (y : StepTerm) → Contains self.new.items y → (y ≡ step)
+            ⊎ Contains self.old.items y }
         ensures len { length self.new.items ≡ length self.old.items + 1 }
         ensures room { self.old.room ≤ self.new.room }
     {
@@ -118,7 +120,8 @@ impl Agenda {
     /// Takes the first step out.
     pub fn take_first(&mut self) -> Option<Step>
         ensures top { result ≡ slice_get self.old.items 0 }
-        ensures kept { IfSome result (λ x. (y : StepTerm) → Contains self.old.items y → (y ≡ x) ⊎ Contains self.new.items y) }
+        ensures kept { IfSome result (λ x. (y : StepTerm) → Contains self.old.items y → (y ≡ x)
+            ⊎ Contains self.new.items y) }
         ensures fewer { (y : StepTerm) → Contains self.new.items y → Contains self.old.items y }
         ensures len { OnSome result (length self.new.items + 1 ≡ length self.old.items) }
         ensures none { IfNone result (self.new.items ≡ self.old.items) }

@@ -12,12 +12,13 @@ ghost use Rattle.bf_due.specs.Cursors.{IsNoted};
 ghost use Rattle.bf_due.specs.Stirring.{knows_past as knows_past_of, looks_beyond as looks_beyond_of, matters as matters_to};
 
 use crate::agenda::{Agenda, Step, Turn};
+use crate::cursors::Cursors;
 use crate::news::{News, stirs};
-use crate::progress::Progress;
 use bf_core::{Core, Event};
 
 fn is_expansion(event: &Event) -> bool
-    ensures { (expands : Bool) (run task : ℕ) → event.now ≡ deciding expands run task → result ≡ expands }
+    ensures { (expands : Bool) (run task : ℕ) → event.now ≡ deciding expands run task → result
+        ≡ expands }
 {
     matches!(event, Event::Expand { .. })
 }
@@ -104,10 +105,11 @@ pub(crate) fn add_open(agenda: &mut Agenda, core: &Core<'_>)
 }
 
 /// Adds the step that decides a task, where it may be decided now. The core is asked once no upstream is awaited.
-fn ask(agenda: &mut Agenda, row: &mut Progress, core: &Core<'_>, run: u32, task: u32)
+fn ask(agenda: &mut Agenda, row: &mut Cursors, core: &Core<'_>, run: u32, task: u32)
     requires task { task < length core.now.dag.tasks }
     requires room { length agenda.old.items + 1 ≤ agenda.old.room }
-    ensures asks { Asks core.now run (IsOfTask run task) row.old row.new agenda.old.items agenda.new.items }
+    ensures asks { Asks core.now run (IsOfTask run task) row.old row.new agenda.old.items
+        agenda.new.items }
     ensures len { length agenda.new.items ≤ length agenda.old.items + 1 }
     ensures room { agenda.old.room ≤ agenda.new.room }
 {
@@ -138,9 +140,10 @@ fn knows_past(core: &Core<'_>, run: u32, task: u32) -> bool
 }
 
 /// Whether news may let a task be decided that is below theirs.
-fn matters(row: &mut Progress, core: &Core<'_>, news: News, task: u32) -> bool
+fn matters(row: &mut Cursors, core: &Core<'_>, news: News, task: u32) -> bool
     requires { task < length core.now.dag.tasks }
-    ensures matters { IsNoted core.now news.run row.old → result ≡ false → matters_to core.now.dag core.now.state news task ≡ false }
+    ensures matters { IsNoted core.now news.run row.old → result ≡ false
+        → matters_to core.now.dag core.now.state news task ≡ false }
     ensures reached { IsNoted core.now news.run row.old → IsNoted core.now news.run row.new }
 {
     if looks_beyond(core, news.task, task) {
@@ -154,10 +157,11 @@ fn matters(row: &mut Progress, core: &Core<'_>, news: News, task: u32) -> bool
 }
 
 /// Adds the step that decides a task below the one of the news, where they matter to it and it may be decided now.
-fn stir(agenda: &mut Agenda, row: &mut Progress, core: &Core<'_>, news: News, task: u32)
+fn stir(agenda: &mut Agenda, row: &mut Cursors, core: &Core<'_>, news: News, task: u32)
     requires task { task < length core.now.dag.tasks }
     requires room { length agenda.old.items + 1 ≤ agenda.old.room }
-    ensures asks { Asks core.now news.run (IsStirred core.now.dag core.now.state news task) row.old row.new agenda.old.items agenda.new.items }
+    ensures asks { Asks core.now news.run (IsStirred core.now.dag core.now.state news task) row.old
+        row.new agenda.old.items agenda.new.items }
     ensures len { length agenda.new.items ≤ length agenda.old.items + 1 }
     ensures room { agenda.old.room ≤ agenda.new.room }
 {
@@ -167,10 +171,13 @@ fn stir(agenda: &mut Agenda, row: &mut Progress, core: &Core<'_>, news: News, ta
 }
 
 /// Adds the steps that decide these tasks, to which the news matter, where they may be decided now.
-fn stir_each(agenda: &mut Agenda, row: &mut Progress, core: &Core<'_>, news: News, tasks: &[u32])
-    requires tasks { (i : ℕ) → i < length tasks.now → slice_index tasks.now i < length core.now.dag.tasks }
+fn stir_each(agenda: &mut Agenda, row: &mut Cursors, core: &Core<'_>, news: News, tasks: &[u32])
+    requires tasks { (i : ℕ) → i < length tasks.now
+        → slice_index tasks.now i < length core.now.dag.tasks }
     requires room { length agenda.old.items + length tasks.now ≤ agenda.old.room }
-    ensures asks { Asks core.now news.run (IsOfFirst core.now.dag core.now.state news tasks.now (length tasks.now)) row.old row.new agenda.old.items agenda.new.items }
+    ensures asks { Asks core.now news.run
+        (IsOfFirst core.now.dag core.now.state news tasks.now (length tasks.now)) row.old row.new
+        agenda.old.items agenda.new.items }
     ensures len { length agenda.new.items ≤ length agenda.old.items + length tasks.now }
     ensures room { agenda.old.room ≤ agenda.new.room }
 {
@@ -180,9 +187,10 @@ fn stir_each(agenda: &mut Agenda, row: &mut Progress, core: &Core<'_>, news: New
 }
 
 /// Adds the steps that decide the tasks of a run, where they may be decided now.
-fn ask_all(agenda: &mut Agenda, row: &mut Progress, core: &Core<'_>, run: u32)
+fn ask_all(agenda: &mut Agenda, row: &mut Cursors, core: &Core<'_>, run: u32)
     requires { length agenda.old.items + length core.now.dag.tasks ≤ agenda.old.room }
-    ensures asks { Asks core.now run (IsBelow run (length core.now.dag.tasks)) row.old row.new agenda.old.items agenda.new.items }
+    ensures asks { Asks core.now run (IsBelow run (length core.now.dag.tasks)) row.old row.new
+        agenda.old.items agenda.new.items }
     ensures len { length agenda.new.items ≤ length agenda.old.items + length core.now.dag.tasks }
     ensures room { agenda.old.room ≤ agenda.new.room }
 {
@@ -193,9 +201,10 @@ fn ask_all(agenda: &mut Agenda, row: &mut Progress, core: &Core<'_>, run: u32)
 }
 
 /// Adds the close of a run, where it may be closed now. The core is asked once each task is settled.
-fn ask_close(agenda: &mut Agenda, row: &mut Progress, core: &Core<'_>, run: u32)
+fn ask_close(agenda: &mut Agenda, row: &mut Cursors, core: &Core<'_>, run: u32)
     requires { length agenda.old.items + 1 ≤ agenda.old.room }
-    ensures asks { Asks core.now run (IsCloseOf run) row.old row.new agenda.old.items agenda.new.items }
+    ensures asks { Asks core.now run (IsCloseOf run) row.old row.new agenda.old.items
+        agenda.new.items }
     ensures len { length agenda.new.items ≤ length agenda.old.items + 1 }
     ensures room { agenda.old.room ≤ agenda.new.room }
 {
@@ -205,7 +214,7 @@ fn ask_close(agenda: &mut Agenda, row: &mut Progress, core: &Core<'_>, run: u32)
 }
 
 /// Adds the steps of a run that may come now.
-pub(crate) fn ask_run(agenda: &mut Agenda, row: &mut Progress, core: &Core<'_>, run: u32)
+pub(crate) fn ask_run(agenda: &mut Agenda, row: &mut Cursors, core: &Core<'_>, run: u32)
     requires { HasRoom core.now.dag agenda.old.items agenda.old.room }
     ensures { Asks core.now run (IsOfRun run) row.old row.new agenda.old.items agenda.new.items }
 {
@@ -217,7 +226,8 @@ pub(crate) fn ask_run(agenda: &mut Agenda, row: &mut Progress, core: &Core<'_>, 
 fn downstreams<'a>(core: &Core<'a>, task: u32) -> &'a [u32]
     requires { task < length core.now.dag.tasks }
     ensures rising { IsRisingListOf (IsUpstream (shape_of core.now.dag).upstreams task) result.now }
-    ensures tasks { (i : ℕ) → i < length result.now → slice_index result.now i < length core.now.dag.tasks }
+    ensures tasks { (i : ℕ) → i < length result.now
+        → slice_index result.now i < length core.now.dag.tasks }
     ensures few { length result.now ≤ length core.now.dag.tasks }
 {
     core.plan().graph().downstreams(task)
@@ -225,11 +235,13 @@ fn downstreams<'a>(core: &Core<'a>, task: u32) -> &'a [u32]
 
 /// Adds the steps of the tasks below the one of the news, to which they matter, and the close of its run, where they may
 /// come now.
-fn ask_under(agenda: &mut Agenda, row: &mut Progress, core: &Core<'_>, news: News)
+fn ask_under(agenda: &mut Agenda, row: &mut Cursors, core: &Core<'_>, news: News)
     requires task { news.task < length core.now.dag.tasks }
     requires room { HasRoom core.now.dag agenda.old.items agenda.old.room }
-    ensures asks { Asks core.now news.run (IsUnder core.now.dag core.now.state news) row.old row.new agenda.old.items agenda.new.items }
-    ensures len { length agenda.new.items ≤ length agenda.old.items + (length core.now.dag.tasks + 1) }
+    ensures asks { Asks core.now news.run (IsUnder core.now.dag core.now.state news) row.old row.new
+        agenda.old.items agenda.new.items }
+    ensures len { length agenda.new.items ≤ length agenda.old.items +
+        (length core.now.dag.tasks + 1) }
     ensures room { agenda.old.room ≤ agenda.new.room }
 {
     stir_each(agenda, row, core, news, downstreams(core, news.task));
@@ -237,11 +249,12 @@ fn ask_under(agenda: &mut Agenda, row: &mut Progress, core: &Core<'_>, news: New
 }
 
 /// Adds the step that decides a task in a run, where there is such a run and it may be decided now.
-fn ask_in(agenda: &mut Agenda, rows: &mut Vec<Progress>, core: &Core<'_>, run: u32, task: u32)
+fn ask_in(agenda: &mut Agenda, rows: &mut Vec<Cursors>, core: &Core<'_>, run: u32, task: u32)
     requires task { task < length core.now.dag.tasks }
     requires rows { length core.now.state.runs ≤ length rows.old.items }
     requires room { length agenda.old.items + 1 ≤ agenda.old.room }
-    ensures { AsksAll core.now (IsOfTask run task) rows.old.items rows.new.items agenda.old.items agenda.new.items }
+    ensures { AsksAll core.now (IsOfTask run task) rows.old.items rows.new.items agenda.old.items
+        agenda.new.items }
 {
     if (run as usize) < rows.len() {
         let row = &mut rows[run as usize];
@@ -250,10 +263,11 @@ fn ask_in(agenda: &mut Agenda, rows: &mut Vec<Progress>, core: &Core<'_>, run: u
 }
 
 /// Adds the steps of a run that may come now, where there is such a run.
-fn ask_opened(agenda: &mut Agenda, rows: &mut Vec<Progress>, core: &Core<'_>, run: u32)
+fn ask_opened(agenda: &mut Agenda, rows: &mut Vec<Cursors>, core: &Core<'_>, run: u32)
     requires rows { length core.now.state.runs ≤ length rows.old.items }
     requires room { HasRoom core.now.dag agenda.old.items agenda.old.room }
-    ensures { AsksAll core.now (IsOfRun run) rows.old.items rows.new.items agenda.old.items agenda.new.items }
+    ensures { AsksAll core.now (IsOfRun run) rows.old.items rows.new.items agenda.old.items
+        agenda.new.items }
 {
     if (run as usize) < rows.len() {
         let row = &mut rows[run as usize];
@@ -263,11 +277,12 @@ fn ask_opened(agenda: &mut Agenda, rows: &mut Vec<Progress>, core: &Core<'_>, ru
 
 /// Adds the steps that news may have made possible: those of the tasks below theirs, the close of its run, and, once it
 /// is settled, that of the same task in the next run.
-fn ask_around(agenda: &mut Agenda, rows: &mut Vec<Progress>, core: &Core<'_>, news: News)
+fn ask_around(agenda: &mut Agenda, rows: &mut Vec<Cursors>, core: &Core<'_>, news: News)
     requires there { IsThere core.now.dag core.now.state news.run news.task }
     requires rows { length core.now.state.runs ≤ length rows.old.items }
     requires room { HasRoom core.now.dag agenda.old.items agenda.old.room }
-    ensures { AsksAll core.now (IsAround core.now.dag core.now.state news) rows.old.items rows.new.items agenda.old.items agenda.new.items }
+    ensures { AsksAll core.now (IsAround core.now.dag core.now.state news) rows.old.items
+        rows.new.items agenda.old.items agenda.new.items }
 {
     let _few = core.runs();
     let row = &mut rows[news.run as usize];
@@ -287,14 +302,15 @@ fn newest_run(core: &Core<'_>) -> u32
 /// Adds the steps that an event may have made possible.
 pub(crate) fn ask_after(
     agenda: &mut Agenda,
-    rows: &mut Vec<Progress>,
+    rows: &mut Vec<Cursors>,
     core: &Core<'_>,
     event: &Event,
 )
     requires there { SpeaksOfTask core.now.dag core.now.state event.now }
     requires rows { length core.now.state.runs ≤ length rows.old.items }
     requires room { HasRoom core.now.dag agenda.old.items agenda.old.room }
-    ensures { AsksAll core.now (Concerns core.now.dag core.now.state event.now) rows.old.items rows.new.items agenda.old.items agenda.new.items }
+    ensures { AsksAll core.now (Concerns core.now.dag core.now.state event.now) rows.old.items
+        rows.new.items agenda.old.items agenda.new.items }
 {
     match event {
         Event::Settle { run, task } | Event::Expand { run, task } => {

@@ -10,7 +10,7 @@ ghost use Rattle.bf_due.specs.Dues.{HasAdded, HasRoomForSteps, IsOfRunBelow, IsU
 
 use crate::agenda::Agenda;
 use crate::asking::{add_open, ask_after, ask_run, clean};
-use crate::progress::Progress;
+use crate::cursors::Cursors;
 use bf_core::{Core, Event};
 use bf_value::OutOfMemory;
 use std::alloc::Global;
@@ -23,13 +23,13 @@ pub struct Due {
     alloc: Global,
     agenda: Agenda,
     /// How far each run has come. Nothing is noted of a run that isn't open.
-    progress: Vec<Progress>,
+    progress: Vec<Cursors>,
 }
 
 impl Model for Due {
     ghost use Rattle.bf_due.specs.Dues.{Kept};
     ghost use Rattle.bf_due.specs.contracts.agenda.Step as t;
-    ghost use Rattle.bf_due.specs.contracts.progress.Progress as p;
+    ghost use Rattle.bf_due.specs.contracts.cursors.Cursors as p;
     ghost use Rattle.std.specs.Coded.{codes};
 
     ghost Value = { Kept };
@@ -65,13 +65,14 @@ fn ranking(core: &Core<'_>)
 
 /// The steps of the runs that were opened.
 fn steps_of_runs(alloc: Global, core: &Core<'_>) -> Result<Agenda, OutOfMemory>
-    ensures { IfOk result (λ agenda. HasAdded core.now (IsOfRunBelow (next_run core.now.state)) [] agenda.items) }
+    ensures { IfOk result (λ agenda. HasAdded core.now (IsOfRunBelow (next_run core.now.state)) []
+        agenda.items) }
 {
     let mut agenda = Agenda::new(alloc);
     let most = core.plan().dag().tasks.len() + 2;
     for run in 0..core.opened_runs() {
         agenda.make_room(most)?;
-        let mut row = Progress::unknown(alloc);
+        let mut row = Cursors::unknown(alloc);
         ask_run(&mut agenda, &mut row, core, run);
     }
     Ok(agenda)
@@ -88,12 +89,12 @@ fn runs(core: &Core<'_>) -> u32
 }
 
 /// Makes a row for each run.
-fn make_rows(alloc: Global, rows: &mut Vec<Progress>, runs: u32) -> Result<(), OutOfMemory>
+fn make_rows(alloc: Global, rows: &mut Vec<Cursors>, runs: u32) -> Result<(), OutOfMemory>
     ensures reached { (b : Backfill) → AreNoted b rows.old.items → AreNoted b rows.new.items }
     ensures rows { OnOk result (runs ≤ length rows.new.items) }
 {
     for _run in rows.len()..runs as usize {
-        rows.push(Progress::unknown(alloc))?;
+        rows.push(Cursors::unknown(alloc))?;
     }
     Ok(())
 }
@@ -111,7 +112,7 @@ fn run_of(core: &Core<'_>, event: &Event) -> Option<u32> {
 /// Sees to it that something can be noted of the tasks of a run.
 fn prepare(
     alloc: Global,
-    rows: &mut Vec<Progress>,
+    rows: &mut Vec<Cursors>,
     run: u32,
     tasks: usize,
 ) -> Result<(), OutOfMemory>
@@ -119,7 +120,7 @@ fn prepare(
     ensures len { length rows.new.items ≡ length rows.old.items }
 {
     if (run as usize) < rows.len() && rows[run as usize].passed.is_empty() {
-        let row = Progress::new(alloc, tasks)?;
+        let row = Cursors::new(alloc, tasks)?;
         rows[run as usize] = row;
     }
     Ok(())
@@ -128,7 +129,7 @@ fn prepare(
 /// Makes a row for each run, in which something can be noted of the run that an event speaks of.
 fn make_rows_for(
     alloc: Global,
-    rows: &mut Vec<Progress>,
+    rows: &mut Vec<Cursors>,
     core: &Core<'_>,
     event: &Event,
 ) -> Result<(), OutOfMemory>
@@ -143,12 +144,12 @@ fn make_rows_for(
 }
 
 /// Lets go of what was noted of a run that an event has closed.
-fn forget_closed(alloc: Global, rows: &mut Vec<Progress>, event: &Event)
+fn forget_closed(alloc: Global, rows: &mut Vec<Cursors>, event: &Event)
     ensures { (b : Backfill) → AreNoted b rows.old.items → AreNoted b rows.new.items }
 {
     if let Event::Close { run } = event {
         if (*run as usize) < rows.len() {
-            rows[*run as usize] = Progress::unknown(alloc);
+            rows[*run as usize] = Cursors::unknown(alloc);
         }
     }
 }
@@ -183,7 +184,8 @@ impl Due {
     /// Takes in an event that has come, for which there is room. It takes no memory.
     pub fn on_event(&mut self, core: &Core<'_>, event: &Event)
         requires { HasRoomForSteps core.now self.old }
-        ensures { (b : Backfill) → MayCome b event.now → core.now ≡ moved b event.now → IsUpToDate b self.old → IsUpToDate core.now self.new }
+        ensures { (b : Backfill) → MayCome b event.now → core.now ≡ moved b event.now
+            → IsUpToDate b self.old → IsUpToDate core.now self.new }
     {
         let _runs = runs(core);
         if speaks_of_task(core, event) {

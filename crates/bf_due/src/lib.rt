@@ -18,9 +18,9 @@
 
 mod agenda;
 mod asking;
+mod cursors;
 mod due;
 mod news;
-mod progress;
 
 pub use asking::may_decide;
 pub use due::Due;

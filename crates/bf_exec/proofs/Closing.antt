@@ -18,7 +18,7 @@ use Rattle.bf_lane.proofs.Serving.{answered-append, asked-append}
 use Rattle.bf_exec.specs.Accounts.{gathered_sum, submitted_sum}
 use Rattle.bf_exec.specs.Faults.{IsFaultOf, MayFail, MayHalt}
 use Rattle.bf_exec.specs.Turns.{HasStranger}
-use Rattle.bf_exec.specs.declared.halt.Halt.{Halt}
+use Rattle.bf_exec.specs.declared.turn_fault.TurnFault.{TurnFault}
 use Rattle.bf_exec.proofs.Members.{Runs, runs-there}
 use Rattle.bf_exec.proofs.Sums.{gathered-more, gathered-submitted}
 
@@ -58,7 +58,7 @@ module _ (may_answer : JobName → Given → Raw → Type 0) (may_give_up : JobN
       running : Runs is.backfill (asked_by (Done is.answer))
       running = runs-there is.backfill is.in_step.replayed (asked_by (Done is.answer)) weighs
 
-pub may_fail : (may_give_up : JobName → Given → Type 0) (halt : Halt) (fault : BackfillFault) → IsFaultOf halt fault → MayHalt may_give_up halt → MayFail may_give_up fault
-may_fail may_give_up Halt.OutOfMemory fault is may = subst (MayFail may_give_up) (sym is) tt
-may_fail may_give_up (Halt.Runner n) fault is may = subst (MayFail may_give_up) (sym is) may
-may_fail may_give_up Halt.Stranger fault is may = absurd is
+pub may_fail : (may_give_up : JobName → Given → Type 0) (halt : TurnFault) (fault : BackfillFault) → IsFaultOf halt fault → MayHalt may_give_up halt → MayFail may_give_up fault
+may_fail may_give_up TurnFault.OutOfMemory fault is may = subst (MayFail may_give_up) (sym is) tt
+may_fail may_give_up (TurnFault.Runner n) fault is may = subst (MayFail may_give_up) (sym is) may
+may_fail may_give_up TurnFault.Stranger fault is may = absurd is

@@ -20,7 +20,7 @@ use Rattle.bf_exec.specs.Accounts.{IsInStep}
 use Rattle.bf_sched.specs.Driving.{StaysDriven}
 use Rattle.bf_sched.proofs.Driving.{begun_driven, finished_driven, same_driven, stays_driven, ticked_driven}
 use Rattle.bf_exec.specs.Turns.{AreAmong, AreInStep, EndsAtOnce, EndsBy, EndsWait, HasAwaited, HasCaughtUp, HasStranger, IsHaltBy, IsHaltOf, IsLeftBy, IsStrange, MustAwait}
-use Rattle.bf_exec.specs.declared.halt.Halt.{Halt}
+use Rattle.bf_exec.specs.declared.turn_fault.TurnFault.{TurnFault}
 use Rattle.bf_exec.proofs.Keeping.{IsStill, begin-in_step, end-in_step, made-in_step, still-in_step, tick-in_step}
 use Rattle.bf_exec.proofs.Sums.{first-idle, some-idle}
 
@@ -122,15 +122,15 @@ strange_halt lanes next s t at done h got before = record {
 }
 
 -- why the try of a gathered answer didn't end is why the turn halts
-pub halted_by : (lanes next : List Scheduled) (s t : Schedule) (at : ℕ) (done : Answered) (halt : Halt) → IsHaltBy done s t halt → IsGathered lanes next at (Done done) → AreInStep lanes s → IsHaltOf lanes next halt
-halted_by lanes next s t at done Halt.OutOfMemory h got before = inr (record { at = at; answer = Done done; got = got; is_other = tt })
-halted_by lanes next s t at done (Halt.Runner n) h got before = absurd h
-halted_by lanes next s t at done Halt.Stranger h got before = strange_halt lanes next s t at done h got before
+pub halted_by : (lanes next : List Scheduled) (s t : Schedule) (at : ℕ) (done : Answered) (halt : TurnFault) → IsHaltBy done s t halt → IsGathered lanes next at (Done done) → AreInStep lanes s → IsHaltOf lanes next halt
+halted_by lanes next s t at done TurnFault.OutOfMemory h got before = inr (record { at = at; answer = Done done; got = got; is_other = tt })
+halted_by lanes next s t at done (TurnFault.Runner n) h got before = absurd h
+halted_by lanes next s t at done TurnFault.Stranger h got before = strange_halt lanes next s t at done h got before
 
-pub left_by : (lanes next : List Scheduled) (halt : Halt) → IsHaltOf lanes next halt → IsLeftBy next halt
-left_by lanes next Halt.OutOfMemory h = tt
-left_by lanes next (Halt.Runner n) h = tt
-left_by lanes next Halt.Stranger h = (lanes, h)
+pub left_by : (lanes next : List Scheduled) (halt : TurnFault) → IsHaltOf lanes next halt → IsLeftBy next halt
+left_by lanes next TurnFault.OutOfMemory h = tt
+left_by lanes next (TurnFault.Runner n) h = tt
+left_by lanes next TurnFault.Stranger h = (lanes, h)
 
 -- ---- what a turn is
 

@@ -3,13 +3,13 @@ use Rattle.std.specs.Prelude.{◌≡◌}
 use Rattle.bf_core.specs.Terms.{Given, JobName}
 use Rattle.bf_core.specs.Answered.{MayFault}
 use Rattle.bf_core.specs.declared.fault.BackfillFault.{BackfillFault}
-use Rattle.bf_exec.specs.declared.halt.Halt.{Halt}
+use Rattle.bf_exec.specs.declared.turn_fault.TurnFault.{TurnFault}
 
 -- the try that is named may be given up
-abbrev pub MayHalt : (JobName → Given → Type 0) → Halt → Type 0
-MayHalt may_give_up Halt.OutOfMemory = Unit {0}
-MayHalt may_give_up (Halt.Runner n) = (given : Given) × may_give_up n given
-MayHalt may_give_up Halt.Stranger = Unit {0}
+abbrev pub MayHalt : (JobName → Given → Type 0) → TurnFault → Type 0
+MayHalt may_give_up TurnFault.OutOfMemory = Unit {0}
+MayHalt may_give_up (TurnFault.Runner n) = (given : Given) × may_give_up n given
+MayHalt may_give_up TurnFault.Stranger = Unit {0}
 
 -- it may be as with one worker, or a worker may not be started
 abbrev pub MayFail : (JobName → Given → Type 0) → BackfillFault → Type 0
@@ -17,7 +17,7 @@ MayFail may_give_up BackfillFault.Start = Unit {0}
 MayFail may_give_up fault = MayFault may_give_up fault
 
 -- the fault that a halt is; none is a stranger's
-abbrev pub IsFaultOf : Halt → BackfillFault → Type 0
-IsFaultOf Halt.OutOfMemory fault = fault ≡ BackfillFault.OutOfMemory
-IsFaultOf (Halt.Runner n) fault = fault ≡ BackfillFault.Runner n
-IsFaultOf Halt.Stranger fault = ⊥
+abbrev pub IsFaultOf : TurnFault → BackfillFault → Type 0
+IsFaultOf TurnFault.OutOfMemory fault = fault ≡ BackfillFault.OutOfMemory
+IsFaultOf (TurnFault.Runner n) fault = fault ≡ BackfillFault.Runner n
+IsFaultOf TurnFault.Stranger fault = ⊥

@@ -16,7 +16,7 @@ use Rattle.bf_lane.specs.Lanes.{IsNoGivingUp}
 use Rattle.bf_lane.specs.Open.{Scheduled}
 use Rattle.bf_lane.specs.Rounds.{IsGathered, IsSubmitted}
 use Rattle.bf_exec.specs.Accounts.{IsInStep}
-use Rattle.bf_exec.specs.declared.halt.Halt.{Halt}
+use Rattle.bf_exec.specs.declared.turn_fault.TurnFault.{TurnFault}
 
 -- ---- what comes in a turn
 
@@ -125,10 +125,10 @@ pub record IsStrange (answer : Answered) (s t : Schedule) : Type 0 where
   pub refused : ¬ (MayFinish t.backfill answer)
 
 -- why the try of the answer didn't end
-abbrev pub IsHaltBy : Answered → Schedule → Schedule → Halt → Type 0
-IsHaltBy answer s t Halt.OutOfMemory = Unit {0}
-IsHaltBy answer s t (Halt.Runner n) = ⊥
-IsHaltBy answer s t Halt.Stranger = IsStrange answer s t
+abbrev pub IsHaltBy : Answered → Schedule → Schedule → TurnFault → Type 0
+IsHaltBy answer s t TurnFault.OutOfMemory = Unit {0}
+IsHaltBy answer s t (TurnFault.Runner n) = ⊥
+IsHaltBy answer s t TurnFault.Stranger = IsStrange answer s t
 
 -- a giving up of this try was gathered
 pub record GaveUpOn (lanes after : List Scheduled) (n : JobName) : Type 0 where
@@ -155,13 +155,13 @@ pub record HasGatheredOther (lanes after : List Scheduled) : Type 0 where
   pub is_other : IsNoGivingUp answer
 
 -- memory was wanting before a try was given up, or the try that is named was gathered as given up, or a stranger was gathered
-abbrev pub IsHaltOf : List Scheduled → List Scheduled → Halt → Type 0
-IsHaltOf lanes after Halt.OutOfMemory = (after ≡ lanes) ⊎ HasGatheredOther lanes after
-IsHaltOf lanes after (Halt.Runner n) = GaveUpOn lanes after n
-IsHaltOf lanes after Halt.Stranger = HasStranger lanes after
+abbrev pub IsHaltOf : List Scheduled → List Scheduled → TurnFault → Type 0
+IsHaltOf lanes after TurnFault.OutOfMemory = (after ≡ lanes) ⊎ HasGatheredOther lanes after
+IsHaltOf lanes after (TurnFault.Runner n) = GaveUpOn lanes after n
+IsHaltOf lanes after TurnFault.Stranger = HasStranger lanes after
 
 -- where a stranger came, these lanes have gathered it
-abbrev pub IsLeftBy : List Scheduled → Halt → Type 0
-IsLeftBy after Halt.OutOfMemory = Unit {0}
-IsLeftBy after (Halt.Runner n) = Unit {0}
-IsLeftBy after Halt.Stranger = (lanes : List Scheduled) × HasStranger lanes after
+abbrev pub IsLeftBy : List Scheduled → TurnFault → Type 0
+IsLeftBy after TurnFault.OutOfMemory = Unit {0}
+IsLeftBy after (TurnFault.Runner n) = Unit {0}
+IsLeftBy after TurnFault.Stranger = (lanes : List Scheduled) × HasStranger lanes after

@@ -16,7 +16,8 @@ pub trait AnswerAtOnce {
 
     /// The answer to the try of a ticket, or the ticket again where a worker is to make it.
     fn answer_at_once(&self, ticket: Ticket) -> Result<Done, Ticket>
-        ensures ok { IfOk result (λ d. (d.name ≡ ticket.name) × (d.given ≡ ticket.given) × may_answer_at_once self.now d.name d.given d.raw) }
+        ensures ok { IfOk result (λ d. (d.name ≡ ticket.name) × (d.given ≡ ticket.given)
+            × may_answer_at_once self.now d.name d.given d.raw) }
         ensures err { IfErr result (λ back. back ≡ ticket) };
 }
 

@@ -10,10 +10,10 @@ ghost use Rattle.bf_exec.specs.Turns.{AreAmong, AreInStep, EndsAtOnce, EndsBy, E
 ghost use Rattle.bf_sched.specs.Driving.{IsUnderWay, StaysDriven};
 
 use crate::at_once::AnswerAtOnce;
-use crate::halt::Halt;
+use crate::turn_fault::TurnFault;
 use crate::watch::{Observer, Watch};
 use bf_core::{Illegal, LAST_MOMENT};
-use bf_lane::{Answer, Clock, Closed, Lanes, Service};
+use bf_lane::{Answer, Closed, Lanes, Service, TimeSource};
 use bf_sched::{Next, Scheduler};
 use bf_try::{Done, RunnerFault, Ticket};
 use bf_value::OutOfMemory;
@@ -51,13 +51,14 @@ fn show<O: Observer>(scheduler: &Scheduler<'_>, observer: &mut O)
 }
 
 /// Lets the clock of the backfill come to the present moment, where that is later than what it shows.
-fn catch_up<C: Clock, O: Observer>(
+fn catch_up<C: TimeSource, O: Observer>(
     scheduler: &mut Scheduler<'_>,
     watch: &mut Watch<C, O>,
 ) -> Result<(), OutOfMemory>
     ensures ok { OnOk result (HasCaughtUp (C.last watch.new.clock) scheduler.old scheduler.new) }
     ensures same { OnErr result (scheduler.new ≡ scheduler.old) }
-    ensures shown { HasShown O.shows watch.old.observer watch.new.observer scheduler.old.backfill scheduler.new.backfill }
+    ensures shown { HasShown O.shows watch.old.observer watch.new.observer scheduler.old.backfill
+        scheduler.new.backfill }
 {
     let moment = watch.clock.now().min(LAST_MOMENT);
     if scheduler.tick(moment)? {
@@ -67,14 +68,15 @@ fn catch_up<C: Clock, O: Observer>(
 }
 
 /// Ends the try of an answer.
-fn end<C: Clock, O: Observer>(
+fn end<C: TimeSource, O: Observer>(
     done: Done,
     scheduler: &mut Scheduler<'_>,
     watch: &mut Watch<C, O>,
-) -> Result<(), Halt>
+) -> Result<(), TurnFault>
     ensures ok { OnOk result (EndsBy (C.last watch.new.clock) done scheduler.old scheduler.new) }
     ensures err { IfErr result (IsHaltBy done scheduler.old scheduler.new) }
-    ensures shown { HasShown O.shows watch.old.observer watch.new.observer scheduler.old.backfill scheduler.new.backfill }
+    ensures shown { HasShown O.shows watch.old.observer watch.new.observer scheduler.old.backfill
+        scheduler.new.backfill }
 {
     catch_up(scheduler, watch)?;
     match scheduler.finish(done) {
@@ -82,8 +84,8 @@ fn end<C: Clock, O: Observer>(
             show(scheduler, &mut watch.observer);
             Ok(())
         }
-        Err((_, Illegal::OutOfMemory)) => Err(Halt::OutOfMemory),
-        Err(_) => Err(Halt::Stranger),
+        Err((_, Illegal::OutOfMemory)) => Err(TurnFault::OutOfMemory),
+        Err(_) => Err(TurnFault::Stranger),
     }
 }
 
@@ -95,11 +97,13 @@ fn end_at_once<D: AnswerAtOnce, O: Observer>(
     observer: &mut O,
 ) -> Result<Option<Ticket>, OutOfMemory>
     requires { IsUnderWay scheduler.old.backfill ticket }
-    ensures some { IfOk result (λ left. IfSome left (λ back. (back ≡ ticket) × (scheduler.new ≡ scheduler.old))) }
+    ensures some { IfOk result (λ left. IfSome left
+        (λ back. (back ≡ ticket) × (scheduler.new ≡ scheduler.old))) }
     ensures none { IfOk result (λ left. IfNone left
         (EndsAtOnce (D.may_answer_at_once desk.now) ticket scheduler.old scheduler.new)) }
     ensures same { OnErr result (scheduler.new ≡ scheduler.old) }
-    ensures shown { HasShown O.shows observer.old observer.new scheduler.old.backfill scheduler.new.backfill }
+    ensures shown { HasShown O.shows observer.old observer.new scheduler.old.backfill
+        scheduler.new.backfill }
 {
     match desk.answer_at_once(ticket) {
         Ok(done) => {
@@ -127,7 +131,7 @@ impl<'s, K: Service + Send + Sync + 's> Executor<'s, K> {
     }
 
     /// Waits for an answer, until a moment where one is given.
-    fn gather<W: Wait, C: Clock>(
+    fn gather<W: Wait, C: TimeSource>(
         &mut self,
         rt: &W,
         clock: &mut C,
@@ -146,29 +150,31 @@ impl<'s, K: Service + Send + Sync + 's> Executor<'s, K> {
 
     /// Waits for an answer, until a moment where one is given, and ends the try of the answer.
     #[tactic(auto, using(crate::proofs::Turning::gathered_in_step, bf_sched::proofs::Driving::same_driven, crate::proofs::Turning::halted_by, crate::proofs::Shown::still_shown))]
-    fn wait<W: Wait, C: Clock, O: Observer>(
+    fn wait<W: Wait, C: TimeSource, O: Observer>(
         &mut self,
         rt: &W,
         until: Option<i64>,
         scheduler: &mut Scheduler<'_>,
         watch: &mut Watch<C, O>,
-    ) -> Result<(), Halt>
+    ) -> Result<(), TurnFault>
         requires in_step { AreInStep self.old scheduler.old }
         requires next { IsNextMoment scheduler.old.backfill until }
-        ensures ok { OnOk result (EndsWait (C.last watch.new.clock) self.old self.new scheduler.old scheduler.new) }
+        ensures ok { OnOk result (EndsWait (C.last watch.new.clock) self.old self.new scheduler.old
+            scheduler.new) }
         ensures in_step { OnOk result (AreInStep self.new scheduler.new) }
         ensures driven { OnOk result (StaysDriven K.answers scheduler.old scheduler.new) }
         ensures err { IfErr result (IsHaltOf self.old self.new) }
         ensures fault { IfErr result (MayHalt K.gives_up) }
-        ensures shown { HasShown O.shows watch.old.observer watch.new.observer scheduler.old.backfill scheduler.new.backfill }
+        ensures shown { HasShown O.shows watch.old.observer watch.new.observer
+            scheduler.old.backfill scheduler.new.backfill }
     {
         let Some((_, answer)) = self.gather(rt, &mut watch.clock, until) else {
             return Ok(());
         };
         match answer {
             Answer::Done(done) => end(done, scheduler, watch),
-            Answer::Gave(ticket, RunnerFault::GaveUp) => Err(Halt::Runner(ticket.name())),
-            Answer::Gave(_, RunnerFault::OutOfMemory) => Err(Halt::OutOfMemory),
+            Answer::Gave(ticket, RunnerFault::GaveUp) => Err(TurnFault::Runner(ticket.name())),
+            Answer::Gave(_, RunnerFault::OutOfMemory) => Err(TurnFault::OutOfMemory),
         }
     }
 
@@ -176,21 +182,23 @@ impl<'s, K: Service + Send + Sync + 's> Executor<'s, K> {
     /// try begins and ends by an answer at once, or begins and is submitted, or where nothing can come an answer is gathered and ends its try, unless the moment comes
     /// before for which a try waits. False where the backfill has ended. After a halt only `close` may follow. The observer is
     /// shown each event.
-    pub fn turn<W: Wait, D: AnswerAtOnce, C: Clock, O: Observer>(
+    pub fn turn<W: Wait, D: AnswerAtOnce, C: TimeSource, O: Observer>(
         &mut self,
         rt: &W,
         desk: &D,
         scheduler: &mut Scheduler<'_>,
         watch: &mut Watch<C, O>,
-    ) -> Result<bool, Halt>
+    ) -> Result<bool, TurnFault>
         requires in_step { AreInStep self.old scheduler.old }
         requires at_once { AreAmong (D.may_answer_at_once desk.now) K.answers }
-        ensures ok { IfOk result (IsTurn (D.may_answer_at_once desk.now) (C.last watch.new.clock) self.old self.new scheduler.old scheduler.new) }
+        ensures ok { IfOk result (IsTurn (D.may_answer_at_once desk.now) (C.last watch.new.clock)
+            self.old self.new scheduler.old scheduler.new) }
         ensures in_step { OnOk result (AreInStep self.new scheduler.new) }
         ensures driven { OnOk result (StaysDriven K.answers scheduler.old scheduler.new) }
         ensures err { IfErr result (IsHaltOf self.old self.new) }
         ensures fault { IfErr result (MayHalt K.gives_up) }
-        ensures shown { HasShown O.shows watch.old.observer watch.new.observer scheduler.old.backfill scheduler.new.backfill }
+        ensures shown { HasShown O.shows watch.old.observer watch.new.observer
+            scheduler.old.backfill scheduler.new.backfill }
     {
         catch_up(scheduler, watch)?;
         match scheduler.next()? {

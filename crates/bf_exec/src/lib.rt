@@ -10,16 +10,16 @@
 
 mod at_once;
 mod executor;
-mod halt;
 mod order;
 mod resuming;
 mod running;
 mod starting;
+mod turn_fault;
 mod watch;
 
 pub use at_once::AnswerAtOnce;
 pub use executor::Executor;
-pub use halt::Halt;
 pub use resuming::resume;
 pub use running::run_backfill;
+pub use turn_fault::TurnFault;
 pub use watch::{Observer, Silent, Watch};

@@ -11,7 +11,7 @@ use crate::running::run_answered;
 use crate::watch::{Observer, Watch};
 use bf_core::{BackfillFault, Ended};
 use bf_kept::{Keeping, KeptTries};
-use bf_lane::Clock;
+use bf_lane::TimeSource;
 use bf_plan::Plan;
 use bf_runs::RunCount;
 use bf_try::TaskRunner;
@@ -31,7 +31,7 @@ pub fn resume<
     N: RunCount,
     K: KeptTries + Sync,
     R: TaskRunner + Sync,
-    C: Clock,
+    C: TimeSource,
     O: Observer,
 >(
     rt: &W,

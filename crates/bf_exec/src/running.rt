@@ -11,16 +11,16 @@ ghost use Rattle.bf_exec.specs.Shown.{HasShown, WasShown};
 ghost use Rattle.bf_exec.specs.Starting.{AreFresh};
 ghost use Rattle.bf_sched.specs.Driving.{StaysDriven};
 ghost use Rattle.bf_exec.specs.Turns.{AreAmong, AreInStep, IsLeftBy};
-ghost use Rattle.bf_exec.specs.declared.halt.Halt.{Halt as HaltTerm};
+ghost use Rattle.bf_exec.specs.declared.turn_fault.TurnFault.{TurnFault as HaltTerm};
 
 use crate::at_once::{AnswerAtOnce, ByWorkers};
 use crate::executor::Executor;
-use crate::halt::Halt;
 use crate::order::{Desk, Order, Shared};
 use crate::starting::{all_fresh, all_started};
+use crate::turn_fault::TurnFault;
 use crate::watch::{Observer, Watch};
 use bf_core::{BackfillFault, Core, Ended};
-use bf_lane::{Clock, Queues, Seats, Service};
+use bf_lane::{Queues, Seats, Service, TimeSource};
 use bf_plan::Plan;
 use bf_runs::RunCount;
 use bf_sched::Scheduler;
@@ -34,13 +34,20 @@ use std::thread::{Parker, Scope, Threads};
 
 /// Turns until the backfill has ended, or a turn halts.
 #[tactic(auto, using(bf_sched::proofs::Driving::same_driven, crate::proofs::Turning::left_by))]
-fn all_turns<'s, K: Service + Send + Sync + 's, W: Wait, D: AnswerAtOnce, C: Clock, O: Observer>(
+fn all_turns<
+    's,
+    K: Service + Send + Sync + 's,
+    W: Wait,
+    D: AnswerAtOnce,
+    C: TimeSource,
+    O: Observer,
+>(
     rt: &W,
     desk: &D,
     executor: &mut Executor<'s, K>,
     scheduler: &mut Scheduler<'_>,
     watch: &mut Watch<C, O>,
-) -> Result<(), Halt>
+) -> Result<(), TurnFault>
     requires in_step { AreInStep executor.old scheduler.old }
     requires at_once { AreAmong (D.may_answer_at_once desk.now) K.answers }
     ensures ended { OnOk result (HasEnded scheduler.new.backfill.state) }
@@ -48,7 +55,8 @@ fn all_turns<'s, K: Service + Send + Sync + 's, W: Wait, D: AnswerAtOnce, C: Clo
     ensures driven { OnOk result (StaysDriven K.answers scheduler.old scheduler.new) }
     ensures left { IfErr result (IsLeftBy executor.new) }
     ensures fault { IfErr result (MayHalt K.gives_up) }
-    ensures shown { HasShown O.shows watch.old.observer watch.new.observer scheduler.old.backfill scheduler.new.backfill }
+    ensures shown { HasShown O.shows watch.old.observer watch.new.observer scheduler.old.backfill
+        scheduler.new.backfill }
 {
     for _ in rt.forever() {
         if !executor.turn(rt, desk, scheduler, watch)? {
@@ -65,21 +73,23 @@ fn drive<'s, 'p, K, W, D, N, C, O>(
     executor: &mut Executor<'s, K>,
     order: &Order<'p, '_, N>,
     watch: &mut Watch<C, O>,
-) -> Result<Ended<'p>, Halt>
+) -> Result<Ended<'p>, TurnFault>
 where
     K: Service + Send + Sync + 's,
     W: Wait,
     D: Shared + AnswerAtOnce,
     N: RunCount,
-    C: Clock,
+    C: TimeSource,
     O: Observer,
     requires lanes { length executor.old ≡ order.now.workers }
     requires unused { AreUnused executor.old }
     requires at_once { AreAmong (D.may_answer_at_once desk.now) K.answers }
-    ensures over { IfOk result (IsOver K.answers order.now.plan.now.dag order.now.plan.now.limits (N.runs order.now.runs.now) order.now.workers) }
+    ensures over { IfOk result (IsOver K.answers order.now.plan.now.dag order.now.plan.now.limits
+        (N.runs order.now.runs.now) order.now.workers) }
     ensures left { IfErr result (IsLeftBy executor.new) }
     ensures fault { IfErr result (MayHalt K.gives_up) }
-    ensures shown { IfOk result (WasShown O.shows order.now.plan.now.dag (N.runs order.now.runs.now) watch.old.observer watch.new.observer) }
+    ensures shown { IfOk result (WasShown O.shows order.now.plan.now.dag (N.runs order.now.runs.now)
+        watch.old.observer watch.new.observer) }
 {
     let _sound = order.plan.dag();
     let _fit = order.plan.limits();
@@ -93,14 +103,14 @@ where
 }
 
 /// The fault that a halt is, which is none by a stranger.
-fn fault_of(halt: Halt) -> BackfillFault
+fn fault_of(halt: TurnFault) -> BackfillFault
     requires { halt ≢ HaltTerm.Stranger }
     ensures { IsFaultOf halt result }
 {
     match halt {
-        Halt::OutOfMemory => BackfillFault::OutOfMemory,
-        Halt::Runner(name) => BackfillFault::Runner(name),
-        Halt::Stranger => unreachable!(),
+        TurnFault::OutOfMemory => BackfillFault::OutOfMemory,
+        TurnFault::Runner(name) => BackfillFault::Runner(name),
+        TurnFault::Stranger => unreachable!(),
     }
 }
 
@@ -120,15 +130,18 @@ where
     W: Threads + Wait + Sync,
     D: TaskRunner + Shared + AnswerAtOnce + Sync,
     N: RunCount,
-    C: Clock,
+    C: TimeSource,
     O: Observer,
     requires many { length seats.items ≡ order.now.workers }
     requires fresh { AreFresh queues.now seats.items }
-    requires fulfils { Fulfils (D.may_answer desk.now) (D.may_give_up desk.now) K.answers K.gives_up }
+    requires fulfils { Fulfils (D.may_answer desk.now) (D.may_give_up desk.now) K.answers
+        K.gives_up }
     requires at_once { AreAmong (D.may_answer_at_once desk.now) (D.may_answer desk.now) }
-    ensures over { IfOk result (IsOver K.answers order.now.plan.now.dag order.now.plan.now.limits (N.runs order.now.runs.now) order.now.workers) }
+    ensures over { IfOk result (IsOver K.answers order.now.plan.now.dag order.now.plan.now.limits
+        (N.runs order.now.runs.now) order.now.workers) }
     ensures fault { IfErr result (MayFail K.gives_up) }
-    ensures shown { IfOk result (WasShown O.shows order.now.plan.now.dag (N.runs order.now.runs.now) watch.old.observer watch.new.observer) }
+    ensures shown { IfOk result (WasShown O.shows order.now.plan.now.dag (N.runs order.now.runs.now)
+        watch.old.observer watch.new.observer) }
 {
     let lanes = all_started(scope, rt, queues, seats, desk)?;
     let mut executor = Executor::of(lanes);
@@ -153,11 +166,13 @@ where
     W: Threads + Wait + Sync,
     D: TaskRunner + Shared + AnswerAtOnce + Sync,
     N: RunCount,
-    C: Clock,
+    C: TimeSource,
     O: Observer,
-    requires fulfils { Fulfils (D.may_answer desk.now) (D.may_give_up desk.now) K.answers K.gives_up }
+    requires fulfils { Fulfils (D.may_answer desk.now) (D.may_give_up desk.now) K.answers
+        K.gives_up }
     requires at_once { AreAmong (D.may_answer_at_once desk.now) (D.may_answer desk.now) }
-    ensures over { IfOk result (IsOver K.answers order.now.plan.now.dag order.now.plan.now.limits (N.runs order.now.runs.now) order.now.workers) }
+    ensures over { IfOk result (IsOver K.answers order.now.plan.now.dag order.now.plan.now.limits
+        (N.runs order.now.runs.now) order.now.workers) }
     ensures fault { IfErr result (MayFail K.gives_up) }
 {
     let (queues, seats) = all_fresh::<K>(desk.alloc(), order.workers)?;
@@ -168,9 +183,12 @@ where
         |scope| -> Result<Ended<'_>, BackfillFault>
             requires many { length seats.items ≡ order.now.workers }
             requires fresh { AreFresh rows.now seats.items }
-            requires fulfils { Fulfils (D.may_answer desk.now) (D.may_give_up desk.now) K.answers K.gives_up }
+            requires fulfils { Fulfils (D.may_answer desk.now) (D.may_give_up desk.now) K.answers
+                K.gives_up }
             requires at_once { AreAmong (D.may_answer_at_once desk.now) (D.may_answer desk.now) }
-            ensures over { IfOk result (IsOver K.answers order.entry.now.plan.now.dag order.entry.now.plan.now.limits (N.runs order.entry.now.runs.now) order.entry.now.workers) }
+            ensures over { IfOk result (IsOver K.answers order.entry.now.plan.now.dag
+                order.entry.now.plan.now.limits (N.runs order.entry.now.runs.now)
+                order.entry.now.workers) }
             ensures fault { IfErr result (MayFail K.gives_up) }
         { in_scope(scope, rt, rows, seats, desk, order, watch) },
     );
@@ -183,7 +201,7 @@ pub(crate) fn run_answered<
     W: Threads + Wait + Sync,
     N: RunCount,
     R: TaskRunner + AnswerAtOnce + Sync,
-    C: Clock,
+    C: TimeSource,
     O: Observer,
 >(
     rt: &W,
@@ -225,7 +243,7 @@ pub fn run_backfill<
     W: Threads + Wait + Sync,
     N: RunCount,
     R: TaskRunner + Sync,
-    C: Clock,
+    C: TimeSource,
     O: Observer,
 >(
     rt: &W,

@@ -48,7 +48,8 @@ where
     W: Threads + Wait + Sync,
     D: TaskRunner + Shared + Sync,
     requires fresh { AreFresh queues.now seats.items }
-    requires fulfils { Fulfils (D.may_answer desk.now) (D.may_give_up desk.now) K.answers K.gives_up }
+    requires fulfils { Fulfils (D.may_answer desk.now) (D.may_give_up desk.now) K.answers
+        K.gives_up }
     ensures unused { IfOk result AreUnused }
     ensures many { IfOk result (λ lanes. length lanes ≡ length seats.items) }
     ensures fault { IfErr result (MayFail K.gives_up) }

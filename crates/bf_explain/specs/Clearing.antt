@@ -12,7 +12,7 @@ use Rattle.bf_quoted.specs.Words.{quoted}
 use Rattle.bf_roots.specs.declared.step.Root.{Root}
 use Rattle.bf_why.specs.Decided.{id_of}
 use Rattle.bf_wording.specs.Numbers.{plural}
-use Rattle.bf_explain.specs.declared.clearing.Cleared.{Cleared}
+use Rattle.bf_explain.specs.declared.clearing.ClearedCount.{ClearedCount}
 use Rattle.bf_explain.specs.declared.paths.Paths.{Paths}
 use Rattle.bf_explain.specs.Began.{in_the_run}
 use Rattle.bf_explain.specs.Moments.{short_moment}
@@ -66,7 +66,7 @@ abbrev pub last_run : ℕ → List Place → ℕ
 last_run run places = fold (λ last place. place.run) run places
 
 -- how many tasks follow from the place, in how many runs, from its own to the last
-abbrev pub IsCleared : Dag → ℕ → Place → Cleared → Type 0
+abbrev pub IsCleared : Dag → ℕ → Place → ClearedCount → Type 0
 IsCleared dag runs place cleared =
     (all : Following) × AreDependents dag (place ∷ []) runs all
     × (cleared.tasks ≡ length (places_in dag all runs))
@@ -79,12 +79,12 @@ abbrev pub place_text : Dag → Report → ℕ → ℕ → Place → List ℕ
 place_text dag report run task place =
     if place.run == run && place.task == task then [] else codes " " ++ (id_of dag place.task ++ in_the_run report run place.run)
 
-abbrev pub clear_heading : List ℕ → Cleared → List ℕ
+abbrev pub clear_heading : List ℕ → ClearedCount → List ℕ
 clear_heading place cleared =
     codes "clear" ++ (place ++ (codes ", with what follows from it: "
     ++ (plural cleared.tasks (codes "task") ++ (codes " in " ++ plural cleared.runs (codes "run")))))
 
-abbrev pub clear_section : Paths → Dag → Report → ℕ → ℕ → Place → Cleared → List (List ℕ)
+abbrev pub clear_section : Paths → Dag → Report → ℕ → ℕ → Place → ClearedCount → List (List ℕ)
 clear_section paths dag report run task place cleared =
     section (clear_heading (place_text dag report run task place) cleared) (clear_line paths dag report place ∷ [])
 
@@ -96,7 +96,7 @@ is_of_single (Some run) = int_eq run.interval.start.nanosecond run.interval.end.
 abbrev pub IsClearSectionIf : Bool → Paths → Dag → Report → ℕ → ℕ → Place → List (List ℕ) → Type 0
 IsClearSectionIf true paths dag report run task place lines = lines ≡ []
 IsClearSectionIf false paths dag report run task place lines =
-    (cleared : Cleared) × IsCleared dag (length report.runs) place cleared × (lines ≡ clear_section paths dag report run task place cleared)
+    (cleared : ClearedCount) × IsCleared dag (length report.runs) place cleared × (lines ≡ clear_section paths dag report run task place cleared)
 
 abbrev pub IsClearSection : Paths → Dag → Report → ℕ → ℕ → Place → List (List ℕ) → Type 0
 IsClearSection paths dag report run task place lines =

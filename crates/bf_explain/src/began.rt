@@ -27,7 +27,8 @@ fn pushed_text(alloc: Global, instance: &InstanceReport) -> Result<Text, OutOfMe
 
 /// What the first instance of a task pushed.
 fn first_pushed_text(alloc: Global, told: Option<&TaskReport>) -> Result<Text, OutOfMemory>
-    ensures { IfOk result (λ text. text ≡ value_words 200 (pushed_first (option_copied told.entry))) }
+    ensures { IfOk result (λ text. text
+        ≡ value_words 200 (pushed_first (option_copied told.entry))) }
 {
     match told {
         Some(TaskReport::Ran(instance)) => pushed_text(alloc, instance),
@@ -130,7 +131,8 @@ fn add_far(
     root: &Root,
 ) -> Result<(), OutOfMemory>
     requires { task < length plan.now.dag.tasks }
-    ensures { OnOk result (names.new.items ≡ names.old.items ++ far_text plan.now.dag report.now run task root.now) }
+    ensures { OnOk result (names.new.items ≡ names.old.items
+        ++ far_text plan.now.dag report.now run task root.now) }
 {
     if is_far(plan, run, task, root) {
         names.push(root_text(alloc, plan, report, run, root)?)?;
@@ -147,7 +149,8 @@ fn far_names(
     roots: &[Root],
 ) -> Result<Vec<Text>, OutOfMemory>
     requires { task < length plan.now.dag.tasks }
-    ensures { IfOk result (λ names. names.items ≡ flat_map (far_text plan.now.dag report.now run task) roots.now) }
+    ensures { IfOk result (λ names. names.items
+        ≡ flat_map (far_text plan.now.dag report.now run task) roots.now) }
 {
     let mut names = Vec::new(alloc);
     for root in roots {
@@ -179,7 +182,8 @@ pub(crate) fn began_lines(
     roots: &[Root],
 ) -> Result<Vec<Text>, OutOfMemory>
     requires { task < length plan.now.dag.tasks }
-    ensures { IfOk result (λ lines. lines.items ≡ began_among plan.now.dag report.now run task roots.now) }
+    ensures { IfOk result (λ lines. lines.items
+        ≡ began_among plan.now.dag report.now run task roots.now) }
 {
     let names = far_names(alloc, plan, report, run, task, roots)?;
     began_sentence(alloc, names.as_slice())

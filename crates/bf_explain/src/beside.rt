@@ -28,7 +28,8 @@ pub(crate) fn outcome_word(outcome: &Outcome) -> &'static str
 
 /// Of an unmapped task, by its one result.
 fn result_word(results: &[TaskResult]) -> &'static str
-    ensures { (instance : InstanceTerm) → results.now ≡ instance.result ∷ [] → result.now ≡ state_word instance.result.outcome }
+    ensures { (instance : InstanceTerm) → results.now ≡ instance.result ∷ [] → result.now
+        ≡ state_word instance.result.outcome }
 {
     match results {
         [ended, ..] => outcome_word(&ended.outcome),

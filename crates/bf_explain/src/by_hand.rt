@@ -100,7 +100,8 @@ fn hand_line(
     instance: &InstanceReport,
 ) -> Result<Text, OutOfMemory>
     requires { task < length plan.now.dag.tasks }
-    ensures { IfOk result (IsHandLine plan.now.dag report.now.interval run task index instance.now) }
+    ensures { IfOk result (IsHandLine plan.now.dag report.now.interval run task index
+        instance.now) }
 {
     let dag = plan.dag();
     let made = dag.task(task);
@@ -137,7 +138,8 @@ pub(crate) fn hand_lines(
     instance: Option<&InstanceReport>,
 ) -> Result<Vec<Text>, OutOfMemory>
     requires { task < length plan.now.dag.tasks }
-    ensures { IfOk result (λ lines. AreHandLines plan.now.dag report.now.interval version run task index
+    ensures { IfOk result (λ lines. AreHandLines plan.now.dag report.now.interval version run task
+        index
         (option_copied instance.entry) lines.items) }
 {
     let Some(instance) = instance else {

@@ -96,7 +96,8 @@ fn add_seed(
     report: &Report,
     place: Place,
 ) -> Result<(), OutOfMemory>
-    ensures { OnOk result (words.new.items ≡ words.old.items ++ seed_words plan.now.dag report.now place) }
+    ensures { OnOk result (words.new.items ≡ words.old.items
+        ++ seed_words plan.now.dag report.now place) }
 {
     add_option(alloc, words, "--task", id_at(plan.dag(), place.task))?;
     add(alloc, words, "--run")?;
@@ -120,7 +121,8 @@ fn clear_words(
     report: &Report,
     place: Place,
 ) -> Result<Vec<Text>, OutOfMemory>
-    ensures { IfOk result (λ words. words.items ≡ clear_words_in paths.now plan.now.dag report.now place) }
+    ensures { IfOk result (λ words. words.items
+        ≡ clear_words_in paths.now plan.now.dag report.now place) }
 {
     let mut words = first_words(alloc)?;
     add_zone(alloc, &mut words, &paths.zone_file)?;

@@ -21,7 +21,7 @@ const MOST_PLACES: usize = 3;
 
 /// How many tasks follow from one, and in how many runs.
 #[derive(Clone, Copy, Debug, PartialEq, Eq)]
-pub struct Cleared {
+pub struct ClearedCount {
     pub tasks: u64,
     pub runs: u64,
 }
@@ -44,13 +44,18 @@ fn last_run(run: u32, places: &[Place]) -> u32
 }
 
 /// What follows from a task in one of so many runs.
-fn cleared_with(alloc: Global, plan: &Plan, runs: u32, place: Place) -> Result<Cleared, OutOfMemory>
+fn cleared_with(
+    alloc: Global,
+    plan: &Plan,
+    runs: u32,
+    place: Place,
+) -> Result<ClearedCount, OutOfMemory>
     ensures { IfOk result (IsCleared plan.now.dag runs place) }
 {
     let all = dependents(alloc, plan, &[place], runs)?;
     let places = all.places(alloc, plan, runs)?;
     let last = last_run(place.run, places.as_slice());
-    Ok(Cleared {
+    Ok(ClearedCount {
         tasks: places.len() as u64,
         runs: (u64::from(last) + 1).saturating_sub(u64::from(place.run)),
     })
@@ -75,7 +80,7 @@ fn place_text(
     Ok(Text::new(format!(in alloc; " {id}{there}")?))
 }
 
-fn clear_heading(alloc: Global, place: &Text, cleared: Cleared) -> Result<Text, OutOfMemory>
+fn clear_heading(alloc: Global, place: &Text, cleared: ClearedCount) -> Result<Text, OutOfMemory>
     ensures { IfOk result (λ text. text ≡ heading_words place.now cleared) }
 {
     let tasks = plural(alloc, cleared.tasks, "task")?;
@@ -103,7 +108,8 @@ fn clear_section(
     place: Place,
 ) -> Result<Vec<Text>, OutOfMemory>
     requires { length report.now.runs ≤ 4_096 }
-    ensures { IfOk result (λ lines. IsClearSection paths.now plan.now.dag report.now run task place lines.items) }
+    ensures { IfOk result (λ lines. IsClearSection paths.now plan.now.dag report.now run task place
+        lines.items) }
 {
     let mut lines = Vec::new(alloc);
     if is_of_single(report.runs.get(place.run as usize)) {
@@ -128,7 +134,8 @@ fn clear_sections(
     places: &[Place],
 ) -> Result<Vec<Text>, OutOfMemory>
     requires { length report.now.runs ≤ 4_096 }
-    ensures { IfOk result (λ lines. AreClearSections paths.now plan.now.dag report.now run task places.now lines.items) }
+    ensures { IfOk result (λ lines. AreClearSections paths.now plan.now.dag report.now run task
+        places.now lines.items) }
 {
     let mut lines = Vec::new(alloc);
     for place in places {

@@ -11,7 +11,8 @@ use std::alloc::Global;
 const MOST_CHARACTERS: usize = 4_096;
 
 fn add_item(alloc: Global, lines: &mut Vec<Text>, item: Option<&Xval>) -> Result<(), OutOfMemory>
-    ensures { OnOk result (lines.new.items ≡ lines.old.items ++ item_lines (option_copied item.entry)) }
+    ensures { OnOk result (lines.new.items ≡ lines.old.items
+        ++ item_lines (option_copied item.entry)) }
 {
     let Some(item) = item else {
         return Ok(());

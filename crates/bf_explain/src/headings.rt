@@ -57,7 +57,8 @@ fn instance_heading(
     instance: Option<&InstanceReport>,
 ) -> Result<Text, OutOfMemory>
     requires { IsShown start.nanosecond }
-    ensures { IfOk result (λ text. text ≡ instance_words id.now start.nanosecond place (option_copied instance.entry)) }
+    ensures { IfOk result (λ text. text
+        ≡ instance_words id.now start.nanosecond place (option_copied instance.entry)) }
 {
     let Some(instance) = instance else {
         return heading_of(alloc, id, start, "no_status");

@@ -32,7 +32,8 @@ fn is_before(state: &str, results: &[TaskResult], index: usize) -> bool
 }
 
 fn push_range_end(text: &mut String, goes_on: bool, index: usize) -> Result<(), OutOfMemory>
-    ensures { OnOk result (string_bytes text.new ≡ string_bytes text.old ++ range_end goes_on index) }
+    ensures { OnOk result (string_bytes text.new ≡ string_bytes text.old
+        ++ range_end goes_on index) }
 {
     if !goes_on {
         write!(text, "-{index}")?;
@@ -48,7 +49,8 @@ fn push_index(
     index: usize,
 ) -> Result<(), OutOfMemory>
     requires { index < length results.now }
-    ensures { OnOk result (string_bytes text.new ≡ string_bytes text.old ++ index_text state.now results.now index) }
+    ensures { OnOk result (string_bytes text.new ≡ string_bytes text.old
+        ++ index_text state.now results.now index) }
 {
     if !is_at(state, results, index) {
         return Ok(());
@@ -61,7 +63,8 @@ fn push_index(
 }
 
 fn push_indexes(text: &mut String, state: &str, results: &[TaskResult]) -> Result<(), OutOfMemory>
-    ensures { OnOk result (string_bytes text.new ≡ string_bytes text.old ++ indexes_words state.now results.now) }
+    ensures { OnOk result (string_bytes text.new ≡ string_bytes text.old
+        ++ indexes_words state.now results.now) }
 {
     for index in 0..results.len() {
         push_index(text, state, results, index)?;
@@ -106,7 +109,8 @@ fn add_state(
     state: &str,
     count: u32,
 ) -> Result<(), OutOfMemory>
-    ensures { OnOk result (lines.new.items ≡ lines.old.items ++ state_line width results.now state.now count) }
+    ensures { OnOk result (lines.new.items ≡ lines.old.items
+        ++ state_line width results.now state.now count) }
 {
     if count > 0 {
         lines.push(indexes_line(alloc, width, results, state)?)?;

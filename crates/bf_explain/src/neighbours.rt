@@ -38,7 +38,8 @@ pub(crate) fn add_beside(
     task: u32,
 ) -> Result<(), OutOfMemory>
     requires { task < length plan.now.dag.tasks }
-    ensures { OnOk result (lines.new.items ≡ lines.old.items ++ beside_sections plan.now.dag settled.now task) }
+    ensures { OnOk result (lines.new.items ≡ lines.old.items
+        ++ beside_sections plan.now.dag settled.now task) }
 {
     let upstreams = plan.dag().task(task).upstreams.as_slice();
     let above = task_lines(alloc, plan, settled, upstreams)?;

@@ -27,7 +27,8 @@ fn instances_lines(
 }
 
 fn pushed_if(alloc: Global, instance: Option<&InstanceReport>) -> Result<Vec<Text>, OutOfMemory>
-    ensures { IfOk result (λ lines. lines.items ≡ lines_if pushed_in (option_copied instance.entry)) }
+    ensures { IfOk result (λ lines. lines.items
+        ≡ lines_if pushed_in (option_copied instance.entry)) }
 {
     match instance {
         Some(instance) => pushed_lines(alloc, instance),
@@ -36,7 +37,8 @@ fn pushed_if(alloc: Global, instance: Option<&InstanceReport>) -> Result<Vec<Tex
 }
 
 fn given_if(alloc: Global, instance: Option<&InstanceReport>) -> Result<Vec<Text>, OutOfMemory>
-    ensures { IfOk result (λ lines. lines.items ≡ lines_if given_in (option_copied instance.entry)) }
+    ensures { IfOk result (λ lines. lines.items
+        ≡ lines_if given_in (option_copied instance.entry)) }
 {
     match instance {
         Some(instance) => given_lines(alloc, instance),

@@ -47,7 +47,8 @@ fn add_id(
     task: u32,
     holds: bool,
 ) -> Result<(), OutOfMemory>
-    ensures { OnOk result (ids.new.items ≡ ids.old.items ++ (if holds then id_of plan.now.dag task ∷ [] else [])) }
+    ensures { OnOk result (ids.new.items ≡ ids.old.items
+        ++ (if holds then id_of plan.now.dag task ∷ [] else [])) }
 {
     add_if(alloc, ids, holds, id_at(plan.dag(), task))
 }

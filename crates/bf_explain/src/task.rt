@@ -42,7 +42,8 @@ fn first_lines(
     requires few { All (λ run. All IsFewTask run.tasks) report.now.runs }
     requires tasks { settled.now ≡ told_run.now.tasks }
     ensures { IfOk result (λ lines. lines.items
-        ≡ heading_words (id_of plan.now.dag task) told_run.now.interval.start.nanosecond told.now place ∷ []
+        ≡ heading_words (id_of plan.now.dag task) told_run.now.interval.start.nanosecond told.now
+        place ∷ []
         ++ why_section plan.now.dag report.now run told_run.now task told.now place roots.now) }
 {
     let id = id_at(plan.dag(), task);
@@ -72,7 +73,8 @@ fn lines_on(
     requires few { All (λ run. All IsFewTask run.tasks) report.now.runs }
     requires runs { length report.now.runs ≤ 4_096 }
     requires tasks { settled.now ≡ told_run.now.tasks }
-    ensures { IfOk result (λ lines. AreTaskLines paths.now plan.now.dag report.now run told_run.now task told.now index lines.items) }
+    ensures { IfOk result (λ lines. AreTaskLines paths.now plan.now.dag report.now run told_run.now
+        task told.now index lines.items) }
 {
     let place = place_of(index);
     let roots = roots_if_untried(alloc, plan, report, run, task, told)?;
@@ -118,8 +120,10 @@ pub fn explain_task(
     requires few { All (λ run. All IsFewTask run.tasks) report.now.runs }
     requires runs { length report.now.runs ≤ 4_096 }
     requires told_run { slice_get report.now.runs run ≡ Some told_run.now }
-    ensures { IfOk result (λ text. (told : TaskTerm) → slice_get told_run.now.tasks task ≡ Some told →
-        IsTaskText paths.now plan.now.dag report.now run told_run.now task told index (string_bytes text)) }
+    ensures { IfOk result (λ text. (told : TaskTerm) → slice_get told_run.now.tasks task ≡ Some told
+        →
+        IsTaskText paths.now plan.now.dag report.now run told_run.now task told index
+        (string_bytes text)) }
 {
     let settled = settled_tasks(alloc, told_run.tasks.as_slice())?;
     let told = &settled[task as usize];

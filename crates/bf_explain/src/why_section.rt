@@ -47,7 +47,8 @@ pub(crate) fn roots_if_untried(
 ) -> Result<Vec<Root>, OutOfMemory>
     requires tasks { All (λ run. length run.tasks ≡ length plan.now.dag.tasks) report.now.runs }
     requires few { All (λ run. All IsFewTask run.tasks) report.now.runs }
-    ensures { IfOk result (λ roots. AreRootsIf (tried told.now) plan.now.dag report.now run task roots.items) }
+    ensures { IfOk result (λ roots. AreRootsIf (tried told.now) plan.now.dag report.now run task
+        roots.items) }
 {
     if is_tried(told) {
         Ok(Vec::new(alloc))
@@ -71,7 +72,8 @@ pub(crate) fn why_and_where(
 ) -> Result<Vec<Text>, OutOfMemory>
     requires task { task < length plan.now.dag.tasks }
     requires few { All (λ run. All IsFewTask run.tasks) report.now.runs }
-    ensures { IfOk result (λ lines. lines.items ≡ why_in plan.now.dag settled.now (run_before_in report.now run) task
+    ensures { IfOk result (λ lines. lines.items
+        ≡ why_in plan.now.dag settled.now (run_before_in report.now run) task
         (cause_among plan.now.dag settled.now (tasks_before report.now run) run task) told.now place
         ++ began_among plan.now.dag report.now run task roots.now) }
 {

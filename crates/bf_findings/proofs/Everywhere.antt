@@ -14,8 +14,8 @@ use Rattle.bf_read.specs.declared.keys.GraphKey.TheVariants as graph
 use Rattle.bf_read.specs.declared.keys.TaskKey.{TaskKey}
 use Rattle.bf_read.specs.declared.keys.TaskKey.TheVariants as key
 use Rattle.bf_read.specs.Keys.{graph_keys, task_keys, is_graph_key, is_task_key, task_key_name}
-use Rattle.bf_findings.specs.declared.place.Place.{Place}
-use Rattle.bf_findings.specs.declared.place.Place.TheVariants as place
+use Rattle.bf_findings.specs.declared.place.DocumentPlace.{DocumentPlace}
+use Rattle.bf_findings.specs.declared.place.DocumentPlace.TheVariants as place
 use Rattle.bf_findings.specs.declared.place.WordKey.{WordKey}
 use Rattle.bf_findings.specs.declared.place.WordKey.TheVariants as word
 use Rattle.bf_findings.specs.Places.{value_at, task_value, item_value, word_key_name, word_keys}
@@ -88,18 +88,18 @@ word_key_there word.Item = (2, omega arith, refl)
 
 -- ---- members
 
-later_if : (b : Bool) (y : Place) (ps : List Place) (x : Place) → Contains ps x → Contains (if b then ps else (y ∷ ps)) x
+later_if : (b : Bool) (y : DocumentPlace) (ps : List DocumentPlace) (x : DocumentPlace) → Contains ps x → Contains (if b then ps else (y ∷ ps)) x
 later_if true y ps x h = h
 later_if false y ps x h = Contains-append_right (y ∷ []) ps x h
 
-here_if : (b : Bool) (y : Place) (ps : List Place) → b ≡ false → Contains (if b then ps else (y ∷ ps)) y
+here_if : (b : Bool) (y : DocumentPlace) (ps : List DocumentPlace) → b ≡ false → Contains (if b then ps else (y ∷ ps)) y
 here_if true y ps e = absurd (cc)
 here_if false y ps e = (0, omega arith, refl)
 
 same_text : (a b : List ℕ) → Equal ≡ slice_cmp nat_cmp a b → a ≡ b
 same_text a b e = (bytes_decides a b).0 (sym (is_eq-slice_cmp a b) ∙ ap is_eq (sym e))
 
-member_step : (known : List ℕ → Bool) (under : List ℕ → Place) (name l : List ℕ) (e : Data) (rest : Option Data) (ps : List Place) (o : Ordering) → o ≡ slice_cmp nat_cmp name l → known name ≡ false
+member_step : (known : List ℕ → Bool) (under : List ℕ → DocumentPlace) (name l : List ℕ) (e : Data) (rest : Option Data) (ps : List DocumentPlace) (o : Ordering) → o ≡ slice_cmp nat_cmp name l → known name ≡ false
     → (IsSome rest → Contains ps (under name)) → IsSome (match_ordering o rest (Some e) rest) → Contains (if known l then ps else (under l ∷ ps)) (under name)
 member_step known under name l e rest ps Less is other more there = later_if (known l) (under l) ps (under name) (more there)
 member_step known under name l e rest ps Equal is other more there =
@@ -139,7 +139,7 @@ array_of (string s) i x e = cc
 array_of (array ds) i x e = (ds, refl, e)
 array_of (object ms) i x e = cc
 
-task_listed : (n m k : ℕ) (ds : Items) (t : Data) (x : Place) → get_item n ds ≡ Some t → k ≡ m + n → Contains (task_places k t) x → Contains (tasks m (list_of ds)) x
+task_listed : (n m k : ℕ) (ds : Items) (t : Data) (x : DocumentPlace) → get_item n ds ≡ Some t → k ≡ m + n → Contains (task_places k t) x → Contains (tasks m (list_of ds)) x
 task_listed n m k no_items t x there e h = absurd (cc)
 task_listed zero m k (item d ds) t x there e h =
     let same : t ≡ d = cc in
@@ -156,7 +156,7 @@ upstream_listed n zero m k (item d ds) t there e =
     (0, omega arith, ap (place.Upstream n) number)
 upstream_listed n (suc i) m k (item d ds) t there e = Contains-append_right (place.Upstream n m ∷ []) (upstreams n (m + 1) (list_of ds)) (place.Upstream n k) (upstream_listed n i (m + 1) k ds t there (omega (arith, e)))
 
-word_listed : (n i m k : ℕ) (ds : Items) (w : Data) (x : Place) → get_item i ds ≡ Some w → k ≡ m + i → Contains (place.Word n k ∷ word_keys_of n k w) x → Contains (words n m (list_of ds)) x
+word_listed : (n i m k : ℕ) (ds : Items) (w : Data) (x : DocumentPlace) → get_item i ds ≡ Some w → k ≡ m + i → Contains (place.Word n k ∷ word_keys_of n k w) x → Contains (words n m (list_of ds)) x
 word_listed n i m k no_items w x there e h = absurd (cc)
 word_listed n zero m k (item d ds) w x there e h =
     let same : w ≡ d = cc in
@@ -168,13 +168,13 @@ word_listed n (suc i) m k (item d ds) w x there e h = Contains-append_right (pla
 
 -- ---- the whole
 
-in_graph : (d : Data) (ms : Members) (x : Place) → as_object d ≡ Some ms → Contains (graph_key_places ++ (other_keys ms ++ (pools_if_any (pools_in d) ++ tasks 0 (tasks_in d)))) x → Contains (places_of d) x
+in_graph : (d : Data) (ms : Members) (x : DocumentPlace) → as_object d ≡ Some ms → Contains (graph_key_places ++ (other_keys ms ++ (pools_if_any (pools_in d) ++ tasks 0 (tasks_in d)))) x → Contains (places_of d) x
 in_graph d ms x e h =
     let P : Option Members → Type 0 = λ o. Contains (place.Top ∷ members_of_graph d o) x in
     subst P (sym e) (Contains-append_right (place.Top ∷ []) (graph_key_places ++ (other_keys ms ++ (pools_if_any (pools_in d) ++ tasks 0 (tasks_in d)))) x h)
 
 -- the places of a task
-in_tasks : (d : Data) (n : ℕ) (t : Data) (x : Place) → task_value d n ≡ Some t → Contains (task_places n t) x → Contains (places_of d) x
+in_tasks : (d : Data) (n : ℕ) (t : Data) (x : DocumentPlace) → task_value d n ≡ Some t → Contains (task_places n t) x → Contains (places_of d) x
 in_tasks d n t x e h =
     let listed = then_some (at n) (get (codes "tasks") d) t e in
     let graph = object_of d (codes "tasks") listed.0 listed.1 in
@@ -185,7 +185,7 @@ in_tasks d n t x e h =
     in_graph d graph.0 x graph.1 (Contains-append_right graph_key_places (other_keys graph.0 ++ (pools_if_any (pools_in d) ++ tasks 0 (tasks_in d))) x
     (Contains-append_right (other_keys graph.0) (pools_if_any (pools_in d) ++ tasks 0 (tasks_in d)) x (Contains-append_right (pools_if_any (pools_in d)) (tasks 0 (tasks_in d)) x there)))
 
-in_task : (n : ℕ) (t : Data) (ms : Members) (x : Place) → as_object t ≡ Some ms
+in_task : (n : ℕ) (t : Data) (ms : Members) (x : DocumentPlace) → as_object t ≡ Some ms
     → Contains (task_key_places n ++ (other_task_keys n ms ++ (upstreams n 0 (items_under t key.Upstream) ++ words n 0 (items_under t key.Command)))) x → Contains (task_places n t) x
 in_task n t ms x e h =
     let P : Option Members → Type 0 = λ o. Contains (place.Task n ∷ members_of_task n t o) x in
@@ -217,7 +217,7 @@ item_there d n named i x e =
       there = items.2;
     }
 
-in_words : (d : Data) (n i : ℕ) (w : Data) (x : Place) → item_value d n key.Command i ≡ Some w → Contains (place.Word n i ∷ word_keys_of n i w) x → Contains (places_of d) x
+in_words : (d : Data) (n i : ℕ) (w : Data) (x : DocumentPlace) → item_value d n key.Command i ≡ Some w → Contains (place.Word n i ∷ word_keys_of n i w) x → Contains (places_of d) x
 in_words d n i w x e h =
     let has = item_there d n key.Command i w e in
     let t = has.task in
@@ -231,7 +231,7 @@ in_words d n i w x e h =
 word_key_is : (n i : ℕ) (w : Data) (k : WordKey) → is_some (get (word_key_name k) w) ≡ true → word_key n i w k ≡ Some (place.WordKey n i k)
 word_key_is n i w k e = ap (λ (b : Bool). if b then Some (place.WordKey n i k) else None) e
 
-pub each_place : (d : Data) (p : Place) → IsPlace d p → Contains (places_of d) p
+pub each_place : (d : Data) (p : DocumentPlace) → IsPlace d p → Contains (places_of d) p
 each_place d place.Top h = (0, omega arith, refl)
 each_place d (place.Key k) h =
     let ms = some_of (as_object d) h in

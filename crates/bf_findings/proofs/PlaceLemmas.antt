@@ -5,7 +5,7 @@ use Rattle.std.proofs.lemmas.List.{length-append, length-map, map-append}
 use Rattle.std.proofs.lemmas.List.Elements.{All-map, All-weaker, Contains-append_left, Contains-append_right, Contains-push}
 use Rattle.serde_json.specs.Data.{Data}
 use Rattle.bf_read.specs.Reading.{data_in}
-use Rattle.bf_findings.specs.declared.place.Place.{Place}
+use Rattle.bf_findings.specs.declared.place.DocumentPlace.{DocumentPlace}
 use Rattle.bf_findings.specs.declared.finding.Fault.{Fault}
 use Rattle.bf_findings.specs.declared.finding.Finding.{Finding}
 use Rattle.bf_findings.specs.declared.finding.Finding.TheVariants as finding
@@ -43,12 +43,12 @@ cons_cases y ys x zero small e = inl e
 cons_cases y ys x (suc k) small e = inr (k, omega (arith, small), e)
 
 -- one more is told
-pub one_more_told : (place : Place) (rest left : List Place) (found now : List Fault) (fault : Fault) (p : Place) → rest ≡ place ∷ left → now ≡ found ++ fault ∷ [] → fault.place ≡ place
+pub one_more_told : (place : DocumentPlace) (rest left : List DocumentPlace) (found now : List Fault) (fault : Fault) (p : DocumentPlace) → rest ≡ place ∷ left → now ≡ found ++ fault ∷ [] → fault.place ≡ place
     → Contains rest p ⊎ Contains (map (λ (f : Fault). f.place) found) p → Contains left p ⊎ Contains (map (λ (f : Fault). f.place) now) p
 one_more_told place rest left found now fault p e items at before =
     let places : map (λ (f : Fault). f.place) now ≡ map (λ (f : Fault). f.place) found ++ fault.place ∷ [] = ap (map (λ (f : Fault). f.place)) items ∙ map-append (λ (f : Fault). f.place) found (fault ∷ []) in
-    let P : List Place → Type 0 = λ ps. Contains ps p in
-    let Q : Place → Type 0 = λ q. Contains (map (λ (f : Fault). f.place) found ++ fault.place ∷ []) q in
+    let P : List DocumentPlace → Type 0 = λ ps. Contains ps p in
+    let Q : DocumentPlace → Type 0 = λ q. Contains (map (λ (f : Fault). f.place) found ++ fault.place ∷ []) q in
     elim before as (λ _. Contains left p ⊎ Contains (map (λ (f : Fault). f.place) now) p) [
       | inl coming ↦ let there : Contains (place ∷ left) p = subst P e coming in
           elim (cons_cases place left p there.0 there.1 there.2) as (λ _. Contains left p ⊎ Contains (map (λ (f : Fault). f.place) now) p) [
@@ -59,7 +59,7 @@ one_more_told place rest left found now fault p e items at before =
     ]
 
 -- what is told of a place is one of the findings
-pub told_among : (faults : List Fault) (p : Place) → Contains (map (λ (f : Fault). f.place) faults) p → IsTold (map finding.Fault faults) p
+pub told_among : (faults : List Fault) (p : DocumentPlace) → Contains (map (λ (f : Fault). f.place) faults) p → IsTold (map finding.Fault faults) p
 told_among [] p h = absurd (omega (arith, h.1))
 told_among (f ∷ fs) p h = elim (cons_cases f.place (map (λ (g : Fault). g.place) fs) p h.0 h.1 h.2) as (λ _. IsTold (map finding.Fault (f ∷ fs)) p) [
   | inl here ↦ (f, (0, omega arith, refl), here)

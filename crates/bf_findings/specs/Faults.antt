@@ -2,8 +2,8 @@
 use Rattle.std.specs.Prelude.{◌≡◌, ◌<◌, ◌≤◌, ℕ, List, length, map, All, Contains, nat_le, codes, if◌then◌else◌, Option, Some, None, option_and_then}
 use Rattle.serde_json.specs.Data.{Data}
 use Rattle.serde_json.specs.Find.{as_str}
-use Rattle.bf_findings.specs.declared.place.Place.{Place}
-use Rattle.bf_findings.specs.declared.place.Place.TheVariants as place
+use Rattle.bf_findings.specs.declared.place.DocumentPlace.{DocumentPlace}
+use Rattle.bf_findings.specs.declared.place.DocumentPlace.TheVariants as place
 use Rattle.bf_findings.specs.declared.form.Form.{Form}
 use Rattle.bf_findings.specs.declared.finding.Fault.{Fault}
 use Rattle.bf_findings.specs.Places.{value_at}
@@ -15,7 +15,7 @@ use Rattle.bf_findings.specs.Names.{meant, names_for}
 use Rattle.bf_findings.specs.Nearest.{lowered, IsSuggested}
 
 -- what stands at a place
-abbrev pub told_at : Place → Option Data → List ℕ
+abbrev pub told_at : DocumentPlace → Option Data → List ℕ
 told_at place None = codes "missing"
 told_at place (Some d) = shown_at place d
 
@@ -24,7 +24,7 @@ abbrev pub of_length_of_id : List ℕ → Option (List ℕ)
 of_length_of_id text = if nat_le (length text) 250 then Some text else None
 
 -- the text at a place for which a name is sought: an unknown key, or what stands there
-abbrev pub asked_at : Place → Option Data → Option (List ℕ)
+abbrev pub asked_at : DocumentPlace → Option Data → Option (List ℕ)
 asked_at (place.OtherKey key) d = of_length_of_id key
 asked_at (place.OtherTaskKey n key) d = of_length_of_id key
 asked_at _ d = option_and_then of_length_of_id (option_and_then as_str d)
@@ -52,5 +52,5 @@ pub record IsFault (file : Option (List ℕ)) (d : Data) (fault : Fault) : Type 
 pub record AreFaults (file : Option (List ℕ)) (d : Data) (faults : List Fault) : Type 0 where
   pub few : length faults ≤ 100
   pub each : All (IsFault file d) faults
-  pub all : length faults < 100 → (place : Place) → Contains (places_of d) place → IsWrong file d place (form_of d place) (value_at d place)
+  pub all : length faults < 100 → (place : DocumentPlace) → Contains (places_of d) place → IsWrong file d place (form_of d place) (value_at d place)
       → Contains (map (λ fault. fault.place) faults) place

@@ -11,7 +11,7 @@ use Rattle.bf_findings.specs.declared.finding.Finding.TheVariants.{NotJson, Faul
 use Rattle.bf_findings.specs.declared.refusal.Refusal.{Refusal}
 use Rattle.bf_findings.specs.declared.refusal.Refusal.TheVariants.{Read, Check}
 use Rattle.bf_findings.specs.declared.finding.Fault.{Fault as PlaceFault}
-use Rattle.bf_findings.specs.declared.place.Place.{Place}
+use Rattle.bf_findings.specs.declared.place.DocumentPlace.{DocumentPlace}
 use Rattle.bf_read.specs.Limits.{most_bytes}
 use Rattle.bf_findings.specs.Places.{value_at}
 use Rattle.bf_findings.specs.Forms.{form_of}
@@ -42,12 +42,12 @@ IsFinding graph file (Fault fault) = (d : Data) × (data_in graph ≡ Some d) ×
 IsFinding graph file (Refused refusal) = IsRefusal graph file refusal
 
 -- the place is told
-abbrev pub IsTold : List Finding → Place → Type 0
+abbrev pub IsTold : List Finding → DocumentPlace → Type 0
 IsTold found place = (fault : PlaceFault) × Contains found (Fault fault) × (fault.place ≡ place)
 
 -- each place at which something is wrong is told, where the file isn't too long, and less than a hundred are told
 abbrev pub TellsAll : List ℕ → Option (List ℕ) → List Finding → Type 0
-TellsAll graph file found = (d : Data) (place : Place) → length found < 100 → length graph ≤ most_bytes → data_in graph ≡ Some d
+TellsAll graph file found = (d : Data) (place : DocumentPlace) → length found < 100 → length graph ≤ most_bytes → data_in graph ≡ Some d
     → Contains (places_of d) place → IsWrong file d place (form_of d place) (value_at d place) → IsTold found place
 
 -- what is told of a file that is refused: something, at most a hundred findings, all of them so, and where they are fewer all that

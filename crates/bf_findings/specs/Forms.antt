@@ -9,8 +9,8 @@ use Rattle.bf_read.specs.declared.keys.TaskKey.{TaskKey}
 use Rattle.bf_read.specs.declared.keys.TaskKey.TheVariants as key
 use Rattle.bf_read.specs.Limits.{most_active_runs, most_retries, longest_retry_delay, most_slots, greatest_weight}
 use Rattle.bf_findings.specs.declared.place.WordKey.TheVariants as word
-use Rattle.bf_findings.specs.declared.place.Place.{Place}
-use Rattle.bf_findings.specs.declared.place.Place.TheVariants as place
+use Rattle.bf_findings.specs.declared.place.DocumentPlace.{DocumentPlace}
+use Rattle.bf_findings.specs.declared.place.DocumentPlace.TheVariants as place
 use Rattle.bf_findings.specs.declared.form.Form.{Form}
 use Rattle.bf_findings.specs.declared.form.Form.TheVariants.{Object, NoGraphKey, NoTaskKey, NoPool, NoItem, Id, NewId, Schedule, Zone, Whole, Pools, Tasks, Upstreams, Words, Flag, Rule, Kind, WeightRule, TaskId, PoolName, Word, Context, Item}
 use Rattle.bf_findings.specs.Places.{task_value}
@@ -45,7 +45,7 @@ abbrev pub is_expanded : Data → ℕ → Bool
 is_expanded d n = is_some (option_and_then (get (codes "expand")) (task_value d n))
 
 -- what may stand at a place of the document
-abbrev pub form_of : Data → Place → Form
+abbrev pub form_of : Data → DocumentPlace → Form
 form_of d place.Top = Object
 form_of d (place.Key key) = graph_form key
 form_of d (place.OtherKey key) = NoGraphKey

@@ -8,8 +8,8 @@ use Rattle.bf_zone.specs.Zones.{asked, IsZone}
 use Rattle.bf_check.specs.Schedules.{Fires}
 use Rattle.bf_read.specs.declared.keys.GraphKey.TheVariants as graph
 use Rattle.bf_read.specs.declared.keys.TaskKey.TheVariants as key
-use Rattle.bf_findings.specs.declared.place.Place.{Place}
-use Rattle.bf_findings.specs.declared.place.Place.TheVariants as place
+use Rattle.bf_findings.specs.declared.place.DocumentPlace.{DocumentPlace}
+use Rattle.bf_findings.specs.declared.place.DocumentPlace.TheVariants as place
 use Rattle.bf_findings.specs.declared.form.Form.{Form}
 use Rattle.bf_findings.specs.declared.form.Form.TheVariants.{Schedule, Zone}
 use Rattle.bf_findings.specs.Fitting.{text_fits, other_fits}
@@ -37,7 +37,7 @@ abbrev pub MayStand : Option (List ℕ) → Data → Form → Data → Type 0
 MayStand file d form value = MayStandAs file d form value (as_str value)
 
 -- something has to stand at the place
-abbrev pub is_required : Place → Bool
+abbrev pub is_required : DocumentPlace → Bool
 is_required (place.Key graph.DagId) = true
 is_required (place.Key graph.Schedule) = true
 is_required (place.Key graph.Tasks) = true
@@ -45,6 +45,6 @@ is_required (place.TaskKey n key.Id) = true
 is_required other = false
 
 -- what stands at the place may not, or nothing stands where something has to
-abbrev pub IsWrong : Option (List ℕ) → Data → Place → Form → Option Data → Type 0
+abbrev pub IsWrong : Option (List ℕ) → Data → DocumentPlace → Form → Option Data → Type 0
 IsWrong file d place form None = is_required place ≡ true
 IsWrong file d place form (Some value) = ¬ (MayStand file d form value)

@@ -3,36 +3,36 @@ use Rattle.std.specs.Prelude.{ℕ, ◌+◌, List, [], ◌∷◌, ◌++◌, map, 
 use Rattle.serde_json.specs.Data.{Data, Members, no_members, member}
 use Rattle.serde_json.specs.Find.{get, as_array, as_object}
 use Rattle.bf_read.specs.Keys.{task_key_name, graph_keys, task_keys, is_graph_key, is_task_key}
-use Rattle.bf_findings.specs.declared.place.Place.{Place}
-use Rattle.bf_findings.specs.declared.place.Place.TheVariants as place
+use Rattle.bf_findings.specs.declared.place.DocumentPlace.{DocumentPlace}
+use Rattle.bf_findings.specs.declared.place.DocumentPlace.TheVariants as place
 use Rattle.bf_findings.specs.declared.place.WordKey.{WordKey}
 use Rattle.bf_read.specs.declared.keys.TaskKey.{TaskKey}
 use Rattle.bf_read.specs.declared.keys.TaskKey.TheVariants as key
 use Rattle.bf_findings.specs.Places.{word_key_name, word_keys}
 use Rattle.bf_findings.specs.Fitting.{pools_in, tasks_in, items_or_none}
 
-abbrev pub graph_key_places : List Place
+abbrev pub graph_key_places : List DocumentPlace
 graph_key_places = map place.Key graph_keys
 
-abbrev pub task_key_places : ℕ → List Place
+abbrev pub task_key_places : ℕ → List DocumentPlace
 task_key_places n = map (place.TaskKey n) task_keys
 
 -- the keys that graph files don't have
-abbrev pub other_keys : Members → List Place
+abbrev pub other_keys : Members → List DocumentPlace
 other_keys no_members = []
 other_keys (member name d ms) = if is_graph_key name then other_keys ms else (place.OtherKey name ∷ other_keys ms)
 
 -- the pools
-abbrev pub pools : Members → List Place
+abbrev pub pools : Members → List DocumentPlace
 pools no_members = []
 pools (member name d ms) = place.Pool name ∷ pools ms
 
-abbrev pub pools_if_any : Option Members → List Place
+abbrev pub pools_if_any : Option Members → List DocumentPlace
 pools_if_any None = []
 pools_if_any (Some ms) = pools ms
 
 -- the keys that tasks don't have
-abbrev pub other_task_keys : ℕ → Members → List Place
+abbrev pub other_task_keys : ℕ → Members → List DocumentPlace
 other_task_keys n no_members = []
 other_task_keys n (member name d ms) = if is_task_key name then other_task_keys n ms else (place.OtherTaskKey n name ∷ other_task_keys n ms)
 
@@ -41,40 +41,40 @@ abbrev pub items_under : Data → TaskKey → List Data
 items_under task named = items_or_none (option_and_then as_array (get (task_key_name named) task))
 
 -- the upstreams from the i-th on
-abbrev pub upstreams : ℕ → ℕ → List Data → List Place
+abbrev pub upstreams : ℕ → ℕ → List Data → List DocumentPlace
 upstreams n i [] = []
 upstreams n i (d ∷ ds) = place.Upstream n i ∷ upstreams n (i + 1) ds
 
 -- a key of a word, where the word has it
-abbrev pub word_key : ℕ → ℕ → Data → WordKey → Option Place
+abbrev pub word_key : ℕ → ℕ → Data → WordKey → Option DocumentPlace
 word_key n i d key = if is_some (get (word_key_name key) d) then Some (place.WordKey n i key) else None
 
-abbrev pub word_keys_of : ℕ → ℕ → Data → List Place
+abbrev pub word_keys_of : ℕ → ℕ → Data → List DocumentPlace
 word_keys_of n i d = filter_map (word_key n i d) word_keys
 
 -- the words from the i-th on, each with its keys
-abbrev pub words : ℕ → ℕ → List Data → List Place
+abbrev pub words : ℕ → ℕ → List Data → List DocumentPlace
 words n i [] = []
 words n i (d ∷ ds) = place.Word n i ∷ (word_keys_of n i d ++ words n (i + 1) ds)
 
-abbrev pub members_of_task : ℕ → Data → Option Members → List Place
+abbrev pub members_of_task : ℕ → Data → Option Members → List DocumentPlace
 members_of_task n d None = []
 members_of_task n d (Some ms) = task_key_places n
     ++ (other_task_keys n ms ++ (upstreams n 0 (items_under d key.Upstream) ++ words n 0 (items_under d key.Command)))
 
 -- the task behind n others: its keys, those that tasks don't have, its upstreams and its words
-abbrev pub task_places : ℕ → Data → List Place
+abbrev pub task_places : ℕ → Data → List DocumentPlace
 task_places n d = place.Task n ∷ members_of_task n d (as_object d)
 
 -- the tasks from the n-th on
-abbrev pub tasks : ℕ → List Data → List Place
+abbrev pub tasks : ℕ → List Data → List DocumentPlace
 tasks n [] = []
 tasks n (d ∷ ds) = task_places n d ++ tasks (n + 1) ds
 
-abbrev pub members_of_graph : Data → Option Members → List Place
+abbrev pub members_of_graph : Data → Option Members → List DocumentPlace
 members_of_graph d None = []
 members_of_graph d (Some ms) = graph_key_places ++ (other_keys ms ++ (pools_if_any (pools_in d) ++ tasks 0 (tasks_in d)))
 
 -- the places of a document: its keys, those that graph files don't have, its pools and its tasks
-abbrev pub places_of : Data → List Place
+abbrev pub places_of : Data → List DocumentPlace
 places_of d = place.Top ∷ members_of_graph d (as_object d)

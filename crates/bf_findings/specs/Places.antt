@@ -6,8 +6,8 @@ use Rattle.bf_read.specs.declared.keys.TaskKey.{TaskKey}
 use Rattle.bf_read.specs.Keys.{graph_key_name, task_key_name}
 use Rattle.bf_findings.specs.declared.place.WordKey.{WordKey}
 use Rattle.bf_findings.specs.declared.place.WordKey.TheVariants.{Context, Pull, Item}
-use Rattle.bf_findings.specs.declared.place.Place.{Place}
-use Rattle.bf_findings.specs.declared.place.Place.TheVariants as place
+use Rattle.bf_findings.specs.declared.place.DocumentPlace.{DocumentPlace}
+use Rattle.bf_findings.specs.declared.place.DocumentPlace.TheVariants as place
 
 abbrev pub word_key_name : WordKey → List ℕ
 word_key_name Context = codes "context"
@@ -26,7 +26,7 @@ abbrev pub item_value : Data → ℕ → TaskKey → ℕ → Option Data
 item_value d n key i = option_and_then (at i) (option_and_then (get (task_key_name key)) (task_value d n))
 
 -- what stands at a place
-abbrev pub value_at : Data → Place → Option Data
+abbrev pub value_at : Data → DocumentPlace → Option Data
 value_at d place.Top = Some d
 value_at d (place.Key key) = get (graph_key_name key) d
 value_at d (place.OtherKey key) = get key d
@@ -39,7 +39,7 @@ value_at d (place.Word n i) = item_value d n TaskKey.Command i
 value_at d (place.WordKey n i key) = option_and_then (get (word_key_name key)) (item_value d n TaskKey.Command i)
 
 -- the keys that lead there; what is told of an object that it stands in has the path of that object
-abbrev pub place_text : Place → List ℕ
+abbrev pub place_text : DocumentPlace → List ℕ
 place_text place.Top = codes "top"
 place_text (place.Key key) = graph_key_name key
 place_text (place.OtherKey key) = codes "top"

@@ -3,8 +3,8 @@ use Rattle.std.specs.Prelude.{ℕ, List, ◌++◌, length, codes, nat_lt, Bool, 
 use Rattle.serde_json.specs.Data.{Data, string}
 use Rattle.serde_json.specs.Find.{as_number, as_array, as_object, is_float}
 use Rattle.serde_json.specs.Written.{compact_text}
-use Rattle.bf_findings.specs.declared.place.Place.{Place}
-use Rattle.bf_findings.specs.declared.place.Place.TheVariants as place
+use Rattle.bf_findings.specs.declared.place.DocumentPlace.{DocumentPlace}
+use Rattle.bf_findings.specs.declared.place.DocumentPlace.TheVariants as place
 
 -- the text, or what stands for a long one
 abbrev pub short : List ℕ → List ℕ
@@ -21,7 +21,7 @@ shown d =
     else (if is_fraction d then codes "a number that isn't whole" else short (compact_text d)))
 
 -- what stands at a place: of what has no meaning the key, of a pool its name and its slots
-abbrev pub shown_at : Place → Data → List ℕ
+abbrev pub shown_at : DocumentPlace → Data → List ℕ
 shown_at (place.OtherKey key) d = codes "unknown key " ++ compact_text (string key)
 shown_at (place.OtherTaskKey n key) d = codes "unknown key " ++ compact_text (string key)
 shown_at (place.Pool name) d = compact_text (string name) ++ codes ": " ++ shown d

@@ -3,7 +3,7 @@ ghost use Rattle.std.specs.Prelude.{◌≡◌, option_map};
 ghost use Rattle.serde_json.specs.View.{view};
 ghost use Rattle.bf_findings.specs.Places.{task_value, item_value, value_at as value};
 
-use crate::place::Place;
+use crate::place::DocumentPlace;
 use bf_read::{GraphKey, TaskKey};
 use serde_json::Value;
 
@@ -22,19 +22,21 @@ fn item_at<'a>(document: &'a Value, n: usize, key: TaskKey, i: usize) -> Option<
 }
 
 /// What stands at a place.
-pub(crate) fn value_at<'a>(document: &'a Value, place: &Place) -> Option<&'a Value>
+pub(crate) fn value_at<'a>(document: &'a Value, place: &DocumentPlace) -> Option<&'a Value>
     ensures { option_map (λ v. view v.now) result ≡ value (view document.entry.now) place.now }
 {
     match place {
-        Place::Top => Some(document),
-        Place::Key(key) => document.get(key.name()),
-        Place::OtherKey(key) => document.get(key.as_str()),
-        Place::Pool(name) => document.get(GraphKey::Pools.name())?.get(name.as_str()),
-        Place::Task(n) => task_at(document, *n),
-        Place::TaskKey(n, key) => task_at(document, *n)?.get(key.name()),
-        Place::OtherTaskKey(n, key) => task_at(document, *n)?.get(key.as_str()),
-        Place::Upstream(n, i) => item_at(document, *n, TaskKey::Upstream, *i),
-        Place::Word(n, i) => item_at(document, *n, TaskKey::Command, *i),
-        Place::WordKey(n, i, key) => item_at(document, *n, TaskKey::Command, *i)?.get(key.name()),
+        DocumentPlace::Top => Some(document),
+        DocumentPlace::Key(key) => document.get(key.name()),
+        DocumentPlace::OtherKey(key) => document.get(key.as_str()),
+        DocumentPlace::Pool(name) => document.get(GraphKey::Pools.name())?.get(name.as_str()),
+        DocumentPlace::Task(n) => task_at(document, *n),
+        DocumentPlace::TaskKey(n, key) => task_at(document, *n)?.get(key.name()),
+        DocumentPlace::OtherTaskKey(n, key) => task_at(document, *n)?.get(key.as_str()),
+        DocumentPlace::Upstream(n, i) => item_at(document, *n, TaskKey::Upstream, *i),
+        DocumentPlace::Word(n, i) => item_at(document, *n, TaskKey::Command, *i),
+        DocumentPlace::WordKey(n, i, key) => item_at(document, *n, TaskKey::Command, *i)?.get(
+            key.name(),
+        ),
     }
 }

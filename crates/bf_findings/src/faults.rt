@@ -12,7 +12,7 @@ use crate::form::{Form, form_of};
 use crate::judging::Document;
 use crate::names::{meant, names_for};
 use crate::nearest::suggested;
-use crate::place::Place;
+use crate::place::DocumentPlace;
 use crate::places::places_of;
 use crate::shown::shown_at;
 use bf_value::{OutOfMemory, Text};
@@ -26,7 +26,7 @@ const MOST_FAULTS: usize = 100;
 const LONGEST_NAME: usize = 250;
 
 /// What stands at a place, as it is told.
-fn told(alloc: Global, place: &Place, value: Option<&Value>) -> Result<Text, OutOfMemory>
+fn told(alloc: Global, place: &DocumentPlace, value: Option<&Value>) -> Result<Text, OutOfMemory>
     ensures { IfOk result (λ t. t ≡ told_as place.now (option_map (λ v. view v.now) value.entry)) }
 {
     match value {
@@ -36,12 +36,12 @@ fn told(alloc: Global, place: &Place, value: Option<&Value>) -> Result<Text, Out
 }
 
 /// The text at a place for which a name is sought: an unknown key, or what stands there.
-fn asked<'a>(place: &'a Place, value: Option<&'a Value>) -> Option<&'a str>
+fn asked<'a>(place: &'a DocumentPlace, value: Option<&'a Value>) -> Option<&'a str>
     ensures { option_map (λ s. s.now) result
         ≡ asked_for place.entry.now (option_map (λ v. view v.now) value.entry) }
 {
     let text = match place {
-        Place::OtherKey(key) | Place::OtherTaskKey(_, key) => key.as_str(),
+        DocumentPlace::OtherKey(key) | DocumentPlace::OtherTaskKey(_, key) => key.as_str(),
         _ => value?.as_str()?,
     };
     if text.len() <= LONGEST_NAME {
@@ -78,7 +78,8 @@ fn suggestion_for(
     form: Form,
     text: Option<&str>,
 ) -> Result<Option<Text>, OutOfMemory>
-    ensures { IfOk result (IsSuggestionFor (view document.now) form (option_map (λ s. s.now) text.entry)) }
+    ensures { IfOk result (IsSuggestionFor (view document.now) form
+        (option_map (λ s. s.now) text.entry)) }
 {
     match text {
         Some(text) => suggestion(alloc, document, form, text),
@@ -88,13 +89,15 @@ fn suggestion_for(
 
 impl Document<'_> {
     /// What is wrong at a place, if something is.
-    fn fault_at(self, alloc: Global, place: Place) -> Result<Option<Fault>, OutOfMemory>
+    fn fault_at(self, alloc: Global, place: DocumentPlace) -> Result<Option<Fault>, OutOfMemory>
         ensures some { IfOk result (λ found. IfSome found
             (IsFault (option_map (λ s. s.now) self.entry.zone_file) (view self.entry.value.now))) }
         ensures place { IfOk result (λ found. IfSome found (λ fault. fault.place ≡ place)) }
         ensures none { IfOk result (λ found. IfNone found
-            (¬ (IsWrong (option_map (λ s. s.now) self.entry.zone_file) (view self.entry.value.now) place
-            (form_at (view self.entry.value.now) place) (value (view self.entry.value.now) place)))) }
+            (¬ (IsWrong (option_map (λ s. s.now) self.entry.zone_file) (view self.entry.value.now)
+            place
+            (form_at (view self.entry.value.now) place)
+            (value (view self.entry.value.now) place)))) }
     {
         let form = form_of(self.value, &place);
         let value = value_at(self.value, &place);

@@ -1,6 +1,6 @@
 //! What is found wrong.
 use crate::form::Form;
-use crate::place::Place;
+use crate::place::DocumentPlace;
 use crate::refusal::Refusal;
 use bf_value::Text;
 use std::fmt;
@@ -8,7 +8,7 @@ use std::fmt;
 /// What is wrong at a place of the document.
 #[derive(Debug, Drop)]
 pub struct Fault {
-    pub place: Place,
+    pub place: DocumentPlace,
     /// What may stand there.
     pub form: Form,
     /// What stands there, as it is told.

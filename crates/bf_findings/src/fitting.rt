@@ -61,7 +61,8 @@ fn is_task_before(document: &Value, n: usize, id: &str) -> bool
 
 /// The pools of a document, where an object of them is there.
 pub(crate) fn pools_in<'a>(document: &'a Value) -> Option<&'a Map<String, Value>>
-    ensures { option_map (λ m. members_view m.now.entries) result ≡ pools (view document.entry.now) }
+    ensures { option_map (λ m. members_view m.now.entries) result
+        ≡ pools (view document.entry.now) }
 {
     document.get(GraphKey::Pools.name())?.as_object()
 }
@@ -121,7 +122,8 @@ fn has_at_most(value: &Value, most: usize) -> bool
 }
 
 fn has_word_key(value: &Value) -> bool
-    ensures { result ≡ list_any (λ key. is_some (get (word_key_name key) (view value.now))) word_keys }
+    ensures { result ≡ list_any (λ key. is_some (get (word_key_name key) (view value.now)))
+        word_keys }
 {
     WORD_KEYS.iter().any(|key| value.get(key.name()).is_some())
 }

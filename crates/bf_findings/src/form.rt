@@ -4,7 +4,7 @@ ghost use Rattle.serde_json.specs.View.{view};
 ghost use Rattle.bf_findings.specs.Forms.{graph_form as form_of_graph_key, task_form as form_of_task_key, is_expanded as expanded, form_of as form};
 
 use crate::document::task_at;
-use crate::place::{Place, WordKey};
+use crate::place::{DocumentPlace, WordKey};
 use bf_plan::is_id;
 use bf_read::{
     GREATEST_WEIGHT, GraphKey, LONGEST_RETRY_DELAY, MOST_ACTIVE_RUNS, MOST_RETRIES, MOST_SLOTS,
@@ -95,23 +95,23 @@ fn is_expanded(document: &Value, n: usize) -> bool
 }
 
 /// What may stand at a place of the document.
-pub(crate) fn form_of(document: &Value, place: &Place) -> Form
+pub(crate) fn form_of(document: &Value, place: &DocumentPlace) -> Form
     ensures { result ≡ form (view document.now) place.now }
 {
     match place {
-        Place::Top | Place::Task(_) => Form::Object,
-        Place::Key(key) => graph_form(*key),
-        Place::OtherKey(_) => Form::NoGraphKey,
-        Place::Pool(name) if is_id(name.as_str()) => Form::Whole(1, MOST_SLOTS),
-        Place::Pool(_) => Form::NoPool,
-        Place::TaskKey(n, key) => task_form(*n, *key),
-        Place::OtherTaskKey(_, _) => Form::NoTaskKey,
-        Place::Upstream(_, _) => Form::TaskId,
-        Place::Word(_, _) => Form::Word,
-        Place::WordKey(_, _, WordKey::Context) => Form::Context,
-        Place::WordKey(_, _, WordKey::Pull) => Form::TaskId,
-        Place::WordKey(n, _, WordKey::Item) if is_expanded(document, *n) => Form::Item,
-        Place::WordKey(_, _, WordKey::Item) => Form::NoItem,
+        DocumentPlace::Top | DocumentPlace::Task(_) => Form::Object,
+        DocumentPlace::Key(key) => graph_form(*key),
+        DocumentPlace::OtherKey(_) => Form::NoGraphKey,
+        DocumentPlace::Pool(name) if is_id(name.as_str()) => Form::Whole(1, MOST_SLOTS),
+        DocumentPlace::Pool(_) => Form::NoPool,
+        DocumentPlace::TaskKey(n, key) => task_form(*n, *key),
+        DocumentPlace::OtherTaskKey(_, _) => Form::NoTaskKey,
+        DocumentPlace::Upstream(_, _) => Form::TaskId,
+        DocumentPlace::Word(_, _) => Form::Word,
+        DocumentPlace::WordKey(_, _, WordKey::Context) => Form::Context,
+        DocumentPlace::WordKey(_, _, WordKey::Pull) => Form::TaskId,
+        DocumentPlace::WordKey(n, _, WordKey::Item) if is_expanded(document, *n) => Form::Item,
+        DocumentPlace::WordKey(_, _, WordKey::Item) => Form::NoItem,
     }
 }
 

@@ -5,7 +5,7 @@ ghost use Rattle.bf_findings.specs.Judging.{IsSchedule, IsZoneText, IsWrong, May
 
 use crate::fitting::{other_fits, text_fits};
 use crate::form::Form;
-use crate::place::Place;
+use crate::place::DocumentPlace;
 use bf_cron::{CronFault, CronSpec};
 use bf_read::{GraphKey, TaskKey};
 use bf_value::OutOfMemory;
@@ -34,8 +34,10 @@ fn is_schedule(alloc: Global, text: &str) -> Result<bool, OutOfMemory>
 
 /// Whether a text means a zone.
 fn is_zone(alloc: Global, text: &str, file: Option<&[u8]>) -> Result<bool, OutOfMemory>
-    ensures yes { IfOk result (λ b. b ≡ true → IsZoneText text.now (option_map (λ s. s.now) file.entry)) }
-    ensures no { IfOk result (λ b. b ≡ false → ¬ (IsZoneText text.now (option_map (λ s. s.now) file.entry))) }
+    ensures yes { IfOk result (λ b. b ≡ true
+        → IsZoneText text.now (option_map (λ s. s.now) file.entry)) }
+    ensures no { IfOk result (λ b. b ≡ false
+        → ¬ (IsZoneText text.now (option_map (λ s. s.now) file.entry))) }
 {
     match Zone::read(alloc, text, file) {
         Ok(zone) => {
@@ -51,9 +53,11 @@ impl Document<'_> {
     /// Whether a text may stand where this form may.
     fn text_may_stand(self, alloc: Global, form: Form, text: &str) -> Result<bool, OutOfMemory>
         ensures yes { IfOk result (λ b. b ≡ true
-            → TextMayStand (option_map (λ s. s.now) self.entry.zone_file) (view self.entry.value.now) form text.now) }
+            → TextMayStand (option_map (λ s. s.now) self.entry.zone_file)
+            (view self.entry.value.now) form text.now) }
         ensures no { IfOk result (λ b. b ≡ false
-            → ¬ (TextMayStand (option_map (λ s. s.now) self.entry.zone_file) (view self.entry.value.now) form text.now)) }
+            → ¬ (TextMayStand (option_map (λ s. s.now) self.entry.zone_file)
+            (view self.entry.value.now) form text.now)) }
     {
         match form {
             Form::Schedule => is_schedule(alloc, text),
@@ -65,9 +69,11 @@ impl Document<'_> {
     /// Whether a value may stand where this form may.
     fn may_stand(self, alloc: Global, form: Form, value: &Value) -> Result<bool, OutOfMemory>
         ensures yes { IfOk result (λ b. b ≡ true
-            → MayStand (option_map (λ s. s.now) self.entry.zone_file) (view self.entry.value.now) form (view value.now)) }
+            → MayStand (option_map (λ s. s.now) self.entry.zone_file) (view self.entry.value.now)
+            form (view value.now)) }
         ensures no { IfOk result (λ b. b ≡ false
-            → ¬ (MayStand (option_map (λ s. s.now) self.entry.zone_file) (view self.entry.value.now) form (view value.now))) }
+            → ¬ (MayStand (option_map (λ s. s.now) self.entry.zone_file) (view self.entry.value.now)
+            form (view value.now))) }
     {
         match value.as_str() {
             Some(text) => self.text_may_stand(alloc, form, text),
@@ -79,15 +85,17 @@ impl Document<'_> {
     pub(crate) fn is_wrong(
         self,
         alloc: Global,
-        place: &Place,
+        place: &DocumentPlace,
         form: Form,
         value: Option<&Value>,
     ) -> Result<bool, OutOfMemory>
         ensures yes { IfOk result (λ b. b ≡ true
-            → IsWrong (option_map (λ s. s.now) self.entry.zone_file) (view self.entry.value.now) place.now form
+            → IsWrong (option_map (λ s. s.now) self.entry.zone_file) (view self.entry.value.now)
+            place.now form
             (option_map (λ v. view v.now) value.entry)) }
         ensures no { IfOk result (λ b. b ≡ false
-            → ¬ (IsWrong (option_map (λ s. s.now) self.entry.zone_file) (view self.entry.value.now) place.now form
+            → ¬ (IsWrong (option_map (λ s. s.now) self.entry.zone_file) (view self.entry.value.now)
+            place.now form
             (option_map (λ v. view v.now) value.entry))) }
     {
         match value {
@@ -98,12 +106,12 @@ impl Document<'_> {
 }
 
 /// Whether something has to stand at a place.
-fn is_required(place: &Place) -> bool
+fn is_required(place: &DocumentPlace) -> bool
     ensures { result ≡ required place.now }
 {
     matches!(
         place,
-        Place::Key(GraphKey::DagId | GraphKey::Schedule | GraphKey::Tasks)
-            | Place::TaskKey(_, TaskKey::Id)
+        DocumentPlace::Key(GraphKey::DagId | GraphKey::Schedule | GraphKey::Tasks)
+            | DocumentPlace::TaskKey(_, TaskKey::Id)
     )
 }

@@ -25,5 +25,5 @@ pub use finding::{Fault, Finding};
 pub use form::Form;
 pub use laws::each_place_is_listed;
 pub use listing::findings;
-pub use place::{Place, WordKey};
+pub use place::{DocumentPlace, WordKey};
 pub use refusal::Refusal;

@@ -65,9 +65,11 @@ fn found_in(
     graph: &[u8],
     zone_file: Option<&[u8]>,
 ) -> Result<Vec<Finding>, OutOfMemory>
-    ensures each { IfOk result (λ v. All (IsFinding graph.now (option_map (λ s. s.now) zone_file.entry)) v.items) }
+    ensures each { IfOk result (λ v. All
+        (IsFinding graph.now (option_map (λ s. s.now) zone_file.entry)) v.items) }
     ensures few { IfOk result (λ v. length v.items ≤ 100) }
-    ensures all { IfOk result (λ v. TellsAll graph.now (option_map (λ s. s.now) zone_file.entry) v.items) }
+    ensures all { IfOk result (λ v. TellsAll graph.now (option_map (λ s. s.now) zone_file.entry)
+        v.items) }
 {
     if graph.len() > MOST_BYTES {
         return Ok(Vec::new(alloc));
@@ -92,10 +94,12 @@ fn told(
     refusal: Refusal,
 ) -> Result<Vec<Finding>, OutOfMemory>
     requires { IsRefusedFor graph.now (option_map (λ s. s.now) zone_file) (Some refusal) }
-    ensures each { IfOk result (λ v. All (IsFinding graph.now (option_map (λ s. s.now) zone_file.entry)) v.items) }
+    ensures each { IfOk result (λ v. All
+        (IsFinding graph.now (option_map (λ s. s.now) zone_file.entry)) v.items) }
     ensures some { IfOk result (λ v. 0 < length v.items) }
     ensures few { IfOk result (λ v. length v.items ≤ 100) }
-    ensures all { IfOk result (λ v. TellsAll graph.now (option_map (λ s. s.now) zone_file.entry) v.items) }
+    ensures all { IfOk result (λ v. TellsAll graph.now (option_map (λ s. s.now) zone_file.entry)
+        v.items) }
 {
     let mut found = found_in(alloc, graph, zone_file)?;
     if found.is_empty() {
@@ -112,7 +116,8 @@ pub fn findings(
     graph: &[u8],
     zone_file: Option<&[u8]>,
 ) -> Result<Vec<Finding>, OutOfMemory>
-    ensures { IfOk result (λ v. AreFindings graph.now (option_map (λ s. s.now) zone_file.entry) v.items) }
+    ensures { IfOk result (λ v. AreFindings graph.now (option_map (λ s. s.now) zone_file.entry)
+        v.items) }
 {
     match refusal(alloc, graph, zone_file)? {
         Some(refusal) => told(alloc, graph, zone_file, refusal),

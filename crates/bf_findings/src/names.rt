@@ -188,7 +188,8 @@ fn named_pools<'a>(
     alloc: Global,
     pools: &'a Map<String, Value>,
 ) -> Result<Vec<&'a str>, OutOfMemory>
-    ensures { IfOk result (λ v. map (λ s. s.now) v.items ≡ named (members_view pools.entry.now.entries)) }
+    ensures { IfOk result (λ v. map (λ s. s.now) v.items
+        ≡ named (members_view pools.entry.now.entries)) }
 {
     let mut names = Vec::new(alloc);
     for (name, _slots) in pools.iter() {
@@ -201,7 +202,8 @@ fn named_pools<'a>(
 
 /// The names of the pools that tasks may name.
 fn pool_names<'a>(alloc: Global, document: &'a Value) -> Result<Vec<&'a str>, OutOfMemory>
-    ensures { IfOk result (λ v. map (λ s. s.now) v.items ≡ names_of_pools (view document.entry.now)) }
+    ensures { IfOk result (λ v. map (λ s. s.now) v.items
+        ≡ names_of_pools (view document.entry.now)) }
 {
     let mut names = match pools_in(document) {
         Some(pools) => named_pools(alloc, pools)?,

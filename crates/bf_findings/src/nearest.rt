@@ -63,7 +63,8 @@ pub(crate) fn suggested<'a>(
     text: &str,
     names: &[&'a str],
 ) -> Result<Option<&'a str>, OutOfMemory>
-    ensures { IfOk result (λ found. IsSuggested text.now (map (λ s. s.now) names.now) (option_map (λ s. s.now) found)) }
+    ensures { IfOk result (λ found. IsSuggested text.now (map (λ s. s.now) names.now)
+        (option_map (λ s. s.now) found)) }
 {
     let text = text.to_ascii_lowercase(alloc)?;
     match nearest(alloc, text.as_str(), names)? {

@@ -29,7 +29,7 @@ impl WordKey {
 
 /// A place in the document of a graph file. Tasks, upstreams and words count from 0.
 #[derive(Debug, Drop)]
-pub enum Place {
+pub enum DocumentPlace {
     /// The whole document.
     Top,
     Key(GraphKey),
@@ -48,7 +48,7 @@ pub enum Place {
 
 /// The keys that lead to the place. What stands under a key of no meaning, and the slots of a pool, are told of the object that
 /// they stand in.
-impl fmt::Display for Place {
+impl fmt::Display for DocumentPlace {
     ghost use Rattle.std.specs.Prelude.{Some};
     ghost use Rattle.bf_findings.specs.Places.{place_text};
 
@@ -56,20 +56,20 @@ impl fmt::Display for Place {
 
     fn fmt<W: fmt::Write>(&self, f: &mut fmt::Formatter<W>) -> fmt::Result {
         match self {
-            Place::Top | Place::OtherKey(_) => write!(f, "top"),
-            Place::Key(key) => write!(f, "{}", key.name()),
-            Place::Pool(_) => write!(f, "pools"),
-            Place::Task(n) | Place::OtherTaskKey(n, _) => write!(f, "tasks[{n}]"),
-            Place::TaskKey(n, key) => write!(f, "tasks[{n}].{}", key.name()),
-            Place::Upstream(n, i) => {
+            DocumentPlace::Top | DocumentPlace::OtherKey(_) => write!(f, "top"),
+            DocumentPlace::Key(key) => write!(f, "{}", key.name()),
+            DocumentPlace::Pool(_) => write!(f, "pools"),
+            DocumentPlace::Task(n) | DocumentPlace::OtherTaskKey(n, _) => write!(f, "tasks[{n}]"),
+            DocumentPlace::TaskKey(n, key) => write!(f, "tasks[{n}].{}", key.name()),
+            DocumentPlace::Upstream(n, i) => {
                 write!(f, "tasks[{n}].upstream")?;
                 write!(f, "[{i}]")
             }
-            Place::Word(n, i) => {
+            DocumentPlace::Word(n, i) => {
                 write!(f, "tasks[{n}].command")?;
                 write!(f, "[{i}]")
             }
-            Place::WordKey(n, i, key) => {
+            DocumentPlace::WordKey(n, i, key) => {
                 write!(f, "tasks[{n}].command")?;
                 write!(f, "[{i}].{}", key.name())
             }

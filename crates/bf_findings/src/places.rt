@@ -6,17 +6,17 @@ ghost use Rattle.bf_findings.specs.Fitting.{pools_in as pools_at};
 
 use crate::fitting::{pools_in, tasks_in};
 use crate::keys::{GRAPH_KEYS, TASK_KEYS, WORD_KEYS, is_graph_key, is_task_key};
-use crate::place::Place;
+use crate::place::DocumentPlace;
 use bf_read::TaskKey;
 use bf_value::{OutOfMemory, Text};
 use serde_json::{Map, Value};
 use std::alloc::Global;
 
-fn add_graph_keys(places: &mut Vec<Place>) -> Result<(), OutOfMemory>
+fn add_graph_keys(places: &mut Vec<DocumentPlace>) -> Result<(), OutOfMemory>
     ensures { OnOk result (places.new.items ≡ places.old.items ++ graph_key_places) }
 {
     for key in &GRAPH_KEYS {
-        places.push(Place::Key(*key))?;
+        places.push(DocumentPlace::Key(*key))?;
     }
     Ok(())
 }
@@ -24,14 +24,15 @@ fn add_graph_keys(places: &mut Vec<Place>) -> Result<(), OutOfMemory>
 /// Adds the keys that graph files don't have.
 fn add_other_keys(
     alloc: Global,
-    places: &mut Vec<Place>,
+    places: &mut Vec<DocumentPlace>,
     graph: &Map<String, Value>,
 ) -> Result<(), OutOfMemory>
-    ensures { OnOk result (places.new.items ≡ places.old.items ++ other_keys (members_view graph.now.entries)) }
+    ensures { OnOk result (places.new.items ≡ places.old.items
+        ++ other_keys (members_view graph.now.entries)) }
 {
     for (key, _value) in graph.iter() {
         if !is_graph_key(key.as_str()) {
-            places.push(Place::OtherKey(Text::copied(alloc, key.as_str())?))?;
+            places.push(DocumentPlace::OtherKey(Text::copied(alloc, key.as_str())?))?;
         }
     }
     Ok(())
@@ -39,18 +40,23 @@ fn add_other_keys(
 
 fn add_pool_names(
     alloc: Global,
-    places: &mut Vec<Place>,
+    places: &mut Vec<DocumentPlace>,
     pools: &Map<String, Value>,
 ) -> Result<(), OutOfMemory>
-    ensures { OnOk result (places.new.items ≡ places.old.items ++ pools_of (members_view pools.now.entries)) }
+    ensures { OnOk result (places.new.items ≡ places.old.items
+        ++ pools_of (members_view pools.now.entries)) }
 {
     for (name, _slots) in pools.iter() {
-        places.push(Place::Pool(Text::copied(alloc, name.as_str())?))?;
+        places.push(DocumentPlace::Pool(Text::copied(alloc, name.as_str())?))?;
     }
     Ok(())
 }
 
-fn add_pools(alloc: Global, places: &mut Vec<Place>, document: &Value) -> Result<(), OutOfMemory>
+fn add_pools(
+    alloc: Global,
+    places: &mut Vec<DocumentPlace>,
+    document: &Value,
+) -> Result<(), OutOfMemory>
     ensures { OnOk result (places.new.items
         ≡ places.old.items ++ pools_if_any (pools_at (view document.now))) }
 {
@@ -60,11 +66,11 @@ fn add_pools(alloc: Global, places: &mut Vec<Place>, document: &Value) -> Result
     }
 }
 
-fn add_task_keys(places: &mut Vec<Place>, n: usize) -> Result<(), OutOfMemory>
+fn add_task_keys(places: &mut Vec<DocumentPlace>, n: usize) -> Result<(), OutOfMemory>
     ensures { OnOk result (places.new.items ≡ places.old.items ++ task_key_places n) }
 {
     for key in &TASK_KEYS {
-        places.push(Place::TaskKey(n, *key))?;
+        places.push(DocumentPlace::TaskKey(n, *key))?;
     }
     Ok(())
 }
@@ -72,16 +78,17 @@ fn add_task_keys(places: &mut Vec<Place>, n: usize) -> Result<(), OutOfMemory>
 /// Adds the keys that tasks don't have.
 fn add_other_task_keys(
     alloc: Global,
-    places: &mut Vec<Place>,
+    places: &mut Vec<DocumentPlace>,
     n: usize,
     task: &Map<String, Value>,
 ) -> Result<(), OutOfMemory>
-    ensures { OnOk result (places.new.items ≡ places.old.items ++ other_task_keys n (members_view task.now.entries)) }
+    ensures { OnOk result (places.new.items ≡ places.old.items
+        ++ other_task_keys n (members_view task.now.entries)) }
 {
     for (key, _value) in task.iter() {
         if !is_task_key(key.as_str()) {
             let key = Text::copied(alloc, key.as_str())?;
-            places.push(Place::OtherTaskKey(n, key))?;
+            places.push(DocumentPlace::OtherTaskKey(n, key))?;
         }
     }
     Ok(())
@@ -98,36 +105,42 @@ fn items_under<'a>(task: &'a Value, key: TaskKey) -> &'a [Value]
     }
 }
 
-fn add_upstreams(places: &mut Vec<Place>, n: usize, items: &[Value]) -> Result<(), OutOfMemory>
-    ensures { OnOk result (places.new.items ≡ places.old.items ++ upstreams n 0 (map view items.now)) }
+fn add_upstreams(
+    places: &mut Vec<DocumentPlace>,
+    n: usize,
+    items: &[Value],
+) -> Result<(), OutOfMemory>
+    ensures { OnOk result (places.new.items ≡ places.old.items
+        ++ upstreams n 0 (map view items.now)) }
 {
     for (i, _upstream) in items.iter().enumerate() {
-        places.push(Place::Upstream(n, i))?;
+        places.push(DocumentPlace::Upstream(n, i))?;
     }
     Ok(())
 }
 
 fn add_word_keys(
-    places: &mut Vec<Place>,
+    places: &mut Vec<DocumentPlace>,
     n: usize,
     i: usize,
     word: &Value,
 ) -> Result<(), OutOfMemory>
-    ensures { OnOk result (places.new.items ≡ places.old.items ++ word_keys_of n i (view word.now)) }
+    ensures { OnOk result (places.new.items ≡ places.old.items
+        ++ word_keys_of n i (view word.now)) }
 {
     for key in &WORD_KEYS {
         if word.get(key.name()).is_some() {
-            places.push(Place::WordKey(n, i, *key))?;
+            places.push(DocumentPlace::WordKey(n, i, *key))?;
         }
     }
     Ok(())
 }
 
-fn add_words(places: &mut Vec<Place>, n: usize, items: &[Value]) -> Result<(), OutOfMemory>
+fn add_words(places: &mut Vec<DocumentPlace>, n: usize, items: &[Value]) -> Result<(), OutOfMemory>
     ensures { OnOk result (places.new.items ≡ places.old.items ++ words n 0 (map view items.now)) }
 {
     for (i, word) in items.iter().enumerate() {
-        places.push(Place::Word(n, i))?;
+        places.push(DocumentPlace::Word(n, i))?;
         add_word_keys(places, n, i, word)?;
     }
     Ok(())
@@ -136,13 +149,13 @@ fn add_words(places: &mut Vec<Place>, n: usize, items: &[Value]) -> Result<(), O
 /// Adds the places of the task behind n others.
 fn add_task(
     alloc: Global,
-    places: &mut Vec<Place>,
+    places: &mut Vec<DocumentPlace>,
     n: usize,
     task: &Value,
 ) -> Result<(), OutOfMemory>
     ensures { OnOk result (places.new.items ≡ places.old.items ++ task_places n (view task.now)) }
 {
-    places.push(Place::Task(n))?;
+    places.push(DocumentPlace::Task(n))?;
     let Some(members) = task.as_object() else {
         return Ok(());
     };
@@ -152,7 +165,11 @@ fn add_task(
     add_words(places, n, items_under(task, TaskKey::Command))
 }
 
-fn add_tasks(alloc: Global, places: &mut Vec<Place>, items: &[Value]) -> Result<(), OutOfMemory>
+fn add_tasks(
+    alloc: Global,
+    places: &mut Vec<DocumentPlace>,
+    items: &[Value],
+) -> Result<(), OutOfMemory>
     ensures { OnOk result (places.new.items ≡ places.old.items ++ tasks 0 (map view items.now)) }
 {
     for (n, task) in items.iter().enumerate() {
@@ -162,11 +179,11 @@ fn add_tasks(alloc: Global, places: &mut Vec<Place>, items: &[Value]) -> Result<
 }
 
 /// The places of a document, from the top down.
-pub(crate) fn places_of(alloc: Global, document: &Value) -> Result<Vec<Place>, OutOfMemory>
+pub(crate) fn places_of(alloc: Global, document: &Value) -> Result<Vec<DocumentPlace>, OutOfMemory>
     ensures { IfOk result (λ v. v.items ≡ places_in (view document.now)) }
 {
     let mut places = Vec::new(alloc);
-    places.push(Place::Top)?;
+    places.push(DocumentPlace::Top)?;
     let Some(members) = document.as_object() else {
         return Ok(places);
     };

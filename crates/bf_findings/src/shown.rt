@@ -5,7 +5,7 @@ ghost use Rattle.serde_json.specs.Data.{string};
 ghost use Rattle.serde_json.specs.Written.{compact_text};
 ghost use Rattle.bf_findings.specs.Shown.{shown as told, short as told_if_short, shown_at as told_at};
 
-use crate::place::Place;
+use crate::place::DocumentPlace;
 use bf_value::{OutOfMemory, Text};
 use serde_json::Value;
 use std::alloc::Global;
@@ -65,12 +65,19 @@ fn pool_shown(alloc: Global, name: &str, value: &Value) -> Result<Text, OutOfMem
 }
 
 /// What stands at a place, as it is told.
-pub(crate) fn shown_at(alloc: Global, place: &Place, value: &Value) -> Result<Text, OutOfMemory>
+pub(crate) fn shown_at(
+    alloc: Global,
+    place: &DocumentPlace,
+    value: &Value,
+) -> Result<Text, OutOfMemory>
     ensures { IfOk result (λ t. t ≡ told_at place.now (view value.now)) }
 {
     match place {
-        Place::OtherKey(key) | Place::OtherTaskKey(_, key) => unknown_key(alloc, key.as_str()),
-        Place::Pool(name) => pool_shown(alloc, name.as_str(), value),
+        DocumentPlace::OtherKey(key) | DocumentPlace::OtherTaskKey(_, key) => unknown_key(
+            alloc,
+            key.as_str(),
+        ),
+        DocumentPlace::Pool(name) => pool_shown(alloc, name.as_str(), value),
         _ => shown(alloc, value),
     }
 }

@@ -135,7 +135,8 @@ fn push_lines(
     found: &[Failing],
 ) -> Result<(), OutOfMemory>
     ensures { OnOk result (text.new.items ≡ text.old.items ++ flat_map
-        (failing_line dag.now (width_of_ids dag.now (map pair_of found.now)) widest) (map pair_of found.now)) }
+        (failing_line dag.now (width_of_ids dag.now (map pair_of found.now)) widest)
+        (map pair_of found.now)) }
 {
     let longest = id_width(dag, found);
     for failing in found {

@@ -36,8 +36,10 @@ impl Shows<'_> {
     ) -> Result<(), OutOfMemory>
         requires some { 0 < each }
         requires colors { layout.colored ≡ view.now.colored }
-        ensures { OnOk result (text.new.items ≡ text.old.items ++ table_by view.now self.entry.dag.now
-            (map (λ run. run.now) self.entry.runs.now) self.entry.tasks.now layout.names layout.widths each) }
+        ensures { OnOk result (text.new.items ≡ text.old.items
+            ++ table_by view.now self.entry.dag.now
+            (map (λ run. run.now) self.entry.runs.now) self.entry.tasks.now layout.names
+            layout.widths each) }
     {
         push_each(alloc, text, each)?;
         push(text, b"\n")?;
@@ -59,7 +61,8 @@ impl Shows<'_> {
     /// Adds the table. There are runs.
     fn push_table(self, alloc: Global, text: &mut Vec<u8>, view: &View) -> Result<(), OutOfMemory>
         requires { 0 < length self.runs.now }
-        ensures { OnOk result (text.new.items ≡ text.old.items ++ table_text view.now self.entry.dag.now
+        ensures { OnOk result (text.new.items ≡ text.old.items
+            ++ table_text view.now self.entry.dag.now
             (map (λ run. run.now) self.entry.runs.now) self.entry.tasks.now) }
     {
         let width = view.width as usize;
@@ -77,7 +80,8 @@ impl Shows<'_> {
 
     /// Adds the table, where there are runs.
     fn push_if(self, alloc: Global, text: &mut Vec<u8>, view: &View) -> Result<(), OutOfMemory>
-        ensures { OnOk result (text.new.items ≡ text.old.items ++ table_if view.now self.entry.dag.now
+        ensures { OnOk result (text.new.items ≡ text.old.items
+            ++ table_if view.now self.entry.dag.now
             (map (λ run. run.now) self.entry.runs.now) self.entry.tasks.now) }
     {
         if self.runs.is_empty() {
@@ -165,9 +169,12 @@ pub fn write_grid<W: Write>(
     requires { IsSound dag.now }
     ensures ok { OnOk result (W.written out.new
         ≡ sent (W.written out.old) (grid_text view.now dag.now report.now)) }
-    ensures part { IfErr result (λ fault. (fault.sent ≤ length (grid_text view.now dag.now report.now))
-        × (W.written out.new ≡ sent (W.written out.old) (take fault.sent (grid_text view.now dag.now report.now)))) }
-    ensures io { IfErr result (λ fault. fault.cause ≡ Cause.Io → HasHalted (W.failures out.old) (W.failures out.new)
+    ensures part { IfErr result (λ fault.
+        (fault.sent ≤ length (grid_text view.now dag.now report.now))
+        × (W.written out.new ≡ sent (W.written out.old)
+        (take fault.sent (grid_text view.now dag.now report.now)))) }
+    ensures io { IfErr result (λ fault. fault.cause ≡ Cause.Io
+        → HasHalted (W.failures out.old) (W.failures out.new)
         (W.interruptions out.old) (W.interruptions out.new)) }
     ensures went_on { OnOk result (HasGoneOn (W.failures out.old) (W.failures out.new)
         (W.interruptions out.old) (W.interruptions out.new)) }

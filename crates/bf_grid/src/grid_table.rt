@@ -31,7 +31,8 @@ impl Columns<'_> {
     /// Where each column starts.
     fn starts(self, alloc: Global) -> Result<Vec<Moment>, OutOfMemory>
         ensures { IfOk result (λ starts. map (λ start. start.at.nanosecond) starts.items
-            ≡ column_starts self.entry.count self.entry.each (map (λ run. run.now) self.entry.runs.now)) }
+            ≡ column_starts self.entry.count self.entry.each
+            (map (λ run. run.now) self.entry.runs.now)) }
     {
         let mut starts = Vec::with_capacity(alloc, self.count)?;
         for place in 0..self.count {

@@ -49,7 +49,8 @@ fn is_seen(
     tasks: &[u32],
     mark: Mark,
 ) -> Result<bool, OutOfMemory>
-    ensures { IfOk result (λ seen_it. seen_it ≡ seen (map (λ run. run.now) runs.now) tasks.now mark) }
+    ensures { IfOk result (λ seen_it. seen_it
+        ≡ seen (map (λ run. run.now) runs.now) tasks.now mark) }
 {
     for task in tasks {
         if has_mark(alloc, runs, mark, *task)? {

@@ -28,7 +28,8 @@ pub(crate) fn shown_runs<'a>(
     view: &View,
     runs: &'a [RunReport],
 ) -> Result<Vec<&'a RunReport>, OutOfMemory>
-    ensures { IfOk result (λ found. map (λ run. run.now) found.items ≡ runs_shown view.now runs.now) }
+    ensures { IfOk result (λ found. map (λ run. run.now) found.items
+        ≡ runs_shown view.now runs.now) }
 {
     let mut found = Vec::with_capacity(alloc, runs.len())?;
     for run in runs {
@@ -45,7 +46,8 @@ fn is_shown_task(
     runs: &[&RunReport],
     task: u32,
 ) -> Result<bool, OutOfMemory>
-    ensures { IfOk result (λ shown. shown ≡ shows_task view.now (map (λ run. run.now) runs.now) task) }
+    ensures { IfOk result (λ shown. shown
+        ≡ shows_task view.now (map (λ run. run.now) runs.now) task) }
 {
     if !view.failed {
         return Ok(true);

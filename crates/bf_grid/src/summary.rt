@@ -28,7 +28,8 @@ pub(crate) fn push_head(
     dag_id: &str,
     runs: &[RunReport],
 ) -> Result<(), OutOfMemory>
-    ensures { OnOk result (text.new.items ≡ text.old.items ++ head_line colored dag_id.now runs.now) }
+    ensures { OnOk result (text.new.items ≡ text.old.items
+        ++ head_line colored dag_id.now runs.now) }
 {
     push_painted(text, colored, "1", dag_id.as_bytes())?;
     push_dates(text, runs)?;

@@ -55,9 +55,11 @@ fn graph_bytes<S: Source>(
     path: String,
     files: &mut S,
 ) -> Result<Vec<u8>, CommandFault>
-    ensures says { IfOk result (λ bytes. (held : List ℕ) → IsHeld (S.file files.old (string_bytes path)) held
+    ensures says { IfOk result (λ bytes. (held : List ℕ)
+        → IsHeld (S.file files.old (string_bytes path)) held
         → graph_in bytes.items ≡ graph_in held) }
-    ensures whole { IfOk result (λ bytes. (held : List ℕ) → IsHeld (S.file files.old (string_bytes path)) held
+    ensures whole { IfOk result (λ bytes. (held : List ℕ)
+        → IsHeld (S.file files.old (string_bytes path)) held
         → IsWholeGraph held bytes.items) }
     ensures readable { OnOk result (IsReadable (S.file files.old (string_bytes path))) }
     ensures fault { IfErr result (IsReadingFault (S.file files.old) (string_bytes path ∷ [])) }
@@ -71,7 +73,8 @@ fn table_bytes<S: Source>(
     path: String,
     files: &mut S,
 ) -> Result<Vec<u8>, CommandFault>
-    ensures says { IfOk result (λ bytes. (held : List ℕ) → IsHeld (S.file files.old (string_bytes path)) held
+    ensures says { IfOk result (λ bytes. (held : List ℕ)
+        → IsHeld (S.file files.old (string_bytes path)) held
         → table_of bytes.items ≡ table_of held) }
     ensures readable { OnOk result (IsReadable (S.file files.old (string_bytes path))) }
     ensures fault { IfErr result (IsReadingFault (S.file files.old) (string_bytes path ∷ [])) }
@@ -85,10 +88,13 @@ fn zone_bytes<S: Source>(
     path: Option<String>,
     files: &mut S,
 ) -> Result<Option<Vec<u8>>, CommandFault>
-    ensures means { IfOk result (λ bytes. (held : Option (List ℕ)) → IsHeldIfNamed (S.file files.old) (option_map string_bytes path) held
+    ensures means { IfOk result (λ bytes. (held : Option (List ℕ))
+        → IsHeldIfNamed (S.file files.old) (option_map string_bytes path) held
         → MeanAlike (bytes_of bytes) held) }
-    ensures readable { OnOk result (AreReadable (S.file files.old) (named_paths (option_map string_bytes path))) }
-    ensures fault { IfErr result (IsReadingFault (S.file files.old) (named_paths (option_map string_bytes path))) }
+    ensures readable { OnOk result
+        (AreReadable (S.file files.old) (named_paths (option_map string_bytes path))) }
+    ensures fault { IfErr result (IsReadingFault (S.file files.old)
+        (named_paths (option_map string_bytes path))) }
     ensures stays { (p : List ℕ) → S.file files.new p ≡ S.file files.old p }
 {
     match path {
@@ -106,10 +112,13 @@ pub fn named_table_bytes<S: Source>(
     path: Option<String>,
     files: &mut S,
 ) -> Result<Option<Vec<u8>>, CommandFault>
-    ensures says { IfOk result (λ bytes. (held : Option (List ℕ)) → IsHeldIfNamed (S.file files.old) (option_map string_bytes path) held
+    ensures says { IfOk result (λ bytes. (held : Option (List ℕ))
+        → IsHeldIfNamed (S.file files.old) (option_map string_bytes path) held
         → option_map table_of (bytes_of bytes) ≡ option_map table_of held) }
-    ensures readable { OnOk result (AreReadable (S.file files.old) (named_paths (option_map string_bytes path))) }
-    ensures fault { IfErr result (IsReadingFault (S.file files.old) (named_paths (option_map string_bytes path))) }
+    ensures readable { OnOk result
+        (AreReadable (S.file files.old) (named_paths (option_map string_bytes path))) }
+    ensures fault { IfErr result (IsReadingFault (S.file files.old)
+        (named_paths (option_map string_bytes path))) }
     ensures stays { (p : List ℕ) → S.file files.new p ≡ S.file files.old p }
 {
     match path {
@@ -142,7 +151,8 @@ fn whole_bytes<S: Source>(
     path: String,
     files: &mut S,
 ) -> Result<Vec<u8>, CommandFault>
-    ensures whole { IfOk result (λ bytes. (held : List ℕ) → IsHeld (S.file files.old (string_bytes path)) held
+    ensures whole { IfOk result (λ bytes. (held : List ℕ)
+        → IsHeld (S.file files.old (string_bytes path)) held
         → bytes.items ≡ held) }
     ensures readable { OnOk result (IsReadable (S.file files.old (string_bytes path))) }
     ensures fault { IfErr result (IsReadingFault (S.file files.old) (string_bytes path ∷ [])) }
@@ -157,10 +167,13 @@ pub fn named_journal_bytes<S: Source>(
     path: Option<String>,
     files: &mut S,
 ) -> Result<Option<Vec<u8>>, CommandFault>
-    ensures whole { IfOk result (λ bytes. (held : Option (List ℕ)) → IsHeldIfNamed (S.file files.old) (option_map string_bytes path) held
+    ensures whole { IfOk result (λ bytes. (held : Option (List ℕ))
+        → IsHeldIfNamed (S.file files.old) (option_map string_bytes path) held
         → bytes_of bytes ≡ held) }
-    ensures readable { OnOk result (AreReadable (S.file files.old) (named_paths (option_map string_bytes path))) }
-    ensures fault { IfErr result (IsReadingFault (S.file files.old) (named_paths (option_map string_bytes path))) }
+    ensures readable { OnOk result
+        (AreReadable (S.file files.old) (named_paths (option_map string_bytes path))) }
+    ensures fault { IfErr result (IsReadingFault (S.file files.old)
+        (named_paths (option_map string_bytes path))) }
     ensures stays { (p : List ℕ) → S.file files.new p ≡ S.file files.old p }
 {
     match path {
@@ -178,11 +191,13 @@ pub fn report_in<S: Source>(
     path: String,
     files: &mut S,
 ) -> Result<Report, CommandFault>
-    ensures says { IfOk result (λ report. (held : List ℕ) → IsHeld (S.file files.old (string_bytes path)) held
+    ensures says { IfOk result (λ report. (held : List ℕ)
+        → IsHeld (S.file files.old (string_bytes path)) held
         → IsReadAs held report) }
     ensures rules { IfOk result IsShownReport }
     ensures readable { OnOk result (IsReadable (S.file files.old (string_bytes path))) }
-    ensures fault { IfErr result (IsReportFault (string_bytes path) (S.file files.old (string_bytes path))) }
+    ensures fault { IfErr result (IsReportFault (string_bytes path)
+        (S.file files.old (string_bytes path))) }
     ensures stays { (p : List ℕ) → S.file files.new p ≡ S.file files.old p }
 {
     let mut device = match files.open(path.as_str()) {
@@ -218,8 +233,10 @@ pub fn graph_files<S: Source>(
     asked: GraphAsked,
     files: &mut S,
 ) -> Result<GraphFiles, CommandFault>
-    ensures alike { IfOk result (λ f. OfFiles (S.file files.old) asked (λ graph zone. AreAlike f.graph.items graph (bytes_of f.zone_file) zone)) }
-    ensures whole { IfOk result (λ f. OfFiles (S.file files.old) asked (λ graph zone. IsWholeGraph graph f.graph.items)) }
+    ensures alike { IfOk result (λ f. OfFiles (S.file files.old) asked
+        (λ graph zone. AreAlike f.graph.items graph (bytes_of f.zone_file) zone)) }
+    ensures whole { IfOk result (λ f. OfFiles (S.file files.old) asked
+        (λ graph zone. IsWholeGraph graph f.graph.items)) }
     ensures readable { OnOk result (AreReadable (S.file files.old) (graph_paths asked)) }
     ensures fault { IfErr result (IsReadingFault (S.file files.old) (graph_paths asked)) }
     ensures stays { (p : List ℕ) → S.file files.new p ≡ S.file files.old p }
@@ -243,10 +260,14 @@ pub fn files_with_table<S: Source>(
     table: String,
     files: &mut S,
 ) -> Result<FilesWithTable, CommandFault>
-    ensures alike { IfOk result (λ f. OfFilesAndTable (S.file files.old) asked (string_bytes table) (λ graph zone held.
-        AreAlike f.graph.graph.items graph (bytes_of f.graph.zone_file) zone × (table_of f.table.items ≡ table_of held))) }
-    ensures readable { OnOk result (AreReadable (S.file files.old) (table_paths asked (string_bytes table))) }
-    ensures fault { IfErr result (IsReadingFault (S.file files.old) (table_paths asked (string_bytes table))) }
+    ensures alike { IfOk result (λ f. OfFilesAndTable (S.file files.old) asked (string_bytes table)
+        (λ graph zone held.
+        AreAlike f.graph.graph.items graph (bytes_of f.graph.zone_file) zone
+        × (table_of f.table.items ≡ table_of held))) }
+    ensures readable { OnOk result
+        (AreReadable (S.file files.old) (table_paths asked (string_bytes table))) }
+    ensures fault { IfErr result (IsReadingFault (S.file files.old)
+        (table_paths asked (string_bytes table))) }
 {
     let graph = graph_files(alloc, asked, files)?;
     let table = table_bytes(alloc, table, files)?;

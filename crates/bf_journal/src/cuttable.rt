@@ -10,7 +10,8 @@ use std::io;
 pub trait Cuttable: Durable {
     /// Drops all bytes but the first so many.
     fn cut(&mut self, count: usize) -> Result<(), Halt>
-        ensures ok { OnOk result (Self.written self.new ≡ option_map (take count) (Self.written self.old)) }
+        ensures ok { OnOk result (Self.written self.new
+            ≡ option_map (take count) (Self.written self.old)) }
         ensures err { OnErr result (Self.written self.new ≡ Self.written self.old) };
 }
 
@@ -26,7 +27,8 @@ impl<F: io::Write + OpenFile + Drop> Cuttable for Output<F> {
 /// Drops all bytes but the first so many, and says whether it was done. It gives up where that fails, and at the 1,001st
 /// interruption.
 pub(crate) fn is_cut<D: Cuttable>(device: &mut D, count: usize) -> bool
-    ensures cut { result ≡ true → D.written device.new ≡ option_map (take count) (D.written device.old) }
+    ensures cut { result ≡ true → D.written device.new
+        ≡ option_map (take count) (D.written device.old) }
     ensures kept { result ≡ false → D.written device.new ≡ D.written device.old }
 {
     for _ in 0..=MOST_INTERRUPTIONS {

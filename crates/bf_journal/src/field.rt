@@ -13,7 +13,8 @@ use std::alloc::Global;
 
 /// The text at a place.
 pub(crate) fn text_at(fields: &[Xval], at: usize) -> Option<&str>
-    ensures { IsFound (λ text. slice_get fields.now at ≡ Some (TextValue text)) (option_map (λ t. t.now) result) }
+    ensures { IsFound (λ text. slice_get fields.now at ≡ Some (TextValue text))
+        (option_map (λ t. t.now) result) }
 {
     match fields.get(at) {
         Some(Xval::Text(text)) => Some(text.as_str()),
@@ -75,7 +76,8 @@ pub(crate) fn optional_at(
 
 /// The values of lists of one or none.
 fn all_optional_in(alloc: Global, values: &[Xval]) -> Result<Option<Vec<Pulled>>, OutOfMemory>
-    ensures { IfOk result (λ o. IsFound (λ all. values.now ≡ map optional all) (option_map (λ v. v.items) o)) }
+    ensures { IfOk result (λ o. IsFound (λ all. values.now ≡ map optional all)
+        (option_map (λ v. v.items) o)) }
 {
     let mut all = Vec::with_capacity(alloc, values.len())?;
     for value in values {
@@ -89,7 +91,8 @@ fn all_optional_in(alloc: Global, values: &[Xval]) -> Result<Option<Vec<Pulled>>
 
 /// The values of a list of such lists.
 fn optionals_in(alloc: Global, value: &Xval) -> Result<Option<Vec<Pulled>>, OutOfMemory>
-    ensures { IfOk result (λ o. IsFound (λ all. value.now ≡ list_of (map optional all)) (option_map (λ v. v.items) o)) }
+    ensures { IfOk result (λ o. IsFound (λ all. value.now ≡ list_of (map optional all))
+        (option_map (λ v. v.items) o)) }
 {
     let Xval::List(values) = value else {
         return Ok(None);
@@ -103,7 +106,8 @@ pub(crate) fn optionals_at(
     fields: &[Xval],
     at: usize,
 ) -> Result<Option<Vec<Pulled>>, OutOfMemory>
-    ensures { IfOk result (λ o. IsFound (λ all. slice_get fields.now at ≡ Some (list_of (map optional all)))
+    ensures { IfOk result (λ o. IsFound
+        (λ all. slice_get fields.now at ≡ Some (list_of (map optional all)))
         (option_map (λ v. v.items) o)) }
 {
     match fields.get(at) {

@@ -32,7 +32,8 @@ fn note_before(
 ) -> Result<(), OutOfMemory>
     requires { name.task < length plan.now.dag.tasks }
     ensures { OnOk result ((n : JobNameTerm) →
-        map.get ledger.new n ≡ option_or (map.get ledger.old n) (entry_for plan.now.dag (name, entry) n)) }
+        map.get ledger.new n ≡ option_or (map.get ledger.old n)
+        (entry_for plan.now.dag (name, entry) n)) }
 {
     if !fits(plan, name.task, &entry.outcome) {
         return Ok(());

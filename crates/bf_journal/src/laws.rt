@@ -21,14 +21,16 @@ use bf_try::TaskRunner;
 
 /// Of the records of a journal that was cut short anywhere, just those are read that stand there whole.
 pub fn whole_records_are_read()
-    ensures { (records : List XvalTerm) → All IsTellable records → (n : ℕ) → ReadsWholeOnes records n }
+    ensures { (records : List XvalTerm) → All IsTellable records → (n : ℕ)
+        → ReadsWholeOnes records n }
 {}
 
 /// The whole lines of a journal tell one list of tries alone.
 pub fn journals_tell_one_list()
     ensures { (dag : DagTerm) (intervals : List IntervalTerm) → IsNamed dag → AreOfRuns intervals
         → (values : List (Option XvalTerm)) (tries others : List (JobNameTerm × EntryTerm))
-        → TellAll dag intervals values tries → TellAll dag intervals values others → tries ≡ others }
+        → TellAll dag intervals values tries → TellAll dag intervals values others → tries
+        ≡ others }
 {}
 
 /// However often a journal was cut short, at whatever byte, and gone on with by backfills over such a runner: its lines are
@@ -36,8 +38,10 @@ pub fn journals_tell_one_list()
 /// after any number of crashes is what a backfill from nothing may print.
 pub fn cut_journals_keep_graded_tries<R: TaskRunner>(runner: &R)
     ensures told { (dag : DagTerm) (intervals : List IntervalTerm) (bytes : List ℕ)
-        → IsCutJournal (R.may_answer runner.now) dag intervals bytes → AreAllTold dag intervals bytes }
-    ensures graded { (dag : DagTerm) (intervals : List IntervalTerm) → IsNamed dag → AreOfRuns intervals → (bytes : List ℕ)
+        → IsCutJournal (R.may_answer runner.now) dag intervals bytes
+        → AreAllTold dag intervals bytes }
+    ensures graded { (dag : DagTerm) (intervals : List IntervalTerm) → IsNamed dag
+        → AreOfRuns intervals → (bytes : List ℕ)
         → IsCutJournal (R.may_answer runner.now) dag intervals bytes
         → KeepsGraded (R.may_answer runner.now) dag intervals bytes }
 {}
@@ -50,10 +54,12 @@ pub fn journals_are_cut_and_gone_on_with<R: TaskRunner>(runner: &R)
     ensures cut { (dag : DagTerm) (intervals : List IntervalTerm) (bytes : List ℕ) (n : ℕ)
         → IsCutJournal (R.may_answer runner.now) dag intervals bytes
         → IsCutJournal (R.may_answer runner.now) dag intervals (take n bytes) }
-    ensures gone_on { (dag : DagTerm) (intervals : List IntervalTerm) (head bytes written : List ℕ) (failed : Bool)
+    ensures gone_on { (dag : DagTerm) (intervals : List IntervalTerm) (head bytes written : List ℕ)
+        (failed : Bool)
         → IsCutJournal (R.may_answer runner.now) dag intervals bytes
         → IsWritten (IsRecordBy (R.may_answer runner.now) dag intervals)
-        (Some (take (length head + length (text_of_lines (whole_lines bytes))) (head ++ bytes))) (Some (head ++ written)) failed
+        (Some (take (length head + length (text_of_lines (whole_lines bytes))) (head ++ bytes)))
+        (Some (head ++ written)) failed
         → IsCutJournal (R.may_answer runner.now) dag intervals written }
 {}
 
@@ -61,7 +67,8 @@ pub fn journals_are_cut_and_gone_on_with<R: TaskRunner>(runner: &R)
 pub fn what_is_left_is_kept()
     ensures part { (dag : DagTerm) (kept : Look) (n : JobNameTerm) (e : EntryTerm)
         → without_failed dag kept n ≡ Some e → kept n ≡ Some e }
-    ensures fit { (dag : DagTerm) (kept : Look) → AreFit dag kept → AreFit dag (without_failed dag kept) }
+    ensures fit { (dag : DagTerm) (kept : Look) → AreFit dag kept
+        → AreFit dag (without_failed dag kept) }
 {}
 
 /// No byte is what crashes leave of a journal, and so is each beginning of what they leave.

@@ -135,7 +135,8 @@ fn line_in(
     ensures some { IfOk result (λ o. IfSome o (λ line.
         IsLineOf (record_in plan.now.dag run.now done.now outcome.now stamp) (string_bytes line))) }
     ensures none { IfOk result (λ o. IfNone o
-        (¬ (plain_depth (plain_of (record_in plan.now.dag run.now done.now outcome.now stamp)) ≤ 127))) }
+        (¬ (plain_depth (plain_of (record_in plan.now.dag run.now done.now outcome.now stamp)) ≤
+        127))) }
 {
     let value = value_of(alloc, plan, run, done, outcome, stamp)?;
     line_of(alloc, &value)
@@ -153,7 +154,8 @@ pub fn record_of(
 ) -> Result<Option<String>, OutOfMemory>
     ensures some { IfOk result (λ o. IfSome o (λ line.
         IsRecord plan.now.dag runs.now done.now outcome.now stamp (string_bytes line))) }
-    ensures none { IfOk result (λ o. IfNone o (HasNoRecord plan.now.dag runs.now done.now outcome.now stamp)) }
+    ensures none { IfOk result (λ o. IfNone o
+        (HasNoRecord plan.now.dag runs.now done.now outcome.now stamp)) }
 {
     let name = done.name();
     if name.task as usize >= plan.dag().tasks.len() {

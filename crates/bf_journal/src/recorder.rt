@@ -83,7 +83,8 @@ impl<K: Journaled, D: Durable + Drop> Recorder<K, D> {
     pub fn record(&mut self, line: &[u8], now: Duration)
         requires { K.may_record line.now }
         ensures behind_failure { self.old.write_failed ≡ true → self.new ≡ self.old }
-        ensures ok { self.new.write_failed ≡ false → self.new.written ≡ sent self.old.written line.now }
+        ensures ok { self.new.write_failed ≡ false → self.new.written
+            ≡ sent self.old.written line.now }
         ensures same { self.new ≡ record self.old {
           written = self.new.written;
           write_failed = self.new.write_failed;
@@ -106,7 +107,8 @@ impl<K: Journaled, D: Durable + Drop> Recorder<K, D> {
 
     /// Counts a try that has failed.
     pub fn count_failed(&mut self)
-        ensures { self.new ≡ record self.old { failed_tries = min (self.old.failed_tries + 1) (2 ^ 32 - 1) } }
+        ensures { self.new ≡ record self.old
+            { failed_tries = min (self.old.failed_tries + 1) (2 ^ 32 - 1) } }
     {
         self.failed_tries = self.failed_tries.saturating_add(1);
     }
@@ -130,7 +132,8 @@ impl<K: Journaled, D: Durable + Drop> Recorder<K, D> {
     /// Syncs, and gives the device back, with why no further try was begun.
     #[tactic(auto, using(crate::proofs::Going::given_up))]
     pub fn end(mut self) -> (D, Option<Stop>)
-        ensures written { IsWritten K.may_record K.base (D.written result.0) (is_write_failed result.1) }
+        ensures written { IsWritten K.may_record K.base (D.written result.0)
+            (is_write_failed result.1) }
         ensures stop { is_write_failed result.1 ≡ false → result.1 ≡ stop_of self }
     {
         if !self.write_failed {

@@ -70,7 +70,12 @@ where
         recorder: Recorder<K, D>,
     ) -> Self
         requires { MayRecord K.may_record (R.may_answer runner.now) plan.now.dag runs.now }
-        ensures { result ≡ record { runner = runner.entry.now; dag = plan.entry.now.dag; intervals = runs.entry.now } }
+        ensures { result ≡ record {
+          runner = runner.entry.now;
+          dag = plan.entry.now.dag;
+          intervals
+              = runs.entry.now;
+        } }
     {
         Recording {
             rt,

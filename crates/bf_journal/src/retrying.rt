@@ -67,7 +67,8 @@ impl<'a> WithoutFailed<'a> {
     /// What is kept of the try of a name.
     #[tactic(auto, unfolding(crate::specs::Retrying::without_failed))]
     pub(crate) fn entry(&self, name: JobName) -> Option<&'a Entry>
-        ensures { option_copied result ≡ without_failed self.now.plan.now.dag (map.get self.now.tries.now) name }
+        ensures { option_copied result
+            ≡ without_failed self.now.plan.now.dag (map.get self.now.tries.now) name }
     {
         let entry = self.tries.get(name);
         if has_failed_in(entry) && !some_passed_in(self.plan, self.tries, name) {

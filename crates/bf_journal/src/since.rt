@@ -23,7 +23,9 @@ pub struct Since<'a, K> {
 impl<K> Since<'_, K> {
     /// What is kept of the journal's try of a name.
     fn entry(&self, name: JobName) -> Option<&Entry>
-        ensures { option_copied result ≡ left_of self.now.retry_failed self.now.plan.now.dag (map.get self.now.tries.now) name }
+        ensures { option_copied result
+            ≡ left_of self.now.retry_failed self.now.plan.now.dag (map.get self.now.tries.now)
+            name }
     {
         if !self.retry_failed {
             return self.tries.get(name);

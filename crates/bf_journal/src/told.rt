@@ -27,7 +27,8 @@ pub(crate) fn told_in(
     runs: &Runs,
     bytes: &[u8],
 ) -> Result<Told, JournalFault>
-    ensures ok { IfOk result (λ told. AreRead plan.now.dag runs.now bytes.now told.tries.items told.torn) }
+    ensures ok { IfOk result (λ told. AreRead plan.now.dag runs.now bytes.now told.tries.items
+        told.torn) }
     ensures err { IfErr result (IsFaultBehind plan.now.dag runs.now bytes.now) }
 {
     let mut tries = Vec::new(alloc);

@@ -71,7 +71,8 @@ fn tried_of(
     runs: &Runs,
     fields: &[Xval],
 ) -> Result<Option<(JobName, Entry)>, OutOfMemory>
-    ensures { IfOk result (IsFound (λ t. Tells plan.now.dag runs.now (list_of fields.now) t.0 t.1)) }
+    ensures { IfOk result (IsFound
+        (λ t. Tells plan.now.dag runs.now (list_of fields.now) t.0 t.1)) }
 {
     let _dag = plan.dag();
     if fields.len() != MEMBERS {

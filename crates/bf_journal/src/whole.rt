@@ -8,7 +8,8 @@ use bf_device::send;
 
 /// Drops what stands cut short at the end of a journal, and writes its head where nothing is whole. Says whether all of it was done.
 pub fn is_made_whole<D: Cuttable>(device: &mut D, head: &[u8], found: &Found) -> bool
-    ensures whole { (held : List ℕ) → found.now.whole + found.now.torn ≡ length held → D.written device.old ≡ Some held
+    ensures whole { (held : List ℕ) → found.now.whole + found.now.torn ≡ length held
+        → D.written device.old ≡ Some held
         → result ≡ true → D.written device.new ≡ Some (made_whole head.now held found.now.whole) }
     ensures part { (held : List ℕ) → found.now.whole + found.now.torn ≡ length held → result ≡ false
         → IsLeftPart head.now held (D.written device.old) (D.written device.new) }

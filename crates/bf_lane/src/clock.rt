@@ -7,7 +7,7 @@ use std::thread::Parker;
 use std::time::Duration;
 
 /// A clock. Moments are whole seconds since 1970-01-01T00:00:00Z. Contracts see its last answer, and claim nothing else of time.
-pub trait Clock {
+pub trait TimeSource {
     ghost use Rattle.std.specs.Prelude.{◌≡◌, ℤ};
 
     /// What `now` answered last.
@@ -35,7 +35,7 @@ impl<'c, C> MachineClock<'c, C> {
     }
 }
 
-impl<'c, C: std::time::Clock> Clock for MachineClock<'c, C> {
+impl<'c, C: std::time::Clock> TimeSource for MachineClock<'c, C> {
     ghost last = { λ clock. clock.told };
 
     fn now(&mut self) -> i64 {
@@ -78,7 +78,7 @@ impl Jump {
     }
 }
 
-impl Clock for Jump {
+impl TimeSource for Jump {
     ghost last = { λ clock. clock };
 
     fn now(&mut self) -> i64

@@ -33,7 +33,8 @@ impl<K: Service> Closed<K> {
     /// The lane of these passes, which each put and took.
     pub fn of(jobs: Seat<Job>, results: Seat<Reply<K>>) -> Closed<K>
         ensures jobs { (result.submitted ≡ (view jobs).put) × (result.taken ≡ (view jobs).taken) }
-        ensures results { (result.sent ≡ (view results).put) × (result.gathered ≡ (view results).taken) }
+        ensures results { (result.sent ≡ (view results).put)
+            × (result.gathered ≡ (view results).taken) }
     {
         Closed { jobs, results }
     }

@@ -100,7 +100,8 @@ impl<'s, K: Service + Send + Sync + 's> Lane<'s, K> {
         runner: &'s R,
     ) -> Result<Lane<'s, K>, NotStarted>
         requires fresh { IsFresh queues.now seats }
-        requires fulfils { Fulfils (R.may_answer runner.now) (R.may_give_up runner.now) K.answers K.gives_up }
+        requires fulfils { Fulfils (R.may_answer runner.now) (R.may_give_up runner.now) K.answers
+            K.gives_up }
         ensures { IfOk result (λ l. l ≡ scheduled [] []) }
     {
         let Seats {
@@ -118,7 +119,10 @@ impl<'s, K: Service + Send + Sync + 's> Lane<'s, K> {
                 of: PhantomData,
             },
             move ||
-                requires { IsPassOf jobs.now takes × (view takes ≡ log false true [] []) × IsPassOf results.now sends × (view sends ≡ log true false [] []) × Fulfils (R.may_answer runner.now) (R.may_give_up runner.now) K.answers K.gives_up }
+                requires { IsPassOf jobs.now takes × (view takes ≡ log false true [] [])
+                    × IsPassOf results.now sends × (view sends ≡ log true false [] [])
+                    × Fulfils (R.may_answer runner.now) (R.may_give_up runner.now) K.answers
+                    K.gives_up }
             {
                 serve::<K, W, R>(
                     rt,
@@ -156,7 +160,8 @@ impl<'s, K: Service + Send + Sync + 's> Lane<'s, K> {
     /// Submits a try to the worker, which then has one to answer.
     pub fn submit<W: Wait>(&mut self, rt: &W, ticket: Ticket)
         requires { awaits self.old ≡ false }
-        ensures { self.new ≡ scheduled (self.old.submitted ++ job.Run ticket ∷ []) self.old.gathered }
+        ensures { self.new ≡ scheduled (self.old.submitted ++ job.Run ticket ∷ [])
+            self.old.gathered }
     {
         put(rt, &self.queues.jobs, &mut self.puts, Job::Run(ticket));
         self.queues.called.unpark();
@@ -165,7 +170,8 @@ impl<'s, K: Service + Send + Sync + 's> Lane<'s, K> {
 
     /// The answer of the worker, if one is awaited and there.
     pub fn gather(&mut self) -> Option<Answer>
-        ensures some { IfSome result (λ a. self.new ≡ scheduled self.old.submitted (self.old.gathered ++ a ∷ [])) }
+        ensures some { IfSome result (λ a. self.new
+            ≡ scheduled self.old.submitted (self.old.gathered ++ a ∷ [])) }
         ensures allowed { IfSome result (IsAllowedBy K.answers K.gives_up) }
         ensures none { IfNone result (self.new ≡ self.old) }
     {

@@ -5,7 +5,7 @@ ghost use Rattle.bf_lane.specs.Rounds.{IsSubmitted, IsGathered};
 ghost use Rattle.bf_lane.specs.Closing.{ClosesAll};
 ghost use Rattle.bf_lane.specs.Lanes.{IsAllowedBy};
 
-use crate::clock::Clock;
+use crate::clock::TimeSource;
 use crate::closed::Closed;
 use crate::lane::Lane;
 use crate::messages::Answer;
@@ -130,7 +130,7 @@ impl<'s, K: Service + Send + Sync + 's> Lanes<'s, K> {
     }
 
     /// Waits for an answer until a moment. None comes only where the clock's last answer isn't before that.
-    pub fn gather_until<W: Wait, C: Clock>(
+    pub fn gather_until<W: Wait, C: TimeSource>(
         &mut self,
         rt: &W,
         clock: &mut C,

@@ -22,7 +22,7 @@ mod reply;
 mod service;
 mod worker;
 
-pub use clock::{Clock, Jump, MachineClock};
+pub use clock::{Jump, MachineClock, TimeSource};
 pub use closed::Closed;
 pub use lane::{Lane, NotStarted, fresh};
 pub use lanes::Lanes;

@@ -21,7 +21,8 @@ pub fn put<W: Wait, T>(rt: &W, line: &Line<T>, seat: &mut Seat<T>, value: T)
     requires seat { IsPassOf line.now seat.old }
     requires puts { (view seat.old).puts ≡ true }
     ensures seat { IsSamePass seat.old seat.new }
-    ensures put { view seat.new ≡ log (view seat.old).puts (view seat.old).takes ((view seat.old).put ++ value ∷ []) (view seat.old).taken }
+    ensures put { view seat.new ≡ log (view seat.old).puts (view seat.old).takes
+        ((view seat.old).put ++ value ∷ []) (view seat.old).taken }
 {
     let mut value = value;
     for _ in rt.forever() {
@@ -41,7 +42,8 @@ pub fn take<W: Wait, T>(rt: &W, line: &Line<T>, called: &Parker, seat: &mut Seat
     requires seat { IsPassOf line.now seat.old }
     requires takes { (view seat.old).takes ≡ true }
     ensures seat { IsSamePass seat.old seat.new }
-    ensures taken { view seat.new ≡ log (view seat.old).puts (view seat.old).takes (view seat.old).put ((view seat.old).taken ++ result ∷ []) }
+    ensures taken { view seat.new ≡ log (view seat.old).puts (view seat.old).takes
+        (view seat.old).put ((view seat.old).taken ++ result ∷ []) }
 {
     for _ in rt.forever() {
         match line.try_pop_as::<Taken>(seat) {
@@ -85,8 +87,10 @@ pub fn serve<K: Service, W: Wait, R: TaskRunner>(
 ) -> (Seat<Job>, Seat<Reply<K>>)
     requires jobs { IsPassOf desk.jobs.now takes × (view takes ≡ log false true [] []) }
     requires results { IsPassOf desk.results.now sends × (view sends ≡ log true false [] []) }
-    requires fulfils { Fulfils (R.may_answer runner.now) (R.may_give_up runner.now) K.answers K.gives_up }
-    ensures { HasServed K.answers K.gives_up desk.entry.jobs.now desk.entry.results.now result.0 result.1 }
+    requires fulfils { Fulfils (R.may_answer runner.now) (R.may_give_up runner.now) K.answers
+        K.gives_up }
+    ensures { HasServed K.answers K.gives_up desk.entry.jobs.now desk.entry.results.now result.0
+        result.1 }
 {
     for _ in rt.forever() {
         match take(rt, desk.jobs, desk.called, &mut takes) {

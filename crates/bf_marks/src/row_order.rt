@@ -65,7 +65,8 @@ fn let_go_by(
     task: u32,
 ) -> Result<Vec<u32>, OutOfMemory>
     requires { IsSound dag.now }
-    ensures { IfOk result (λ tasks. tasks.items ≡ tasks_where dag.now (let_go dag.now standing.now task)) }
+    ensures { IfOk result (λ tasks. tasks.items
+        ≡ tasks_where dag.now (let_go dag.now standing.now task)) }
 {
     let mut found = Vec::new(alloc);
     for other in 0..dag.tasks.len() as u32 {
@@ -117,8 +118,10 @@ impl Walk {
 
 fn first_walk(alloc: Global, dag: &Dag) -> Result<Walk, OutOfMemory>
     requires { IsSound dag.now }
-    ensures standing { IfOk result (λ walk. walk.standing.items ≡ replicate (length dag.now.tasks) false) }
-    ensures left { IfOk result (λ walk. reverse walk.left.items ≡ tasks_where dag.now (source dag.now)) }
+    ensures standing { IfOk result
+        (λ walk. walk.standing.items ≡ replicate (length dag.now.tasks) false) }
+    ensures left { IfOk result (λ walk. reverse walk.left.items
+        ≡ tasks_where dag.now (source dag.now)) }
 {
     let standing = vec![in alloc; false; dag.tasks.len()]?;
     let mut left = sources(alloc, dag)?;

@@ -29,7 +29,8 @@ fn fault_of(ticket: Ticket, fault: RunnerFault) -> BackfillFault
 
 /// The runner's answer to a try.
 fn answer_to<R: TaskRunner>(runner: &R, ticket: Ticket) -> Result<Done, BackfillFault>
-    ensures ok { IfOk result (λ done. (done.name ≡ ticket.name) × (done.given ≡ ticket.given) × R.may_answer runner.now ticket.name ticket.given done.raw) }
+    ensures ok { IfOk result (λ done. (done.name ≡ ticket.name) × (done.given ≡ ticket.given)
+        × R.may_answer runner.now ticket.name ticket.given done.raw) }
     ensures err { IfErr result (MayFault (R.may_give_up runner.now)) }
 {
     match runner.run(ticket) {
@@ -45,8 +46,10 @@ fn make_try<R: TaskRunner>(
     ticket: Ticket,
 ) -> Result<(), BackfillFault>
     requires { IsUnderWay scheduler.old.backfill ticket }
-    ensures driven { OnOk result (StaysDriven (R.may_answer runner.now) scheduler.old scheduler.new) }
-    ensures counted { OnOk result (running_now scheduler.new.backfill.state + 1 ≡ running_now scheduler.old.backfill.state) }
+    ensures driven { OnOk result (StaysDriven (R.may_answer runner.now) scheduler.old
+        scheduler.new) }
+    ensures counted { OnOk result (running_now scheduler.new.backfill.state + 1
+        ≡ running_now scheduler.old.backfill.state) }
     ensures longer { OnOk result (IsLonger scheduler.old scheduler.new) }
     ensures err { IfErr result (MayFault (R.may_give_up runner.now)) }
     ensures ticks { OnOk result (TicksSo scheduler.old scheduler.new) }
@@ -62,9 +65,12 @@ fn make_try<R: TaskRunner>(
 fn turn<R: TaskRunner>(runner: &R, scheduler: &mut Scheduler<'_>) -> Result<bool, BackfillFault>
     requires { IsIdle scheduler.old }
     ensures idle { OnOk result (IsIdle scheduler.new) }
-    ensures driven { OnOk result (StaysDriven (R.may_answer runner.now) scheduler.old scheduler.new) }
-    ensures longer { IfOk result (λ went_on. went_on ≡ true → IsLonger scheduler.old scheduler.new) }
-    ensures ended { IfOk result (λ went_on. went_on ≡ false → HasEnded scheduler.new.backfill.state) }
+    ensures driven { OnOk result (StaysDriven (R.may_answer runner.now) scheduler.old
+        scheduler.new) }
+    ensures longer { IfOk result (λ went_on. went_on ≡ true
+        → IsLonger scheduler.old scheduler.new) }
+    ensures ended { IfOk result (λ went_on. went_on ≡ false
+        → HasEnded scheduler.new.backfill.state) }
     ensures err { IfErr result (MayFault (R.may_give_up runner.now)) }
     ensures ticks { OnOk result (TicksSo scheduler.old scheduler.new) }
 {
@@ -89,7 +95,8 @@ fn turn<R: TaskRunner>(runner: &R, scheduler: &mut Scheduler<'_>) -> Result<bool
 /// Turns until the backfill has ended. It does: each turn adds an event, and no journal outgrows memory.
 fn all_turns<R: TaskRunner>(runner: &R, scheduler: &mut Scheduler<'_>) -> Result<(), BackfillFault>
     requires { IsIdle scheduler.old }
-    ensures driven { OnOk result (StaysDriven (R.may_answer runner.now) scheduler.old scheduler.new) }
+    ensures driven { OnOk result (StaysDriven (R.may_answer runner.now) scheduler.old
+        scheduler.new) }
     ensures ended { OnOk result (HasEnded scheduler.new.backfill.state) }
     ensures err { IfErr result (MayFault (R.may_give_up runner.now)) }
     ensures ticks { OnOk result (TicksSo scheduler.old scheduler.new) }
@@ -109,10 +116,12 @@ fn drive<'p, N: RunCount, R: TaskRunner>(
     runs: &N,
     runner: &R,
 ) -> Result<Ended<'p>, BackfillFault>
-    ensures over { IfOk result (IsOver (R.may_answer runner.now) plan.entry.now.dag plan.entry.now.limits (N.runs runs.now) 1) }
+    ensures over { IfOk result (IsOver (R.may_answer runner.now) plan.entry.now.dag
+        plan.entry.now.limits (N.runs runs.now) 1) }
     ensures err { IfErr result (MayFault (R.may_give_up runner.now)) }
     ensures ticks { IfOk result (λ ended.
-        TicksToFirstMoments plan.entry.now.dag plan.entry.now.limits (N.runs runs.now) ended.journal) }
+        TicksToFirstMoments plan.entry.now.dag plan.entry.now.limits (N.runs runs.now)
+        ended.journal) }
 {
     let _sound = plan.dag();
     let _fit = plan.limits();
@@ -140,7 +149,8 @@ pub fn one_by_one<'p, N: RunCount, R: TaskRunner>(
         KeepsWorkers plan.entry.now.dag (N.runs runs.now) 1 ended.journal) }
     ensures err { IfErr result (MayFault (R.may_give_up runner.now)) }
     ensures ticks { IfOk result (λ ended.
-        TicksToFirstMoments plan.entry.now.dag plan.entry.now.limits (N.runs runs.now) ended.journal) }
+        TicksToFirstMoments plan.entry.now.dag plan.entry.now.limits (N.runs runs.now)
+        ended.journal) }
 {
     drive(alloc, plan, runs, runner)
 }

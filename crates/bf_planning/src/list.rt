@@ -15,7 +15,8 @@ use std::alloc::Global;
 
 fn push_interval(text: &mut String, interval: &Interval) -> Result<(), OutOfMemory>
     requires { IsSince1970 interval.now }
-    ensures { OnOk result (string_bytes text.new ≡ string_bytes text.old ++ interval_line interval.now) }
+    ensures { OnOk result (string_bytes text.new ≡ string_bytes text.old
+        ++ interval_line interval.now) }
 {
     let (start, end) = (Moment::new(interval.start), Moment::new(interval.end));
     writeln!(text, "{start} {end}")?;
@@ -42,9 +43,11 @@ pub fn run_list<W: Write>(
     range: RunRange,
     out: &mut W,
 ) -> Result<(), CommandFault>
-    ensures ok { OnOk result (Sends (IsListIn graph.now (option_map (λ s. s.now) zone_file.entry) range)
+    ensures ok { OnOk result (Sends
+        (IsListIn graph.now (option_map (λ s. s.now) zone_file.entry) range)
         (W.written out.old) (W.written out.new)) }
-    ensures fault { IfErr result (IsFaultOfList graph.now (option_map (λ s. s.now) zone_file.entry) range) }
+    ensures fault { IfErr result (IsFaultOfList graph.now (option_map (λ s. s.now) zone_file.entry)
+        range) }
     ensures left { IfErr result (Leaves (HasHalted (W.failures out.old) (W.failures out.new)
         (W.interruptions out.old) (W.interruptions out.new))
         (IsListIn graph.now (option_map (λ s. s.now) zone_file.entry) range)

@@ -34,7 +34,8 @@ impl TimedPlan {
     /// A run for each data interval of the plan's schedule that starts there.
     fn listed(&self, alloc: Global, starts: Starts) -> Result<Runs, IntervalFault>
         requires { IsSaid self.now.plan.schedule }
-        ensures { (zone : TimeZoneTerm) × IsZoneOf self.now.zone zone × IsStartsAnswer self.now.plan.schedule zone starts result }
+        ensures { (zone : TimeZoneTerm) × IsZoneOf self.now.zone zone
+            × IsStartsAnswer self.now.plan.schedule zone starts result }
     {
         let zone = self.zone.as_time_zone();
         match starts {
@@ -51,9 +52,11 @@ impl TimedPlan {
     /// A run for each data interval of the plan's schedule that starts in the range.
     pub fn runs(&self, alloc: Global, range: RunRange) -> Result<Runs, CommandFault>
         requires { IsSaid self.now.plan.schedule }
-        ensures ok { IfOk result (λ runs. (graph : List ℕ) (file : Option (List ℕ)) → IsTimed graph file self.now.plan.schedule self.now.zone
+        ensures ok { IfOk result (λ runs. (graph : List ℕ) (file : Option (List ℕ))
+            → IsTimed graph file self.now.plan.schedule self.now.zone
             → HasListing graph file range (Ok runs)) }
-        ensures fault { IfErr result (λ f. (graph : List ℕ) (file : Option (List ℕ)) → IsTimed graph file self.now.plan.schedule self.now.zone
+        ensures fault { IfErr result (λ f. (graph : List ℕ) (file : Option (List ℕ))
+            → IsTimed graph file self.now.plan.schedule self.now.zone
             → IsRangeFault graph file range f) }
     {
         let runs = self.listed(alloc, range.starts)?;
@@ -65,7 +68,8 @@ impl TimedPlan {
 
     /// What the clocks of the zone show at the moments of these runs.
     fn clocks(&self, alloc: Global, runs: &Runs) -> Result<Vec<Moment>, OutOfMemory>
-        ensures { IfOk result (λ clocks. (graph : List ℕ) (file : Option (List ℕ)) → IsTimed graph file self.now.plan.schedule self.now.zone
+        ensures { IfOk result (λ clocks. (graph : List ℕ) (file : Option (List ℕ))
+            → IsTimed graph file self.now.plan.schedule self.now.zone
             → AreClocksOf graph file runs.now (map (λ clock. clock.at.nanosecond) clocks.items)) }
     {
         let zone = self.zone.as_time_zone();
@@ -76,11 +80,14 @@ impl TimedPlan {
     pub fn dated(self, alloc: Global, range: RunRange) -> Result<DatedPlan, CommandFault>
         requires { IsSaid self.plan.schedule }
         ensures plan { IfOk result (λ dated. dated.plan ≡ self.plan) }
-        ensures listing { IfOk result (λ dated. (graph : List ℕ) (file : Option (List ℕ)) → IsTimed graph file self.plan.schedule self.zone
+        ensures listing { IfOk result (λ dated. (graph : List ℕ) (file : Option (List ℕ))
+            → IsTimed graph file self.plan.schedule self.zone
             → HasListing graph file range (Ok dated.runs)) }
-        ensures clocks { IfOk result (λ dated. (graph : List ℕ) (file : Option (List ℕ)) → IsTimed graph file self.plan.schedule self.zone
+        ensures clocks { IfOk result (λ dated. (graph : List ℕ) (file : Option (List ℕ))
+            → IsTimed graph file self.plan.schedule self.zone
             → AreClocksOf graph file dated.runs (clocks_in dated)) }
-        ensures fault { IfErr result (λ f. (graph : List ℕ) (file : Option (List ℕ)) → IsTimed graph file self.plan.schedule self.zone
+        ensures fault { IfErr result (λ f. (graph : List ℕ) (file : Option (List ℕ))
+            → IsTimed graph file self.plan.schedule self.zone
             → IsRangeFault graph file range f) }
     {
         let runs = self.runs(alloc, range)?;
@@ -117,8 +124,10 @@ pub fn timed_plan_in(
     graph: &[u8],
     zone_file: Option<&[u8]>,
 ) -> Result<TimedPlan, CommandFault>
-    ensures plan { IfOk result (λ timed. IsPlanOf graph.now (option_map (λ s. s.now) zone_file.entry) timed.plan) }
-    ensures zone { IfOk result (λ timed. IsTimed graph.now (option_map (λ s. s.now) zone_file.entry) timed.plan.schedule timed.zone) }
+    ensures plan { IfOk result (λ timed. IsPlanOf graph.now
+        (option_map (λ s. s.now) zone_file.entry) timed.plan) }
+    ensures zone { IfOk result (λ timed. IsTimed graph.now (option_map (λ s. s.now) zone_file.entry)
+        timed.plan.schedule timed.zone) }
     ensures fault { IfErr result (IsFaultIn graph.now (option_map (λ s. s.now) zone_file.entry)) }
 {
     let draft = draft_in(alloc, graph)?;
@@ -142,12 +151,16 @@ pub fn dated_plan_in(
     zone_file: Option<&[u8]>,
     range: RunRange,
 ) -> Result<DatedPlan, CommandFault>
-    ensures plan { IfOk result (λ dated. IsPlanOf graph.now (option_map (λ s. s.now) zone_file.entry) dated.plan) }
-    ensures listing { IfOk result (λ dated. HasListing graph.now (option_map (λ s. s.now) zone_file.entry)
+    ensures plan { IfOk result (λ dated. IsPlanOf graph.now
+        (option_map (λ s. s.now) zone_file.entry) dated.plan) }
+    ensures listing { IfOk result (λ dated. HasListing graph.now
+        (option_map (λ s. s.now) zone_file.entry)
         range (Ok dated.runs)) }
-    ensures clocks { IfOk result (λ dated. AreClocksOf graph.now (option_map (λ s. s.now) zone_file.entry)
+    ensures clocks { IfOk result (λ dated. AreClocksOf graph.now
+        (option_map (λ s. s.now) zone_file.entry)
         dated.runs (clocks_in dated)) }
-    ensures fault { IfErr result (IsDatedFault graph.now (option_map (λ s. s.now) zone_file.entry) range) }
+    ensures fault { IfErr result (IsDatedFault graph.now (option_map (λ s. s.now) zone_file.entry)
+        range) }
 {
     let timed = timed_plan_in(alloc, graph, zone_file)?;
     timed.dated(alloc, range)

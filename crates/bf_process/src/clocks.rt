@@ -49,7 +49,8 @@ pub(crate) fn clock_of_run<'a>(
     run: u32,
     context: &'a JobContext<'a>,
 ) -> &'a Moment
-    ensures { result.now.at.nanosecond ≡ clock_of (map (λ clock. clock.at.nanosecond) clocks.entry.now) run context.entry.now }
+    ensures { result.now.at.nanosecond
+        ≡ clock_of (map (λ clock. clock.at.nanosecond) clocks.entry.now) run context.entry.now }
 {
     match clocks.get(run as usize) {
         Some(clock) => clock,

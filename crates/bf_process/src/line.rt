@@ -18,7 +18,8 @@ const ROOM: usize = 8_192;
 /// Reads to the end of what a device gives, or past the limit, and takes the last line. It gives up where a read fails, and at
 /// the 1,001st interruption.
 pub fn line_of<R: Read>(alloc: Global, device: &mut R) -> Result<Line, OutOfMemory>
-    ensures line { IfOk result (λ line. IfSome (R.left device.old) (λ output. IsLineOf output line)) }
+    ensures line { IfOk result (λ line. IfSome (R.left device.old)
+        (λ output. IsLineOf output line)) }
     ensures halted { IfOk result (λ line. line ≡ LineTerm.ReadFault →
         HasHalted (R.failures device.old) (R.failures device.new)
         (R.interruptions device.old) (R.interruptions device.new)) }

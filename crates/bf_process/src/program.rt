@@ -41,7 +41,8 @@ pub(crate) fn not_started(alloc: Global) -> Raw
 
 /// Adds a variable to what a command says of the environment.
 fn add_variable(command: &mut Command, name: &str, value: &str) -> Result<(), OutOfMemory>
-    ensures variable { OnOk result (IsSaidAfter command.old command.new ((name.now, value.now) ∷ [])) }
+    ensures variable { OnOk result
+        (IsSaidAfter command.old command.new ((name.now, value.now) ∷ [])) }
     ensures same { OnOk result (IsSameElse command.old command.new) }
 {
     command.env(name, value)?;
@@ -55,7 +56,9 @@ fn add_variables(
     context: &JobContext<'_>,
     clock: &Moment,
 ) -> Result<(), OutOfMemory>
-    ensures variables { OnOk result (IsSaidAfter command.old command.new (pairs_of context.now clock.now.at.nanosecond all_variables)) }
+    ensures variables { OnOk result
+        (IsSaidAfter command.old command.new
+        (pairs_of context.now clock.now.at.nanosecond all_variables)) }
     ensures same { OnOk result (IsSameElse command.old command.new) }
 {
     for variable in variables() {
@@ -71,7 +74,8 @@ fn add_environment(
     command: &mut Command,
     setting: &Setting<'_, '_>,
 ) -> Result<(), OutOfMemory>
-    ensures variables { OnOk result (IsSaidAfter command.old command.new (variables_in setting.now)) }
+    ensures variables { OnOk result
+        (IsSaidAfter command.old command.new (variables_in setting.now)) }
     ensures same { OnOk result (IsSameElse command.old command.new) }
 {
     add_variables(alloc, command, setting.context, setting.clock)?;
@@ -197,9 +201,11 @@ fn heard_of<P: OpenProcess>(
     log: Option<OutputLog<'_>>,
 ) -> Result<Heard, RunnerFault>
     ensures exit { IfOk result (λ heard.
-        option_map (λ status. exit_in (exit_code status)) (child_status child.new) ≡ Some heard.raw.exit) }
+        option_map (λ status. exit_in (exit_code status)) (child_status child.new)
+        ≡ Some heard.raw.exit) }
     ensures signal { IfOk result (λ heard.
-        option_map (λ status. option_map (λ number. DetailTerm.Signal number) (exit_signal status)) (child_status child.new) ≡ Some heard.detail) }
+        option_map (λ status. option_map (λ number. DetailTerm.Signal number) (exit_signal status))
+        (child_status child.new) ≡ Some heard.detail) }
     ensures line { IfOk result (λ heard. IfSome child.old.stdout (λ pipe.
         IfSome (P.Stdout.remaining pipe) (λ output. IsLineOf output heard.raw.line))) }
     ensures waited { IfErr result (λ fault.

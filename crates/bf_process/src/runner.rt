@@ -86,9 +86,12 @@ impl<'s, 'p, 'i, 'l, S: Starter> ProcessRunner<'s, 'p, 'i, 'l, S> {
     /// What comes of these words in a setting. Without a word nothing is started, and no launcher either.
     fn heard(&self, words: &[String], setting: &Setting<'_, '_>) -> Result<Heard, RunnerFault>
         ensures heard { IfOk result (λ heard. IfProgram (texts words.now) (heard.raw ≡ nothing_done)
-            (S.may_hear self.now.starter (launched_in setting.now (behind self.now.launching.launcher (texts words.now))) heard.raw)) }
-        ensures lost { IfErr result (λ fault. fault ≡ RunnerFault.GaveUp → IfProgram (texts words.now) ⊥
-            (S.may_lose self.now.starter (launched_in setting.now (behind self.now.launching.launcher (texts words.now))))) }
+            (S.may_hear self.now.starter (launched_in setting.now
+            (behind self.now.launching.launcher (texts words.now))) heard.raw)) }
+        ensures lost { IfErr result (λ fault. fault ≡ RunnerFault.GaveUp
+            → IfProgram (texts words.now) ⊥
+            (S.may_lose self.now.starter (launched_in setting.now
+            (behind self.now.launching.launcher (texts words.now))))) }
     {
         let Some((program, arguments)) = words.split_first() else {
             return Ok(Heard::plain(Raw::with_code(0, Sequence::new(self.alloc))));
@@ -110,7 +113,8 @@ impl<'s, 'p, 'i, 'l, S: Starter> ProcessRunner<'s, 'p, 'i, 'l, S> {
         given: &Given,
     ) -> Result<Option<TryLogs>, OutOfMemory>
         ensures { IfOk result (λ logs.
-            option_map (λ l. string_bytes l.given) logs ≡ given_path self.now.launching.logs context.now) }
+            option_map (λ l. string_bytes l.given) logs
+            ≡ given_path self.now.launching.logs context.now) }
     {
         let Some(folder) = self.launching.logs else {
             return Ok(None);
@@ -127,11 +131,20 @@ impl<'s, 'p, 'i, 'l, S: Starter> ProcessRunner<'s, 'p, 'i, 'l, S> {
         context: &JobContext<'_>,
         given: &Given,
     ) -> Result<Heard, RunnerFault>
-        ensures ok { IfOk result (λ heard. IsHeard (through self.now.launching (S.may_hear self.now.starter))
-            (record { words = words_of context.now given.now task.now.command; context = context.now; run = run }) heard.raw) }
+        ensures ok { IfOk result (λ heard. IsHeard
+            (through self.now.launching (S.may_hear self.now.starter))
+            (record {
+              words = words_of context.now given.now task.now.command;
+              context = context.now;
+              run = run;
+            }) heard.raw) }
         ensures err { IfErr result (λ fault. fault ≡ RunnerFault.GaveUp →
             IsLost (lost_through self.now.launching (S.may_lose self.now.starter))
-            (record { words = words_of context.now given.now task.now.command; context = context.now; run = run })) }
+            (record {
+              words = words_of context.now given.now task.now.command;
+              context = context.now;
+              run = run;
+            })) }
     {
         let words = words(self.alloc, task.command.as_slice(), context, given)?;
         let logs = self.logs(task, context, given)?;
@@ -147,9 +160,11 @@ impl<'s, 'p, 'i, 'l, S: Starter> ProcessRunner<'s, 'p, 'i, 'l, S> {
     /// What the try of this name answers, given this.
     fn answer(&self, name: JobName, given: &Given) -> Result<Heard, RunnerFault>
         ensures ok { IfOk result (λ heard.
-            MayAnswer (through self.now.launching (S.may_hear self.now.starter)) self.now.dag self.now.intervals name given.now heard.raw) }
+            MayAnswer (through self.now.launching (S.may_hear self.now.starter)) self.now.dag
+            self.now.intervals name given.now heard.raw) }
         ensures err { IfErr result (λ fault. fault ≡ RunnerFault.GaveUp →
-            MayGiveUp (lost_through self.now.launching (S.may_lose self.now.starter)) self.now.dag self.now.intervals name given.now) }
+            MayGiveUp (lost_through self.now.launching (S.may_lose self.now.starter)) self.now.dag
+            self.now.intervals name given.now) }
     {
         let (Some(task), Some(context)) = (
             self.plan.dag().tasks.get(name.task as usize),

@@ -58,7 +58,8 @@ pub struct Setting<'c, 'l> {
 impl<'c, 'l> Setting<'c, 'l> {
     /// The path of what the try was given, where that is written.
     pub fn given(&self) -> Option<&str>
-        ensures { option_map (λ path. path.now) result ≡ option_map (λ logs. string_bytes logs.now.given) self.now.logs }
+        ensures { option_map (λ path. path.now) result
+            ≡ option_map (λ logs. string_bytes logs.now.given) self.now.logs }
     {
         match self.logs {
             Some(logs) => Some(logs.given.as_str()),

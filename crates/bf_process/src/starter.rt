@@ -32,7 +32,8 @@ pub trait Starter {
         setting: &Setting<'_, '_>,
     ) -> Result<Heard, RunnerFault>
         ensures heard { IfOk result (λ heard.
-            may_hear self.now (launched_in setting.now (program.now ∷ texts arguments.now)) heard.raw) }
+            may_hear self.now (launched_in setting.now (program.now ∷ texts arguments.now))
+            heard.raw) }
         ensures lost { IfErr result (λ fault. fault ≡ RunnerFault.GaveUp →
             may_lose self.now (launched_in setting.now (program.now ∷ texts arguments.now))) };
 }

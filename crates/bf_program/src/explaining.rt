@@ -19,7 +19,8 @@ use bf_value::OutOfMemory;
 use std::alloc::Global;
 
 fn push_finding(alloc: Global, text: &mut String, finding: &Finding) -> Result<(), OutOfMemory>
-    ensures { OnOk result (string_bytes text.new ≡ string_bytes text.old ++ finding_line finding.now) }
+    ensures { OnOk result (string_bytes text.new ≡ string_bytes text.old
+        ++ finding_line finding.now) }
 {
     let line = format!(in alloc; "{finding}")?;
     push_shown(text, line.as_str())?;
@@ -44,7 +45,8 @@ fn explanation<S: Source>(
     asked: GraphAsked,
     files: &mut S,
 ) -> Result<String, CommandFault>
-    ensures { IfOk result (λ text. OfFiles (S.file files.old) asked (λ graph zone. IsExplanation graph zone (string_bytes text))) }
+    ensures { IfOk result (λ text. OfFiles (S.file files.old) asked
+        (λ graph zone. IsExplanation graph zone (string_bytes text))) }
 {
     let files = graph_files(alloc, asked, files)?;
     let found = findings(alloc, &files.graph, files.zone_file())?;
@@ -59,7 +61,8 @@ fn tell_findings<S: Source, E: Write>(
     files: &mut S,
     err: &mut E,
 ) -> Result<(), CommandFault>
-    ensures told { OnOk result (IsExplainedIf true (S.file files.old) asked (HasHalted (E.failures err.old) (E.failures err.new)
+    ensures told { OnOk result (IsExplainedIf true (S.file files.old) asked
+        (HasHalted (E.failures err.old) (E.failures err.new)
         (E.interruptions err.old) (E.interruptions err.new))
         (E.written err.old) (E.written err.new)) }
     ensures untold { OnErr result (E.written err.new ≡ E.written err.old) }
@@ -75,7 +78,8 @@ fn check_explained<S: Source, E: Write>(
     files: &mut S,
     err: &mut E,
 ) -> Result<(), CommandFault>
-    ensures told { OnOk result (IsExplainedIf asked.explain (S.file files.old) asked.graph (HasHalted (E.failures err.old) (E.failures err.new)
+    ensures told { OnOk result (IsExplainedIf asked.explain (S.file files.old) asked.graph
+        (HasHalted (E.failures err.old) (E.failures err.new)
         (E.interruptions err.old) (E.interruptions err.new))
         (E.written err.old) (E.written err.new)) }
     ensures untold { OnErr result (E.written err.new ≡ E.written err.old) }
@@ -95,7 +99,8 @@ fn command_explained<S: Source, E: Write>(
     files: &mut S,
     err: &mut E,
 ) -> Result<(), CommandFault>
-    ensures told { OnOk result (IsExplained (S.file files.old) command (HasHalted (E.failures err.old) (E.failures err.new)
+    ensures told { OnOk result (IsExplained (S.file files.old) command
+        (HasHalted (E.failures err.old) (E.failures err.new)
         (E.interruptions err.old) (E.interruptions err.new))
         (E.written err.old) (E.written err.new)) }
     ensures untold { OnErr result (E.written err.new ≡ E.written err.old) }
@@ -115,7 +120,8 @@ pub fn explain<S: Source, E: Write>(
     err: &mut E,
 ) -> Result<(), CommandFault>
     ensures told { OnOk result ((line : CommandLineTerm) × IsLineBy (found_in words.now) line
-        × IsExplained (S.file files.old) line.command (HasHalted (E.failures err.old) (E.failures err.new)
+        × IsExplained (S.file files.old) line.command
+        (HasHalted (E.failures err.old) (E.failures err.new)
         (E.interruptions err.old) (E.interruptions err.new))
         (E.written err.old) (E.written err.new)) }
     ensures untold { OnErr result (E.written err.new ≡ E.written err.old) }

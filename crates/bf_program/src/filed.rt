@@ -56,10 +56,12 @@ where
     RT: Starter + Screen + Threads + Wait + Clock + Sync,
     J::Device: Send,
     ensures answer { IfOk result (λ status. (text : List ℕ)
-        × IsAnswer (RT.may_hear rt.now) canvas (S.file files.old) (machine_of (J.journal journals.now) (J.startable journals.now)) command text status
+        × IsAnswer (RT.may_hear rt.now) canvas (S.file files.old)
+        (machine_of (J.journal journals.now) (J.startable journals.now)) command text status
         × HasReplaced (F.placed folder.old) (F.placed folder.new) (string_bytes path) text) }
     ensures fault { IfErr result (IsFaultBy (Some (string_bytes path)) (F.failed folder.new ≡ true)
-        (RT.may_lose rt.now) (S.file files.old) (machine_of (J.journal journals.now) (J.startable journals.now)) command) }
+        (RT.may_lose rt.now) (S.file files.old)
+        (machine_of (J.journal journals.now) (J.startable journals.now)) command) }
     ensures same { OnErr result (F.placed folder.new ≡ F.placed folder.old) }
 {
     let new = match folder.begin(alloc, path.as_str()) {

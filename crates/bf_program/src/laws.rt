@@ -24,10 +24,13 @@ use bf_try::TaskRunner;
 /// Over the table that `answers` prints of the report of a backfill, whatever runner answered its tries, `dry` of the same graph and
 /// range prints that report, byte for byte.
 pub fn reports_are_printed_again<R: TaskRunner>(runner: &R)
-    ensures { (graph : List ℕ) (file : Option (List ℕ)) (range : RunRangeTerm) (draft : DraftTerm) (found : List IntervalTerm)
-        → IsGraph graph file draft → HasListing graph file range (Ok found) → (report table text : List ℕ) (success other : Bool)
+    ensures { (graph : List ℕ) (file : Option (List ℕ)) (range : RunRangeTerm) (draft : DraftTerm)
+        (found : List IntervalTerm)
+        → IsGraph graph file draft → HasListing graph file range (Ok found)
+        → (report table text : List ℕ) (success other : Bool)
         → IsReportBy (R.may_answer runner.now) (dag_of draft) found report success
-        → IsTableOf report table → IsReportIn graph file table range text other → (text ≡ report) × (other ≡ success) }
+        → IsTableOf report table → IsReportIn graph file table range text other → (text ≡ report)
+        × (other ≡ success) }
 {
     tables_are_read_back();
     reports_are_made_again();
@@ -35,7 +38,8 @@ pub fn reports_are_printed_again<R: TaskRunner>(runner: &R)
 
 /// On the page of a report that a backfill of the graph printed, no digit stands among the letters of a run.
 pub fn own_pages_have_no_digit()
-    ensures { (graph : List ℕ) (zone : Option (List ℕ)) (draft : DraftTerm) → IsGraph graph zone draft
+    ensures { (graph : List ℕ) (zone : Option (List ℕ)) (draft : DraftTerm)
+        → IsGraph graph zone draft
         → (found : List IntervalTerm) (ledger : Look) (report : List ℕ) (success : Bool)
         → IsReportOf (dag_of draft) found ledger report success
         → (words : PageWords) (journal : Option (List ℕ)) (text : List ℕ)

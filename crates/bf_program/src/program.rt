@@ -59,7 +59,8 @@ where
     ensures refused { result ≡ 2 → W.written out.new ≡ W.written out.old }
     ensures line { wrongs_of words.now ≢ [] → EndsAs (wrongs_of words.now) result }
     ensures done { wrongs_of words.now ≡ [] → result ≤ 1
-        → IsDone (RT.may_hear rt.now) canvas (S.file files.old) (machine_of (J.journal journals.now) (J.startable journals.now)) (found_in words.now)
+        → IsDone (RT.may_hear rt.now) canvas (S.file files.old)
+        (machine_of (J.journal journals.now) (J.startable journals.now)) (found_in words.now)
         (outputs (W.written out.old) (F.placed folder.old))
         (outputs (W.written out.new) (F.placed folder.new)) result }
     ensures kept { wrongs_of words.now ≢ [] → F.placed folder.new ≡ F.placed folder.old }
@@ -67,7 +68,8 @@ where
     // Of a line with which nothing is wrong: which fault came, and what is told of it.
     ensures why { wrongs_of words.now ≡ [] → 2 ≤ result → (fault : FaultTerm)
         × MayBeFaulted (RT.may_hear rt.now) (RT.may_lose rt.now) canvas
-        (S.file files.old) (machine_of (J.journal journals.now) (J.startable journals.now)) (found_in words.now) (HasHalted (W.failures out.old) (W.failures out.new)
+        (S.file files.old) (machine_of (J.journal journals.now) (J.startable journals.now))
+        (found_in words.now) (HasHalted (W.failures out.old) (W.failures out.new)
         (W.interruptions out.old) (W.interruptions out.new)) (F.failed folder.new ≡ true)
         (outputs (W.written out.old) (F.placed folder.old))
         (outputs (W.written out.new) (F.placed folder.new)) fault
@@ -77,7 +79,8 @@ where
 
     // Of a wrong line, and of help: which fault came, and what is told of it.
     ensures unshown { wrongs_of words.now ≢ [] → result ≡ 3 → (fault : FaultTerm)
-        × IsUnshown (ShowsHelp (wrongs_of words.now)) (HasHalted (W.failures out.old) (W.failures out.new)
+        × IsUnshown (ShowsHelp (wrongs_of words.now))
+        (HasHalted (W.failures out.old) (W.failures out.new)
         (W.interruptions out.old) (W.interruptions out.new))
         (W.written out.old) (W.written out.new) fault
         × MayTell (HasHalted (E.failures err.old) (E.failures err.new)
@@ -111,23 +114,28 @@ where
     RT: Starter + Screen + Threads + Wait + Clock + Sync,
     J::Device: Send,
     ensures range { IfOk result (λ s. s ≢ Status.Fault) }
-    ensures answered { IfOk result (λ s. s ≢ Status.Refused → E.written err.new ≡ E.written err.old) }
+    ensures answered { IfOk result
+        (λ s. s ≢ Status.Refused → E.written err.new ≡ E.written err.old) }
     ensures wrong { IfOk result (λ s. s ≡ Status.Refused → W.written out.new ≡ W.written out.old) }
-    ensures refused { IfErr result (λ f. IsSome (number_of f) → W.written out.new ≡ W.written out.old) }
+    ensures refused { IfErr result
+        (λ f. IsSome (number_of f) → W.written out.new ≡ W.written out.old) }
     ensures untouched { OnErr result (err.new ≡ err.old) }
-    ensures line { wrongs_of words.now ≢ [] → IfOk result (λ s. EndsAs (wrongs_of words.now) (code_of s)) }
+    ensures line { wrongs_of words.now ≢ []
+        → IfOk result (λ s. EndsAs (wrongs_of words.now) (code_of s)) }
     ensures fault { wrongs_of words.now ≢ [] → IfErr result (λ f. number_of f ≡ None) }
     ensures unshown { wrongs_of words.now ≢ [] → IfErr result (IsUnshown
         (ShowsHelp (wrongs_of words.now)) (HasHalted (W.failures out.old) (W.failures out.new)
         (W.interruptions out.old) (W.interruptions out.new))
         (W.written out.old) (W.written out.new)) }
     ensures done { wrongs_of words.now ≡ [] → IfOk result (λ s.
-        IsDone (RT.may_hear rt.now) canvas (S.file files.old) (machine_of (J.journal journals.now) (J.startable journals.now)) (found_in words.now)
+        IsDone (RT.may_hear rt.now) canvas (S.file files.old)
+        (machine_of (J.journal journals.now) (J.startable journals.now)) (found_in words.now)
         (outputs (W.written out.old) (F.placed folder.old))
         (outputs (W.written out.new) (F.placed folder.new)) (code_of s)) }
     ensures kept { wrongs_of words.now ≢ [] → F.placed folder.new ≡ F.placed folder.old }
     ensures why { wrongs_of words.now ≡ [] → IfErr result (λ f. MayBeFaulted
-        (RT.may_hear rt.now) (RT.may_lose rt.now) canvas (S.file files.old) (machine_of (J.journal journals.now) (J.startable journals.now)) (found_in words.now)
+        (RT.may_hear rt.now) (RT.may_lose rt.now) canvas (S.file files.old)
+        (machine_of (J.journal journals.now) (J.startable journals.now)) (found_in words.now)
         (HasHalted (W.failures out.old) (W.failures out.new)
         (W.interruptions out.old) (W.interruptions out.new)) (F.failed folder.new ≡ true)
         (outputs (W.written out.old) (F.placed folder.old))
@@ -155,12 +163,17 @@ pub(crate) fn command_answered<RT, J: Journals + Launchers, S: Source, W: Write>
 where
     RT: Starter + Screen + Threads + Wait + Clock + Sync,
     J::Device: Send,
-    ensures answer { IfOk result (λ status. Sends (λ text. IsAnswer (RT.may_hear rt.now) canvas (S.file files.old) (machine_of (J.journal journals.now) (J.startable journals.now)) command text status)
+    ensures answer { IfOk result (λ status. Sends
+        (λ text. IsAnswer (RT.may_hear rt.now) canvas (S.file files.old)
+        (machine_of (J.journal journals.now) (J.startable journals.now)) command text status)
         (W.written out.old) (W.written out.new)) }
-    ensures fault { IfErr result (IsFault (RT.may_lose rt.now) (S.file files.old) (machine_of (J.journal journals.now) (J.startable journals.now)) command) }
+    ensures fault { IfErr result (IsFault (RT.may_lose rt.now) (S.file files.old)
+        (machine_of (J.journal journals.now) (J.startable journals.now)) command) }
     ensures left { IfErr result (Leaves (HasHalted (W.failures out.old) (W.failures out.new)
         (W.interruptions out.old) (W.interruptions out.new))
-        (λ text. (status : StatusTerm) × IsAnswer (RT.may_hear rt.now) canvas (S.file files.old) (machine_of (J.journal journals.now) (J.startable journals.now)) command text status)
+        (λ text. (status : StatusTerm)
+        × IsAnswer (RT.may_hear rt.now) canvas (S.file files.old)
+        (machine_of (J.journal journals.now) (J.startable journals.now)) command text status)
         (W.written out.old) (W.written out.new)) }
 {
     match command {
@@ -191,8 +204,10 @@ fn shown<W: Write, E: Write>(
 ) -> Result<Status, CommandFault>
     ensures ok { IfOk result (λ s. s ≡ shown_as (kind_of error.now)) }
     ensures memory { kind_of error.now ≡ ErrorKind.OutOfMemory → IsErr result }
-    ensures wanting { kind_of error.now ≡ ErrorKind.OutOfMemory → IfErr result (λ f. f ≡ CommandFault.OutOfMemory) }
-    ensures kept { kind_of error.now ≡ ErrorKind.OutOfMemory → W.written out.new ≡ W.written out.old }
+    ensures wanting { kind_of error.now ≡ ErrorKind.OutOfMemory
+        → IfErr result (λ f. f ≡ CommandFault.OutOfMemory) }
+    ensures kept { kind_of error.now ≡ ErrorKind.OutOfMemory → W.written out.new
+        ≡ W.written out.old }
     ensures fault { IfErr result (λ f. number_of f ≡ None) }
     ensures unshown { IfErr result (IsUnshown (shown_as (kind_of error.now) ≡ Status.Success)
         (HasHalted (W.failures out.old) (W.failures out.new)

@@ -30,7 +30,8 @@ fn completions_of(shell: Shell) -> &'static str
 }
 
 fn printed<W: Write>(text: &str, out: &mut W) -> Result<Status, CommandFault>
-    ensures answer { IfOk result (λ status. Sends (λ sent. IsPrinted text.now sent status) (W.written out.old) (W.written out.new)) }
+    ensures answer { IfOk result (λ status. Sends (λ sent. IsPrinted text.now sent status)
+        (W.written out.old) (W.written out.new)) }
     ensures fault { IfErr result IsDeviceFault }
     ensures left { IfErr result (Leaves (HasHalted (W.failures out.old) (W.failures out.new)
         (W.interruptions out.old) (W.interruptions out.new))
@@ -43,7 +44,9 @@ fn printed<W: Write>(text: &str, out: &mut W) -> Result<Status, CommandFault>
 
 /// Prints the schema of a format's files.
 pub fn schema_answered<W: Write>(format: Format, out: &mut W) -> Result<Status, CommandFault>
-    ensures answer { IfOk result (λ status. Sends (λ text. IsPrinted (schema_text format) text status) (W.written out.old) (W.written out.new)) }
+    ensures answer { IfOk result (λ status. Sends
+        (λ text. IsPrinted (schema_text format) text status) (W.written out.old)
+        (W.written out.new)) }
     ensures fault { IfErr result IsDeviceFault }
     ensures left { IfErr result (Leaves (HasHalted (W.failures out.old) (W.failures out.new)
         (W.interruptions out.old) (W.interruptions out.new))
@@ -55,7 +58,9 @@ pub fn schema_answered<W: Write>(format: Format, out: &mut W) -> Result<Status, 
 
 /// Prints what a shell completes.
 pub fn completions_answered<W: Write>(shell: Shell, out: &mut W) -> Result<Status, CommandFault>
-    ensures answer { IfOk result (λ status. Sends (λ text. IsPrinted (completions_text shell) text status) (W.written out.old) (W.written out.new)) }
+    ensures answer { IfOk result (λ status. Sends
+        (λ text. IsPrinted (completions_text shell) text status) (W.written out.old)
+        (W.written out.new)) }
     ensures fault { IfErr result IsDeviceFault }
     ensures left { IfErr result (Leaves (HasHalted (W.failures out.old) (W.failures out.new)
         (W.interruptions out.old) (W.interruptions out.new))

@@ -48,7 +48,8 @@ impl Board {
 
     /// Notes which try runs, or runs no more. Where memory is wanting for one that begins, it isn't noted.
     fn note_try(&mut self, event: &Event, now: Duration) -> Result<(), OutOfMemory>
-        ensures ok { OnOk result (self.new.running.items ≡ running_after event.now now self.old.running.items) }
+        ensures ok { OnOk result (self.new.running.items
+            ≡ running_after event.now now self.old.running.items) }
         ensures err { OnErr result (self.new.running.items ≡ self.old.running.items) }
         ensures same { self.new ≡ record self.old { running = self.new.running } }
     {
@@ -70,7 +71,8 @@ impl Board {
 
     /// An event has come to the backfill, and so many tries run now. That its clock goes on is none that is told.
     pub(crate) fn note(&mut self, event: &Event, core: &Core<'_>, running: u32, now: Duration)
-        ensures running { IsRunningAfter event.now now self.old.running.items self.new.running.items }
+        ensures running { IsRunningAfter event.now now self.old.running.items
+            self.new.running.items }
         ensures noted { IsNoted event.now running now self.old self.new }
     {
         if let Event::Tick { .. } = event {

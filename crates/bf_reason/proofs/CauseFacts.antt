@@ -9,7 +9,7 @@ use Rattle.bf_mapped.specs.Items.{items_of}
 use Rattle.bf_plan.specs.Plans.{no_task}
 use Rattle.bf_xcom.specs.Pulls.{pushed}
 use Rattle.bf_report.specs.declared.report.TaskReport.{TaskReport}
-use Rattle.bf_reason.specs.declared.cause.Cause.{Cause}
+use Rattle.bf_reason.specs.declared.cause.StateCause.{StateCause}
 use Rattle.bf_reason.specs.Causes.{cause_by_count, cause_of, item_count, past_lets_go_on, values_given}
 use Rattle.bf_reason.specs.Reasons.{Reason, waits, not_followed, branch_is_blocked, past_has_not_passed, by_items, by_past, by_verdict, reason}
 use Rattle.bf_reason.specs.Settled.{before_among, seen_among, value_among}
@@ -40,10 +40,10 @@ module _ (dag : Dag) (run : ℕ) (tasks : List TaskReport) (before : Option Task
       ∙ ap (λ t. chosen true (Skips t.upstreams) (Blocks t.upstreams) (Rules t t.upstreams)) is
       ∙ ap (λ all. chosen all (Skips (task_of dag task).upstreams) (Blocks (task_of dag task).upstreams) (Rules (task_of dag task) (task_of dag task).upstreams)) (sym (all_decide dag (task_of dag task) tasks (task_of dag task).upstreams))
 
-  pub cause_skips : (of : Task) (us : List ℕ) → of ≡ task_of dag task → us ≡ of.upstreams → Skips us ≡ true → Cause.NotFollowed ≡ cause_of (reason dag run (seen_among tasks) before task)
+  pub cause_skips : (of : Task) (us : List ℕ) → of ≡ task_of dag task → us ≡ of.upstreams → Skips us ≡ true → StateCause.NotFollowed ≡ cause_of (reason dag run (seen_among tasks) before task)
   cause_skips of us is ups skips = ap (λ s. cause_of (chosen true s (Blocks us) (Rules of us))) (sym skips) ∙ ap cause_of (settled_reason of us is ups)
 
-  pub cause_blocks : (of : Task) (us : List ℕ) → of ≡ task_of dag task → us ≡ of.upstreams → Skips us ≡ false → Blocks us ≡ true → Cause.BranchIsBlocked ≡ cause_of (reason dag run (seen_among tasks) before task)
+  pub cause_blocks : (of : Task) (us : List ℕ) → of ≡ task_of dag task → us ≡ of.upstreams → Skips us ≡ false → Blocks us ≡ true → StateCause.BranchIsBlocked ≡ cause_of (reason dag run (seen_among tasks) before task)
   cause_blocks of us is ups skips blocks =
       ap (λ b. cause_of (chosen true false b (Rules of us))) (sym blocks)
       ∙ ap (λ s. cause_of (chosen true s (Blocks us) (Rules of us))) (sym skips) ∙ ap cause_of (settled_reason of us is ups)
@@ -55,18 +55,18 @@ module _ (dag : Dag) (run : ℕ) (tasks : List TaskReport) (before : Option Task
 
 -- ---- the past
 
-go_on : (passed : Bool) (goes_on : Reason) → (if passed then cause_of goes_on else Cause.PastHasNotPassed) ≡ cause_of (if passed then goes_on else past_has_not_passed)
+go_on : (passed : Bool) (goes_on : Reason) → (if passed then cause_of goes_on else StateCause.PastHasNotPassed) ≡ cause_of (if passed then goes_on else past_has_not_passed)
 go_on true goes_on = refl
 go_on false goes_on = refl
 
 pub cause_past : (depends : Bool) (run : ℕ) (before : List TaskReport) (task : ℕ) (goes_on : Reason) →
-    (if past_lets_go_on depends run (before_among before run task) then cause_of goes_on else Cause.PastHasNotPassed)
+    (if past_lets_go_on depends run (before_among before run task) then cause_of goes_on else StateCause.PastHasNotPassed)
     ≡ cause_of (if depends && not (run == 0) then by_past goes_on (before_among before run task) else goes_on)
 cause_past false run before task goes_on = refl
 cause_past true zero before task goes_on = refl
 cause_past true (suc run) before task goes_on =
     let value = value_among before task in
-    subst (λ (first : Bool). (if (if not first then lets_pass value else true) then cause_of goes_on else Cause.PastHasNotPassed) ≡ cause_of (if not first then (if lets_pass value then goes_on else past_has_not_passed) else goes_on))
+    subst (λ (first : Bool). (if (if not first then lets_pass value else true) then cause_of goes_on else StateCause.PastHasNotPassed) ≡ cause_of (if not first then (if lets_pass value then goes_on else past_has_not_passed) else goes_on))
     (sym (ne_eqb (suc run) 0 (omega arith))) (go_on (lets_pass value) goes_on)
 
 pub all_passed_is : (results : List TaskResult) → list_all (λ ended. not (is_failed ended.outcome)) results ≡ all_passed results
@@ -113,4 +113,4 @@ none_expanded dag task none = expand_beyond dag.tasks task none
 pub cause_counts : (pulled : List (Option Xval)) (given : Items) → cause_by_count (item_count given) ≡ cause_of (by_items pulled given)
 cause_counts pulled Items.Missing = refl
 cause_counts pulled (Items.List []) = refl
-cause_counts pulled (Items.List (first ∷ rest)) = ap (λ n. Cause.Runs (suc n)) (sym (length-map _ rest))
+cause_counts pulled (Items.List (first ∷ rest)) = ap (λ n. StateCause.Runs (suc n)) (sym (length-map _ rest))

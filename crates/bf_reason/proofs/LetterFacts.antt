@@ -6,7 +6,7 @@ use Rattle.std.proofs.lemmas.Bool.{cond_both}
 use Rattle.bf_core.specs.Terms.{Outcome, is_failed}
 use Rattle.bf_report.specs.declared.report.InstanceReport.{InstanceReport}
 use Rattle.bf_report.specs.declared.report.TaskReport.{TaskReport}
-use Rattle.bf_reason.specs.declared.cause.Cause.{Cause}
+use Rattle.bf_reason.specs.declared.cause.StateCause.{StateCause}
 use Rattle.bf_reason.specs.Reasons.{decided_for, Reason, not_followed, rule_fails, branch_is_blocked, runs}
 use Rattle.bf_reason.specs.Causes.{cause_of}
 use Rattle.std.specs.Char.{is_ascii_digit}
@@ -14,16 +14,16 @@ use Rattle.bf_reason.specs.Letters.{any_letter, first_by, follows, ended_letter,
 
 -- ---- without a try
 
-skipped_told : (expanded : Bool) (why : Cause) → told_state (letter_for expanded why TaskReport.Skipped) ≡ skipped
-skipped_told expanded Cause.NotFollowed = refl
+skipped_told : (expanded : Bool) (why : StateCause) → told_state (letter_for expanded why TaskReport.Skipped) ≡ skipped
+skipped_told expanded StateCause.NotFollowed = refl
 skipped_told expanded _ = refl
 
-upstream_failed_told : (expanded : Bool) (why : Cause) → told_state (letter_for expanded why TaskReport.UpstreamFailed) ≡ upstream_failed
-upstream_failed_told expanded Cause.RuleFails = refl
+upstream_failed_told : (expanded : Bool) (why : StateCause) → told_state (letter_for expanded why TaskReport.UpstreamFailed) ≡ upstream_failed
+upstream_failed_told expanded StateCause.RuleFails = refl
 upstream_failed_told expanded _ = refl
 
-no_status_told : (expanded : Bool) (why : Cause) → told_state (letter_for expanded why TaskReport.NoStatus) ≡ no_status
-no_status_told expanded Cause.BranchIsBlocked = refl
+no_status_told : (expanded : Bool) (why : StateCause) → told_state (letter_for expanded why TaskReport.NoStatus) ≡ no_status
+no_status_told expanded StateCause.BranchIsBlocked = refl
 no_status_told expanded _ = refl
 
 -- ---- one instance
@@ -42,9 +42,9 @@ digit_told (Outcome.Success value) = refl
 digit_told Outcome.Failed = refl
 digit_told Outcome.Skipped = refl
 
-ran_told : (expanded : Bool) (why : Cause) (instance : InstanceReport) → told_state (letter_for expanded why (TaskReport.Ran instance)) ≡ state_of_outcome instance.result.outcome
-ran_told true (Cause.Runs count) instance = digit_told instance.result.outcome
-ran_told false (Cause.Runs count) instance = ended_told instance.result.outcome instance.result.tries
+ran_told : (expanded : Bool) (why : StateCause) (instance : InstanceReport) → told_state (letter_for expanded why (TaskReport.Ran instance)) ≡ state_of_outcome instance.result.outcome
+ran_told true (StateCause.Runs count) instance = digit_told instance.result.outcome
+ran_told false (StateCause.Runs count) instance = ended_told instance.result.outcome instance.result.tries
 ran_told expanded _ instance = digit_told instance.result.outcome
 
 -- ---- instances
@@ -110,12 +110,12 @@ expanded_told instances = upper_told (any_letter (byte "f") instances) (any_lett
 foreign_told : (instances : List InstanceReport) → told_state (foreign_letter (TaskReport.Mapped instances)) ≡ state_of_instances instances
 foreign_told instances = digits_told (any_letter (byte "f") instances) (any_letter (byte "r") instances) (any_letter (byte "s") instances) ∙ by_outcomes instances
 
-mapped_told : (expanded : Bool) (why : Cause) (instances : List InstanceReport) → told_state (letter_for expanded why (TaskReport.Mapped instances)) ≡ state_of_instances instances
-mapped_told expanded (Cause.Runs count) instances =
+mapped_told : (expanded : Bool) (why : StateCause) (instances : List InstanceReport) → told_state (letter_for expanded why (TaskReport.Mapped instances)) ≡ state_of_instances instances
+mapped_told expanded (StateCause.Runs count) instances =
     cond_both (expanded && length instances == count) (expanded_letter instances) (foreign_letter (TaskReport.Mapped instances)) (λ letter. told_state letter ≡ state_of_instances instances) (λ _. expanded_told instances) (λ _. foreign_told instances)
 mapped_told expanded _ instances = foreign_told instances
 
-pub letter_told : (expanded : Bool) (why : Cause) (task : TaskReport) → told_state (letter_for expanded why task) ≡ state_of task
+pub letter_told : (expanded : Bool) (why : StateCause) (task : TaskReport) → told_state (letter_for expanded why task) ≡ state_of task
 letter_told expanded why TaskReport.NoStatus = no_status_told expanded why
 letter_told expanded why TaskReport.Skipped = skipped_told expanded why
 letter_told expanded why TaskReport.UpstreamFailed = upstream_failed_told expanded why

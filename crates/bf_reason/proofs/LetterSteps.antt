@@ -14,7 +14,7 @@ use Rattle.bf_report.specs.declared.report.Report.{Report}
 use Rattle.bf_reason.specs.Reasons.{reason}
 use Rattle.bf_reason.specs.Runs.{tasks_at, tasks_before, tasks_of}
 use Rattle.bf_reason.specs.Settled.{before_among, seen_among, value_among}
-use Rattle.bf_reason.specs.declared.cause.Cause.{Cause}
+use Rattle.bf_reason.specs.declared.cause.StateCause.{StateCause}
 use Rattle.bf_reason.specs.Causes.{cause_of, runs_as}
 use Rattle.bf_reason.specs.Letters.{any_letter, ended_letter, expanded_digit, first_by, before_at, first_letter, letter_for, letter_of, upper}
 
@@ -35,12 +35,12 @@ length-map : {X Y : Type 0} (f : X → Y) (xs : List X) → length (map f xs) �
 length-map f [] = refl
 length-map f (x ∷ xs) = ap suc (length-map f xs)
 
-by_cause : (expanded : Bool) (cause : Cause) (instances : List InstanceReport) →
+by_cause : (expanded : Bool) (cause : StateCause) (instances : List InstanceReport) →
     (if expanded && runs_as cause (length instances) then upper (first_letter instances) else expanded_digit (first_letter instances)) ≡ letter_for expanded cause (TaskReport.Mapped instances)
-by_cause expanded (Cause.Runs count) instances = refl
+by_cause expanded (StateCause.Runs count) instances = refl
 by_cause expanded _ instances = ap (λ (b : Bool). if b then upper (first_letter instances) else expanded_digit (first_letter instances)) (and_right expanded false refl)
 
-pub mapped_by : (expanded : Bool) (cause : Cause) (results : List TaskResult) (instances : List InstanceReport) → results ≡ map (λ instance. instance.result) instances →
+pub mapped_by : (expanded : Bool) (cause : StateCause) (results : List TaskResult) (instances : List InstanceReport) → results ≡ map (λ instance. instance.result) instances →
     (first : ℕ) → first ≡ first_letter instances →
     (if expanded && runs_as cause (length results) then upper first else expanded_digit first) ≡ letter_for expanded cause (TaskReport.Mapped instances)
 mapped_by expanded cause results instances is first same =

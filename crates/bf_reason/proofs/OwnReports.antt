@@ -3,7 +3,8 @@ use Rattle.std.proofs.Common.{◌≡◌, ℕ, zero, suc, ◌<◌, true, List, []
 use Rattle.std.specs.List.{filter_map}
 use Rattle.bf_interval.specs.declared.interval.Interval.{Interval}
 use Rattle.bf_core.specs.Terms.{Dag, Given, Ledger, TaskResult, TaskValue, IsSound, result_of, task_of}
-use Rattle.bf_core.specs.Deciding.{Decision, settled, decision}
+use Rattle.bf_core.specs.declared.decision.Decision.{Decision}
+use Rattle.bf_core.specs.Deciding.{settled, decision}
 use Rattle.bf_core.specs.Recursion.{before, decided, out, results_from, value_of}
 use Rattle.bf_core.specs.Agreement.{final_cell, finished_from}
 use Rattle.bf_core.proofs.Depth.{decision-cong, out-is}

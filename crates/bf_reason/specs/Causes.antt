@@ -4,21 +4,21 @@ use Rattle.bf_core.specs.Terms.{Items, TaskValue}
 use Rattle.bf_mapped.specs.declared.source.SourceValues.{SourceValues}
 use Rattle.bf_xcom.specs.Pulls.{pushed, pushed_alone}
 use Rattle.bf_core.specs.Deciding.{lets_pass}
-use Rattle.bf_reason.specs.declared.cause.Cause.{Cause}
+use Rattle.bf_reason.specs.declared.cause.StateCause.{StateCause}
 use Rattle.bf_reason.specs.Reasons.{Reason, waits, not_followed, branch_is_blocked, upstream_is_blocked, rule_skips, rule_fails, past_has_not_passed, items_are_missing, has_no_items, runs}
 
 -- of the instances of a task that runs their number is left
-abbrev pub cause_of : Reason → Cause
-cause_of waits = Cause.Waits
-cause_of not_followed = Cause.NotFollowed
-cause_of branch_is_blocked = Cause.BranchIsBlocked
-cause_of upstream_is_blocked = Cause.UpstreamIsBlocked
-cause_of rule_skips = Cause.RuleSkips
-cause_of rule_fails = Cause.RuleFails
-cause_of past_has_not_passed = Cause.PastHasNotPassed
-cause_of items_are_missing = Cause.ItemsAreMissing
-cause_of has_no_items = Cause.HasNoItems
-cause_of (runs given) = Cause.Runs (length given)
+abbrev pub cause_of : Reason → StateCause
+cause_of waits = StateCause.Waits
+cause_of not_followed = StateCause.NotFollowed
+cause_of branch_is_blocked = StateCause.BranchIsBlocked
+cause_of upstream_is_blocked = StateCause.UpstreamIsBlocked
+cause_of rule_skips = StateCause.RuleSkips
+cause_of rule_fails = StateCause.RuleFails
+cause_of past_has_not_passed = StateCause.PastHasNotPassed
+cause_of items_are_missing = StateCause.ItemsAreMissing
+cause_of has_no_items = StateCause.HasNoItems
+cause_of (runs given) = StateCause.Runs (length given)
 
 -- how many items there are, unless they are missing
 abbrev pub item_count : Items → Option ℕ
@@ -30,10 +30,10 @@ abbrev pub values_given : Bool → TaskValue → SourceValues
 values_given each (TaskValue.Ran results) = if each then SourceValues.Each (map pushed results) else SourceValues.Pushed (pushed_alone results)
 values_given each value = SourceValues.Absent
 
-abbrev pub cause_by_count : Option ℕ → Cause
-cause_by_count None = Cause.ItemsAreMissing
-cause_by_count (Some zero) = Cause.HasNoItems
-cause_by_count (Some (suc count)) = Cause.Runs (suc count)
+abbrev pub cause_by_count : Option ℕ → StateCause
+cause_by_count None = StateCause.ItemsAreMissing
+cause_by_count (Some zero) = StateCause.HasNoItems
+cause_by_count (Some (suc count)) = StateCause.Runs (suc count)
 
 -- the past, where it is asked, lets the task go on
 abbrev pub passed : Option TaskValue → Bool
@@ -44,6 +44,6 @@ abbrev pub past_lets_go_on : Bool → ℕ → Option TaskValue → Bool
 past_lets_go_on depends run before = if depends && not (run == 0) then passed before else true
 
 -- it runs as so many instances
-abbrev pub runs_as : Cause → ℕ → Bool
-runs_as (Cause.Runs instances) count = count == instances
+abbrev pub runs_as : StateCause → ℕ → Bool
+runs_as (StateCause.Runs instances) count = count == instances
 runs_as cause count = false

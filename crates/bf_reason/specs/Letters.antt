@@ -9,7 +9,7 @@ use Rattle.bf_report.specs.declared.report.InstanceReport.{InstanceReport}
 use Rattle.bf_report.specs.declared.report.TaskReport.{TaskReport}
 use Rattle.bf_report.specs.declared.report.Report.{Report}
 use Rattle.bf_clear.specs.Entries.{value_at}
-use Rattle.bf_reason.specs.declared.cause.Cause.{Cause}
+use Rattle.bf_reason.specs.declared.cause.StateCause.{StateCause}
 use Rattle.bf_reason.specs.Reasons.{reason}
 use Rattle.bf_reason.specs.Causes.{cause_of}
 
@@ -58,18 +58,18 @@ foreign_letter (TaskReport.Ran instance) = digit_for (byte "1") instance.result.
 foreign_letter (TaskReport.Mapped instances) = expanded_digit (first_letter instances)
 
 -- by the cause, where the task has what is decided for it, and is expanded where the graph expands it
-abbrev pub letter_for : Bool → Cause → TaskReport → ℕ
-letter_for is_expanded Cause.NotFollowed TaskReport.Skipped = byte "b"
-letter_for is_expanded Cause.RuleSkips TaskReport.Skipped = byte "k"
-letter_for is_expanded Cause.HasNoItems TaskReport.Skipped = byte "e"
-letter_for is_expanded Cause.RuleFails TaskReport.UpstreamFailed = byte "u"
-letter_for is_expanded Cause.ItemsAreMissing TaskReport.UpstreamFailed = byte "i"
-letter_for is_expanded Cause.BranchIsBlocked TaskReport.NoStatus = byte "q"
-letter_for is_expanded Cause.UpstreamIsBlocked TaskReport.NoStatus = byte "p"
-letter_for is_expanded Cause.PastHasNotPassed TaskReport.NoStatus = byte "n"
-letter_for is_expanded (Cause.Runs count) (TaskReport.Ran instance) =
+abbrev pub letter_for : Bool → StateCause → TaskReport → ℕ
+letter_for is_expanded StateCause.NotFollowed TaskReport.Skipped = byte "b"
+letter_for is_expanded StateCause.RuleSkips TaskReport.Skipped = byte "k"
+letter_for is_expanded StateCause.HasNoItems TaskReport.Skipped = byte "e"
+letter_for is_expanded StateCause.RuleFails TaskReport.UpstreamFailed = byte "u"
+letter_for is_expanded StateCause.ItemsAreMissing TaskReport.UpstreamFailed = byte "i"
+letter_for is_expanded StateCause.BranchIsBlocked TaskReport.NoStatus = byte "q"
+letter_for is_expanded StateCause.UpstreamIsBlocked TaskReport.NoStatus = byte "p"
+letter_for is_expanded StateCause.PastHasNotPassed TaskReport.NoStatus = byte "n"
+letter_for is_expanded (StateCause.Runs count) (TaskReport.Ran instance) =
     if is_expanded then foreign_letter (TaskReport.Ran instance) else instance_letter instance
-letter_for is_expanded (Cause.Runs count) (TaskReport.Mapped instances) =
+letter_for is_expanded (StateCause.Runs count) (TaskReport.Mapped instances) =
     if is_expanded && length instances == count then expanded_letter instances else foreign_letter (TaskReport.Mapped instances)
 letter_for is_expanded cause task = foreign_letter task
 

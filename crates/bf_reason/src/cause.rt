@@ -19,7 +19,7 @@ use bf_xcom::{Outcome, TaskResult, TaskValue};
 
 /// Why something is decided of a task in a run: the line of the decision that made it so.
 #[derive(Clone, Copy, Debug, PartialEq, Eq)]
-pub enum Cause {
+pub enum StateCause {
     /// What it looks at isn't settled, which in a report all is.
     Waits,
     /// It is skipped: a branch directly upstream succeeded and doesn't follow it.
@@ -118,7 +118,8 @@ pub fn is_blocked(settled: &[Settled<'_>], task: u32) -> bool
 
 /// Whether an upstream is a branch that is blocked.
 pub fn is_blocked_branch(dag: &Dag, settled: &[Settled<'_>], upstream: u32) -> bool
-    ensures { result ≡ branch_is dag.now blocked upstream (Some (value_among settled.now upstream)) }
+    ensures { result ≡ branch_is dag.now blocked upstream
+        (Some (value_among settled.now upstream)) }
 {
     dag.is_branch(upstream) && is_blocked(settled, upstream)
 }
@@ -179,7 +180,8 @@ fn has_passed(settled: &[Settled<'_>], task: u32) -> bool
 
 /// Whether its past lets a task go on. Nothing is asked of it in the first run.
 fn past_lets_go_on(task: &Task, run: usize, before: &[Settled<'_>], number: u32) -> bool
-    ensures { result ≡ past_lets_go_on_in task.now.depends_on_past run (before_among before.now run number) }
+    ensures { result ≡ past_lets_go_on_in task.now.depends_on_past run
+        (before_among before.now run number) }
 {
     !task.depends_on_past || run == 0 || has_passed(before, number)
 }
@@ -220,7 +222,8 @@ fn count_listed(results: &[TaskResult]) -> Option<usize>
 /// How many items a source gives that ran, unless they are missing.
 #[tactic(auto, using(crate::proofs::CauseFacts::pushed_count))]
 fn count_of_ran(is_expanded: bool, results: &[TaskResult]) -> Option<usize>
-    ensures { result ≡ item_count (items_of (values_given is_expanded (ValueTerm.Ran results.now))) }
+    ensures { result ≡ item_count (items_of
+        (values_given is_expanded (ValueTerm.Ran results.now))) }
 {
     if is_expanded {
         Some(count_pushed(results))
@@ -241,7 +244,8 @@ fn count_given(is_expanded: bool, value: &TaskValue) -> Option<usize>
 /// How many items a source gives, unless they are missing.
 #[tactic(auto, using(crate::proofs::CauseFacts::items_by))]
 fn count_items(dag: &Dag, settled: &[Settled<'_>], source: u32) -> Option<usize>
-    ensures { result ≡ item_count (items (task_of dag.now source) (value_among settled.now source)) }
+    ensures { result ≡ item_count (items (task_of dag.now source)
+        (value_among settled.now source)) }
 {
     match settled.get(source as usize) {
         Some(settled) => count_given(is_expanded(dag, source), settled.value()),
@@ -250,17 +254,17 @@ fn count_items(dag: &Dag, settled: &[Settled<'_>], source: u32) -> Option<usize>
 }
 
 /// Of a task that goes on, by the source of its items.
-fn by_source(dag: &Dag, settled: &[Settled<'_>], expand: Option<u32>) -> Cause
+fn by_source(dag: &Dag, settled: &[Settled<'_>], expand: Option<u32>) -> StateCause
     ensures { (pulled : List (Option XvalTerm)) →
         result ≡ cause_of (by_source_of dag.now (seen_among settled.now) pulled expand) }
 {
     let Some(source) = expand else {
-        return Cause::Runs(1);
+        return StateCause::Runs(1);
     };
     match count_items(dag, settled, source) {
-        None => Cause::ItemsAreMissing,
-        Some(0) => Cause::HasNoItems,
-        Some(count) => Cause::Runs(count),
+        None => StateCause::ItemsAreMissing,
+        Some(0) => StateCause::HasNoItems,
+        Some(count) => StateCause::Runs(count),
     }
 }
 
@@ -271,7 +275,7 @@ fn by_past(
     settled: &[Settled<'_>],
     before: &[Settled<'_>],
     number: u32,
-) -> Cause
+) -> StateCause
     requires { number < length dag.now.tasks }
     ensures { result ≡ cause_of (by_verdict_of dag.now run (seen_among settled.now)
         (before_among before.now run number) number VerdictTerm.Run) }
@@ -280,7 +284,7 @@ fn by_past(
     if past_lets_go_on(task, run, before, number) {
         by_source(dag, settled, task.expand)
     } else {
-        Cause::PastHasNotPassed
+        StateCause::PastHasNotPassed
     }
 }
 
@@ -292,16 +296,16 @@ fn by_verdict(
     before: &[Settled<'_>],
     number: u32,
     verdict: Verdict,
-) -> Cause
+) -> StateCause
     requires { number < length dag.now.tasks }
     ensures { result ≡ cause_of (by_verdict_of dag.now run (seen_among settled.now)
         (before_among before.now run number) number verdict) }
 {
     match verdict {
-        Verdict::Wait => Cause::Waits,
-        Verdict::Blocked => Cause::UpstreamIsBlocked,
-        Verdict::Skip => Cause::RuleSkips,
-        Verdict::UpstreamFailed => Cause::RuleFails,
+        Verdict::Wait => StateCause::Waits,
+        Verdict::Blocked => StateCause::UpstreamIsBlocked,
+        Verdict::Skip => StateCause::RuleSkips,
+        Verdict::UpstreamFailed => StateCause::RuleFails,
         Verdict::Run => by_past(dag, run, settled, before, number),
     }
 }
@@ -323,7 +327,7 @@ pub fn cause_at(
     settled: &[Settled<'_>],
     before: &[Settled<'_>],
     task: u32,
-) -> Cause
+) -> StateCause
     requires { task < length plan.now.dag.tasks }
     ensures { result ≡ cause_of (reason plan.now.dag run (seen_among settled.now)
         (before_among before.now run task) task) }
@@ -331,10 +335,10 @@ pub fn cause_at(
     let decided = task_in(plan, task);
     let upstreams = decided.upstreams.as_slice();
     if any_skips(plan, settled, task, upstreams) {
-        return Cause::NotFollowed;
+        return StateCause::NotFollowed;
     }
     if any_is_blocked_branch(plan, settled, upstreams) {
-        return Cause::BranchIsBlocked;
+        return StateCause::BranchIsBlocked;
     }
     let counts = counts_of_upstreams(settled, upstreams);
     let verdict = verdict(decided.rule, &counts);

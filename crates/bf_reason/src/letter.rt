@@ -8,7 +8,7 @@ ghost use Rattle.bf_report.specs.declared.report.InstanceReport.{InstanceReport 
 ghost use Rattle.bf_report.specs.declared.report.TaskReport.{TaskReport as TaskTerm};
 ghost use Rattle.bf_report.specs.declared.report.Report.{Report as ReportTerm};
 
-use crate::cause::{Cause, cause_at, is_expanded};
+use crate::cause::{StateCause, cause_at, is_expanded};
 use crate::settled::Settled;
 use bf_plan::Plan;
 use bf_report::TaskReport;
@@ -28,7 +28,8 @@ pub fn ended_letter(ended: &TaskResult) -> u8
 }
 
 fn some_has(results: &[TaskResult], letter: u8) -> bool
-    ensures { result ≡ list_any (λ ended. ended_letter_of ended.outcome ended.tries == letter) results.now }
+    ensures { result ≡ list_any (λ ended. ended_letter_of ended.outcome ended.tries == letter)
+        results.now }
 {
     results.iter().any(|ended| ended_letter(ended) == letter)
 }
@@ -47,7 +48,8 @@ fn first_by(some_f: bool, some_r: bool, some_s: bool) -> u8
 }
 
 fn first_letter(results: &[TaskResult]) -> u8
-    ensures letter { (instances : List InstanceTerm) → results.now ≡ map (λ instance. instance.result) instances →
+    ensures letter { (instances : List InstanceTerm) → results.now
+        ≡ map (λ instance. instance.result) instances →
         result ≡ first_letter_of instances }
     ensures ascii { result < 128 }
 {
@@ -81,48 +83,49 @@ fn expanded_digit(first: u8) -> u8
     }
 }
 
-fn skipped_letter(cause: Cause) -> u8
+fn skipped_letter(cause: StateCause) -> u8
     ensures letter { (expanded : Bool) → result ≡ letter_for expanded cause TaskTerm.Skipped }
     ensures ascii { result < 128 }
 {
     match cause {
-        Cause::NotFollowed => b'b',
-        Cause::RuleSkips => b'k',
-        Cause::HasNoItems => b'e',
+        StateCause::NotFollowed => b'b',
+        StateCause::RuleSkips => b'k',
+        StateCause::HasNoItems => b'e',
         _ => b'4',
     }
 }
 
-fn upstream_failed_letter(cause: Cause) -> u8
-    ensures letter { (expanded : Bool) → result ≡ letter_for expanded cause TaskTerm.UpstreamFailed }
+fn upstream_failed_letter(cause: StateCause) -> u8
+    ensures letter { (expanded : Bool) → result
+        ≡ letter_for expanded cause TaskTerm.UpstreamFailed }
     ensures ascii { result < 128 }
 {
     match cause {
-        Cause::RuleFails => b'u',
-        Cause::ItemsAreMissing => b'i',
+        StateCause::RuleFails => b'u',
+        StateCause::ItemsAreMissing => b'i',
         _ => b'5',
     }
 }
 
-fn no_status_letter(cause: Cause) -> u8
+fn no_status_letter(cause: StateCause) -> u8
     ensures letter { (expanded : Bool) → result ≡ letter_for expanded cause TaskTerm.NoStatus }
     ensures ascii { result < 128 }
 {
     match cause {
-        Cause::BranchIsBlocked => b'q',
-        Cause::UpstreamIsBlocked => b'p',
-        Cause::PastHasNotPassed => b'n',
+        StateCause::BranchIsBlocked => b'q',
+        StateCause::UpstreamIsBlocked => b'p',
+        StateCause::PastHasNotPassed => b'n',
         _ => b'6',
     }
 }
 
 /// Of an unmapped task, by its result.
-fn ran_letter(is_expanded: bool, cause: Cause, ended: &TaskResult) -> u8
+fn ran_letter(is_expanded: bool, cause: StateCause, ended: &TaskResult) -> u8
     ensures letter { (instance : InstanceTerm) → instance.result ≡ ended.now →
         result ≡ letter_for is_expanded cause (TaskTerm.Ran instance) }
     ensures ascii { result < 128 }
 {
-    if !is_expanded && matches!(cause, Cause::Runs(_)) {
+    if !is_expanded && matches!(cause, StateCause::Runs(_)) {
         return ended_letter(ended);
     }
     match ended.outcome {
@@ -132,18 +135,19 @@ fn ran_letter(is_expanded: bool, cause: Cause, ended: &TaskResult) -> u8
     }
 }
 
-fn runs_as(cause: Cause, count: usize) -> bool
+fn runs_as(cause: StateCause, count: usize) -> bool
     ensures { result ≡ runs_as_by cause count }
 {
     match cause {
-        Cause::Runs(instances) => count == instances,
+        StateCause::Runs(instances) => count == instances,
         _ => false,
     }
 }
 
 /// Of an expanded task, by the results of its instances.
-fn mapped_letter(is_expanded: bool, cause: Cause, results: &[TaskResult]) -> u8
-    ensures letter { (instances : List InstanceTerm) → results.now ≡ map (λ instance. instance.result) instances →
+fn mapped_letter(is_expanded: bool, cause: StateCause, results: &[TaskResult]) -> u8
+    ensures letter { (instances : List InstanceTerm) → results.now
+        ≡ map (λ instance. instance.result) instances →
         result ≡ letter_for is_expanded cause (TaskTerm.Mapped instances) }
     ensures ascii { result < 128 }
 {
@@ -156,7 +160,7 @@ fn mapped_letter(is_expanded: bool, cause: Cause, results: &[TaskResult]) -> u8
 }
 
 /// The letter of a task that the report has so, and of which this would be decided for this cause.
-pub fn letter_by(is_expanded: bool, cause: Cause, settled: &Settled<'_>) -> u8
+pub fn letter_by(is_expanded: bool, cause: StateCause, settled: &Settled<'_>) -> u8
     ensures letter { result ≡ letter_for is_expanded cause settled.now }
     ensures ascii { result < 128 }
 {
@@ -180,7 +184,8 @@ pub fn letter_at(
     told: &Settled<'_>,
 ) -> u8
     requires { task < length plan.now.dag.tasks }
-    ensures letter { (report : ReportTerm) → settled.now ≡ tasks_at report run → before.now ≡ tasks_before report run →
+    ensures letter { (report : ReportTerm) → settled.now ≡ tasks_at report run → before.now
+        ≡ tasks_before report run →
         result ≡ letter_of plan.now.dag report run task told.now }
     ensures ascii { result < 128 }
 {

@@ -10,8 +10,8 @@ mod letter;
 mod settled;
 
 pub use cause::{
-    Cause, cause_at, counts_at, counts_of_upstreams, is_blocked, is_blocked_branch, is_expanded,
-    skips,
+    StateCause, cause_at, counts_at, counts_of_upstreams, is_blocked, is_blocked_branch,
+    is_expanded, skips,
 };
 pub use laws::{
     digits_tell_what_does_not_follow, letters_tell_the_states, own_reports_have_no_digit,

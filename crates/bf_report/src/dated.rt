@@ -73,7 +73,8 @@ fn task_reports(
     run: u32,
 ) -> Result<Sequence<TaskReport>, OutOfMemory>
     requires { IsSound dag.now }
-    ensures reports { IfOk result (λ rs. rs ≡ reports_from dag.now (cell_at state.now run) 0 dag.now.tasks) }
+    ensures reports { IfOk result (λ rs. rs
+        ≡ reports_from dag.now (cell_at state.now run) 0 dag.now.tasks) }
     ensures sound { IfOk result AreSoundTasks }
 {
     let count = dag.tasks.len();
@@ -120,8 +121,10 @@ fn run_reports(
     requires few_runs { length intervals.now ≤ 4_096 }
     requires shown { All IsShownInterval intervals.now }
     requires outcome { IsOutcome dag.now (length intervals.now) state.now }
-    requires run_states { AreRunStates dag.now (entry_in state.now.ledger) (length intervals.now) states.now }
-    ensures dated { IfOk result (λ runs. AreDated dag.now (entry_in state.now.ledger) 0 intervals.now runs) }
+    requires run_states { AreRunStates dag.now (entry_in state.now.ledger) (length intervals.now)
+        states.now }
+    ensures dated { IfOk result (λ runs. AreDated dag.now (entry_in state.now.ledger) 0
+        intervals.now runs) }
     ensures sound { IfOk result AreSoundRuns }
 {
     let mut runs = Vec::with_capacity(alloc, intervals.len())?;

@@ -57,7 +57,8 @@ fn share_of(pulled: &Pulled) -> Result<Pulled, OutOfMemory>
 
 fn pull_of(alloc: Global, dag: &Dag, task: u32, pulled: &Pulled) -> Result<Pull, OutOfMemory>
     requires { task < length dag.now.tasks }
-    ensures pull { IfOk result (λ pull. pull ≡ record { task = (task_of dag.now task).id; value = pulled.now }) }
+    ensures pull { IfOk result (λ pull. pull
+        ≡ record { task = (task_of dag.now task).id; value = pulled.now }) }
     ensures sound { IfOk result (λ pull. IsSoundValue pull.value) }
 {
     Ok(Pull {
@@ -117,7 +118,8 @@ pub(crate) fn instance_reports(
 ) -> Result<Vec<InstanceReport>, OutOfMemory>
     requires dag { IsSound dag.now }
     requires task { task < length dag.now.tasks }
-    ensures reports { IfOk result (λ found. found.items ≡ filter_map (reported_instance dag.now task) instances.now) }
+    ensures reports { IfOk result (λ found. found.items
+        ≡ filter_map (reported_instance dag.now task) instances.now) }
     ensures sound { IfOk result (λ found. AreSoundInstances found.items) }
 {
     let mut found = Vec::with_capacity(alloc, instances.len())?;

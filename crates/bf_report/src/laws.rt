@@ -14,9 +14,12 @@ ghost use Rattle.bf_report.specs.Dated.{IsDated};
 /// Two backfills of one plan over the same data intervals, of which each made just the tries that the recursion asks
 /// for, and whose tries answer alike, have one ledger and one report.
 pub fn alike_ledgers_report_alike()
-    ensures { (dag : DagTerm) → IsSound dag → (intervals : List IntervalTerm) (one two : finite.FinMap name_cmp EntryTerm) →
-        HoldsItsTries dag (length intervals) (finite.get one) → HoldsItsTries dag (length intervals) (finite.get two) →
+    ensures { (dag : DagTerm) → IsSound dag
+        → (intervals : List IntervalTerm) (one two : finite.FinMap name_cmp EntryTerm) →
+        HoldsItsTries dag (length intervals) (finite.get one)
+        → HoldsItsTries dag (length intervals) (finite.get two) →
         AreAlike (finite.get one) (finite.get two) → (report other : ReportTerm) →
-        IsDated dag intervals (finite.get one) report → IsDated dag intervals (finite.get two) other →
+        IsDated dag intervals (finite.get one) report → IsDated dag intervals (finite.get two) other
+        →
         (one ≡ two) × (report ≡ other) }
 {}

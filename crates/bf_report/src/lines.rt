@@ -11,7 +11,8 @@ use std::alloc::Global;
 
 /// A value, or `-` for nothing.
 fn push_value(alloc: Global, text: &mut String, value: Option<&Xval>) -> Result<(), OutOfMemory>
-    ensures { OnOk result (string_bytes text.new ≡ string_bytes text.old ++ pulled_word (option_copied value.entry)) }
+    ensures { OnOk result (string_bytes text.new ≡ string_bytes text.old
+        ++ pulled_word (option_copied value.entry)) }
 {
     match value {
         Some(value) => text.push_str(text_of(alloc, value)?.as_str())?,
@@ -26,7 +27,8 @@ fn push_result(
     text: &mut String,
     instance: &InstanceReport,
 ) -> Result<(), OutOfMemory>
-    ensures { OnOk result (string_bytes text.new ≡ string_bytes text.old ++ line (state_word instance.now.result.outcome
+    ensures { OnOk result (string_bytes text.new ≡ string_bytes text.old
+        ++ line (state_word instance.now.result.outcome
         ∷ decimal instance.now.result.tries ∷ value_word instance.now.result.outcome ∷ [])) }
 {
     let (state, tries) = (instance.state(), instance.tries());
@@ -37,7 +39,8 @@ fn push_result(
 }
 
 fn push_item(alloc: Global, text: &mut String, item: Option<&Xval>) -> Result<(), OutOfMemory>
-    ensures { OnOk result (string_bytes text.new ≡ string_bytes text.old ++ item_line (option_copied item.entry)) }
+    ensures { OnOk result (string_bytes text.new ≡ string_bytes text.old
+        ++ item_line (option_copied item.entry)) }
 {
     let Some(item) = item else {
         return Ok(());
@@ -59,7 +62,8 @@ fn push_pull(alloc: Global, text: &mut String, pull: &Pull) -> Result<(), OutOfM
 }
 
 fn push_pulls(alloc: Global, text: &mut String, pulls: &[Pull]) -> Result<(), OutOfMemory>
-    ensures { OnOk result (string_bytes text.new ≡ string_bytes text.old ++ flat_map pull_line pulls.now) }
+    ensures { OnOk result (string_bytes text.new ≡ string_bytes text.old
+        ++ flat_map pull_line pulls.now) }
 {
     for pull in pulls {
         push_pull(alloc, text, pull)?;
@@ -115,7 +119,8 @@ fn push_mapped(
     id: &str,
     instances: &[InstanceReport],
 ) -> Result<(), OutOfMemory>
-    ensures { OnOk result (string_bytes text.new ≡ string_bytes text.old ++ mapped_text id.now instances.now) }
+    ensures { OnOk result (string_bytes text.new ≡ string_bytes text.old
+        ++ mapped_text id.now instances.now) }
 {
     for (index, instance) in instances.iter().enumerate() {
         push_instance(alloc, text, id, index, instance)?;
@@ -124,7 +129,8 @@ fn push_mapped(
 }
 
 fn push_untried(text: &mut String, id: &str, state: &str) -> Result<(), OutOfMemory>
-    ensures { OnOk result (string_bytes text.new ≡ string_bytes text.old ++ untried_line id.now state.now) }
+    ensures { OnOk result (string_bytes text.new ≡ string_bytes text.old
+        ++ untried_line id.now state.now) }
 {
     writeln!(text, "{id} -1 {state} 0 -")?;
     Ok(())
@@ -136,7 +142,8 @@ fn push_task(
     id: &str,
     task: &TaskReport,
 ) -> Result<(), OutOfMemory>
-    ensures { OnOk result (string_bytes text.new ≡ string_bytes text.old ++ task_text id.now task.now) }
+    ensures { OnOk result (string_bytes text.new ≡ string_bytes text.old
+        ++ task_text id.now task.now) }
 {
     match task {
         TaskReport::NoStatus => push_untried(text, id, "no_status"),
@@ -153,7 +160,8 @@ fn push_tasks(
     ids: &[Text],
     tasks: &[TaskReport],
 ) -> Result<(), OutOfMemory>
-    ensures { OnOk result (string_bytes text.new ≡ string_bytes text.old ++ tasks_text ids.now tasks.now) }
+    ensures { OnOk result (string_bytes text.new ≡ string_bytes text.old
+        ++ tasks_text ids.now tasks.now) }
 {
     for (id, task) in ids.iter().zip(tasks) {
         push_task(alloc, text, id.as_str(), task)?;
@@ -188,7 +196,8 @@ fn push_run(
     ids: &[Text],
     run: &RunReport,
 ) -> Result<(), OutOfMemory>
-    ensures { OnOk result (string_bytes text.new ≡ string_bytes text.old ++ run_text ids.now run.now) }
+    ensures { OnOk result (string_bytes text.new ≡ string_bytes text.old
+        ++ run_text ids.now run.now) }
 {
     push_run_line(text, run)?;
     push_tasks(alloc, text, ids, run.tasks.as_slice())
@@ -200,7 +209,8 @@ fn push_runs(
     ids: &[Text],
     runs: &[RunReport],
 ) -> Result<(), OutOfMemory>
-    ensures { OnOk result (string_bytes text.new ≡ string_bytes text.old ++ flat_map (run_text ids.now) runs.now) }
+    ensures { OnOk result (string_bytes text.new ≡ string_bytes text.old
+        ++ flat_map (run_text ids.now) runs.now) }
 {
     for run in runs {
         push_run(alloc, text, ids, run)?;

@@ -49,7 +49,12 @@ impl Kept {
         item: Option<Xval>,
         pulls: Sequence<Pull>,
     ) -> Result<Kept, OutOfMemory>
-        ensures { IfOk result (λ kept. (tries : ℕ) → told_by tries kept ≡ record { result = record { outcome = outcome; tries = tries }; item = item; pulls = pulls }) }
+        ensures { IfOk result (λ kept. (tries : ℕ) → told_by tries kept
+            ≡ record {
+              result = record { outcome = outcome; tries = tries };
+              item = item;
+              pulls = pulls;
+            }) }
     {
         let told = Told {
             outcome,
@@ -93,7 +98,8 @@ impl InstanceReport {
     /// An instance that was given nothing, as far as is known.
     #[inline(always)]
     pub fn bare(alloc: Global, ended: TaskResult) -> Result<InstanceReport, OutOfMemory>
-        ensures { IfOk result (λ instance. instance ≡ record { result = ended; item = None; pulls = [] }) }
+        ensures { IfOk result (λ instance. instance
+            ≡ record { result = ended; item = None; pulls = [] }) }
     {
         let TaskResult { outcome, tries } = ended;
         let kept = match outcome {
@@ -115,7 +121,8 @@ impl InstanceReport {
         item: Option<Xval>,
         pulls: Sequence<Pull>,
     ) -> Result<InstanceReport, OutOfMemory>
-        ensures { IfOk result (λ instance. instance ≡ record { result = ended; item = item; pulls = pulls }) }
+        ensures { IfOk result (λ instance. instance
+            ≡ record { result = ended; item = item; pulls = pulls }) }
     {
         if item.is_none() && pulls.is_empty() {
             return InstanceReport::bare(alloc, ended);

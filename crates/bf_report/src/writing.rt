@@ -11,10 +11,13 @@ use std::alloc::Global;
 /// Writes a report. The whole text is made first, so want of memory is known before the first byte goes out.
 /// It gives up where a write fails or takes nothing, and at the 1,001st interruption.
 pub fn write_report<W: Write>(alloc: Global, report: &Report, out: &mut W) -> Result<(), WriteFault>
-    ensures ok { OnOk result (W.written out.new ≡ sent (W.written out.old) (report_text report.now)) }
+    ensures ok { OnOk result (W.written out.new
+        ≡ sent (W.written out.old) (report_text report.now)) }
     ensures part { IfErr result (λ fault. (fault.sent ≤ length (report_text report.now))
-        × (W.written out.new ≡ sent (W.written out.old) (take fault.sent (report_text report.now)))) }
-    ensures io { IfErr result (λ fault. fault.cause ≡ Cause.Io → HasHalted (W.failures out.old) (W.failures out.new)
+        × (W.written out.new ≡ sent (W.written out.old)
+        (take fault.sent (report_text report.now)))) }
+    ensures io { IfErr result (λ fault. fault.cause ≡ Cause.Io
+        → HasHalted (W.failures out.old) (W.failures out.new)
         (W.interruptions out.old) (W.interruptions out.new)) }
     ensures went_on { OnOk result (HasGoneOn (W.failures out.old) (W.failures out.new)
         (W.interruptions out.old) (W.interruptions out.new)) }

@@ -38,7 +38,13 @@ pub(crate) struct Beginning {
 impl Beginning {
     /// A report of which the head was read.
     pub fn new(alloc: Global, version: Version, dag_id: Text) -> Beginning
-        ensures { result ≡ record { version = version; dag_id = dag_id; tasks = []; runs = []; run = None } }
+        ensures { result ≡ record {
+          version = version;
+          dag_id = dag_id;
+          tasks = [];
+          runs = [];
+          run = None;
+        } }
     {
         Beginning {
             version,

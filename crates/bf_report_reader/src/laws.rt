@@ -24,9 +24,12 @@ pub fn no_two_reports_have_one_text()
 /// A report of a backfill that has ended keeps the rules of a report, so that it is read back as itself: the backfill is
 /// of a sound plan with ids, over data intervals that runs have.
 pub fn reports_of_backfills_keep_the_rules()
-    ensures { (dag : Dag) → IsSound dag → IsNamed dag → (intervals : List Interval) → AreOfRuns intervals →
+    ensures { (dag : Dag) → IsSound dag → IsNamed dag → (intervals : List Interval)
+        → AreOfRuns intervals →
         (limits : Limits) (journal : List Event) (state : State) →
-        IsJournal dag limits (length intervals) journal state → IsOutcome dag (length intervals) state →
-        (report : Report) → IsDated dag intervals (entry_in state.ledger) report → HasSoundValues report →
+        IsJournal dag limits (length intervals) journal state
+        → IsOutcome dag (length intervals) state →
+        (report : Report) → IsDated dag intervals (entry_in state.ledger) report
+        → HasSoundValues report →
         IsShownReport report }
 {}

@@ -192,14 +192,16 @@ fn go_on_last(
 
 /// Tells a part of what the instance of a run that was read last was given.
 fn tell_run(alloc: Global, run: &mut RunReport, part: GivenPart) -> Result<(), OutOfMemory>
-    ensures { OnOk result (run.new ≡ record run.old { tasks = at_last (told_task part) run.old.tasks }) }
+    ensures { OnOk result (run.new
+        ≡ record run.old { tasks = at_last (told_task part) run.old.tasks }) }
 {
     tell_last_task(alloc, &mut run.tasks, part)
 }
 
 /// Adds a further instance to the last task of a run, where it is expanded.
 fn go_on_run(alloc: Global, run: &mut RunReport, ended: TaskResult) -> Result<(), OutOfMemory>
-    ensures { OnOk result (run.new ≡ record run.old { tasks = at_last (further_task ended) run.old.tasks }) }
+    ensures { OnOk result (run.new
+        ≡ record run.old { tasks = at_last (further_task ended) run.old.tasks }) }
 {
     go_on_last(alloc, &mut run.tasks, ended)
 }
@@ -287,7 +289,8 @@ impl OpenRun {
         is_expanded: bool,
         first: TaskResult,
     ) -> Result<(), OutOfMemory>
-        ensures { OnOk result (put_open (Some self.old) (opened_by is_expanded first) ≡ Some self.new) }
+        ensures { OnOk result (put_open (Some self.old) (opened_by is_expanded first)
+            ≡ Some self.new) }
     {
         push(&mut self.run, begun(alloc, is_expanded, first)?)
     }

@@ -58,7 +58,8 @@ impl Lines {
         ensures short { OnOk result
             (length (line_in self.new) ≤ longest_line (line_in self.new)) }
         ensures stops { IfErr result (λ fault.
-            IfSome (ahead self.old.held (R.left device.old)) (StopsAt fault (self.old.number + 1))) }
+            IfSome (ahead self.old.held (R.left device.old))
+            (StopsAt fault (self.old.number + 1))) }
         ensures number { OnOk result (self.new.number ≡ self.old.number + 1) }
         ensures tallied { OnOk result (Tallies
             self.old.held.interruptions (R.interruptions device.old) (R.failures device.old)
@@ -300,7 +301,8 @@ fn read_head<R: Read>(
     ensures known { IfOk result IsKnown }
     ensures place { IfOk result (λ beginning. lines_in (opening_text (so_far beginning)) ≡ 1) }
     ensures number { OnOk result (lines.new.number ≡ 1) }
-    ensures tells { IfErr result (λ fault. IfSome (R.left device.old) (λ bytes. Tells bytes fault)) }
+    ensures tells { IfErr result (λ fault. IfSome (R.left device.old)
+        (λ bytes. Tells bytes fault)) }
     ensures tallied { OnOk result (Tallies
         lines.old.held.interruptions (R.interruptions device.old) (R.failures device.old)
         lines.new.held.interruptions (R.interruptions device.new) (R.failures device.new)) }

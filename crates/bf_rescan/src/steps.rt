@@ -27,7 +27,8 @@ fn first_close(core: &Core<'_>) -> Option<u32>
 fn first_task(core: &Core<'_>, order: &[u32], run: u32, expands: bool) -> Option<u32>
     requires { IsByRank (shape_of core.now.dag).upstreams order.now }
     ensures may_come { IfSome result (λ t. MayCome core.now (deciding expands run t)) }
-    ensures first { IfSome result (λ t. (u : ℕ) → MayCome core.now (deciding expands run u) → StandsBefore core.now.dag t u) }
+    ensures first { IfSome result (λ t. (u : ℕ) → MayCome core.now (deciding expands run u)
+        → StandsBefore core.now.dag t u) }
     ensures none { IfNone result ((u : ℕ) → ¬ (MayCome core.now (deciding expands run u))) }
 {
     for task in order {
@@ -42,7 +43,8 @@ fn first_task(core: &Core<'_>, order: &[u32], run: u32, expands: bool) -> Option
 fn first_decision(core: &Core<'_>, order: &[u32], expands: bool) -> Option<(u32, u32)>
     requires { IsByRank (shape_of core.now.dag).upstreams order.now }
     ensures may_come { IfSome result (λ p. MayCome core.now (deciding expands p.0 p.1)) }
-    ensures first { IfSome result (λ p. (k u : ℕ) → MayCome core.now (deciding expands k u) → IsEarlier core.now.dag p.0 p.1 k u) }
+    ensures first { IfSome result (λ p. (k u : ℕ) → MayCome core.now (deciding expands k u)
+        → IsEarlier core.now.dag p.0 p.1 k u) }
     ensures none { IfNone result ((k u : ℕ) → ¬ (MayCome core.now (deciding expands k u))) }
 {
     for run in 0..core.runs() {

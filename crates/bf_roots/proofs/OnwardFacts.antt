@@ -7,10 +7,10 @@ use Rattle.bf_core.specs.Terms.{Dag, task_of}
 use Rattle.bf_core.specs.Deciding.{branch_is, branch_skips, is_blocked}
 use Rattle.bf_plan.specs.Sound.{IsSound}
 use Rattle.bf_report.specs.declared.report.TaskReport.{TaskReport}
-use Rattle.bf_reason.specs.declared.cause.Cause.{Cause}
+use Rattle.bf_reason.specs.declared.cause.StateCause.{StateCause}
 use Rattle.bf_reason.specs.Settled.{value_among}
 use Rattle.bf_why.specs.Since.{failures, has_in, skips}
-use Rattle.bf_roots.specs.declared.step.Step.{Step}
+use Rattle.bf_roots.specs.declared.step.WalkStep.{WalkStep}
 use Rattle.bf_roots.specs.Onward.{alone, cause_among, goes_on, next_tasks, onward_among, onward_for, onward_if_told, skips_for_skipped, step_by}
 
 few_kept : (p : ℕ → Bool) (tasks : List ℕ) → length tasks ≤ 20_000 → length (filter p tasks) ≤ 20_000
@@ -25,19 +25,19 @@ few_if true xs few = few
 few_if false xs few = omega arith
 
 module _ (dag : Dag) (sound : IsSound dag) where
-  few_tasks : (tasks : List TaskReport) (task : ℕ) (cause : Cause) → length (next_tasks dag tasks task cause) ≤ 20_000
-  few_tasks tasks task Cause.NotFollowed = few_kept (λ u. branch_is dag (branch_skips dag task u) u (Some (value_among tasks u))) (task_of dag task).upstreams (sound.few_upstreams task)
-  few_tasks tasks task Cause.BranchIsBlocked = few_kept (λ u. branch_is dag is_blocked u (Some (value_among tasks u))) (task_of dag task).upstreams (sound.few_upstreams task)
-  few_tasks tasks task Cause.UpstreamIsBlocked = few_kept (λ u. is_blocked (value_among tasks u)) (task_of dag task).upstreams (sound.few_upstreams task)
-  few_tasks tasks task Cause.RuleFails = few_kept (has_in tasks failures) (task_of dag task).upstreams (sound.few_upstreams task)
-  few_tasks tasks task Cause.RuleSkips = few_if (skips_for_skipped (task_of dag task).rule) (filter (has_in tasks skips) (task_of dag task).upstreams) (few_kept (has_in tasks skips) (task_of dag task).upstreams (sound.few_upstreams task))
-  few_tasks tasks task Cause.PastHasNotPassed = omega arith
-  few_tasks tasks task Cause.ItemsAreMissing = few_alone (task_of dag task).expand
-  few_tasks tasks task Cause.HasNoItems = few_alone (task_of dag task).expand
-  few_tasks tasks task Cause.Waits = omega arith
-  few_tasks tasks task (Cause.Runs count) = omega arith
+  few_tasks : (tasks : List TaskReport) (task : ℕ) (cause : StateCause) → length (next_tasks dag tasks task cause) ≤ 20_000
+  few_tasks tasks task StateCause.NotFollowed = few_kept (λ u. branch_is dag (branch_skips dag task u) u (Some (value_among tasks u))) (task_of dag task).upstreams (sound.few_upstreams task)
+  few_tasks tasks task StateCause.BranchIsBlocked = few_kept (λ u. branch_is dag is_blocked u (Some (value_among tasks u))) (task_of dag task).upstreams (sound.few_upstreams task)
+  few_tasks tasks task StateCause.UpstreamIsBlocked = few_kept (λ u. is_blocked (value_among tasks u)) (task_of dag task).upstreams (sound.few_upstreams task)
+  few_tasks tasks task StateCause.RuleFails = few_kept (has_in tasks failures) (task_of dag task).upstreams (sound.few_upstreams task)
+  few_tasks tasks task StateCause.RuleSkips = few_if (skips_for_skipped (task_of dag task).rule) (filter (has_in tasks skips) (task_of dag task).upstreams) (few_kept (has_in tasks skips) (task_of dag task).upstreams (sound.few_upstreams task))
+  few_tasks tasks task StateCause.PastHasNotPassed = omega arith
+  few_tasks tasks task StateCause.ItemsAreMissing = few_alone (task_of dag task).expand
+  few_tasks tasks task StateCause.HasNoItems = few_alone (task_of dag task).expand
+  few_tasks tasks task StateCause.Waits = omega arith
+  few_tasks tasks task (StateCause.Runs count) = omega arith
 
-  few_for : (tasks : List TaskReport) (run task : ℕ) (cause : Cause) (told : TaskReport) → length (onward_for dag tasks run task cause told) ≤ 20_000
+  few_for : (tasks : List TaskReport) (run task : ℕ) (cause : StateCause) (told : TaskReport) → length (onward_for dag tasks run task cause told) ≤ 20_000
   few_for tasks run task cause told =
       few_if (goes_on (is_some (task_of dag task).expand) cause told) (map (step_by run cause) (next_tasks dag tasks task cause))
       (omega (arith, few_tasks tasks task cause, length-map (next_tasks dag tasks task cause) (step_by run cause)))
@@ -46,7 +46,7 @@ module _ (dag : Dag) (sound : IsSound dag) where
   few_if_told tasks before run task None = omega arith
   few_if_told tasks before run task (Some told) = few_for tasks run task (cause_among dag tasks before run task) told
 
-  pub few_steps : (tasks before : List TaskReport) (step : Step) → length (onward_among dag tasks before step) ≤ 20_000
+  pub few_steps : (tasks before : List TaskReport) (step : WalkStep) → length (onward_among dag tasks before step) ≤ 20_000
   few_steps tasks before step =
       few_if (is_none step.began) (onward_if_told dag tasks before step.run step.task (slice_get tasks step.task))
       (few_if_told tasks before step.run step.task (slice_get tasks step.task))

@@ -10,35 +10,35 @@ use Rattle.bf_report.specs.declared.report.Report.{Report}
 use Rattle.bf_report.specs.declared.report.TaskReport.{TaskReport}
 use Rattle.bf_reason.specs.Runs.{tasks_at, tasks_before, tasks_of}
 use Rattle.bf_roots.specs.declared.step.Root.{Root}
-use Rattle.bf_roots.specs.declared.step.Step.{Step}
+use Rattle.bf_roots.specs.declared.step.WalkStep.{WalkStep}
 use Rattle.bf_roots.specs.Onward.{onward, onward_among, roots_among, roots_at}
 use Rattle.bf_roots.specs.Walks.{AreRootsOf, First, IsComeTo, IsRootOf, Onward, Walk, Ends, Looks, Passes, first_step, is_seen, nothing_seen, with_seen}
 
 -- steps that are put on the pile in turn come off it in order
-pub piled : (left more : List Step) → reverse (left ++ reverse more) ≡ more ++ reverse left
+pub piled : (left more : List WalkStep) → reverse (left ++ reverse more) ≡ more ++ reverse left
 piled left more = reverse-append left (reverse more) ∙ ap (λ xs. xs ++ reverse left) (reverse-reverse more)
 
-pub popped : (left : List Step) (step : Step) → reverse (left ++ step ∷ []) ≡ step ∷ reverse left
+pub popped : (left : List WalkStep) (step : WalkStep) → reverse (left ++ step ∷ []) ≡ step ∷ reverse left
 popped left step = reverse-append left (step ∷ [])
 
 -- ---- the walk while it is gone
 
 module _ (dag : Dag) (report : Report) (run task : ℕ) where
   -- what is still to be found makes all of it
-  pub begun : (seen : List (List Bool)) (left : List Step) (found : List Root) → seen ≡ nothing_seen (length report.runs) (length dag.tasks) → left ≡ first_step run task ∷ [] → found ≡ []
+  pub begun : (seen : List (List Bool)) (left : List WalkStep) (found : List Root) → seen ≡ nothing_seen (length report.runs) (length dag.tasks) → left ≡ first_step run task ∷ [] → found ≡ []
       → (rest : List Root) → Walk dag report seen (reverse left) rest → AreRootsOf dag report run task (found ++ rest)
   begun seen left found seen_is left_is found_is rest walk =
       subst (λ (f : List Root). AreRootsOf dag report run task (f ++ rest)) (sym found_is)
       (subst (λ (s : List (List Bool)). Walk dag report s (first_step run task ∷ []) rest) seen_is
-      (subst (λ (l : List Step). Walk dag report seen (reverse l) rest) left_is walk))
+      (subst (λ (l : List WalkStep). Walk dag report seen (reverse l) rest) left_is walk))
 
-  pub passed : (seen : List (List Bool)) (old new : List Step) (found : List Root) (step : Step) → old ≡ new ++ step ∷ [] → is_seen seen step.run step.task ≡ true →
+  pub passed : (seen : List (List Bool)) (old new : List WalkStep) (found : List Root) (step : WalkStep) → old ≡ new ++ step ∷ [] → is_seen seen step.run step.task ≡ true →
       ((rest : List Root) → Walk dag report seen (reverse old) rest → AreRootsOf dag report run task (found ++ rest)) →
       (rest : List Root) → Walk dag report seen (reverse new) rest → AreRootsOf dag report run task (found ++ rest)
   passed seen old new found step is there goes rest walk =
-      goes rest (subst (λ (l : List Step). Walk dag report seen l rest) (sym (ap reverse is ∙ popped new step)) (Passes there walk))
+      goes rest (subst (λ (l : List WalkStep). Walk dag report seen l rest) (sym (ap reverse is ∙ popped new step)) (Passes there walk))
 
-  pub looked : (seen seen_new : List (List Bool)) (old popped_left new : List Step) (found found_new : List Root) (step : Step) (tasks before : List TaskReport) →
+  pub looked : (seen seen_new : List (List Bool)) (old popped_left new : List WalkStep) (found found_new : List Root) (step : WalkStep) (tasks before : List TaskReport) →
       old ≡ popped_left ++ step ∷ [] → is_seen seen step.run step.task ≡ false →
       tasks ≡ tasks_at report step.run → before ≡ tasks_before report step.run →
       seen_new ≡ with_seen seen step.run step.task → reverse new ≡ onward_among dag tasks before step ++ reverse popped_left → found_new ≡ found ++ roots_among tasks step →
@@ -50,17 +50,17 @@ module _ (dag : Dag) (report : Report) (run task : ℕ) where
       let roots_are : roots_among tasks step ≡ roots_at report step = ap (λ (t : List TaskReport). roots_among t step) tasks_are in
       let behind : Walk dag report (with_seen seen step.run step.task) (onward dag report step ++ reverse popped_left) rest =
       subst (λ (s : List (List Bool)). Walk dag report s (onward dag report step ++ reverse popped_left) rest) seen_is
-      (subst (λ (l : List Step). Walk dag report seen_new l rest) (left_is ∙ ap (λ (steps : List Step). steps ++ reverse popped_left) onward_is) walk) in
+      (subst (λ (l : List WalkStep). Walk dag report seen_new l rest) (left_is ∙ ap (λ (steps : List WalkStep). steps ++ reverse popped_left) onward_is) walk) in
       let all = goes (roots_at report step ++ rest)
-      (subst (λ (l : List Step). Walk dag report seen l (roots_at report step ++ rest)) (sym (ap reverse is ∙ popped popped_left step)) (Looks unseen behind)) in
+      (subst (λ (l : List WalkStep). Walk dag report seen l (roots_at report step ++ rest)) (sym (ap reverse is ∙ popped popped_left step)) (Looks unseen behind)) in
       subst (λ (f : List Root). AreRootsOf dag report run task f)
       (sym (append_assoc found (roots_at report step) rest) ∙ ap (λ (f : List Root). f ++ rest) (sym (found_is ∙ ap (λ (roots : List Root). found ++ roots) roots_are))) all
 
-  pub ended : (seen : List (List Bool)) (left : List Step) (found : List Root) → left ≡ [] →
+  pub ended : (seen : List (List Bool)) (left : List WalkStep) (found : List Root) → left ≡ [] →
       ((rest : List Root) → Walk dag report seen (reverse left) rest → AreRootsOf dag report run task (found ++ rest)) → AreRootsOf dag report run task found
   ended seen left found none goes =
       subst (λ (f : List Root). AreRootsOf dag report run task f) (append-nil found)
-      (goes [] (subst (λ (l : List Step). Walk dag report seen (reverse l) []) (sym none) Ends))
+      (goes [] (subst (λ (l : List WalkStep). Walk dag report seen (reverse l) []) (sym none) Ends))
 
 -- ---- the tasks of a run
 
@@ -75,10 +75,10 @@ few_at n report run each = few_of n report.runs run (recursion_from_All (λ r. l
 -- ---- what is come to
 
 module _ (dag : Dag) (report : Report) (run task : ℕ) where
-  abbrev AllComeTo : List Step → Type 0
-  AllComeTo left = (step : Step) → Contains left step → IsComeTo dag report run task step
+  abbrev AllComeTo : List WalkStep → Type 0
+  AllComeTo left = (step : WalkStep) → Contains left step → IsComeTo dag report run task step
 
-  roots_found : {seen : _} {left : List Step} {found : List Root} → Walk dag report seen left found → AllComeTo left →
+  roots_found : {seen : _} {left : List WalkStep} {found : List Root} → Walk dag report seen left found → AllComeTo left →
       (root : Root) → Contains found root → IsRootOf dag report run task root
   roots_found Ends come root within = absurd (omega (arith, within.1))
   roots_found (Passes {step = step} {left = left} seen walk) come root within =

@@ -5,7 +5,7 @@ use Rattle.bf_core.specs.Terms.{Dag, Rule, Task, task_of}
 use Rattle.bf_core.specs.Deciding.{branch_is, branch_skips, is_blocked}
 use Rattle.bf_report.specs.declared.report.TaskReport.{TaskReport}
 use Rattle.bf_report.specs.declared.report.Report.{Report}
-use Rattle.bf_reason.specs.declared.cause.Cause.{Cause}
+use Rattle.bf_reason.specs.declared.cause.StateCause.{StateCause}
 use Rattle.bf_reason.specs.Causes.{cause_of}
 use Rattle.bf_reason.specs.Letters.{letter_for}
 use Rattle.bf_reason.specs.Reasons.{reason}
@@ -14,7 +14,7 @@ use Rattle.bf_reason.specs.Settled.{before_among, seen_among, value_among}
 use Rattle.bf_why.specs.Since.{failures, has_in, skips}
 use Rattle.bf_roots.specs.declared.step.Began.{Began}
 use Rattle.bf_roots.specs.declared.step.Root.{Root}
-use Rattle.bf_roots.specs.declared.step.Step.{Step}
+use Rattle.bf_roots.specs.declared.step.WalkStep.{WalkStep}
 
 abbrev pub is_tried : TaskReport → Bool
 is_tried (TaskReport.Ran instance) = true
@@ -35,15 +35,15 @@ abbrev pub began_at : List TaskReport → ℕ → Option Began → Option Began
 began_at tasks task (Some began) = Some began
 began_at tasks task None = began_if_tried tasks task (slice_get tasks task)
 
-abbrev pub root_of : Step → Option Began → List Root
+abbrev pub root_of : WalkStep → Option Began → List Root
 root_of step None = []
 root_of step (Some began) = record { run = step.run; task = step.task; began = began } ∷ []
 
 -- the root that is there, if one is
-abbrev pub roots_among : List TaskReport → Step → List Root
+abbrev pub roots_among : List TaskReport → WalkStep → List Root
 roots_among tasks step = root_of step (began_at tasks step.task step.began)
 
-abbrev pub roots_at : Report → Step → List Root
+abbrev pub roots_at : Report → WalkStep → List Root
 roots_at report step = roots_among (tasks_at report step.run) step
 
 -- ---- where it goes on
@@ -64,50 +64,50 @@ abbrev pub skipped_among : List TaskReport → Task → List ℕ
 skipped_among tasks task = if skips_for_skipped task.rule then filter (has_in tasks skips) task.upstreams else []
 
 -- the tasks that made it so, by the cause
-abbrev pub next_tasks : Dag → List TaskReport → ℕ → Cause → List ℕ
-next_tasks dag tasks task Cause.NotFollowed =
+abbrev pub next_tasks : Dag → List TaskReport → ℕ → StateCause → List ℕ
+next_tasks dag tasks task StateCause.NotFollowed =
     filter (λ u. branch_is dag (branch_skips dag task u) u (Some (value_among tasks u))) (task_of dag task).upstreams
-next_tasks dag tasks task Cause.BranchIsBlocked = filter (λ u. branch_is dag is_blocked u (Some (value_among tasks u))) (task_of dag task).upstreams
-next_tasks dag tasks task Cause.UpstreamIsBlocked = filter (λ u. is_blocked (value_among tasks u)) (task_of dag task).upstreams
-next_tasks dag tasks task Cause.RuleFails = filter (has_in tasks failures) (task_of dag task).upstreams
-next_tasks dag tasks task Cause.RuleSkips = skipped_among tasks (task_of dag task)
-next_tasks dag tasks task Cause.PastHasNotPassed = task ∷ []
-next_tasks dag tasks task Cause.ItemsAreMissing = alone (task_of dag task).expand
-next_tasks dag tasks task Cause.HasNoItems = alone (task_of dag task).expand
+next_tasks dag tasks task StateCause.BranchIsBlocked = filter (λ u. branch_is dag is_blocked u (Some (value_among tasks u))) (task_of dag task).upstreams
+next_tasks dag tasks task StateCause.UpstreamIsBlocked = filter (λ u. is_blocked (value_among tasks u)) (task_of dag task).upstreams
+next_tasks dag tasks task StateCause.RuleFails = filter (has_in tasks failures) (task_of dag task).upstreams
+next_tasks dag tasks task StateCause.RuleSkips = skipped_among tasks (task_of dag task)
+next_tasks dag tasks task StateCause.PastHasNotPassed = task ∷ []
+next_tasks dag tasks task StateCause.ItemsAreMissing = alone (task_of dag task).expand
+next_tasks dag tasks task StateCause.HasNoItems = alone (task_of dag task).expand
 next_tasks dag tasks task cause = []
 
 -- in the same run, and for its past in the run before
-abbrev pub next_run : ℕ → Cause → ℕ
-next_run run Cause.PastHasNotPassed = run - 1
+abbrev pub next_run : ℕ → StateCause → ℕ
+next_run run StateCause.PastHasNotPassed = run - 1
 next_run run cause = run
 
 -- it ends at a branch that doesn't follow the task, and at a source without items
-abbrev pub ends_with : Cause → Option Began
-ends_with Cause.NotFollowed = Some Began.Pushed
-ends_with Cause.HasNoItems = Some Began.PushedNoItems
+abbrev pub ends_with : StateCause → Option Began
+ends_with StateCause.NotFollowed = Some Began.Pushed
+ends_with StateCause.HasNoItems = Some Began.PushedNoItems
 ends_with cause = None
 
-abbrev pub step_by : ℕ → Cause → ℕ → Step
+abbrev pub step_by : ℕ → StateCause → ℕ → WalkStep
 step_by run cause task = record { run = next_run run cause; task = task; began = ends_with cause }
 
-abbrev pub cause_among : Dag → List TaskReport → List TaskReport → ℕ → ℕ → Cause
+abbrev pub cause_among : Dag → List TaskReport → List TaskReport → ℕ → ℕ → StateCause
 cause_among dag tasks before run task = cause_of (reason dag run (seen_among tasks) (before_among before run task) task)
 
 -- it ends at a task that ran, and at one of which the report has what the graph doesn't decide
-abbrev pub goes_on : Bool → Cause → TaskReport → Bool
+abbrev pub goes_on : Bool → StateCause → TaskReport → Bool
 goes_on expanded cause told = not (is_tried told) && not (is_ascii_digit (letter_for expanded cause told))
 
-abbrev pub onward_for : Dag → List TaskReport → ℕ → ℕ → Cause → TaskReport → List Step
+abbrev pub onward_for : Dag → List TaskReport → ℕ → ℕ → StateCause → TaskReport → List WalkStep
 onward_for dag tasks run task cause told =
     if goes_on (is_some (task_of dag task).expand) cause told then map (step_by run cause) (next_tasks dag tasks task cause) else []
 
-abbrev pub onward_if_told : Dag → List TaskReport → List TaskReport → ℕ → ℕ → Option TaskReport → List Step
+abbrev pub onward_if_told : Dag → List TaskReport → List TaskReport → ℕ → ℕ → Option TaskReport → List WalkStep
 onward_if_told dag tasks before run task None = []
 onward_if_told dag tasks before run task (Some told) = onward_for dag tasks run task (cause_among dag tasks before run task) told
 
 -- by the tasks of the run, and of the run before
-abbrev pub onward_among : Dag → List TaskReport → List TaskReport → Step → List Step
+abbrev pub onward_among : Dag → List TaskReport → List TaskReport → WalkStep → List WalkStep
 onward_among dag tasks before step = if is_none step.began then onward_if_told dag tasks before step.run step.task (slice_get tasks step.task) else []
 
-abbrev pub onward : Dag → Report → Step → List Step
+abbrev pub onward : Dag → Report → WalkStep → List WalkStep
 onward dag report step = onward_among dag (tasks_at report step.run) (tasks_before report step.run) step

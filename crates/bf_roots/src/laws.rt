@@ -7,6 +7,7 @@ ghost use Rattle.bf_roots.specs.Walks.{AreRootsOf, IsRootOf};
 
 /// The walk comes to each root that it finds, and that began there.
 pub fn each_root_is_come_to()
-    ensures { (dag : Dag) (report : Report) (run task : ℕ) (roots : List RootTerm) → AreRootsOf dag report run task roots →
+    ensures { (dag : Dag) (report : Report) (run task : ℕ) (roots : List RootTerm)
+        → AreRootsOf dag report run task roots →
         (root : RootTerm) → Contains roots root → IsRootOf dag report run task root }
 {}

@@ -2,10 +2,10 @@
 ghost use Rattle.std.specs.Prelude.{◌≡◌, ◌≤◌, ◌<◌, ◌++◌, IfOk, OnOk, length, map, slice_get};
 ghost use Rattle.bf_roots.specs.Onward.{alone as alone_in, began_at as began_among, ended_as as ended_among, ends_with as ends_by, goes_on as goes_on_by, is_tried as tried, next_run as next_run_by, next_tasks as next_tasks_in, onward_among, onward_for as onward_by, onward_if_told, roots_among, skipped_among, skips_for_skipped as skips_by, step_by};
 
-use crate::step::{Began, Root, Step};
+use crate::step::{Began, Root, WalkStep};
 use crate::upstreams::{blocked_branches, blocked_tasks, branches_that_skip, tasks_in};
 use bf_plan::{Plan, Task};
-use bf_reason::{Cause, Settled, cause_at, is_expanded};
+use bf_reason::{Settled, StateCause, cause_at, is_expanded};
 use bf_report::TaskReport;
 use bf_rule::Rule;
 use bf_value::OutOfMemory;
@@ -46,7 +46,7 @@ fn began_at(settled: &[Settled<'_>], task: u32, began: Option<Began>) -> Option<
 pub(crate) fn add_root(
     roots: &mut Vec<Root>,
     settled: &[Settled<'_>],
-    step: Step,
+    step: WalkStep,
 ) -> Result<(), OutOfMemory>
     ensures { OnOk result (roots.new.items ≡ roots.old.items ++ roots_among settled.now step) }
 {
@@ -101,47 +101,53 @@ fn next_tasks(
     plan: &Plan,
     settled: &[Settled<'_>],
     task: u32,
-    cause: Cause,
+    cause: StateCause,
 ) -> Result<Vec<u32>, OutOfMemory>
     requires { task < length plan.now.dag.tasks }
-    ensures { IfOk result (λ tasks. tasks.items ≡ next_tasks_in plan.now.dag settled.now task cause) }
+    ensures { IfOk result (λ tasks. tasks.items
+        ≡ next_tasks_in plan.now.dag settled.now task cause) }
 {
     let dag = plan.dag();
     let made = dag.task(task);
     let upstreams = made.upstreams.as_slice();
     match cause {
-        Cause::NotFollowed => Ok(branches_that_skip(alloc, plan, settled, upstreams, task)?),
-        Cause::BranchIsBlocked => Ok(blocked_branches(alloc, dag, settled, upstreams)?),
-        Cause::UpstreamIsBlocked => Ok(blocked_tasks(alloc, settled, upstreams)?),
-        Cause::RuleFails => Ok(tasks_in(alloc, settled, upstreams, States::FAILURES)?),
-        Cause::RuleSkips => skipped_upstreams(alloc, settled, made),
-        Cause::PastHasNotPassed => alone(alloc, Some(task)),
-        Cause::ItemsAreMissing | Cause::HasNoItems => alone(alloc, made.expand),
-        Cause::Waits | Cause::Runs(_) => Ok(Vec::new(alloc)),
+        StateCause::NotFollowed => Ok(branches_that_skip(alloc, plan, settled, upstreams, task)?),
+        StateCause::BranchIsBlocked => Ok(blocked_branches(alloc, dag, settled, upstreams)?),
+        StateCause::UpstreamIsBlocked => Ok(blocked_tasks(alloc, settled, upstreams)?),
+        StateCause::RuleFails => Ok(tasks_in(alloc, settled, upstreams, States::FAILURES)?),
+        StateCause::RuleSkips => skipped_upstreams(alloc, settled, made),
+        StateCause::PastHasNotPassed => alone(alloc, Some(task)),
+        StateCause::ItemsAreMissing | StateCause::HasNoItems => alone(alloc, made.expand),
+        StateCause::Waits | StateCause::Runs(_) => Ok(Vec::new(alloc)),
     }
 }
 
-fn next_run(run: u32, cause: Cause) -> u32
+fn next_run(run: u32, cause: StateCause) -> u32
     ensures { result ≡ next_run_by run cause }
 {
     match cause {
-        Cause::PastHasNotPassed => run.saturating_sub(1),
+        StateCause::PastHasNotPassed => run.saturating_sub(1),
         _ => run,
     }
 }
 
 /// What began where the walk ends for this cause.
-fn ends_with(cause: Cause) -> Option<Began>
+fn ends_with(cause: StateCause) -> Option<Began>
     ensures { result ≡ ends_by cause }
 {
     match cause {
-        Cause::NotFollowed => Some(Began::Pushed),
-        Cause::HasNoItems => Some(Began::PushedNoItems),
+        StateCause::NotFollowed => Some(Began::Pushed),
+        StateCause::HasNoItems => Some(Began::PushedNoItems),
         _ => None,
     }
 }
 
-fn steps_to(alloc: Global, run: u32, cause: Cause, tasks: &[u32]) -> Result<Vec<Step>, OutOfMemory>
+fn steps_to(
+    alloc: Global,
+    run: u32,
+    cause: StateCause,
+    tasks: &[u32],
+) -> Result<Vec<WalkStep>, OutOfMemory>
     ensures { IfOk result (λ steps. steps.items ≡ map (step_by run cause) tasks.now) }
 {
     let run = next_run(run, cause);
@@ -149,12 +155,12 @@ fn steps_to(alloc: Global, run: u32, cause: Cause, tasks: &[u32]) -> Result<Vec<
     let mut steps = Vec::with_capacity(alloc, tasks.len())?;
     for task in tasks {
         let task = *task;
-        steps.push(Step { run, task, began })?;
+        steps.push(WalkStep { run, task, began })?;
     }
     Ok(steps)
 }
 
-fn goes_on(is_expanded: bool, cause: Cause, told: &Settled<'_>) -> bool
+fn goes_on(is_expanded: bool, cause: StateCause, told: &Settled<'_>) -> bool
     ensures { result ≡ goes_on_by is_expanded cause told.now }
 {
     !is_tried(told) && !is_foreign(is_expanded, cause, told)
@@ -167,11 +173,12 @@ fn onward_for(
     settled: &[Settled<'_>],
     run: u32,
     task: u32,
-    cause: Cause,
+    cause: StateCause,
     told: &Settled<'_>,
-) -> Result<Vec<Step>, OutOfMemory>
+) -> Result<Vec<WalkStep>, OutOfMemory>
     requires { task < length plan.now.dag.tasks }
-    ensures { IfOk result (λ steps. steps.items ≡ onward_by plan.now.dag settled.now run task cause told.now) }
+    ensures { IfOk result (λ steps. steps.items
+        ≡ onward_by plan.now.dag settled.now run task cause told.now) }
 {
     if goes_on(is_expanded(plan.dag(), task), cause, told) {
         let tasks = next_tasks(alloc, plan, settled, task, cause)?;
@@ -188,10 +195,11 @@ fn onward_from(
     before: &[Settled<'_>],
     run: u32,
     task: u32,
-) -> Result<Vec<Step>, OutOfMemory>
+) -> Result<Vec<WalkStep>, OutOfMemory>
     requires { length settled.now ≤ length plan.now.dag.tasks }
     ensures { IfOk result (λ steps. steps.items
-        ≡ onward_if_told plan.now.dag settled.now before.now run task (slice_get settled.now task)) }
+        ≡ onward_if_told plan.now.dag settled.now before.now run task
+        (slice_get settled.now task)) }
 {
     match settled.get(task as usize) {
         Some(told) => {
@@ -208,10 +216,11 @@ pub(crate) fn onward(
     plan: &Plan,
     settled: &[Settled<'_>],
     before: &[Settled<'_>],
-    step: Step,
-) -> Result<Vec<Step>, OutOfMemory>
+    step: WalkStep,
+) -> Result<Vec<WalkStep>, OutOfMemory>
     requires { length settled.now ≤ length plan.now.dag.tasks }
-    ensures steps { IfOk result (λ steps. steps.items ≡ onward_among plan.now.dag settled.now before.now step) }
+    ensures steps { IfOk result (λ steps. steps.items
+        ≡ onward_among plan.now.dag settled.now before.now step) }
     ensures few { IfOk result (λ steps. length steps.items ≤ 20_000) }
 {
     let _few = plan.dag();

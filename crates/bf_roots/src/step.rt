@@ -23,7 +23,7 @@ pub struct Root {
 
 /// A task in a run that is come to. With what began there the walk ends there; else it looks at what came of the task.
 #[derive(Clone, Copy, Debug, PartialEq, Eq)]
-pub struct Step {
+pub struct WalkStep {
     pub run: u32,
     pub task: u32,
     pub began: Option<Began>,

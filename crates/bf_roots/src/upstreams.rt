@@ -49,7 +49,8 @@ pub(crate) fn blocked_tasks(
     settled: &[Settled<'_>],
     upstreams: &[u32],
 ) -> Result<Vec<u32>, AllocError>
-    ensures { IfOk result (λ found. found.items ≡ filter (λ u. blocked (value_among settled.now u)) upstreams.now) }
+    ensures { IfOk result (λ found. found.items
+        ≡ filter (λ u. blocked (value_among settled.now u)) upstreams.now) }
 {
     upstreams
         .iter()
@@ -65,7 +66,8 @@ pub(crate) fn tasks_in(
     upstreams: &[u32],
     states: States,
 ) -> Result<Vec<u32>, AllocError>
-    ensures { IfOk result (λ found. found.items ≡ filter (has_within settled.now states) upstreams.now) }
+    ensures { IfOk result (λ found. found.items
+        ≡ filter (has_within settled.now states) upstreams.now) }
 {
     upstreams
         .iter()

@@ -6,7 +6,7 @@ ghost use Rattle.bf_roots.specs.Walks.{AreRootsOf, first_step as first, is_seen 
 
 use crate::onward::{add_root, onward};
 use crate::seen::{is_seen, see, unseen};
-use crate::step::{Root, Step};
+use crate::step::{Root, WalkStep};
 use crate::window::Window;
 use bf_plan::Plan;
 use bf_report::Report;
@@ -17,14 +17,14 @@ use std::alloc::Global;
 #[derive(Drop)]
 struct Trail {
     seen: Vec<Sequence<bool>>,
-    left: Vec<Step>,
+    left: Vec<WalkStep>,
     found: Vec<Root>,
 }
 
-fn first_step(run: u32, task: u32) -> Step
+fn first_step(run: u32, task: u32) -> WalkStep
     ensures { result ≡ first run task }
 {
-    Step {
+    WalkStep {
         run,
         task,
         began: None,
@@ -32,7 +32,7 @@ fn first_step(run: u32, task: u32) -> Step
 }
 
 impl Trail {
-    fn new(alloc: Global, runs: usize, tasks: usize, step: Step) -> Result<Trail, OutOfMemory>
+    fn new(alloc: Global, runs: usize, tasks: usize, step: WalkStep) -> Result<Trail, OutOfMemory>
         ensures seen { IfOk result (λ trail. trail.seen.items ≡ nothing_seen runs tasks) }
         ensures left { IfOk result (λ trail. trail.left.items ≡ step ∷ []) }
         ensures found { IfOk result (λ trail. trail.found.items ≡ []) }
@@ -50,11 +50,12 @@ impl Trail {
         alloc: Global,
         plan: &Plan,
         window: &Window<'_>,
-        step: Step,
+        step: WalkStep,
     ) -> Result<(), OutOfMemory>
         requires unseen { seen_in self.old.seen.items step.run step.task ≡ false }
         requires within { length window.now.settled.items ≤ length plan.now.dag.tasks }
-        ensures { OnOk result (LooksAt plan.now.dag window.now.settled.items window.now.before.items step self.old self.new) }
+        ensures { OnOk result (LooksAt plan.now.dag window.now.settled.items window.now.before.items
+            step self.old self.new) }
     {
         see(&mut self.seen, step.run, step.task);
         add_root(&mut self.found, &window.settled, step)?;

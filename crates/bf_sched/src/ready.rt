@@ -45,7 +45,8 @@ impl<'a> Model for Ready<'a> {
 
 /// The event that came last.
 fn last_event<'c>(core: &'c Core<'_>) -> Option<&'c Event>
-    ensures { (b : Backfill) (e : EventTerm) → core.now ≡ moved b e → option_copied result ≡ Some e }
+    ensures { (b : Backfill) (e : EventTerm) → core.now ≡ moved b e → option_copied result
+        ≡ Some e }
 {
     core.journal().last()
 }
@@ -79,7 +80,8 @@ impl<'a> Ready<'a> {
     pub fn apply(&mut self, event: Event) -> Result<(), Illegal>
         ensures ok { OnOk result (HasCome self.old event self.new) }
         ensures err { IfErr result (IsRefusal self.old event) }
-        ensures memory { MayCome self.old event → IfErr result (λ fault. fault ≡ Illegal.OutOfMemory) }
+        ensures memory { MayCome self.old event
+            → IfErr result (λ fault. fault ≡ Illegal.OutOfMemory) }
         ensures same { OnErr result (self.new ≡ self.old) }
     {
         self.due.make_room(&self.core, &event)?;
@@ -120,7 +122,8 @@ impl<'a> Ready<'a> {
     pub fn into_ended(self) -> Result<Ended<'a>, Ready<'a>>
         ensures ok { IfOk result (λ ended. ended ≡ ending_of self.entry ended.run_states) }
         ensures closed { OnOk result (HasEnded self.entry.state) }
-        ensures back { IfErr result (λ ready. (ready ≡ self.entry) × ¬ (HasEnded self.entry.state)) }
+        ensures back { IfErr result (λ ready. (ready ≡ self.entry)
+            × ¬ (HasEnded self.entry.state)) }
     {
         let Ready { core, due, waiting } = self;
         match core.into_ended() {

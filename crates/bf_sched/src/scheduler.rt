@@ -90,9 +90,11 @@ fn begin(alloc: Global, ready: &mut Ready<'_>, name: JobName) -> Result<Ticket, 
 
 /// The grade of an answer to a try that runs with what was given to it; else why `finish` refuses it.
 fn grade_answer(alloc: Global, core: &Core<'_>, done: &Done) -> Result<Outcome, Illegal>
-    ensures ok { IfOk result (λ o. (o ≡ grade_of core.now.dag done.now.name.task done.now.raw) × IsSameGiven core.now done.now) }
+    ensures ok { IfOk result (λ o. (o ≡ grade_of core.now.dag done.now.name.task done.now.raw)
+        × IsSameGiven core.now done.now) }
     ensures err { IfErr result (IsRefused core.now done.now) }
-    ensures memory { MayFinish core.now done.now → IfErr result (λ fault. fault ≡ Illegal.OutOfMemory) }
+    ensures memory { MayFinish core.now done.now
+        → IfErr result (λ fault. fault ≡ Illegal.OutOfMemory) }
 {
     let _replayed = core.journal();
     let name = done.name();
@@ -182,9 +184,11 @@ impl<'a> Scheduler<'a> {
 
     /// Ends a try.
     fn end(&mut self, name: JobName, outcome: Outcome) -> Result<(), Illegal>
-        ensures ok { OnOk result (MayCome self.old.backfill (EventTerm.End name outcome) × (self.new ≡ moved_on self.old (EventTerm.End name outcome))) }
+        ensures ok { OnOk result (MayCome self.old.backfill (EventTerm.End name outcome)
+            × (self.new ≡ moved_on self.old (EventTerm.End name outcome))) }
         ensures err { IfErr result (IsRefusal self.old.backfill (EventTerm.End name outcome)) }
-        ensures memory { MayCome self.old.backfill (EventTerm.End name outcome) → IfErr result (λ fault. fault ≡ Illegal.OutOfMemory) }
+        ensures memory { MayCome self.old.backfill (EventTerm.End name outcome)
+            → IfErr result (λ fault. fault ≡ Illegal.OutOfMemory) }
         ensures same { OnErr result (self.new ≡ self.old) }
     {
         let _replayed = self.ready.journal();
@@ -203,7 +207,8 @@ impl<'a> Scheduler<'a> {
         ensures ok { OnOk result (HasFinished self.old done self.new) }
         ensures back { IfErr result (λ f. f.0 ≡ done) }
         ensures err { IfErr result (λ f. IsRefused self.old.backfill done f.1) }
-        ensures memory { MayFinish self.old.backfill done → IfErr result (λ f. f.1 ≡ Illegal.OutOfMemory) }
+        ensures memory { MayFinish self.old.backfill done
+            → IfErr result (λ f. f.1 ≡ Illegal.OutOfMemory) }
         ensures same { OnErr result (self.new ≡ self.old) }
     {
         match grade_answer(self.alloc, self.ready.core(), &done) {
@@ -247,7 +252,8 @@ impl<'a> Scheduler<'a> {
     pub fn into_ended(self) -> Result<Ended<'a>, Scheduler<'a>>
         ensures ok { IfOk result (λ ended. ended ≡ ending_of self.entry.backfill ended.run_states) }
         ensures closed { OnOk result (HasEnded self.entry.backfill.state) }
-        ensures back { IfErr result (λ s. (s ≡ self.entry) × ¬ (HasEnded self.entry.backfill.state)) }
+        ensures back { IfErr result (λ s. (s ≡ self.entry)
+            × ¬ (HasEnded self.entry.backfill.state)) }
     {
         let Scheduler {
             alloc,

@@ -60,7 +60,8 @@ impl RunLines<'_> {
     /// Adds the beginning of a task's line.
     fn push_start(&self, alloc: Global, text: &mut String, id: &str) -> Result<(), OutOfMemory>
         ensures { OnOk result (string_bytes text.new
-            ≡ string_bytes text.old ++ (run_start self.now.run.now ++ (key_text Key.Task ++ quoted id.now))) }
+            ≡ string_bytes text.old ++ (run_start self.now.run.now
+            ++ (key_text Key.Task ++ quoted id.now))) }
     {
         text.push_str(self.start.as_str())?;
         push_key(text, Key::Task)?;
@@ -182,7 +183,8 @@ fn push_run(
     ids: &[Text],
     run: &RunReport,
 ) -> Result<(), OutOfMemory>
-    ensures { OnOk result (string_bytes text.new ≡ string_bytes text.old ++ run_lines ids.now run.now) }
+    ensures { OnOk result (string_bytes text.new ≡ string_bytes text.old
+        ++ run_lines ids.now run.now) }
 {
     let start = start_of(alloc, run)?;
     let lines = RunLines { run, start };

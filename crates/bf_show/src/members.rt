@@ -41,7 +41,8 @@ fn push_value(
     value: Option<&Xval>,
 ) -> Result<(), OutOfMemory>
     ensures { OnOk result ((members : Members) → string_bytes text.new ++ line_end members
-        ≡ string_bytes text.old ++ line_end (value_members (key_word key) (option_copied value.entry) members)) }
+        ≡ string_bytes text.old ++ line_end
+        (value_members (key_word key) (option_copied value.entry) members)) }
 {
     let Some(value) = value else {
         return Ok(());
@@ -80,7 +81,8 @@ fn push_further(alloc: Global, text: &mut String, pulls: &[Pull]) -> Result<(), 
 
 /// Adds what an instance pulled, and the end of its line.
 fn push_pulls(alloc: Global, text: &mut String, pulls: &[Pull]) -> Result<(), OutOfMemory>
-    ensures { OnOk result (string_bytes text.new ≡ string_bytes text.old ++ line_end (pulls_members pulls.now)) }
+    ensures { OnOk result (string_bytes text.new ≡ string_bytes text.old
+        ++ line_end (pulls_members pulls.now)) }
 {
     let Some((first, further)) = pulls.split_first() else {
         text.push_str("}\n")?;
@@ -100,7 +102,8 @@ pub(crate) fn push_ended(
     text: &mut String,
     instance: &InstanceReport,
 ) -> Result<(), OutOfMemory>
-    ensures { OnOk result (string_bytes text.new ≡ string_bytes text.old ++ line_end (ended_members instance.now)) }
+    ensures { OnOk result (string_bytes text.new ≡ string_bytes text.old
+        ++ line_end (ended_members instance.now)) }
 {
     let ended = instance.result(alloc)?;
     let tries = ended.tries;

@@ -15,10 +15,13 @@ pub fn write_json_lines<W: Write>(
     report: &Report,
     out: &mut W,
 ) -> Result<(), WriteFault>
-    ensures ok { OnOk result (W.written out.new ≡ sent (W.written out.old) (json_lines report.now)) }
+    ensures ok { OnOk result (W.written out.new
+        ≡ sent (W.written out.old) (json_lines report.now)) }
     ensures part { IfErr result (λ fault. (fault.sent ≤ length (json_lines report.now))
-        × (W.written out.new ≡ sent (W.written out.old) (take fault.sent (json_lines report.now)))) }
-    ensures io { IfErr result (λ fault. fault.cause ≡ Cause.Io → HasHalted (W.failures out.old) (W.failures out.new)
+        × (W.written out.new ≡ sent (W.written out.old)
+        (take fault.sent (json_lines report.now)))) }
+    ensures io { IfErr result (λ fault. fault.cause ≡ Cause.Io
+        → HasHalted (W.failures out.old) (W.failures out.new)
         (W.interruptions out.old) (W.interruptions out.new)) }
     ensures went_on { OnOk result (HasGoneOn (W.failures out.old) (W.failures out.new)
         (W.interruptions out.old) (W.interruptions out.new)) }

@@ -104,7 +104,8 @@ impl Table {
     /// the last line counts) what it answers.
     pub fn read(alloc: Global, bytes: &[u8]) -> Result<Table, TableFault>
         ensures ok { IfOk result (λ table. table_of bytes.now ≡ Ok table) }
-        ensures bad { IfErr result (λ fault. fault ≢ TableFault.OutOfMemory → table_of bytes.now ≡ Err fault) }
+        ensures bad { IfErr result (λ fault. fault ≢ TableFault.OutOfMemory → table_of bytes.now
+            ≡ Err fault) }
     {
         let entries = entries_of_file(alloc, bytes)?;
         Ok(Table {

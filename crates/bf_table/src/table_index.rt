@@ -111,7 +111,8 @@ fn first_with_index(
     date: Option<[u8; 20]>,
     index: Option<i64>,
 ) -> Option<usize>
-    ensures { result ≡ first_of_keys (tree.get pattern_cmp firsts.now) (keys_with_index asked task date index) }
+    ensures { result ≡ first_of_keys (tree.get pattern_cmp firsts.now)
+        (keys_with_index asked task date index) }
 {
     let any = Pattern {
         task,
@@ -133,7 +134,8 @@ fn first_with_date(
     task: Option<u32>,
     date: Option<[u8; 20]>,
 ) -> Option<usize>
-    ensures { result ≡ first_of_keys (tree.get pattern_cmp firsts.now) (keys_with_date asked task date) }
+    ensures { result ≡ first_of_keys (tree.get pattern_cmp firsts.now)
+        (keys_with_date asked task date) }
 {
     let any = first_with_index(firsts, asked, task, date, None);
     let same = first_with_index(firsts, asked, task, date, asked.index);

@@ -46,7 +46,8 @@ fn is_entry(value: &Value) -> bool
 }
 
 fn object_at(number: u32, value: &Value) -> Result<(), TableFault>
-    ensures { Reads (Some number) (λ u. u) result (if entry (view value.now) then Some tt else None) }
+    ensures { Reads (Some number) (λ u. u) result
+        (if entry (view value.now) then Some tt else None) }
 {
     if is_entry(value) {
         Ok(())
@@ -68,7 +69,8 @@ fn number_at(number: u32, value: &Value) -> Result<i64, TableFault>
 }
 
 fn named_task(alloc: Global, number: u32, value: Option<&Value>) -> Result<Option<Text>, TableFault>
-    ensures { Reads (Some number) (λ t. t) result (if_there as_str (option_map (λ v. view v.now) value.entry)) }
+    ensures { Reads (Some number) (λ t. t) result
+        (if_there as_str (option_map (λ v. view v.now) value.entry)) }
 {
     let Some(value) = value else {
         return Ok(None);
@@ -78,7 +80,8 @@ fn named_task(alloc: Global, number: u32, value: Option<&Value>) -> Result<Optio
 }
 
 fn named_number(number: u32, value: Option<&Value>) -> Result<Option<i64>, TableFault>
-    ensures { Reads (Some number) (λ n. n) result (if_there number_of (option_map (λ v. view v.now) value.entry)) }
+    ensures { Reads (Some number) (λ n. n) result
+        (if_there number_of (option_map (λ v. view v.now) value.entry)) }
 {
     let Some(value) = value else {
         return Ok(None);
@@ -98,7 +101,8 @@ fn date_at<'a>(number: u32, value: &'a Value) -> Result<&'a str, TableFault>
 }
 
 fn named_run(alloc: Global, number: u32, value: Option<&Value>) -> Result<Option<Text>, TableFault>
-    ensures { Reads (Some number) (λ t. t) result (if_there date_in (option_map (λ v. view v.now) value.entry)) }
+    ensures { Reads (Some number) (λ t. t) result
+        (if_there date_in (option_map (λ v. view v.now) value.entry)) }
 {
     let Some(value) = value else {
         return Ok(None);
@@ -108,7 +112,8 @@ fn named_run(alloc: Global, number: u32, value: Option<&Value>) -> Result<Option
 }
 
 fn line_at(alloc: Global, number: u32, value: Option<&Value>) -> Result<Sequence<u8>, TableFault>
-    ensures { Reads (Some number) (λ line. line) result (line_in (option_map (λ v. view v.now) value.entry)) }
+    ensures { Reads (Some number) (λ line. line) result
+        (line_in (option_map (λ v. view v.now) value.entry)) }
 {
     let Some(value) = value else {
         return Ok(Sequence::new(alloc));
@@ -118,7 +123,8 @@ fn line_at(alloc: Global, number: u32, value: Option<&Value>) -> Result<Sequence
 }
 
 fn status_at(number: u32, value: Option<&Value>) -> Result<u8, TableFault>
-    ensures { Reads (Some number) (λ n. n) result (status_in (option_map (λ v. view v.now) value.entry)) }
+    ensures { Reads (Some number) (λ n. n) result
+        (status_in (option_map (λ v. view v.now) value.entry)) }
 {
     let Some(value) = value else {
         return Ok(0);

@@ -89,7 +89,9 @@ fn scanned<'a>(
 }
 
 fn indexed<'a>(entries: &'a [TableEntry], firsts: &Firsts, asked: Pattern) -> Option<&'a TableEntry>
-    ensures { option_copied result ≡ option_and_then (slice_get entries.entry.now) (first_of_keys (tree.get pattern_cmp firsts.now) (keys_for asked)) }
+    ensures { option_copied result
+        ≡ option_and_then (slice_get entries.entry.now)
+        (first_of_keys (tree.get pattern_cmp firsts.now) (keys_for asked)) }
 {
     match first_for(firsts, asked) {
         Some(number) => entries.get(number),
@@ -126,7 +128,8 @@ fn id_of(plan: &Plan, task: u32) -> &str
 }
 
 fn date_of(dates: &[[u8; 20]], run: u32) -> Option<[u8; 20]>
-    ensures some { IfSome result (λ date. (length date ≡ 20) × (slice_index_or dates.now run [] ≡ date)) }
+    ensures some { IfSome result (λ date. (length date ≡ 20)
+        × (slice_index_or dates.now run [] ≡ date)) }
     ensures none { IfNone result (slice_index_or dates.now run [] ≡ []) }
 {
     match dates.get(run as usize) {
@@ -172,7 +175,8 @@ impl<'a> TableRunner<'a> {
         starts: &[Timestamp],
     ) -> Result<TableRunner<'a>, OutOfMemory>
         requires { All (λ start. IsShown start.nanosecond) starts.now }
-        ensures { IfOk result (λ runner. runner ≡ record { dag = plan.now.dag; dates = dates_in starts.now; entries = table }) }
+        ensures { IfOk result (λ runner. runner
+            ≡ record { dag = plan.now.dag; dates = dates_in starts.now; entries = table }) }
     {
         let dates = dates_of(alloc, starts)?;
         let firsts = firsts_of(alloc, plan.graph(), table.as_slice())?;
@@ -186,7 +190,9 @@ impl<'a> TableRunner<'a> {
     }
 
     fn entry_for(&self, name: JobName) -> Option<&TableEntry>
-        ensures { option_copied result ≡ find (is_for (task_of self.now.dag name.task).id (slice_index_or self.now.dates name.run []) name) self.now.entries }
+        ensures { option_copied result
+            ≡ find (is_for (task_of self.now.dag name.task).id
+            (slice_index_or self.now.dates name.run []) name) self.now.entries }
     {
         let id = id_of(self.plan, name.task);
         let entries = self.table.as_slice();

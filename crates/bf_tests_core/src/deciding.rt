@@ -1,5 +1,5 @@
 //! When a task is decided.
-use crate::steps::{Answered, End, Step, walk};
+use crate::steps::{Answered, End, TestStep, walk};
 use bf_core::Illegal;
 use bf_tests_graphs::job;
 use std::test::Fail;
@@ -17,15 +17,15 @@ const ALWAYS: &str = r#"{"dag_id":"d","schedule":"@daily",
 #[test]
 fn a_waiting_rule_waits_for_the_last_upstream(rt: HostRuntime) -> Result<(), Fail> {
     let steps: [Answered; 9] = [
-        (Step::Open, Ok(())),
-        (Step::Settle(0, 0), Ok(())),
-        (Step::Begin(job(0, -1, 1)), Ok(())),
-        (Step::Settle(0, 1), Ok(())),
-        (Step::Begin(job(1, -1, 1)), Ok(())),
-        (Step::End(job(0, -1, 1), End::Skips), Ok(())),
-        (Step::Settle(0, 2), Err(Illegal::NotEnabled)),
-        (Step::End(job(1, -1, 1), End::Fails), Ok(())),
-        (Step::Settle(0, 2), Ok(())),
+        (TestStep::Open, Ok(())),
+        (TestStep::Settle(0, 0), Ok(())),
+        (TestStep::Begin(job(0, -1, 1)), Ok(())),
+        (TestStep::Settle(0, 1), Ok(())),
+        (TestStep::Begin(job(1, -1, 1)), Ok(())),
+        (TestStep::End(job(0, -1, 1), End::Skips), Ok(())),
+        (TestStep::Settle(0, 2), Err(Illegal::NotEnabled)),
+        (TestStep::End(job(1, -1, 1), End::Fails), Ok(())),
+        (TestStep::Settle(0, 2), Ok(())),
     ];
     walk(&rt, rt.alloc(), JOIN, &steps)
 }
@@ -33,15 +33,15 @@ fn a_waiting_rule_waits_for_the_last_upstream(rt: HostRuntime) -> Result<(), Fai
 #[test]
 fn an_early_rule_does_not_wait_for_all(rt: HostRuntime) -> Result<(), Fail> {
     let steps: [Answered; 9] = [
-        (Step::Open, Ok(())),
-        (Step::Settle(0, 0), Ok(())),
-        (Step::Begin(job(0, -1, 1)), Ok(())),
-        (Step::Settle(0, 1), Ok(())),
-        (Step::Begin(job(1, -1, 1)), Ok(())),
-        (Step::Settle(0, 2), Err(Illegal::NotEnabled)),
-        (Step::End(job(0, -1, 1), End::Succeeds), Ok(())),
-        (Step::Settle(0, 2), Ok(())),
-        (Step::Begin(job(2, -1, 1)), Ok(())),
+        (TestStep::Open, Ok(())),
+        (TestStep::Settle(0, 0), Ok(())),
+        (TestStep::Begin(job(0, -1, 1)), Ok(())),
+        (TestStep::Settle(0, 1), Ok(())),
+        (TestStep::Begin(job(1, -1, 1)), Ok(())),
+        (TestStep::Settle(0, 2), Err(Illegal::NotEnabled)),
+        (TestStep::End(job(0, -1, 1), End::Succeeds), Ok(())),
+        (TestStep::Settle(0, 2), Ok(())),
+        (TestStep::Begin(job(2, -1, 1)), Ok(())),
     ];
     walk(&rt, rt.alloc(), EARLY, &steps)
 }
@@ -50,14 +50,14 @@ fn an_early_rule_does_not_wait_for_all(rt: HostRuntime) -> Result<(), Fail> {
 #[test]
 fn every_rule_waits_for_a_branch(rt: HostRuntime) -> Result<(), Fail> {
     let steps: [Answered; 8] = [
-        (Step::Open, Ok(())),
-        (Step::Settle(0, 0), Ok(())),
-        (Step::Begin(job(0, -1, 1)), Ok(())),
-        (Step::Settle(0, 1), Err(Illegal::NotEnabled)),
-        (Step::End(job(0, -1, 1), End::Succeeds), Ok(())),
-        (Step::Settle(0, 1), Ok(())),
-        (Step::Begin(job(1, -1, 1)), Err(Illegal::Stranger)),
-        (Step::Close(0), Ok(())),
+        (TestStep::Open, Ok(())),
+        (TestStep::Settle(0, 0), Ok(())),
+        (TestStep::Begin(job(0, -1, 1)), Ok(())),
+        (TestStep::Settle(0, 1), Err(Illegal::NotEnabled)),
+        (TestStep::End(job(0, -1, 1), End::Succeeds), Ok(())),
+        (TestStep::Settle(0, 1), Ok(())),
+        (TestStep::Begin(job(1, -1, 1)), Err(Illegal::Stranger)),
+        (TestStep::Close(0), Ok(())),
     ];
     walk(&rt, rt.alloc(), ALWAYS, &steps)
 }

@@ -1,5 +1,5 @@
 //! Orders of events: the report doesn't rest on them.
-use crate::steps::{Answered, End, Step, core_after};
+use crate::steps::{Answered, End, TestStep, core_after};
 use bf_core::{Core, Illegal};
 use bf_device::Memory;
 use bf_plan::Plan;
@@ -51,28 +51,28 @@ fn reported(rt: &impl Abort, alloc: Global, steps: &[Answered]) -> Result<Vec<u8
 #[test]
 fn a_join_rests_on_no_order(rt: HostRuntime) -> Result<(), Fail> {
     let x_first: [Answered; 10] = [
-        (Step::Open, Ok(())),
-        (Step::Settle(0, 0), Ok(())),
-        (Step::Settle(0, 1), Ok(())),
-        (Step::Begin(job(0, -1, 1)), Ok(())),
-        (Step::Begin(job(1, -1, 1)), Ok(())),
-        (Step::End(job(0, -1, 1), End::Skips), Ok(())),
-        (Step::Settle(0, 2), Err(Illegal::NotEnabled)),
-        (Step::End(job(1, -1, 1), End::Fails), Ok(())),
-        (Step::Settle(0, 2), Ok(())),
-        (Step::Close(0), Ok(())),
+        (TestStep::Open, Ok(())),
+        (TestStep::Settle(0, 0), Ok(())),
+        (TestStep::Settle(0, 1), Ok(())),
+        (TestStep::Begin(job(0, -1, 1)), Ok(())),
+        (TestStep::Begin(job(1, -1, 1)), Ok(())),
+        (TestStep::End(job(0, -1, 1), End::Skips), Ok(())),
+        (TestStep::Settle(0, 2), Err(Illegal::NotEnabled)),
+        (TestStep::End(job(1, -1, 1), End::Fails), Ok(())),
+        (TestStep::Settle(0, 2), Ok(())),
+        (TestStep::Close(0), Ok(())),
     ];
     let y_first: [Answered; 10] = [
-        (Step::Open, Ok(())),
-        (Step::Settle(0, 1), Ok(())),
-        (Step::Begin(job(1, -1, 1)), Ok(())),
-        (Step::Settle(0, 0), Ok(())),
-        (Step::End(job(1, -1, 1), End::Fails), Ok(())),
-        (Step::Settle(0, 2), Err(Illegal::NotEnabled)),
-        (Step::Begin(job(0, -1, 1)), Ok(())),
-        (Step::End(job(0, -1, 1), End::Skips), Ok(())),
-        (Step::Settle(0, 2), Ok(())),
-        (Step::Close(0), Ok(())),
+        (TestStep::Open, Ok(())),
+        (TestStep::Settle(0, 1), Ok(())),
+        (TestStep::Begin(job(1, -1, 1)), Ok(())),
+        (TestStep::Settle(0, 0), Ok(())),
+        (TestStep::End(job(1, -1, 1), End::Fails), Ok(())),
+        (TestStep::Settle(0, 2), Err(Illegal::NotEnabled)),
+        (TestStep::Begin(job(0, -1, 1)), Ok(())),
+        (TestStep::End(job(0, -1, 1), End::Skips), Ok(())),
+        (TestStep::Settle(0, 2), Ok(())),
+        (TestStep::Close(0), Ok(())),
     ];
     assert_eq!(rt;
         reported(&rt, rt.alloc(), &x_first)?.as_slice(),

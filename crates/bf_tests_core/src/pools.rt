@@ -1,5 +1,5 @@
 //! Room in pools.
-use crate::steps::{Answered, End, Step, take, walk};
+use crate::steps::{Answered, End, TestStep, take, walk};
 use bf_core::{Core, Illegal};
 use bf_plan::Plan;
 use bf_tests_graphs::{epoch_run, job, plan_of};
@@ -14,17 +14,17 @@ const NARROW: &str = r#"{"dag_id":"d","schedule":"@daily","pools":{"p":2},"tasks
 #[test]
 fn a_try_waits_for_room_in_its_pool(rt: HostRuntime) -> Result<(), Fail> {
     let steps: [Answered; 11] = [
-        (Step::Open, Ok(())),
-        (Step::Settle(0, 0), Ok(())),
-        (Step::Settle(0, 1), Ok(())),
-        (Step::Settle(0, 2), Ok(())),
-        (Step::Begin(job(1, -1, 1)), Ok(())),
-        (Step::Begin(job(2, -1, 1)), Ok(())),
-        (Step::Begin(job(0, -1, 1)), Err(Illegal::NoRoom)),
-        (Step::End(job(1, -1, 1), End::Succeeds), Ok(())),
-        (Step::Begin(job(0, -1, 1)), Err(Illegal::NoRoom)),
-        (Step::End(job(2, -1, 1), End::Succeeds), Ok(())),
-        (Step::Begin(job(0, -1, 1)), Ok(())),
+        (TestStep::Open, Ok(())),
+        (TestStep::Settle(0, 0), Ok(())),
+        (TestStep::Settle(0, 1), Ok(())),
+        (TestStep::Settle(0, 2), Ok(())),
+        (TestStep::Begin(job(1, -1, 1)), Ok(())),
+        (TestStep::Begin(job(2, -1, 1)), Ok(())),
+        (TestStep::Begin(job(0, -1, 1)), Err(Illegal::NoRoom)),
+        (TestStep::End(job(1, -1, 1), End::Succeeds), Ok(())),
+        (TestStep::Begin(job(0, -1, 1)), Err(Illegal::NoRoom)),
+        (TestStep::End(job(2, -1, 1), End::Succeeds), Ok(())),
+        (TestStep::Begin(job(0, -1, 1)), Ok(())),
     ];
     walk(&rt, rt.alloc(), NARROW, &steps)
 }
@@ -73,11 +73,11 @@ fn occupied_from_start(
 #[test]
 fn slots_are_occupied_while_a_try_runs(rt: HostRuntime) -> Result<(), Fail> {
     let begins: [Answered; 3] = [
-        (Step::Open, Ok(())),
-        (Step::Settle(0, 0), Ok(())),
-        (Step::Begin(job(0, -1, 1)), Ok(())),
+        (TestStep::Open, Ok(())),
+        (TestStep::Settle(0, 0), Ok(())),
+        (TestStep::Begin(job(0, -1, 1)), Ok(())),
     ];
-    let ends: [Answered; 1] = [(Step::End(job(0, -1, 1), End::Succeeds), Ok(()))];
+    let ends: [Answered; 1] = [(TestStep::End(job(0, -1, 1), End::Succeeds), Ok(()))];
     let plan = plan_of(rt.alloc(), NARROW)?;
     let occupied = occupied_from_start(&rt, rt.alloc(), &plan, &begins, &ends)?;
     assert_eq!(rt; occupied, (2, 0));

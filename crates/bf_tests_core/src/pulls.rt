@@ -1,5 +1,5 @@
 //! What a try is given of what other tasks pushed.
-use crate::steps::{Answered, End, Step, core_after, list_of};
+use crate::steps::{Answered, End, TestStep, core_after, list_of};
 use bf_core::Core;
 use bf_plan::Plan;
 use bf_tests_graphs::{job, plan_of};
@@ -63,16 +63,16 @@ fn is_given(
 /// The steps of the graph of two, whose first tasks end so.
 fn ending(x: End, y: End) -> [Answered; 10] {
     [
-        (Step::Open, Ok(())),
-        (Step::Settle(0, 0), Ok(())),
-        (Step::Begin(job(0, -1, 1)), Ok(())),
-        (Step::End(job(0, -1, 1), x), Ok(())),
-        (Step::Settle(0, 1), Ok(())),
-        (Step::Begin(job(1, -1, 1)), Ok(())),
-        (Step::End(job(1, -1, 1), y), Ok(())),
-        (Step::Settle(0, 2), Ok(())),
-        (Step::Begin(job(2, -1, 1)), Ok(())),
-        (Step::End(job(2, -1, 1), End::Succeeds), Ok(())),
+        (TestStep::Open, Ok(())),
+        (TestStep::Settle(0, 0), Ok(())),
+        (TestStep::Begin(job(0, -1, 1)), Ok(())),
+        (TestStep::End(job(0, -1, 1), x), Ok(())),
+        (TestStep::Settle(0, 1), Ok(())),
+        (TestStep::Begin(job(1, -1, 1)), Ok(())),
+        (TestStep::End(job(1, -1, 1), y), Ok(())),
+        (TestStep::Settle(0, 2), Ok(())),
+        (TestStep::Begin(job(2, -1, 1)), Ok(())),
+        (TestStep::End(job(2, -1, 1), End::Succeeds), Ok(())),
     ]
 }
 
@@ -93,24 +93,24 @@ fn nothing_is_pulled_from_a_failure_and_from_a_skip(rt: HostRuntime) -> Result<(
 #[test]
 fn what_instances_pushed_is_pulled_by_map_index(rt: HostRuntime) -> Result<(), Fail> {
     let steps: [Answered; 15] = [
-        (Step::Open, Ok(())),
-        (Step::Settle(0, 0), Ok(())),
-        (Step::Begin(job(0, -1, 1)), Ok(())),
+        (TestStep::Open, Ok(())),
+        (TestStep::Settle(0, 0), Ok(())),
+        (TestStep::Begin(job(0, -1, 1)), Ok(())),
         (
-            Step::End(job(0, -1, 1), End::PushesList(&[3, 1, 2])),
+            TestStep::End(job(0, -1, 1), End::PushesList(&[3, 1, 2])),
             Ok(()),
         ),
-        (Step::Expand(0, 1), Ok(())),
-        (Step::Begin(job(1, 0, 1)), Ok(())),
-        (Step::Begin(job(1, 1, 1)), Ok(())),
-        (Step::Begin(job(1, 2, 1)), Ok(())),
-        (Step::End(job(1, 2, 1), End::Pushes(2)), Ok(())),
-        (Step::End(job(1, 0, 1), End::Pushes(3)), Ok(())),
-        (Step::End(job(1, 1, 1), End::Succeeds), Ok(())),
-        (Step::Settle(0, 2), Ok(())),
-        (Step::Begin(job(2, -1, 1)), Ok(())),
-        (Step::End(job(2, -1, 1), End::Succeeds), Ok(())),
-        (Step::Close(0), Ok(())),
+        (TestStep::Expand(0, 1), Ok(())),
+        (TestStep::Begin(job(1, 0, 1)), Ok(())),
+        (TestStep::Begin(job(1, 1, 1)), Ok(())),
+        (TestStep::Begin(job(1, 2, 1)), Ok(())),
+        (TestStep::End(job(1, 2, 1), End::Pushes(2)), Ok(())),
+        (TestStep::End(job(1, 0, 1), End::Pushes(3)), Ok(())),
+        (TestStep::End(job(1, 1, 1), End::Succeeds), Ok(())),
+        (TestStep::Settle(0, 2), Ok(())),
+        (TestStep::Begin(job(2, -1, 1)), Ok(())),
+        (TestStep::End(job(2, -1, 1), End::Succeeds), Ok(())),
+        (TestStep::Close(0), Ok(())),
     ];
     let pulled = [Some(list_of(rt.alloc(), &[3, 2])?)];
     is_given(&rt, rt.alloc(), EXPANDED, &steps, job(2, -1, 1), &pulled)

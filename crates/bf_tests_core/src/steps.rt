@@ -21,7 +21,7 @@ pub enum End {
 
 /// An event. It is settled and expanded by run and task, and closed by run.
 #[derive(Clone, Copy)]
-pub enum Step {
+pub enum TestStep {
     Open,
     Settle(u32, u32),
     Expand(u32, u32),
@@ -32,7 +32,7 @@ pub enum Step {
 }
 
 /// A step, and the answer of the core.
-pub type Answered = (Step, Result<(), Illegal>);
+pub type Answered = (TestStep, Result<(), Illegal>);
 
 /// A list of numbers.
 pub fn list_of(alloc: Global, numbers: &[i64]) -> Result<Xval, OutOfMemory> {
@@ -53,15 +53,15 @@ fn outcome_of(alloc: Global, end: End) -> Result<Outcome, OutOfMemory> {
     }
 }
 
-fn event_of(alloc: Global, step: Step) -> Result<Event, OutOfMemory> {
+fn event_of(alloc: Global, step: TestStep) -> Result<Event, OutOfMemory> {
     match step {
-        Step::Open => Ok(Event::Open),
-        Step::Settle(run, task) => Ok(Event::Settle { run, task }),
-        Step::Expand(run, task) => Ok(Event::Expand { run, task }),
-        Step::Begin(name) => Ok(Event::Begin(name)),
-        Step::End(name, end) => Ok(Event::End(name, outcome_of(alloc, end)?)),
-        Step::Close(run) => Ok(Event::Close { run }),
-        Step::Tick(moment) => Ok(Event::Tick { moment }),
+        TestStep::Open => Ok(Event::Open),
+        TestStep::Settle(run, task) => Ok(Event::Settle { run, task }),
+        TestStep::Expand(run, task) => Ok(Event::Expand { run, task }),
+        TestStep::Begin(name) => Ok(Event::Begin(name)),
+        TestStep::End(name, end) => Ok(Event::End(name, outcome_of(alloc, end)?)),
+        TestStep::Close(run) => Ok(Event::Close { run }),
+        TestStep::Tick(moment) => Ok(Event::Tick { moment }),
     }
 }
 

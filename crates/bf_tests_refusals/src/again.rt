@@ -1,7 +1,7 @@
 //! Calls that are made again where memory was wanting.
 ghost use Rattle.std.specs.Prelude.{◌≡◌};
 
-use crate::graphs::Graph;
+use crate::graphs::GraphCase;
 use bf_core::{Core, Illegal};
 use bf_interval::Runs;
 use bf_plan::Plan;
@@ -15,7 +15,7 @@ use thiserror::Error;
 
 /// Why a backfill didn't come to its end.
 #[derive(Clone, Copy, Debug, PartialEq, Eq, Error)]
-pub enum Fault {
+pub enum RefusalFault {
     #[error("a call found no memory twice")]
     Twice,
     #[error("a refused call has changed the backfill")]
@@ -45,28 +45,28 @@ fn see(scheduler: &Scheduler<'_>) -> Seen {
 }
 
 /// Whether a backfill is as it was seen.
-fn is_still(scheduler: &Scheduler<'_>, before: Seen) -> Result<(), Fault> {
+fn is_still(scheduler: &Scheduler<'_>, before: Seen) -> Result<(), RefusalFault> {
     if see(scheduler) == before {
         Ok(())
     } else {
-        Err(Fault::Changed)
+        Err(RefusalFault::Changed)
     }
 }
 
 /// The plan of a graph that has no fault.
-pub fn plan_again(alloc: Global, graph: Graph) -> Result<Plan, Fault> {
+pub fn plan_again(alloc: Global, graph: GraphCase) -> Result<Plan, RefusalFault> {
     if let Ok(plan) = plan_of(alloc, graph.file()) {
         return Ok(plan);
     }
-    plan_of(alloc, graph.file()).map_err(|_| Fault::Twice)
+    plan_of(alloc, graph.file()).map_err(|_| RefusalFault::Twice)
 }
 
 /// The runs of so many days.
-pub fn runs_again(alloc: Global, days: u32) -> Result<Runs, Fault> {
+pub fn runs_again(alloc: Global, days: u32) -> Result<Runs, RefusalFault> {
     if let Some(runs) = daily_runs(alloc, days) {
         return Ok(runs);
     }
-    daily_runs(alloc, days).ok_or(Fault::Twice)
+    daily_runs(alloc, days).ok_or(RefusalFault::Twice)
 }
 
 /// The scheduler of a backfill by one worker.
@@ -79,50 +79,50 @@ pub fn scheduler_again<'a>(
     alloc: Global,
     plan: &'a Plan,
     runs: &Runs,
-) -> Result<Scheduler<'a>, Fault> {
+) -> Result<Scheduler<'a>, RefusalFault> {
     if let Ok(scheduler) = scheduler(alloc, plan, runs) {
         return Ok(scheduler);
     }
-    scheduler(alloc, plan, runs).map_err(|_| Fault::Twice)
+    scheduler(alloc, plan, runs).map_err(|_| RefusalFault::Twice)
 }
 
 /// What comes next.
-pub fn next_again(scheduler: &mut Scheduler<'_>) -> Result<Next, Fault> {
+pub fn next_again(scheduler: &mut Scheduler<'_>) -> Result<Next, RefusalFault> {
     let before = see(scheduler);
     if let Ok(next) = scheduler.next() {
         return Ok(next);
     }
     is_still(scheduler, before)?;
-    scheduler.next().map_err(|_| Fault::Twice)
+    scheduler.next().map_err(|_| RefusalFault::Twice)
 }
 
 /// Lets the clock come to a moment.
-pub fn tick_again(scheduler: &mut Scheduler<'_>, moment: i64) -> Result<bool, Fault> {
+pub fn tick_again(scheduler: &mut Scheduler<'_>, moment: i64) -> Result<bool, RefusalFault> {
     let before = see(scheduler);
     if let Ok(came) = scheduler.tick(moment) {
         return Ok(came);
     }
     is_still(scheduler, before)?;
-    scheduler.tick(moment).map_err(|_| Fault::Twice)
+    scheduler.tick(moment).map_err(|_| RefusalFault::Twice)
 }
 
 /// Ends a try.
-pub fn finish_again(scheduler: &mut Scheduler<'_>, done: Done) -> Result<(), Fault> {
+pub fn finish_again(scheduler: &mut Scheduler<'_>, done: Done) -> Result<(), RefusalFault> {
     let before = see(scheduler);
     match scheduler.finish(done) {
         Ok(()) => Ok(()),
         Err((done, Illegal::OutOfMemory)) => {
             is_still(scheduler, before)?;
-            scheduler.finish(done).map_err(|_| Fault::Twice)
+            scheduler.finish(done).map_err(|_| RefusalFault::Twice)
         }
-        Err(_) => Err(Fault::Stopped),
+        Err(_) => Err(RefusalFault::Stopped),
     }
 }
 
 /// The answer of a try.
-pub fn raw_again(alloc: Global, graph: Graph, name: JobName) -> Result<Raw, Fault> {
+pub fn raw_again(alloc: Global, graph: GraphCase, name: JobName) -> Result<Raw, RefusalFault> {
     if let Ok(raw) = graph.raw(alloc, name) {
         return Ok(raw);
     }
-    graph.raw(alloc, name).map_err(|_| Fault::Twice)
+    graph.raw(alloc, name).map_err(|_| RefusalFault::Twice)
 }

@@ -1,8 +1,8 @@
 //! A backfill by one worker, each call made again where memory was wanting, and its journal, let come again.
 use crate::again::{
-    Fault, finish_again, next_again, raw_again, runs_again, scheduler_again, tick_again,
+    RefusalFault, finish_again, next_again, raw_again, runs_again, scheduler_again, tick_again,
 };
-use crate::graphs::Graph;
+use crate::graphs::GraphCase;
 use crate::replay::replay;
 use bf_core::Ended;
 use bf_interval::Runs;
@@ -17,16 +17,20 @@ const MOST_TURNS: u32 = 1_000;
 /// Makes a try that has begun.
 fn make_try(
     alloc: Global,
-    graph: Graph,
+    graph: GraphCase,
     scheduler: &mut Scheduler<'_>,
     ticket: Ticket,
-) -> Result<(), Fault> {
+) -> Result<(), RefusalFault> {
     let raw = raw_again(alloc, graph, ticket.name())?;
     finish_again(scheduler, ticket.answer(raw))
 }
 
 /// One more event. False where the backfill has ended.
-fn turn(alloc: Global, graph: Graph, scheduler: &mut Scheduler<'_>) -> Result<bool, Fault> {
+fn turn(
+    alloc: Global,
+    graph: GraphCase,
+    scheduler: &mut Scheduler<'_>,
+) -> Result<bool, RefusalFault> {
     match next_again(scheduler)? {
         Next::Stepped => Ok(true),
         Next::Go(ticket) => {
@@ -34,39 +38,43 @@ fn turn(alloc: Global, graph: Graph, scheduler: &mut Scheduler<'_>) -> Result<bo
             Ok(true)
         }
         Next::Until(moment) => tick_again(scheduler, moment),
-        Next::Wait => Err(Fault::Stopped),
+        Next::Wait => Err(RefusalFault::Stopped),
         Next::Ended => Ok(false),
     }
 }
 
-fn all_turns(alloc: Global, graph: Graph, scheduler: &mut Scheduler<'_>) -> Result<(), Fault> {
+fn all_turns(
+    alloc: Global,
+    graph: GraphCase,
+    scheduler: &mut Scheduler<'_>,
+) -> Result<(), RefusalFault> {
     for _turn in 0..MOST_TURNS {
         if !turn(alloc, graph, scheduler)? {
             return Ok(());
         }
     }
-    Err(Fault::Stopped)
+    Err(RefusalFault::Stopped)
 }
 
 /// The end of the backfill of a plan.
 fn ended_of<'p>(
     alloc: Global,
-    graph: Graph,
+    graph: GraphCase,
     plan: &'p Plan,
     runs: &Runs,
-) -> Result<Ended<'p>, Fault> {
+) -> Result<Ended<'p>, RefusalFault> {
     let mut scheduler = scheduler_again(alloc, plan, runs)?;
     all_turns(alloc, graph, &mut scheduler)?;
-    scheduler.into_ended().map_err(|_| Fault::Stopped)
+    scheduler.into_ended().map_err(|_| RefusalFault::Stopped)
 }
 
 /// The end of the backfill of a plan over so many days, whose journal comes again.
 pub fn backfill<'p>(
     alloc: Global,
-    graph: Graph,
+    graph: GraphCase,
     plan: &'p Plan,
     days: u32,
-) -> Result<Ended<'p>, Fault> {
+) -> Result<Ended<'p>, RefusalFault> {
     let runs = runs_again(alloc, days)?;
     let ended = ended_of(alloc, graph, plan, &runs)?;
     replay(alloc, plan, &runs, ended.journal())?;

@@ -5,7 +5,7 @@ use std::alloc::Global;
 
 /// A graph, with what each of its tries answers.
 #[derive(Clone, Copy, Debug, PartialEq, Eq)]
-pub enum Graph {
+pub enum GraphCase {
     /// A retry that waits, a past, an expansion, a pool and an early rule.
     Delayed,
     /// A task that is expanded over a list, and one over what its instances pushed, of which one fails.
@@ -24,24 +24,24 @@ const EXPANDED: &str = r#"{"dag_id":"d","schedule":"@daily","tasks":[
     {"id":"m","upstream":["src"],"expand":"src"},
     {"id":"n","upstream":["m"],"expand":"m","rule":"all_done"}]}"#;
 
-impl Graph {
+impl GraphCase {
     /// Its file.
     pub fn file(self) -> &'static str {
         match self {
-            Graph::Delayed => DELAYED,
-            Graph::Expanded => EXPANDED,
+            GraphCase::Delayed => DELAYED,
+            GraphCase::Expanded => EXPANDED,
         }
     }
 
     /// The exit status of a try, and the last line that it prints.
     fn answer(self, name: JobName) -> (i32, &'static str) {
         match (self, name.task, name.index, name.attempt) {
-            (Graph::Delayed, 0, _, 1) | (Graph::Delayed, 1, 1, _) => (1, ""),
-            (Graph::Delayed, 0, _, _) => (0, "[1,2]"),
-            (Graph::Expanded, 0, _, _) => (0, "[1,2,3]"),
-            (Graph::Expanded, 1, 0, _) => (0, "1"),
-            (Graph::Expanded, 1, 1, _) => (1, ""),
-            (Graph::Expanded, 1, 2, _) => (0, "3"),
+            (GraphCase::Delayed, 0, _, 1) | (GraphCase::Delayed, 1, 1, _) => (1, ""),
+            (GraphCase::Delayed, 0, _, _) => (0, "[1,2]"),
+            (GraphCase::Expanded, 0, _, _) => (0, "[1,2,3]"),
+            (GraphCase::Expanded, 1, 0, _) => (0, "1"),
+            (GraphCase::Expanded, 1, 1, _) => (1, ""),
+            (GraphCase::Expanded, 1, 2, _) => (0, "3"),
             _ => (0, ""),
         }
     }

@@ -10,23 +10,31 @@ mod replay;
 mod sameness;
 mod shown;
 
-use crate::again::{Fault, plan_again};
+use crate::again::{RefusalFault, plan_again};
 use crate::backfill::backfill;
-use crate::graphs::Graph;
+use crate::graphs::GraphCase;
 use crate::shown::show;
 use std::alloc::Global;
 use std::process::ExitCode;
 
 /// Prints the events of the backfill of a graph over so many days, and says whether all were.
-fn tell_of(rt: &HostRuntime, alloc: Global, graph: Graph, days: u32) -> Result<bool, Fault> {
+fn tell_of(
+    rt: &HostRuntime,
+    alloc: Global,
+    graph: GraphCase,
+    days: u32,
+) -> Result<bool, RefusalFault> {
     let plan = plan_again(alloc, graph)?;
     let ended = backfill(alloc, graph, &plan, days)?;
     Ok(show(rt, ended.journal()))
 }
 
 /// The same of both.
-fn tell(rt: &HostRuntime) -> Result<bool, Fault> {
-    Ok(tell_of(rt, rt.alloc(), Graph::Delayed, 2)? && tell_of(rt, rt.alloc(), Graph::Expanded, 1)?)
+fn tell(rt: &HostRuntime) -> Result<bool, RefusalFault> {
+    Ok(
+        tell_of(rt, rt.alloc(), GraphCase::Delayed, 2)?
+            && tell_of(rt, rt.alloc(), GraphCase::Expanded, 1)?,
+    )
 }
 
 fn main(rt: HostRuntime) -> ExitCode {

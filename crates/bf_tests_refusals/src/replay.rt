@@ -1,23 +1,23 @@
 //! The events of a journal, let come again to two cores, of which one shows how the other was.
-use crate::again::Fault;
+use crate::again::RefusalFault;
 use crate::sameness::is_same_core;
 use bf_core::{Core, Event, Illegal};
 use bf_interval::Runs;
 use bf_plan::Plan;
 use std::alloc::Global;
 
-fn core_again<'a>(alloc: Global, plan: &'a Plan, runs: &Runs) -> Result<Core<'a>, Fault> {
+fn core_again<'a>(alloc: Global, plan: &'a Plan, runs: &Runs) -> Result<Core<'a>, RefusalFault> {
     if let Ok(core) = Core::new(alloc, plan, runs) {
         return Ok(core);
     }
-    Core::new(alloc, plan, runs).map_err(|_| Fault::Twice)
+    Core::new(alloc, plan, runs).map_err(|_| RefusalFault::Twice)
 }
 
-fn copy_again(alloc: Global, event: &Event) -> Result<Event, Fault> {
+fn copy_again(alloc: Global, event: &Event) -> Result<Event, RefusalFault> {
     if let Ok(event) = event.copy(alloc) {
         return Ok(event);
     }
-    event.copy(alloc).map_err(|_| Fault::Twice)
+    event.copy(alloc).map_err(|_| RefusalFault::Twice)
 }
 
 /// A journal, and two cores on its way.
@@ -36,53 +36,53 @@ impl<'a, 'b> Cores<'a, 'b> {
 
     /// Lets an event come to the core. Where memory is wanting, nothing of it has changed, and it takes the event when that
     /// comes again.
-    fn apply(&mut self, alloc: Global, event: &Event) -> Result<(), Fault> {
+    fn apply(&mut self, alloc: Global, event: &Event) -> Result<(), RefusalFault> {
         match self.core.apply(copy_again(alloc, event)?) {
             Ok(()) => Ok(()),
             Err(Illegal::OutOfMemory) => {
                 if !self.are_level() {
-                    return Err(Fault::Changed);
+                    return Err(RefusalFault::Changed);
                 }
                 self.core
                     .apply(copy_again(alloc, event)?)
-                    .map_err(|_| Fault::Twice)
+                    .map_err(|_| RefusalFault::Twice)
             }
-            Err(_) => Err(Fault::Stopped),
+            Err(_) => Err(RefusalFault::Stopped),
         }
     }
 
-    fn catch_up(&mut self, alloc: Global, event: &Event) -> Result<(), Fault> {
+    fn catch_up(&mut self, alloc: Global, event: &Event) -> Result<(), RefusalFault> {
         if self.behind.apply(copy_again(alloc, event)?).is_ok() {
             return Ok(());
         }
         self.behind
             .apply(copy_again(alloc, event)?)
-            .map_err(|_| Fault::Twice)
+            .map_err(|_| RefusalFault::Twice)
     }
 
     /// Lets an event come to both. Between them it is seen.
-    fn step(&mut self, alloc: Global, event: &Event) -> Result<(), Fault> {
+    fn step(&mut self, alloc: Global, event: &Event) -> Result<(), RefusalFault> {
         self.apply(alloc, event)?;
         if self.are_level() {
-            return Err(Fault::Unseen);
+            return Err(RefusalFault::Unseen);
         }
         self.catch_up(alloc, event)?;
         if self.are_level() {
             Ok(())
         } else {
-            Err(Fault::Changed)
+            Err(RefusalFault::Changed)
         }
     }
 
     /// Lets each event of the journal come, up to the end of the backfill.
-    fn replay(&mut self, alloc: Global) -> Result<(), Fault> {
+    fn replay(&mut self, alloc: Global) -> Result<(), RefusalFault> {
         for event in self.journal {
             self.step(alloc, event)?;
         }
         if self.core.is_ended() {
             Ok(())
         } else {
-            Err(Fault::Stopped)
+            Err(RefusalFault::Stopped)
         }
     }
 }
@@ -93,7 +93,7 @@ fn both<'a, 'b>(
     plan: &'a Plan,
     runs: &Runs,
     journal: &'b [Event],
-) -> Result<Cores<'a, 'b>, Fault> {
+) -> Result<Cores<'a, 'b>, RefusalFault> {
     let core = core_again(alloc, plan, runs)?;
     let behind = core_again(alloc, plan, runs)?;
     Ok(Cores {
@@ -104,6 +104,11 @@ fn both<'a, 'b>(
 }
 
 /// Lets each event of a journal come, up to the end of the backfill.
-pub fn replay(alloc: Global, plan: &Plan, runs: &Runs, journal: &[Event]) -> Result<(), Fault> {
+pub fn replay(
+    alloc: Global,
+    plan: &Plan,
+    runs: &Runs,
+    journal: &[Event],
+) -> Result<(), RefusalFault> {
     both(alloc, plan, runs, journal)?.replay(alloc)
 }

@@ -1,5 +1,5 @@
 //! What the machine's clock tells.
-use bf_lane::{Clock, MachineClock};
+use bf_lane::{MachineClock, TimeSource};
 use std::io;
 use std::sync::atomic::{AtomicU64, Ordering};
 use std::test::Fail;

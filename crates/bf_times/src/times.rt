@@ -29,7 +29,8 @@ pub fn times_of(
     runs: &Runs,
     bytes: &[u8],
 ) -> Result<String, JournalFault>
-    ensures ok { IfOk result (λ text. AreTimesOf plan.now.dag runs.now bytes.now (string_bytes text)) }
+    ensures ok { IfOk result (λ text. AreTimesOf plan.now.dag runs.now bytes.now
+        (string_bytes text)) }
     ensures err { IfErr result (IsTimesFault plan.now.dag runs.now bytes.now) }
 {
     let Some(head) = first_line(bytes) else {

@@ -85,7 +85,8 @@ fn gives_items(plan: &Plan, task: u32) -> bool
 
 fn names_followed(plan: &Plan, task: u32, value: &Option<Xval>) -> bool
     requires { task < length plan.now.dag.tasks }
-    ensures { result ≡ (not (branch (task_of plan.now.dag task)) || names_downstreams_in (shape_of plan.now.dag) task value.now) }
+    ensures { result ≡ (not (branch (task_of plan.now.dag task))
+        || names_downstreams_in (shape_of plan.now.dag) task value.now) }
 {
     !plan.dag().is_branch(task) || names_downstreams(plan.graph(), task, value.as_ref())
 }
@@ -163,7 +164,8 @@ pub fn grade(alloc: Global, plan: &Plan, task: u32, raw: &Raw) -> Result<Outcome
 
 /// A law: a grade fits.
 pub fn grades_fit()
-    ensures { (dag : DagTerm) (task : ℕ) (raw : RawTerm) → fits_in dag task (grade_of dag task raw) ≡ true }
+    ensures { (dag : DagTerm) (task : ℕ) (raw : RawTerm) → fits_in dag task (grade_of dag task raw)
+        ≡ true }
 {}
 
 /// A law: what fits is the grade of some answer.
@@ -175,7 +177,8 @@ pub fn each_fit_is_a_grade()
 /// The last line by which a program pushes this.
 fn line_for(alloc: Global, pushed: &Option<Xval>) -> Result<Sequence<u8>, OutOfMemory>
     ensures text { IfOk result (λ line. IsUtf8 line) }
-    ensures reads_back { IfOk result (λ line. of_lines pushed.now ≡ true → value_of_line line ≡ pushed.now) }
+    ensures reads_back { IfOk result
+        (λ line. of_lines pushed.now ≡ true → value_of_line line ≡ pushed.now) }
 {
     let Some(value) = pushed else {
         return Ok(Sequence::new(alloc));

@@ -67,8 +67,10 @@ impl Ledger {
 
     /// Notes a try that has ended. An entry that is not noted is handed back.
     pub fn note(&mut self, name: JobName, entry: Entry) -> Result<(), (Entry, NoteFault)>
-        ensures ok { OnOk result ((map.get self.old name ≡ None) × (self.new ≡ map.insert self.old name entry)) }
-        ensures recorded { IfErr result (λ e. (e.1 ≡ NoteFault.AlreadyRecorded) ↔ IsSome (map.get self.old name)) }
+        ensures ok { OnOk result ((map.get self.old name ≡ None)
+            × (self.new ≡ map.insert self.old name entry)) }
+        ensures recorded { IfErr result
+            (λ e. (e.1 ≡ NoteFault.AlreadyRecorded) ↔ IsSome (map.get self.old name)) }
         ensures back { IfErr result (λ e. e.0 ≡ entry) }
         ensures err { OnErr result (self.new ≡ self.old) }
     {

@@ -39,6 +39,8 @@ pub trait TaskRunner {
 
     /// Runs the try of a ticket. Where there is no answer the ticket is handed back.
     fn run(&self, ticket: Ticket) -> Result<Done, (Ticket, RunnerFault)>
-        ensures ok { IfOk result (λ d. (d.name ≡ ticket.name) × (d.given ≡ ticket.given) × may_answer self.now d.name d.given d.raw) }
-        ensures err { IfErr result (λ f. (f.0 ≡ ticket) × (f.1 ≡ RunnerFault.GaveUp → may_give_up self.now ticket.name ticket.given)) };
+        ensures ok { IfOk result (λ d. (d.name ≡ ticket.name) × (d.given ≡ ticket.given)
+            × may_answer self.now d.name d.given d.raw) }
+        ensures err { IfErr result (λ f. (f.0 ≡ ticket)
+            × (f.1 ≡ RunnerFault.GaveUp → may_give_up self.now ticket.name ticket.given)) };
 }

@@ -51,7 +51,8 @@ impl Bounds {
     /// Refuses those of which the first lies after the last.
     pub(crate) fn refuse_reversed(&self) -> Result<(), CommandFault>
         ensures ok { OnOk result (reversed self.now ≡ false) }
-        ensures err { IfErr result (λ f. (f ≡ CommandFault.Range (RangeFault.Unlisted IntervalFault.RangeReversed))
+        ensures err { IfErr result (λ f.
+            (f ≡ CommandFault.Range (RangeFault.Unlisted IntervalFault.RangeReversed))
             × (reversed self.now ≡ true)) }
     {
         if self.is_reversed() {

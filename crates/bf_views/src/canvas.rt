@@ -40,7 +40,8 @@ fn width_by(columns: Option<&str>) -> u32
 }
 
 fn has_colors(is_terminal: bool, no_color: Option<&str>, term: Option<&str>) -> bool
-    ensures { result ≡ colors_by is_terminal (option_map (λ c. c.now) no_color.entry) (option_map (λ t. t.now) term.entry) }
+    ensures { result ≡ colors_by is_terminal (option_map (λ c. c.now) no_color.entry)
+        (option_map (λ t. t.now) term.entry) }
 {
     is_terminal && no_color.unwrap_or("").is_empty() && term.unwrap_or("") != "dumb"
 }
@@ -56,7 +57,8 @@ impl Canvas {
     ) -> Canvas
         ensures width { IsWidthBy (option_map (λ c. c.now) columns.entry) result.width }
         ensures colored { result.colored
-            ≡ colors_by is_terminal (option_map (λ c. c.now) no_color.entry) (option_map (λ t. t.now) term.entry) }
+            ≡ colors_by is_terminal (option_map (λ c. c.now) no_color.entry)
+            (option_map (λ t. t.now) term.entry) }
     {
         Canvas {
             width: width_by(columns),

@@ -70,7 +70,8 @@ fn run_explained(
     start: Timestamp,
 ) -> Result<String, CommandFault>
     requires { IsShownReport report.now }
-    ensures text { IfOk result (λ text. IsExplanation paths.now plan.now.dag report.now start.nanosecond None (string_bytes text)) }
+    ensures text { IfOk result (λ text. IsExplanation paths.now plan.now.dag report.now
+        start.nanosecond None (string_bytes text)) }
     ensures fault { IfErr result (IsFaultOfAsked plan.now.dag report.now start.nanosecond None) }
 {
     let Some(run) = run_at(report, start) else {
@@ -92,8 +93,10 @@ fn task_explained(
     asked: &TaskAsked,
 ) -> Result<String, CommandFault>
     requires { IsShownReport report.now }
-    ensures text { IfOk result (λ text. IsExplanation paths.now plan.now.dag report.now start.nanosecond (Some asked.now) (string_bytes text)) }
-    ensures fault { IfErr result (IsFaultOfAsked plan.now.dag report.now start.nanosecond (Some asked.now)) }
+    ensures text { IfOk result (λ text. IsExplanation paths.now plan.now.dag report.now
+        start.nanosecond (Some asked.now) (string_bytes text)) }
+    ensures fault { IfErr result (IsFaultOfAsked plan.now.dag report.now start.nanosecond
+        (Some asked.now)) }
 {
     let Some(task) = task_of(plan, asked) else {
         return Err(CommandFault::Clear(ClearFault::UnknownTask));
@@ -121,8 +124,10 @@ fn explained(
     task: &Option<TaskAsked>,
 ) -> Result<String, CommandFault>
     requires { IsShownReport report.now }
-    ensures text { IfOk result (λ text. IsExplanation paths.now plan.now.dag report.now start.nanosecond task.now (string_bytes text)) }
-    ensures fault { IfErr result (IsFaultOfAsked plan.now.dag report.now start.nanosecond task.now) }
+    ensures text { IfOk result (λ text. IsExplanation paths.now plan.now.dag report.now
+        start.nanosecond task.now (string_bytes text)) }
+    ensures fault { IfErr result (IsFaultOfAsked plan.now.dag report.now start.nanosecond
+        task.now) }
 {
     match task {
         Some(task) => task_explained(alloc, paths, plan, report, start, task),
@@ -138,7 +143,8 @@ pub fn explain_answered<S: Source, W: Write>(
     files: &mut S,
     out: &mut W,
 ) -> Result<Status, CommandFault>
-    ensures answer { IfOk result (λ status. Sends (λ text. IsExplainAnswer (S.file files.old) asked text status)
+    ensures answer { IfOk result (λ status. Sends
+        (λ text. IsExplainAnswer (S.file files.old) asked text status)
         (W.written out.old) (W.written out.new)) }
     ensures fault { IfErr result (IsExplainFault (S.file files.old) asked) }
     ensures left { IfErr result (Leaves (HasHalted (W.failures out.old) (W.failures out.new)

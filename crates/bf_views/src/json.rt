@@ -19,12 +19,14 @@ pub fn json_answered<S: Source, W: Write>(
     files: &mut S,
     out: &mut W,
 ) -> Result<Status, CommandFault>
-    ensures answer { IfOk result (λ status. Sends (λ text. IsJsonAnswer (S.file files.old) (string_bytes path) text status)
+    ensures answer { IfOk result (λ status. Sends
+        (λ text. IsJsonAnswer (S.file files.old) (string_bytes path) text status)
         (W.written out.old) (W.written out.new)) }
     ensures fault { IfErr result (IsLoneFault (S.file files.old) (string_bytes path)) }
     ensures left { IfErr result (Leaves (HasHalted (W.failures out.old) (W.failures out.new)
         (W.interruptions out.old) (W.interruptions out.new))
-        (λ text. (status : StatusTerm) × IsJsonAnswer (S.file files.old) (string_bytes path) text status)
+        (λ text. (status : StatusTerm)
+        × IsJsonAnswer (S.file files.old) (string_bytes path) text status)
         (W.written out.old) (W.written out.new)) }
 {
     let report = report_in(alloc, path, files)?;

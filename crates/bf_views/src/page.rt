@@ -98,7 +98,8 @@ fn write_shown<W: Write>(
 ) -> Result<(), CommandFault>
     requires rules { IsShownReport report.now }
     requires matches { is_of_graph planned.now.plan.dag report.now ≡ true }
-    ensures page { OnOk result (Sends (IsPage words.now planned.now.graph.items planned.now.plan.dag report.now times.now)
+    ensures page { OnOk result (Sends
+        (IsPage words.now planned.now.graph.items planned.now.plan.dag report.now times.now)
         (W.written out.old) (W.written out.new)) }
     ensures fault { IfErr result IsWritingFault }
     ensures left { IfErr result (Leaves (HasHalted (W.failures out.old) (W.failures out.new)
@@ -132,7 +133,8 @@ pub fn page_answered<S: Source, W: Write>(
     files: &mut S,
     out: &mut W,
 ) -> Result<Status, CommandFault>
-    ensures answer { IfOk result (λ status. Sends (λ text. IsPageAnswer (S.file files.old) asked text status)
+    ensures answer { IfOk result (λ status. Sends
+        (λ text. IsPageAnswer (S.file files.old) asked text status)
         (W.written out.old) (W.written out.new)) }
     ensures fault { IfErr result (IsPageFault (S.file files.old) asked) }
     ensures left { IfErr result (Leaves (HasHalted (W.failures out.old) (W.failures out.new)

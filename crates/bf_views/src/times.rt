@@ -34,8 +34,10 @@ fn times_in(
 ) -> Result<String, CommandFault>
     requires { IsShownReport report.now }
     ensures times { IfOk result (λ times.
-        AreTimesTold plan.now.dag (intervals_in report.now.runs) (option_map (λ j. j.now) journal.entry) (string_bytes times)) }
-    ensures fault { IfErr result (IsJournalFault plan.now.dag (intervals_in report.now.runs) (option_map (λ j. j.now) journal.entry)) }
+        AreTimesTold plan.now.dag (intervals_in report.now.runs)
+        (option_map (λ j. j.now) journal.entry) (string_bytes times)) }
+    ensures fault { IfErr result (IsJournalFault plan.now.dag (intervals_in report.now.runs)
+        (option_map (λ j. j.now) journal.entry)) }
 {
     match journal {
         Some(journal) => {
@@ -55,10 +57,13 @@ pub(crate) fn times_asked<S: Source>(
     files: &mut S,
 ) -> Result<String, CommandFault>
     requires { IsShownReport report.now }
-    ensures times { IfOk result (λ times. (journal : Option (List ℕ)) → IsHeldIfNamed (S.file files.old) (option_map string_bytes path) journal
+    ensures times { IfOk result (λ times. (journal : Option (List ℕ))
+        → IsHeldIfNamed (S.file files.old) (option_map string_bytes path) journal
         → AreTimesTold plan.now.dag (intervals_in report.now.runs) journal (string_bytes times)) }
-    ensures readable { OnOk result (AreReadable (S.file files.old) (named_paths (option_map string_bytes path))) }
-    ensures fault { IfErr result (IsNamedJournalFault (S.file files.old) (option_map string_bytes path) plan.now.dag (intervals_in report.now.runs)) }
+    ensures readable { OnOk result
+        (AreReadable (S.file files.old) (named_paths (option_map string_bytes path))) }
+    ensures fault { IfErr result (IsNamedJournalFault (S.file files.old)
+        (option_map string_bytes path) plan.now.dag (intervals_in report.now.runs)) }
 {
     let journal = named_journal_bytes(alloc, path, files)?;
     times_in(alloc, plan, report, journal.as_deref())

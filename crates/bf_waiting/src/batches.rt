@@ -69,7 +69,8 @@ impl Batches {
         ensures top { result ≡ slice_get self.now.items 0 }
         ensures one { IfSome result (λ x. Contains self.now.items x) }
         ensures none { IfNone result (self.now.items ≡ []) }
-        ensures first { IfSome result (λ x. (y : BatchTerm) → Contains self.now.items y → Leads x y) }
+        ensures first { IfSome result (λ x. (y : BatchTerm) → Contains self.now.items y
+            → Leads x y) }
     {
         match self.heap.peek() {
             None => None,

@@ -75,7 +75,8 @@ fn batch_to_place(weights: &[u32], run: u32, task: u32, place: usize) -> Batch
 fn release(batches: &mut Batches, delays: &mut Delays, weights: &[u32], now: i64)
     requires { IsRoomy batches.old delays.old }
     ensures roomy { IsRoomy batches.new delays.new }
-    ensures released { AreReleased now weights.now batches.old.items delays.old.items batches.new.items delays.new.items }
+    ensures released { AreReleased now weights.now batches.old.items delays.old.items
+        batches.new.items delays.new.items }
     ensures later { (d : DelayTerm) → Contains delays.new.items d → now <ℤ d.moment.0 }
 {
     while let Some(delay) = delays.first() {
@@ -91,8 +92,10 @@ fn release(batches: &mut Batches, delays: &mut Delays, weights: &[u32], now: i64
 fn first_ready(core: &Core<'_>, batch: Batch) -> Option<u32>
     ensures ready { IfSome result (λ i. IsReadyAt core.now batch.run.0 batch.task.0 i) }
     ensures within { IfSome result (λ i. (batch.first.0 ≤ i) × (i ≤ batch.last)) }
-    ensures first { IfSome result (λ i. (j : ℕ) → batch.first.0 ≤ j → IsReadyAt core.now batch.run.0 batch.task.0 j → i ≤ j) }
-    ensures none { IfNone result ((j : ℕ) → batch.first.0 ≤ j → j ≤ batch.last → ¬ (IsReadyAt core.now batch.run.0 batch.task.0 j)) }
+    ensures first { IfSome result (λ i. (j : ℕ) → batch.first.0 ≤ j
+        → IsReadyAt core.now batch.run.0 batch.task.0 j → i ≤ j) }
+    ensures none { IfNone result ((j : ℕ) → batch.first.0 ≤ j → j ≤ batch.last
+        → ¬ (IsReadyAt core.now batch.run.0 batch.task.0 j)) }
 {
     for place in batch.first.0..=batch.last {
         if is_ready(core, batch.run.0, batch.task.0, place) {
@@ -141,15 +144,18 @@ impl Class {
     /// The greatest of its batches.
     pub(crate) fn first(&self) -> Option<Batch>
         ensures top { result ≡ slice_get self.now.batches.items 0 }
-        ensures first { IfSome result (λ x. (y : BatchTerm) → Contains self.now.batches.items y → Leads x y) }
+        ensures first { IfSome result (λ x. (y : BatchTerm) → Contains self.now.batches.items y
+            → Leads x y) }
     {
         self.batches.first()
     }
 
     /// The earliest of the moments for which its instances wait.
     pub(crate) fn moment(&self) -> Option<i64>
-        ensures one { IfSome result (λ m. (d : DelayTerm) × Contains self.now.delays.items d × (d.moment.0 ≡ m)) }
-        ensures first { IfSome result (λ m. (d : DelayTerm) → Contains self.now.delays.items d → m ≤ℤ d.moment.0) }
+        ensures one { IfSome result (λ m. (d : DelayTerm) × Contains self.now.delays.items d
+            × (d.moment.0 ≡ m)) }
+        ensures first { IfSome result (λ m. (d : DelayTerm) → Contains self.now.delays.items d
+            → m ≤ℤ d.moment.0) }
         ensures none { IfNone result (self.now.delays.items ≡ []) }
     {
         match self.delays.first() {
@@ -192,7 +198,8 @@ impl Class {
     /// Lets the instances be ready whose moment has come.
     fn release(&mut self, weights: &[u32], now: i64)
         ensures task { self.new.task ≡ self.old.task }
-        ensures released { AreReleased now weights.now self.old.batches.items self.old.delays.items self.new.batches.items self.new.delays.items }
+        ensures released { AreReleased now weights.now self.old.batches.items self.old.delays.items
+            self.new.batches.items self.new.delays.items }
         ensures later { (d : DelayTerm) → Contains self.new.delays.items d → now <ℤ d.moment.0 }
     {
         release(&mut self.batches, &mut self.delays, weights, now);
@@ -211,7 +218,8 @@ impl Class {
     fn take_up(&mut self, core: &Core<'_>, weights: &[u32], run: u32, task: u32)
         requires { HasRoom self.old }
         ensures task { self.new.task ≡ self.old.task }
-        ensures taken { HasTakenUp core.now weights.now run task Anywhere self.old.batches.items self.new.batches.items }
+        ensures taken { HasTakenUp core.now weights.now run task Anywhere self.old.batches.items
+            self.new.batches.items }
         ensures delays { self.new.delays.items ≡ self.old.delays.items }
     {
         let count = instances_of(core, run, task).len();
@@ -224,8 +232,10 @@ impl Class {
     fn take_up_one(&mut self, core: &Core<'_>, weights: &[u32], run: u32, task: u32, place: u32)
         requires { HasRoom self.old }
         ensures task { self.new.task ≡ self.old.task }
-        ensures taken { HasTakenUp core.now weights.now run task (At place) self.old.batches.items self.new.batches.items }
-        ensures delayed { HasDelayed core.now run task (At place) self.old.delays.items self.new.delays.items }
+        ensures taken { HasTakenUp core.now weights.now run task (At place) self.old.batches.items
+            self.new.batches.items }
+        ensures delayed { HasDelayed core.now run task (At place) self.old.delays.items
+            self.new.delays.items }
     {
         match standing_at(core, run, task, place) {
             Standing::Away => {}
@@ -243,7 +253,8 @@ impl Class {
     fn delay(&mut self, core: &Core<'_>, run: u32, task: u32, place: u32) -> Result<(), OutOfMemory>
         ensures task { self.new.task ≡ self.old.task }
         ensures batches { self.new.batches.items ≡ self.old.batches.items }
-        ensures delayed { OnOk result (HasDelayed core.now run task (At place) self.old.delays.items self.new.delays.items) }
+        ensures delayed { OnOk result (HasDelayed core.now run task (At place) self.old.delays.items
+            self.new.delays.items) }
     {
         self.make_room()?;
         if let Standing::Delayed(moment) = standing_at(core, run, task, place) {
@@ -261,7 +272,8 @@ impl Class {
     fn delay_all(&mut self, core: &Core<'_>, run: u32, task: u32) -> Result<(), OutOfMemory>
         ensures task { self.new.task ≡ self.old.task }
         ensures batches { self.new.batches.items ≡ self.old.batches.items }
-        ensures delayed { OnOk result (HasDelayed core.now run task Anywhere self.old.delays.items self.new.delays.items) }
+        ensures delayed { OnOk result (HasDelayed core.now run task Anywhere self.old.delays.items
+            self.new.delays.items) }
     {
         let count = instances_of(core, run, task).len() as u32;
         for place in 0..count {
@@ -294,7 +306,9 @@ impl Class {
     pub(crate) fn admit(&mut self, core: &Core<'_>, weights: &[u32], run: u32, task: u32)
         requires { HasRoom self.old }
         ensures task { self.new.task ≡ self.old.task }
-        ensures keeps { (expands : Bool) (class_of : List ℕ) (class : ℕ) → slice_index class_of task ≡ class → KeepsOver (deciding expands run task) core.now weights.now class_of class self.old self.new }
+        ensures keeps { (expands : Bool) (class_of : List ℕ) (class : ℕ) → slice_index class_of task
+            ≡ class → KeepsOver (deciding expands run task) core.now weights.now class_of class
+            self.old self.new }
     {
         self.take_up(core, weights, run, task);
         self.clean(core);
@@ -303,7 +317,8 @@ impl Class {
     /// After a try began.
     pub(crate) fn begin(&mut self, core: &Core<'_>)
         ensures task { self.new.task ≡ self.old.task }
-        ensures keeps { (n : NameTerm) (weights class_of : List ℕ) (class : ℕ) → KeepsOver (EventTerm.Begin n) core.now weights class_of class self.old self.new }
+        ensures keeps { (n : NameTerm) (weights class_of : List ℕ) (class : ℕ)
+            → KeepsOver (EventTerm.Begin n) core.now weights class_of class self.old self.new }
     {
         self.clean(core);
     }
@@ -319,7 +334,8 @@ impl Class {
     )
         requires { HasRoom self.old }
         ensures task { self.new.task ≡ self.old.task }
-        ensures keeps { (n : NameTerm) (o : OutcomeTerm) (class_of : List ℕ) (class : ℕ) → IsOfPlace core.now.dag n run task place → slice_index class_of task ≡ class →
+        ensures keeps { (n : NameTerm) (o : OutcomeTerm) (class_of : List ℕ) (class : ℕ)
+            → IsOfPlace core.now.dag n run task place → slice_index class_of task ≡ class →
             KeepsOver (EventTerm.End n o) core.now weights.now class_of class self.old self.new }
     {
         self.take_up_one(core, weights, run, task, place);
@@ -329,7 +345,8 @@ impl Class {
     /// After the clock moved.
     pub(crate) fn tick(&mut self, core: &Core<'_>, weights: &[u32], now: i64)
         ensures task { self.new.task ≡ self.old.task }
-        ensures keeps { (class_of : List ℕ) (class : ℕ) → KeepsOver (EventTerm.Tick now) core.now weights.now class_of class self.old self.new }
+        ensures keeps { (class_of : List ℕ) (class : ℕ)
+            → KeepsOver (EventTerm.Tick now) core.now weights.now class_of class self.old self.new }
     {
         self.release(weights, now);
         self.clean(core);

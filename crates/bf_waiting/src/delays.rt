@@ -74,7 +74,8 @@ impl Delays {
         ensures top { result ≡ slice_get self.now.items 0 }
         ensures one { IfSome result (λ x. Contains self.now.items x) }
         ensures none { IfNone result (self.now.items ≡ []) }
-        ensures first { IfSome result (λ x. (y : DelayTerm) → Contains self.now.items y → x.moment.0 ≤ℤ y.moment.0) }
+        ensures first { IfSome result (λ x. (y : DelayTerm) → Contains self.now.items y
+            → x.moment.0 ≤ℤ y.moment.0) }
     {
         match self.heap.peek() {
             None => None,

@@ -40,7 +40,9 @@ pub struct Waiting {
 fn take_alike(plan: &Plan, one: u32, other: u32) -> bool
     requires one { one < length plan.now.dag.tasks }
     requires other { other < length plan.now.dag.tasks }
-    ensures { IsTrue result ↔ (((demand_of plan.now.limits one).pool ≡ (demand_of plan.now.limits other).pool) × ((demand_of plan.now.limits one).slots ≡ (demand_of plan.now.limits other).slots)) }
+    ensures { IsTrue result ↔
+        (((demand_of plan.now.limits one).pool ≡ (demand_of plan.now.limits other).pool)
+        × ((demand_of plan.now.limits one).slots ≡ (demand_of plan.now.limits other).slots)) }
 {
     let one = plan.demand(one);
     let other = plan.demand(other);
@@ -70,8 +72,10 @@ fn class_for(
 ) -> Result<usize, OutOfMemory>
     requires task { task < length plan.now.dag.tasks }
     requires empty { AreEmpty plan.now.dag classes.old.items }
-    ensures class { IfOk result (λ j. IsClassOf plan.now.dag plan.now.limits classes.new.items j task) }
-    ensures kept { (i u : ℕ) → IsClassOf plan.now.dag plan.now.limits classes.old.items i u → IsClassOf plan.now.dag plan.now.limits classes.new.items i u }
+    ensures class { IfOk result (λ j. IsClassOf plan.now.dag plan.now.limits classes.new.items j
+        task) }
+    ensures kept { (i u : ℕ) → IsClassOf plan.now.dag plan.now.limits classes.old.items i u
+        → IsClassOf plan.now.dag plan.now.limits classes.new.items i u }
     ensures empty { OnOk result (AreEmpty plan.now.dag classes.new.items) }
     ensures few { IfOk result (λ j. j < length classes.new.items) }
 {
@@ -95,8 +99,10 @@ impl Waiting {
 
     /// The classes of the tasks of a plan, of which nothing waits.
     fn empty(alloc: Global, plan: &Plan) -> Result<Waiting, OutOfMemory>
-        ensures weights { IfOk result (λ w. AreWeights plan.now.dag plan.now.limits w.weights.items) }
-        ensures classes { IfOk result (λ w. AreClassedTo plan.now.dag plan.now.limits (length plan.now.dag.tasks) w.class_of.items w.classes.items) }
+        ensures weights { IfOk result (λ w. AreWeights plan.now.dag plan.now.limits
+            w.weights.items) }
+        ensures classes { IfOk result (λ w. AreClassedTo plan.now.dag plan.now.limits
+            (length plan.now.dag.tasks) w.class_of.items w.classes.items) }
     {
         let weights = weights(alloc, plan)?;
         let tasks = plan.dag().tasks.len();
@@ -153,8 +159,10 @@ impl Waiting {
 
     /// The place of a task's class.
     fn class_at(&self, task: u32) -> Option<usize>
-        ensures some { IfSome result (λ j. (j ≡ slice_index self.now.class_of.items task) × (j < length self.now.classes.items) × (task < length self.now.class_of.items)) }
-        ensures none { IfNone result (task < length self.now.class_of.items → ¬ (slice_index self.now.class_of.items task < length self.now.classes.items)) }
+        ensures some { IfSome result (λ j. (j ≡ slice_index self.now.class_of.items task)
+            × (j < length self.now.classes.items) × (task < length self.now.class_of.items)) }
+        ensures none { IfNone result (task < length self.now.class_of.items
+            → ¬ (slice_index self.now.class_of.items task < length self.now.classes.items)) }
     {
         let class = *self.class_of.get(task as usize)?;
         if class < self.classes.len() {
@@ -167,7 +175,8 @@ impl Waiting {
 
 /// Whether a task is there, and its slots fit its pool beside those that are occupied.
 fn has_room(core: &Core<'_>, task: u32) -> bool
-    ensures { IsTrue result ↔ ((task < length core.now.dag.tasks) × IsTrue (has_room_now core.now.limits core.now.state task)) }
+    ensures { IsTrue result ↔ ((task < length core.now.dag.tasks)
+        × IsTrue (has_room_now core.now.limits core.now.state task)) }
 {
     let tasks = core.plan().dag().tasks.len();
     (task as usize) < tasks && core.has_room(task)
@@ -186,9 +195,12 @@ fn leading(best: Option<Batch>, found: Option<Batch>) -> Option<Batch>
 
 /// The greatest batch of a class, where that has room.
 fn candidate(core: &Core<'_>, class: &Class) -> Option<Batch>
-    ensures some { IfSome result (λ x. MayTake core.now class.now × (Some x ≡ slice_get class.now.batches.items 0)) }
-    ensures first { IfSome result (λ x. (y : BatchTerm) → Contains class.now.batches.items y → Leads x y) }
-    ensures none { IfNone result (MayTake core.now class.now → slice_get class.now.batches.items 0 ≡ None) }
+    ensures some { IfSome result (λ x. MayTake core.now class.now
+        × (Some x ≡ slice_get class.now.batches.items 0)) }
+    ensures first { IfSome result (λ x. (y : BatchTerm) → Contains class.now.batches.items y
+        → Leads x y) }
+    ensures none { IfNone result (MayTake core.now class.now → slice_get class.now.batches.items 0
+        ≡ None) }
 {
     if has_room(core, class.task) {
         class.first()
@@ -262,7 +274,8 @@ impl Waiting {
 
 /// The task whose instances an event may let wait.
 fn task_to_wait(event: &Event) -> Option<u32>
-    ensures { (w : WaitingTerm) → MatchOption result (HasRoomFor event.now w) (λ t. HasRoomOf t w → HasRoomFor event.now w) }
+    ensures { (w : WaitingTerm) → MatchOption result (HasRoomFor event.now w)
+        (λ t. HasRoomOf t w → HasRoomFor event.now w) }
 {
     match event {
         Event::Settle { task, .. } | Event::Expand { task, .. } => Some(*task),
@@ -319,7 +332,8 @@ impl Waiting {
     /// After a task is decided.
     fn admit(&mut self, core: &Core<'_>, run: u32, task: u32)
         requires { HasRoomOf task self.old }
-        ensures { (expands : Bool) → KeepsTriesOver (deciding expands run task) core.now self.old self.new }
+        ensures { (expands : Bool) → KeepsTriesOver (deciding expands run task) core.now self.old
+            self.new }
     {
         if let Some(class) = self.class_at(task) {
             let class = &mut self.classes[class];
@@ -329,7 +343,8 @@ impl Waiting {
 
     /// After a try of a task began.
     fn begin(&mut self, core: &Core<'_>, task: u32)
-        ensures { (n : NameTerm) → n.task ≡ task → KeepsTriesOver (EventTerm.Begin n) core.now self.old self.new }
+        ensures { (n : NameTerm) → n.task ≡ task
+            → KeepsTriesOver (EventTerm.Begin n) core.now self.old self.new }
     {
         if let Some(class) = self.class_at(task) {
             let class = &mut self.classes[class];
@@ -340,7 +355,8 @@ impl Waiting {
     /// After a try of the instance at a place ended.
     fn readmit(&mut self, core: &Core<'_>, run: u32, task: u32, place: u32)
         requires { HasRoomOf task self.old }
-        ensures { (n : NameTerm) (o : OutcomeTerm) → IsOfPlace core.now.dag n run task place → KeepsTriesOver (EventTerm.End n o) core.now self.old self.new }
+        ensures { (n : NameTerm) (o : OutcomeTerm) → IsOfPlace core.now.dag n run task place
+            → KeepsTriesOver (EventTerm.End n o) core.now self.old self.new }
     {
         if let Some(class) = self.class_at(task) {
             let class = &mut self.classes[class];

@@ -8,7 +8,7 @@ use Rattle.bf_moment.specs.Moment.{moment_text}
 use Rattle.bf_report.specs.declared.report.RunReport.{RunReport}
 use Rattle.bf_report.specs.declared.report.TaskReport.{TaskReport}
 use Rattle.bf_xcom.specs.Pulls.{pushed_alone}
-use Rattle.bf_reason.specs.declared.cause.Cause.{Cause}
+use Rattle.bf_reason.specs.declared.cause.StateCause.{StateCause}
 use Rattle.bf_reason.specs.Settled.{results_of, seen_among, value_among}
 use Rattle.bf_wording.specs.Lists.{listed}
 use Rattle.bf_wording.specs.Numbers.{plural}
@@ -91,14 +91,14 @@ past_sentence (Some before) task =
 -- ---- the items
 
 -- what the source of the items gave
-abbrev pub items_text : Bool → Option TaskReport → Cause → List ℕ
-items_text each source Cause.ItemsAreMissing = codes ", which pushed no list: it " ++ (came source ++ codes ".")
-items_text true source (Cause.Runs count) = codes ": " ++ (plural count (codes "value") ++ codes " that its instances pushed.")
-items_text false source (Cause.Runs count) = codes ": " ++ (plural count (codes "item") ++ codes " of the list that it pushed.")
+abbrev pub items_text : Bool → Option TaskReport → StateCause → List ℕ
+items_text each source StateCause.ItemsAreMissing = codes ", which pushed no list: it " ++ (came source ++ codes ".")
+items_text true source (StateCause.Runs count) = codes ": " ++ (plural count (codes "value") ++ codes " that its instances pushed.")
+items_text false source (StateCause.Runs count) = codes ": " ++ (plural count (codes "item") ++ codes " of the list that it pushed.")
 items_text true source cause = codes ", whose instances pushed nothing."
 items_text false source cause = codes ", which pushed an empty list."
 
-abbrev pub expanded_sentence : Dag → List TaskReport → Cause → ℕ → List ℕ
+abbrev pub expanded_sentence : Dag → List TaskReport → StateCause → ℕ → List ℕ
 expanded_sentence dag tasks cause source =
     codes "It is expanded over " ++ (id_of dag source ++ items_text (is_some (task_of dag source).expand) (slice_get tasks source) cause)
 
@@ -107,19 +107,19 @@ expanded_sentence dag tasks cause source =
 abbrev pub past_sentences : Dag → Option RunReport → ℕ → List (List ℕ)
 past_sentences dag before task = if (task_of dag task).depends_on_past then past_sentence before task ∷ [] else []
 
-abbrev pub source_sentences : Dag → List TaskReport → Cause → Option ℕ → List (List ℕ)
+abbrev pub source_sentences : Dag → List TaskReport → StateCause → Option ℕ → List (List ℕ)
 source_sentences dag tasks cause None = []
 source_sentences dag tasks cause (Some source) = expanded_sentence dag tasks cause source ∷ []
 
 -- why the graph decides what it does of the task, over the tasks of the run and the run before
-abbrev pub decided : Dag → List TaskReport → Option RunReport → ℕ → Cause → List (List ℕ)
-decided dag tasks before task Cause.NotFollowed =
+abbrev pub decided : Dag → List TaskReport → Option RunReport → ℕ → StateCause → List (List ℕ)
+decided dag tasks before task StateCause.NotFollowed =
     flat_map (branch_where dag tasks task) (task_of dag task).upstreams
-decided dag tasks before task Cause.BranchIsBlocked =
+decided dag tasks before task StateCause.BranchIsBlocked =
     branches_sentence (ids_where dag task (λ u. branch_is dag is_blocked u (Some (value_among tasks u)))) ∷ []
-decided dag tasks before task Cause.UpstreamIsBlocked = upstreams_sentence (ids_where dag task (λ u. is_blocked (value_among tasks u))) ∷ []
-decided dag tasks before task Cause.RuleSkips = ruled dag tasks task Verdict.Skip ∷ []
-decided dag tasks before task Cause.RuleFails = ruled dag tasks task Verdict.UpstreamFailed ∷ []
-decided dag tasks before task Cause.PastHasNotPassed = ruled dag tasks task Verdict.Run ∷ past_sentences dag before task
+decided dag tasks before task StateCause.UpstreamIsBlocked = upstreams_sentence (ids_where dag task (λ u. is_blocked (value_among tasks u))) ∷ []
+decided dag tasks before task StateCause.RuleSkips = ruled dag tasks task Verdict.Skip ∷ []
+decided dag tasks before task StateCause.RuleFails = ruled dag tasks task Verdict.UpstreamFailed ∷ []
+decided dag tasks before task StateCause.PastHasNotPassed = ruled dag tasks task Verdict.Run ∷ past_sentences dag before task
 decided dag tasks before task cause =
     ruled dag tasks task Verdict.Run ∷ (past_sentences dag before task ++ source_sentences dag tasks cause (task_of dag task).expand)

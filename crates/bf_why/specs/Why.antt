@@ -5,7 +5,7 @@ use Rattle.bf_core.specs.Terms.{Counts, Dag, TaskResult, task_of}
 use Rattle.bf_core.specs.Deciding.{counts_of_results}
 use Rattle.bf_report.specs.declared.report.RunReport.{RunReport}
 use Rattle.bf_report.specs.declared.report.TaskReport.{TaskReport}
-use Rattle.bf_reason.specs.declared.cause.Cause.{Cause}
+use Rattle.bf_reason.specs.declared.cause.StateCause.{StateCause}
 use Rattle.bf_reason.specs.Letters.{letter_for}
 use Rattle.bf_wording.specs.Numbers.{plural}
 use Rattle.bf_why.specs.Counted.{counts_text}
@@ -19,17 +19,17 @@ would_run true count = codes "By this graph it would have run, with " ++ (plural
 would_run false count = codes "By this graph it would have run, as one instance:"
 
 -- what the graph makes of it
-abbrev pub would_be : Bool → Cause → List ℕ
-would_be expanded Cause.NotFollowed = codes "By this graph it would be skipped:"
-would_be expanded Cause.RuleSkips = codes "By this graph it would be skipped:"
-would_be expanded Cause.HasNoItems = codes "By this graph it would be skipped:"
-would_be expanded Cause.RuleFails = codes "By this graph it would be upstream_failed:"
-would_be expanded Cause.ItemsAreMissing = codes "By this graph it would be upstream_failed:"
-would_be expanded (Cause.Runs count) = would_run expanded count
+abbrev pub would_be : Bool → StateCause → List ℕ
+would_be expanded StateCause.NotFollowed = codes "By this graph it would be skipped:"
+would_be expanded StateCause.RuleSkips = codes "By this graph it would be skipped:"
+would_be expanded StateCause.HasNoItems = codes "By this graph it would be skipped:"
+would_be expanded StateCause.RuleFails = codes "By this graph it would be upstream_failed:"
+would_be expanded StateCause.ItemsAreMissing = codes "By this graph it would be upstream_failed:"
+would_be expanded (StateCause.Runs count) = would_run expanded count
 would_be expanded cause = codes "By this graph it would be no_status:"
 
 -- of a task whose letter is a digit: the report has what isn't decided for it
-abbrev pub foreign : Bool → Cause → TaskReport → List (List ℕ)
+abbrev pub foreign : Bool → StateCause → TaskReport → List (List ℕ)
 foreign expanded cause told =
     if is_ascii_digit (letter_for expanded cause told)
     then codes "What the report has doesn't follow from this graph." ∷ would_be expanded cause ∷ [] else []
@@ -54,6 +54,6 @@ ended dag task (TaskReport.Mapped instances) index = came_to_lines dag task (map
 ended dag task told index = []
 
 -- of the task, which the report has so, or of one of its instances
-abbrev pub why : Dag → List TaskReport → Option RunReport → ℕ → Cause → TaskReport → Option ℕ → List (List ℕ)
+abbrev pub why : Dag → List TaskReport → Option RunReport → ℕ → StateCause → TaskReport → Option ℕ → List (List ℕ)
 why dag tasks before task cause told index =
     (foreign (is_some (task_of dag task).expand) cause told ++ decided dag tasks before task cause) ++ ended dag task told index

@@ -24,7 +24,8 @@ fn outcome_text(outcome: &Outcome) -> &'static str
 
 /// Of an unmapped task, by its one result.
 fn result_text(results: &[TaskResult]) -> &'static str
-    ensures { (instance : InstanceTerm) → results.now ≡ instance.result ∷ [] → result.now ≡ outcome_words instance.result.outcome }
+    ensures { (instance : InstanceTerm) → results.now ≡ instance.result ∷ [] → result.now
+        ≡ outcome_words instance.result.outcome }
 {
     match results {
         [ended, ..] => outcome_text(&ended.outcome),

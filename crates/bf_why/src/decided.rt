@@ -1,7 +1,7 @@
 //! How a task was decided in a run, in sentences.
 ghost use Rattle.std.specs.Prelude.{◌≡◌, ◌<◌, ◌++◌, ◌∷◌, [], IfOk, IfSome, Option, length, option_map};
 ghost use Rattle.bf_core.specs.Terms.{task_of, Verdict as VerdictTerm};
-ghost use Rattle.bf_reason.specs.declared.cause.Cause.{Cause as CauseTerm};
+ghost use Rattle.bf_reason.specs.declared.cause.StateCause.{StateCause as CauseTerm};
 ghost use Rattle.bf_why.specs.Decided.{decided as decided_in, past_sentences, ruled as ruled_words, source_sentences};
 ghost use Rattle.bf_report.specs.declared.report.RunReport.{RunReport as RunTerm};
 
@@ -12,7 +12,7 @@ use crate::upstreams::{
     blocked_branches, blocked_tasks, branch_sentences, branches_sentence, upstreams_sentence,
 };
 use bf_plan::Plan;
-use bf_reason::{Cause, Settled};
+use bf_reason::{Settled, StateCause};
 use bf_report::RunReport;
 use bf_rule::Verdict;
 use bf_value::{OutOfMemory, Text};
@@ -75,7 +75,8 @@ fn by_rule(
     verdict: Verdict,
 ) -> Result<Vec<Text>, OutOfMemory>
     requires { task < length plan.now.dag.tasks }
-    ensures { IfOk result (λ lines. lines.items ≡ ruled_words plan.now.dag settled.now task verdict ∷ []) }
+    ensures { IfOk result (λ lines. lines.items
+        ≡ ruled_words plan.now.dag settled.now task verdict ∷ []) }
 {
     one_line(alloc, ruled(alloc, plan, settled, task, verdict)?)
 }
@@ -91,7 +92,8 @@ fn by_past(
 ) -> Result<Vec<Text>, OutOfMemory>
     requires task { task < length plan.now.dag.tasks }
     requires before { IfSome before (λ run. settled_before.now ≡ run.now.tasks) }
-    ensures { IfOk result (λ lines. lines.items ≡ ruled_words plan.now.dag settled.now task VerdictTerm.Run
+    ensures { IfOk result (λ lines. lines.items
+        ≡ ruled_words plan.now.dag settled.now task VerdictTerm.Run
         ∷ past_sentences plan.now.dag (option_map (λ run. run.now) before.entry) task) }
 {
     let mut lines = by_rule(alloc, plan, settled, task, Verdict::Run)?;
@@ -107,11 +109,12 @@ fn by_source(
     before: Option<&RunReport>,
     settled_before: &[Settled<'_>],
     task: u32,
-    cause: Cause,
+    cause: StateCause,
 ) -> Result<Vec<Text>, OutOfMemory>
     requires task { task < length plan.now.dag.tasks }
     requires before { IfSome before (λ run. settled_before.now ≡ run.now.tasks) }
-    ensures { IfOk result (λ lines. lines.items ≡ ruled_words plan.now.dag settled.now task VerdictTerm.Run
+    ensures { IfOk result (λ lines. lines.items
+        ≡ ruled_words plan.now.dag settled.now task VerdictTerm.Run
         ∷ (past_sentences plan.now.dag (option_map (λ run. run.now) before.entry) task
         ++ source_sentences plan.now.dag settled.now cause (task_of plan.now.dag task).expand)) }
 {
@@ -128,7 +131,7 @@ pub(crate) fn decided_lines(
     before: Option<&RunReport>,
     settled_before: &[Settled<'_>],
     task: u32,
-    cause: Cause,
+    cause: StateCause,
 ) -> Result<Vec<Text>, OutOfMemory>
     requires task { task < length plan.now.dag.tasks }
     requires before { IfSome before (λ run. settled_before.now ≡ run.now.tasks) }
@@ -136,13 +139,16 @@ pub(crate) fn decided_lines(
         (option_map (λ run. run.now) before.entry) task cause) }
 {
     match cause {
-        Cause::NotFollowed => by_branches(alloc, plan, settled, task),
-        Cause::BranchIsBlocked => by_blocked_branches(alloc, plan, settled, task),
-        Cause::UpstreamIsBlocked => by_blocked_tasks(alloc, plan, settled, task),
-        Cause::RuleSkips => by_rule(alloc, plan, settled, task, Verdict::Skip),
-        Cause::RuleFails => by_rule(alloc, plan, settled, task, Verdict::UpstreamFailed),
-        Cause::PastHasNotPassed => by_past(alloc, plan, settled, before, settled_before, task),
-        Cause::Waits | Cause::ItemsAreMissing | Cause::HasNoItems | Cause::Runs(_) => {
+        StateCause::NotFollowed => by_branches(alloc, plan, settled, task),
+        StateCause::BranchIsBlocked => by_blocked_branches(alloc, plan, settled, task),
+        StateCause::UpstreamIsBlocked => by_blocked_tasks(alloc, plan, settled, task),
+        StateCause::RuleSkips => by_rule(alloc, plan, settled, task, Verdict::Skip),
+        StateCause::RuleFails => by_rule(alloc, plan, settled, task, Verdict::UpstreamFailed),
+        StateCause::PastHasNotPassed => by_past(alloc, plan, settled, before, settled_before, task),
+        StateCause::Waits
+        | StateCause::ItemsAreMissing
+        | StateCause::HasNoItems
+        | StateCause::Runs(_) => {
             by_source(alloc, plan, settled, before, settled_before, task, cause)
         }
     }

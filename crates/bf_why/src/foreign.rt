@@ -4,7 +4,7 @@ ghost use Rattle.std.specs.Char.{is_ascii_digit};
 ghost use Rattle.bf_reason.specs.Letters.{letter_for};
 ghost use Rattle.bf_why.specs.Why.{foreign, would_be as would_be_words, would_run as would_run_words};
 
-use bf_reason::{Cause, Settled, letter_by};
+use bf_reason::{Settled, StateCause, letter_by};
 use bf_value::{OutOfMemory, Text};
 use bf_wording::{add_all, add_text, one_line, plural};
 use std::alloc::Global;
@@ -22,32 +22,39 @@ fn would_run(alloc: Global, is_expanded: bool, count: usize) -> Result<Text, Out
 }
 
 /// What the graph makes of a task for this cause.
-fn would_be(alloc: Global, is_expanded: bool, cause: Cause) -> Result<Text, OutOfMemory>
+fn would_be(alloc: Global, is_expanded: bool, cause: StateCause) -> Result<Text, OutOfMemory>
     ensures { IfOk result (λ text. text ≡ would_be_words is_expanded cause) }
 {
     match cause {
-        Cause::NotFollowed | Cause::RuleSkips | Cause::HasNoItems => {
+        StateCause::NotFollowed | StateCause::RuleSkips | StateCause::HasNoItems => {
             Text::copied(alloc, "By this graph it would be skipped:")
         }
-        Cause::RuleFails | Cause::ItemsAreMissing => {
+        StateCause::RuleFails | StateCause::ItemsAreMissing => {
             Text::copied(alloc, "By this graph it would be upstream_failed:")
         }
-        Cause::Runs(count) => would_run(alloc, is_expanded, count),
-        Cause::Waits
-        | Cause::BranchIsBlocked
-        | Cause::UpstreamIsBlocked
-        | Cause::PastHasNotPassed => Text::copied(alloc, "By this graph it would be no_status:"),
+        StateCause::Runs(count) => would_run(alloc, is_expanded, count),
+        StateCause::Waits
+        | StateCause::BranchIsBlocked
+        | StateCause::UpstreamIsBlocked
+        | StateCause::PastHasNotPassed => Text::copied(
+            alloc,
+            "By this graph it would be no_status:",
+        ),
     }
 }
 
 /// Whether a task has what isn't decided for it.
-pub fn is_foreign(is_expanded: bool, cause: Cause, told: &Settled<'_>) -> bool
+pub fn is_foreign(is_expanded: bool, cause: StateCause, told: &Settled<'_>) -> bool
     ensures { result ≡ is_ascii_digit (letter_for is_expanded cause told.now) }
 {
     letter_by(is_expanded, cause, told).is_ascii_digit()
 }
 
-fn foreign_lines(alloc: Global, is_expanded: bool, cause: Cause) -> Result<Vec<Text>, OutOfMemory>
+fn foreign_lines(
+    alloc: Global,
+    is_expanded: bool,
+    cause: StateCause,
+) -> Result<Vec<Text>, OutOfMemory>
     ensures { IfOk result (λ lines. lines.items ≡ codes "What the report has doesn't follow from this graph."
         ∷ would_be_words is_expanded cause ∷ []) }
 {
@@ -62,10 +69,11 @@ pub(crate) fn add_foreign(
     alloc: Global,
     lines: &mut Vec<Text>,
     is_expanded: bool,
-    cause: Cause,
+    cause: StateCause,
     told: &Settled<'_>,
 ) -> Result<(), OutOfMemory>
-    ensures { OnOk result (lines.new.items ≡ lines.old.items ++ foreign is_expanded cause told.now) }
+    ensures { OnOk result (lines.new.items ≡ lines.old.items
+        ++ foreign is_expanded cause told.now) }
 {
     if is_foreign(is_expanded, cause, told) {
         add_all(lines, foreign_lines(alloc, is_expanded, cause)?)

@@ -34,7 +34,8 @@ fn past_sentence(
     task: u32,
 ) -> Result<Text, OutOfMemory>
     requires { IfSome before (λ run. settled.now ≡ run.now.tasks) }
-    ensures { IfOk result (λ text. text ≡ past_words (option_map (λ run. run.now) before.entry) task) }
+    ensures { IfOk result (λ text. text
+        ≡ past_words (option_map (λ run. run.now) before.entry) task) }
 {
     match before {
         Some(before) => by_run(alloc, before, settled, task),

@@ -123,7 +123,8 @@ fn name_of(
     count: u32,
     task: Option<&Settled<'_>>,
 ) -> Result<Text, OutOfMemory>
-    ensures { IfOk result (λ text. text ≡ with_share id.now count (option_map (λ t. t.now) task.entry)) }
+    ensures { IfOk result (λ text. text
+        ≡ with_share id.now count (option_map (λ t. t.now) task.entry)) }
 {
     match task {
         Some(task) => name_of_task(alloc, id, count, task.told()),
@@ -140,7 +141,8 @@ fn add_name(
     upstream: u32,
     names: &mut Vec<Text>,
 ) -> Result<(), OutOfMemory>
-    ensures { OnOk result (names.new.items ≡ names.old.items ++ name_where dag.now settled.now states upstream) }
+    ensures { OnOk result (names.new.items ≡ names.old.items
+        ++ name_where dag.now settled.now states upstream) }
 {
     let counts = counts_at(settled, upstream);
     let count = states.count_in(&counts);
@@ -158,7 +160,8 @@ fn names_in(
     upstreams: &[u32],
     states: States,
 ) -> Result<Vec<Text>, OutOfMemory>
-    ensures { IfOk result (λ names. names.items ≡ flat_map (name_where dag.now settled.now states) upstreams.now) }
+    ensures { IfOk result (λ names. names.items
+        ≡ flat_map (name_where dag.now settled.now states) upstreams.now) }
 {
     let mut names = Vec::new(alloc);
     for upstream in upstreams {

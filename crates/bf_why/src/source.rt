@@ -1,14 +1,14 @@
 //! What the source of its items gave a task, in a sentence.
 ghost use Rattle.std.specs.Prelude.{◌≡◌, ◌++◌, ◌<◌, Bool, IfOk, OnOk, Option, length, option_map};
 ghost use Rattle.bf_core.specs.Terms.{task_of};
-ghost use Rattle.bf_reason.specs.declared.cause.Cause.{Cause as CauseTerm};
+ghost use Rattle.bf_reason.specs.declared.cause.StateCause.{StateCause as CauseTerm};
 ghost use Rattle.bf_report.specs.declared.report.TaskReport.{TaskReport as TaskTerm};
 ghost use Rattle.bf_why.specs.Decided.{expanded_sentence as expanded_words, items_text as items_words, source_sentences};
 
 use crate::came::came_text;
 use crate::looking::id_at;
 use bf_plan::Plan;
-use bf_reason::{Cause, Settled, is_expanded};
+use bf_reason::{Settled, StateCause, is_expanded};
 use bf_value::{OutOfMemory, Text};
 use bf_wording::plural;
 use std::alloc::Global;
@@ -38,13 +38,14 @@ fn items_text(
     alloc: Global,
     each: bool,
     source: Option<&Settled<'_>>,
-    cause: Cause,
+    cause: StateCause,
 ) -> Result<Text, OutOfMemory>
-    ensures { IfOk result (λ text. text ≡ items_words each (option_map (λ t. t.now) source.entry) cause) }
+    ensures { IfOk result (λ text. text
+        ≡ items_words each (option_map (λ t. t.now) source.entry) cause) }
 {
     match cause {
-        Cause::ItemsAreMissing => no_list(alloc, source),
-        Cause::Runs(count) => counted_items(alloc, each, count),
+        StateCause::ItemsAreMissing => no_list(alloc, source),
+        StateCause::Runs(count) => counted_items(alloc, each, count),
         _ if each => Text::copied(alloc, ", whose instances pushed nothing."),
         _ => Text::copied(alloc, ", which pushed an empty list."),
     }
@@ -54,7 +55,7 @@ fn expanded_sentence(
     alloc: Global,
     plan: &Plan,
     settled: &[Settled<'_>],
-    cause: Cause,
+    cause: StateCause,
     source: u32,
 ) -> Result<Text, OutOfMemory>
     ensures { IfOk result (λ text. text ≡ expanded_words plan.now.dag settled.now cause source) }
@@ -83,7 +84,7 @@ pub(crate) fn add_source(
     lines: &mut Vec<Text>,
     plan: &Plan,
     settled: &[Settled<'_>],
-    cause: Cause,
+    cause: StateCause,
     task: u32,
 ) -> Result<(), OutOfMemory>
     requires { task < length plan.now.dag.tasks }

@@ -41,7 +41,8 @@ fn add_branch(
     task: u32,
 ) -> Result<(), OutOfMemory>
     requires { task < length plan.now.dag.tasks }
-    ensures { OnOk result (lines.new.items ≡ lines.old.items ++ branch_where plan.now.dag settled.now task upstream) }
+    ensures { OnOk result (lines.new.items ≡ lines.old.items
+        ++ branch_where plan.now.dag settled.now task upstream) }
 {
     if skips(plan, settled, upstream, task) {
         lines.push(branch_sentence(alloc, plan, settled, upstream)?)?;
@@ -58,7 +59,8 @@ pub(crate) fn branch_sentences(
     task: u32,
 ) -> Result<Vec<Text>, OutOfMemory>
     requires { task < length plan.now.dag.tasks }
-    ensures { IfOk result (λ lines. lines.items ≡ flat_map (branch_where plan.now.dag settled.now task) upstreams.now) }
+    ensures { IfOk result (λ lines. lines.items
+        ≡ flat_map (branch_where plan.now.dag settled.now task) upstreams.now) }
 {
     let mut lines = Vec::new(alloc);
     for upstream in upstreams {
@@ -74,13 +76,15 @@ fn add_id(
     task: u32,
     holds: bool,
 ) -> Result<(), OutOfMemory>
-    ensures { OnOk result (ids.new.items ≡ ids.old.items ++ (if holds then id_of plan.now.dag task ∷ [] else [])) }
+    ensures { OnOk result (ids.new.items ≡ ids.old.items
+        ++ (if holds then id_of plan.now.dag task ∷ [] else [])) }
 {
     add_if(alloc, ids, holds, id_at(plan.dag(), task))
 }
 
 fn is_blocked_branch_of(plan: &Plan, settled: &[Settled<'_>], upstream: u32) -> bool
-    ensures { result ≡ branch_is plan.now.dag blocked upstream (Some (value_among settled.now upstream)) }
+    ensures { result ≡ branch_is plan.now.dag blocked upstream
+        (Some (value_among settled.now upstream)) }
 {
     is_blocked_branch(plan.dag(), settled, upstream)
 }
@@ -92,7 +96,8 @@ pub(crate) fn blocked_branches(
     settled: &[Settled<'_>],
     upstreams: &[u32],
 ) -> Result<Vec<Text>, OutOfMemory>
-    ensures { IfOk result (λ ids. ids.items ≡ flat_map (λ u. if branch_is plan.now.dag blocked u (Some (value_among settled.now u))
+    ensures { IfOk result (λ ids. ids.items
+        ≡ flat_map (λ u. if branch_is plan.now.dag blocked u (Some (value_among settled.now u))
         then id_of plan.now.dag u ∷ [] else []) upstreams.now) }
 {
     let mut ids = Vec::new(alloc);

@@ -9,7 +9,7 @@ use crate::decided::decided_lines;
 use crate::foreign::add_foreign;
 use crate::tried::tried_lines;
 use bf_plan::Plan;
-use bf_reason::{Cause, Settled, is_expanded};
+use bf_reason::{Settled, StateCause, is_expanded};
 use bf_report::{RunReport, TaskReport};
 use bf_rule::Counts;
 use bf_value::{OutOfMemory, Text};
@@ -33,7 +33,8 @@ fn one_of(
     index: usize,
 ) -> Result<Vec<Text>, OutOfMemory>
     requires { task < length plan.now.dag.tasks }
-    ensures { IfOk result (λ lines. lines.items ≡ tried_if_there plan.now.dag task (slice_get results.now index)) }
+    ensures { IfOk result (λ lines. lines.items
+        ≡ tried_if_there plan.now.dag task (slice_get results.now index)) }
 {
     match results.get(index) {
         Some(ended) => tried_lines(alloc, plan, task, ended),
@@ -95,7 +96,7 @@ pub fn why_lines(
     before: Option<&RunReport>,
     settled_before: &[Settled<'_>],
     task: u32,
-    cause: Cause,
+    cause: StateCause,
     told: &Settled<'_>,
     index: Option<usize>,
 ) -> Result<Vec<Text>, OutOfMemory>

@@ -19,7 +19,8 @@ fn value_word(alloc: Global, value: &Xval) -> Result<String, OutOfMemory>
 }
 
 fn pushed_word(alloc: Global, value: Option<&Xval>) -> Result<String, OutOfMemory>
-    ensures { IfOk result (λ word. string_bytes word ≡ pushed_text (option_map (λ v. v.now) value.entry)) }
+    ensures { IfOk result (λ word. string_bytes word
+        ≡ pushed_text (option_map (λ v. v.now) value.entry)) }
 {
     match value {
         Some(value) => value_word(alloc, value),
@@ -86,7 +87,8 @@ pub fn words(
     context: &JobContext<'_>,
     given: &Given,
 ) -> Result<Vec<String>, OutOfMemory>
-    ensures { IfOk result (λ words. texts words.items ≡ words_of context.now given.now command.now) }
+    ensures { IfOk result (λ words. texts words.items
+        ≡ words_of context.now given.now command.now) }
 {
     let mut words = Vec::with_capacity(alloc, command.len())?;
     for part in command {

@@ -1,6 +1,6 @@
 use Rattle.std.proofs.Common.{◌≡◌, ◌++◌, map, drop}
 use Rattle.bf_read.specs.Keys.{graph_keys}
-use Rattle.bf_findings.specs.declared.place.Place.TheVariants as place
+use Rattle.bf_findings.specs.declared.place.DocumentPlace.TheVariants as place
 use Rattle.bf_findings.specs.Listed.{graph_key_places}
 use Rattle.bf_findings.proofs.places.add_graph_keys.Given as goal
 

@@ -2,7 +2,7 @@ use Rattle.std.proofs.Common.{◌≡◌, ◌++◌, ◌∷◌, Some, map, sym, ap
 use Rattle.serde_json.specs.Find.{as_object}
 use Rattle.serde_json.specs.View.{view, members_view}
 use Rattle.bf_read.specs.declared.keys.TaskKey.TheVariants as key
-use Rattle.bf_findings.specs.declared.place.Place.TheVariants as place
+use Rattle.bf_findings.specs.declared.place.DocumentPlace.TheVariants as place
 use Rattle.bf_findings.specs.Listed.{items_under, members_of_task, other_task_keys, task_key_places, task_places, upstreams, words}
 use Rattle.bf_findings.proofs.PlaceLemmas.{joined, on_ok}
 use Rattle.bf_findings.proofs.places.add_task.Goals as goal

@@ -1,5 +1,5 @@
 use Rattle.bf_read.specs.Keys.{task_keys}
-use Rattle.bf_findings.specs.declared.place.Place.TheVariants as place
+use Rattle.bf_findings.specs.declared.place.DocumentPlace.TheVariants as place
 use Rattle.bf_findings.specs.Listed.{task_key_places}
 use Rattle.std.proofs.Common.{◌++◌}
 use Rattle.bf_findings.proofs.PlaceLemmas.{next_added}

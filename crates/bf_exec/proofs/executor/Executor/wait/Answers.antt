@@ -9,7 +9,7 @@ use Rattle.bf_exec.proofs.executor.Executor.wait.Goals as goal
 pub returns-in-Done-clause-driven : goal.returns-in-Done-clause-driven
 returns-in-Done-clause-driven g c =
     let may = g.K.Service.answers in
-    let now = g.C.Clock.last c.end.new.watch.clock in
+    let now = g.C.TimeSource.last c.end.new.watch.clock in
     let s = c.args.scheduler.now in
     let t = c.end.new.scheduler in
     let done = c.in-Done.done in

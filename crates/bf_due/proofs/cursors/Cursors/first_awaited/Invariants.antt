@@ -1,5 +1,5 @@
 use Rattle.bf_due.specs.Cursors.{ArePassed, IsNoted}
-use Rattle.bf_due.proofs.progress.Progress.first_awaited.Given as goal
+use Rattle.bf_due.proofs.cursors.Cursors.first_awaited.Given as goal
 
 abbrev pub invariant-loop-place : goal.invariant-loop-place
 invariant-loop-place l = record {

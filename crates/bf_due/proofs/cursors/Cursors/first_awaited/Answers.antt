@@ -1,6 +1,6 @@
 use Rattle.std.proofs.Common.{sym, ◌∙◌}
 use Rattle.bf_due.proofs.Reached.{passed-more}
-use Rattle.bf_due.proofs.progress.Progress.first_awaited.Goals as goal
+use Rattle.bf_due.proofs.cursors.Cursors.first_awaited.Goals as goal
 
 pub loop-place-preserved : goal.loop-place-preserved
 loop-place-preserved c = record {

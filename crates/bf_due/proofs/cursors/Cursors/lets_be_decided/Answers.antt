@@ -2,7 +2,7 @@ use Rattle.std.proofs.Common.{◌<◌, ℕ, Bool, List, length, ap, subst, arith
 use Rattle.bf_core.proofs.Numbers.{lt-from}
 use Rattle.bf_due.specs.Cursors.{Awaits}
 use Rattle.bf_due.proofs.Reached.{awaits-not-due}
-use Rattle.bf_due.proofs.progress.Progress.lets_be_decided.Goals as goal
+use Rattle.bf_due.proofs.cursors.Cursors.lets_be_decided.Goals as goal
 
 pub returns-clause-awaits : goal.returns-clause-awaits
 returns-clause-awaits c = λ is e due.

@@ -1,7 +1,7 @@
 use Rattle.std.proofs.Common.{◌<◌, ℕ, List, length, ap, arith}
 use Rattle.bf_core.proofs.Numbers.{lt-from}
 use Rattle.bf_due.proofs.Reached.{awaits-unsettled}
-use Rattle.bf_due.proofs.progress.Progress.are_settled.Goals as goal
+use Rattle.bf_due.proofs.cursors.Cursors.are_settled.Goals as goal
 
 pub returns-clause-unsettled : goal.returns-clause-unsettled
 returns-clause-unsettled c = λ is e.

@@ -1,6 +1,6 @@
 use Rattle.std.proofs.Common.{◌≡◌}
 use Rattle.bf_due.specs.Cursors.{IsNoted}
-use Rattle.bf_due.proofs.progress.Progress.is_over.Given as goal
+use Rattle.bf_due.proofs.cursors.Cursors.is_over.Given as goal
 
 abbrev pub invariant-loop-task : goal.invariant-loop-task
 invariant-loop-task l = record {

@@ -14,7 +14,7 @@ use std::alloc::Global;
 
 /// What is known of how far a run has come. Where a list is too short, nothing is known of a task.
 #[derive(Drop)]
-pub struct Progress {
+pub struct Cursors {
     /// For each task, how many of its upstreams let it be decided, from the first on.
     pub passed: Vec<u32>,
     /// For each task, how many of its upstreams are settled, from the first on.
@@ -42,8 +42,10 @@ fn is_finished(phase: &Phase) -> bool
 
 /// The place of the first instance from a place on that hasn't finished, or how many there are.
 fn first_unfinished(instances: &[Instance], from: usize) -> usize
-    ensures finished { AreFinished (CellTerm.Ran instances.now) from → AreFinished (CellTerm.Ran instances.now) result }
-    ensures unfinished { result < length instances.now → is_some (value_in (CellTerm.Ran instances.now)) ≡ false }
+    ensures finished { AreFinished (CellTerm.Ran instances.now) from
+        → AreFinished (CellTerm.Ran instances.now) result }
+    ensures unfinished { result < length instances.now
+        → is_some (value_in (CellTerm.Ran instances.now)) ≡ false }
     ensures within { result ≤ length instances.now }
 {
     for place in from..instances.len() {
@@ -82,12 +84,12 @@ fn is_early(core: &Core<'_>, task: u32) -> bool
     !core.plan().dag().task(task).rule.waits()
 }
 
-impl Progress {
+impl Cursors {
     /// Nothing is known, and nothing noted of a task. It takes no memory.
-    pub fn unknown(alloc: Global) -> Progress
+    pub fn unknown(alloc: Global) -> Cursors
         ensures { (b : Backfill) (k : ℕ) → IsNoted b k result }
     {
-        Progress {
+        Cursors {
             passed: Vec::new(alloc),
             settled_upstreams: Vec::new(alloc),
             finished: Vec::new(alloc),
@@ -96,10 +98,10 @@ impl Progress {
     }
 
     /// Nothing is known of so many tasks.
-    pub fn new(alloc: Global, tasks: usize) -> Result<Progress, OutOfMemory>
+    pub fn new(alloc: Global, tasks: usize) -> Result<Cursors, OutOfMemory>
         ensures { IfOk result (λ row. (b : Backfill) (k : ℕ) → IsNoted b k row) }
     {
-        Ok(Progress {
+        Ok(Cursors {
             passed: vec![in alloc; 0; tasks]?,
             settled_upstreams: vec![in alloc; 0; tasks]?,
             finished: vec![in alloc; 0; tasks]?,
@@ -109,7 +111,8 @@ impl Progress {
 
     /// Notes that so many instances of a task have finished.
     fn note_finished(&mut self, task: u32, finished: u32)
-        ensures reached { (b : Backfill) (k : ℕ) → IsNoted b k self.old → AreFinished (cell_at b.state k task) finished → IsNoted b k self.new }
+        ensures reached { (b : Backfill) (k : ℕ) → IsNoted b k self.old
+            → AreFinished (cell_at b.state k task) finished → IsNoted b k self.new }
         ensures settled { self.new.settled ≡ self.old.settled }
     {
         if (task as usize) < self.finished.len() {
@@ -119,7 +122,8 @@ impl Progress {
 
     /// Notes that so many upstreams of a task let it be decided.
     fn note_passed(&mut self, task: u32, passed: u32)
-        ensures { (b : Backfill) (k : ℕ) → IsNoted b k self.old → ArePassed (early b.dag task) b.dag b.state k task passed → IsNoted b k self.new }
+        ensures { (b : Backfill) (k : ℕ) → IsNoted b k self.old
+            → ArePassed (early b.dag task) b.dag b.state k task passed → IsNoted b k self.new }
     {
         if (task as usize) < self.passed.len() {
             self.passed[task as usize] = passed;
@@ -128,7 +132,8 @@ impl Progress {
 
     /// Notes that so many upstreams of a task are settled.
     fn note_settled(&mut self, task: u32, settled: u32)
-        ensures { (b : Backfill) (k : ℕ) → IsNoted b k self.old → ArePassed false b.dag b.state k task settled → IsNoted b k self.new }
+        ensures { (b : Backfill) (k : ℕ) → IsNoted b k self.old
+            → ArePassed false b.dag b.state k task settled → IsNoted b k self.new }
     {
         if (task as usize) < self.settled_upstreams.len() {
             self.settled_upstreams[task as usize] = settled;
@@ -138,8 +143,11 @@ impl Progress {
     /// Whether all of these instances of a task have finished.
     fn have_finished(&mut self, instances: &[Instance], task: u32) -> bool
         requires { length instances.now ≤ 1_024 }
-        ensures finished { (b : Backfill) (k : ℕ) → IsNoted b k self.old → cell_at b.state k task ≡ CellTerm.Ran instances.now → result ≡ is_some (value_in (CellTerm.Ran instances.now)) }
-        ensures reached { (b : Backfill) (k : ℕ) → IsNoted b k self.old → cell_at b.state k task ≡ CellTerm.Ran instances.now → IsNoted b k self.new }
+        ensures finished { (b : Backfill) (k : ℕ) → IsNoted b k self.old → cell_at b.state k task
+            ≡ CellTerm.Ran instances.now → result
+            ≡ is_some (value_in (CellTerm.Ran instances.now)) }
+        ensures reached { (b : Backfill) (k : ℕ) → IsNoted b k self.old → cell_at b.state k task
+            ≡ CellTerm.Ran instances.now → IsNoted b k self.new }
         ensures settled { self.new.settled ≡ self.old.settled }
     {
         let from = number_at(self.finished.as_slice(), task);
@@ -150,7 +158,8 @@ impl Progress {
 
     /// Whether a task is settled.
     pub fn is_settled(&mut self, core: &Core<'_>, run: u32, task: u32) -> bool
-        ensures settled { IsNoted core.now run self.old → result ≡ is_some (value_in (cell_at core.now.state run task)) }
+        ensures settled { IsNoted core.now run self.old → result
+            ≡ is_some (value_in (cell_at core.now.state run task)) }
         ensures reached { IsNoted core.now run self.old → IsNoted core.now run self.new }
         ensures same { self.new.settled ≡ self.old.settled }
     {
@@ -162,7 +171,8 @@ impl Progress {
 
     /// Whether nothing more of an upstream is waited for: it is settled, or need not be for who looks early.
     fn lets_decide(&mut self, core: &Core<'_>, run: u32, upstream: u32, early: bool) -> bool
-        ensures lets { IsNoted core.now run self.old → result ≡ lets early core.now.dag core.now.state run upstream }
+        ensures lets { IsNoted core.now run self.old → result
+            ≡ lets early core.now.dag core.now.state run upstream }
         ensures reached { IsNoted core.now run self.old → IsNoted core.now run self.new }
     {
         self.is_settled(core, run, upstream) || (early && !core.plan().dag().is_branch(upstream))
@@ -178,8 +188,12 @@ impl Progress {
         early: bool,
     ) -> usize
         requires { task < length core.now.dag.tasks }
-        ensures passed { IsNoted core.now run self.old → ArePassed early core.now.dag core.now.state run task from → ArePassed early core.now.dag core.now.state run task result }
-        ensures awaits { IsNoted core.now run self.old → result < length (task_of core.now.dag task).upstreams → Awaits early core.now.dag core.now.state run task result }
+        ensures passed { IsNoted core.now run self.old
+            → ArePassed early core.now.dag core.now.state run task from
+            → ArePassed early core.now.dag core.now.state run task result }
+        ensures awaits { IsNoted core.now run self.old
+            → result < length (task_of core.now.dag task).upstreams
+            → Awaits early core.now.dag core.now.state run task result }
         ensures reached { IsNoted core.now run self.old → IsNoted core.now run self.new }
         ensures within { result ≤ length (task_of core.now.dag task).upstreams }
     {
@@ -195,7 +209,8 @@ impl Progress {
     /// Whether no upstream of a task keeps it from being decided.
     pub fn lets_be_decided(&mut self, core: &Core<'_>, run: u32, task: u32) -> bool
         requires { task < length core.now.dag.tasks }
-        ensures awaits { IsNoted core.now run self.old → result ≡ false → ¬ (IsDecidable core.now.dag core.now.state run task) }
+        ensures awaits { IsNoted core.now run self.old → result ≡ false
+            → ¬ (IsDecidable core.now.dag core.now.state run task) }
         ensures reached { IsNoted core.now run self.old → IsNoted core.now run self.new }
     {
         let upstreams = upstreams_of(core, task);
@@ -209,7 +224,8 @@ impl Progress {
     /// Whether each upstream of a task is settled.
     pub fn are_settled(&mut self, core: &Core<'_>, run: u32, task: u32) -> bool
         requires { task < length core.now.dag.tasks }
-        ensures unsettled { IsNoted core.now run self.old → result ≡ false → all_settled core.now.dag core.now.state run task ≡ false }
+        ensures unsettled { IsNoted core.now run self.old → result ≡ false
+            → all_settled core.now.dag core.now.state run task ≡ false }
         ensures reached { IsNoted core.now run self.old → IsNoted core.now run self.new }
     {
         let upstreams = upstreams_of(core, task);
@@ -221,7 +237,8 @@ impl Progress {
 
     /// Whether each task is settled.
     pub fn is_over(&mut self, core: &Core<'_>, run: u32) -> bool
-        ensures unsettled { IsNoted core.now run self.old → result ≡ false → ¬ (MayCome core.now (EventTerm.Close run)) }
+        ensures unsettled { IsNoted core.now run self.old → result ≡ false
+            → ¬ (MayCome core.now (EventTerm.Close run)) }
         ensures reached { IsNoted core.now run self.old → IsNoted core.now run self.new }
     {
         let _replayed = core.journal();

@@ -2,7 +2,7 @@ use Rattle.std.proofs.Common.{◌≡◌, true, false, sym, ◌∙◌, subst}
 use Rattle.bf_core.specs.declared.state.Instance.{Instance}
 use Rattle.bf_due.specs.Cursors.{IsFinished}
 use Rattle.bf_due.proofs.Reached.{finished-more, held-at, not-settled}
-use Rattle.bf_due.proofs.progress.first_unfinished.Goals as goal
+use Rattle.bf_due.proofs.cursors.first_unfinished.Goals as goal
 
 pub returns-then-not-is_finished-clause-unfinished : goal.returns-then-not-is_finished-clause-unfinished
 returns-then-not-is_finished-clause-unfinished c = λ l.

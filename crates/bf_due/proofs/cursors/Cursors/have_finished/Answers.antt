@@ -2,7 +2,7 @@ use Rattle.std.proofs.Common.{◌≡◌, ℕ, List, get_or, sym, ap, ◌∙◌, 
 use Rattle.bf_core.specs.declared.state.Cell.{Cell}
 use Rattle.bf_due.specs.Cursors.{AreFinished}
 use Rattle.bf_due.proofs.Reached.{noted-finished, settled-by}
-use Rattle.bf_due.proofs.progress.Progress.have_finished.Goals as goal
+use Rattle.bf_due.proofs.cursors.Cursors.have_finished.Goals as goal
 
 pub returns-clause-finished : goal.returns-clause-finished
 returns-clause-finished c = λ b k is cell.

@@ -5,7 +5,7 @@ use bf_value::{JobName, OutOfMemory};
 
 /// Why a turn did not come to its end.
 #[derive(Debug, Drop)]
-pub enum Halt {
+pub enum TurnFault {
     OutOfMemory,
     /// The runner gave up this try.
     Runner(JobName),
@@ -14,12 +14,12 @@ pub enum Halt {
     Stranger,
 }
 
-impl From<OutOfMemory> for Halt {
-    ghost use Rattle.bf_exec.specs.declared.halt.Halt.TheVariants.{OutOfMemory as NoMemory};
+impl From<OutOfMemory> for TurnFault {
+    ghost use Rattle.bf_exec.specs.declared.turn_fault.TurnFault.TheVariants.{OutOfMemory as NoMemory};
 
     ghost from_gives = { λ _ e. e ≡ NoMemory };
 
-    fn from(_e: OutOfMemory) -> Halt {
-        Halt::OutOfMemory
+    fn from(_e: OutOfMemory) -> TurnFault {
+        TurnFault::OutOfMemory
     }
 }
