@@ -2,14 +2,17 @@
 # Refuses each call for memory, each open, each read, each write and each look at the clock of runs of the program in turn, and of runs that
 # keep logs each look at a file and each removal too. A run has
 # to end as if nothing was refused, or by the fault that the refused call is, with nothing (or, of a refused write, a beginning of the
-# report) on standard output. A look at the clock that fails is no fault. Needs a C compiler. The last line is the sum, and the status
-# is 1 where a call ended a run otherwise.
+# report) on standard output. A look at the clock that fails is no fault. Of each run ./test refuses each third call, and ./test --whole
+# all. Needs a C compiler. The last line is the sum, and the status is 1 where a call ended a run otherwise.
 set -euo pipefail
 
 source "$(dirname "$(readlink -f "${BASH_SOURCE[0]}")")/../shared/count.sh"
 
 [[ -n $(command -v cc) ]] || skips_rest 'each call refused in turn, since there is no C compiler'
 cc -shared -fPIC -O1 -o "$work/refuse.so" "$root/tests/shared/refuse.c"
+
+step=3
+[[ ${TEST_SEEDS:-} != whole ]] || step=1
 
 # Runs the program with the call of this kind and number refused. At number 0 none is, and the calls are counted.
 run() {
@@ -62,7 +65,7 @@ each() {
     calls=$(< "$work/count")
     cp "$work/out" "$work/whole_out"
     cp "$work/err" "$work/whole_err"
-    for ((number = 1; number <= calls; number++)); do
+    for ((number = 1; number <= calls; number += step)); do
         run "$call" "$number" "$@"
         rows=$((rows + 1))
         if is_fault "$call" || is_log_fault; then
