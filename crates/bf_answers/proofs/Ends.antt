@@ -12,8 +12,8 @@ use Rattle.json.specs.Print.{escape}
 use Rattle.serde_json.specs.Data.{string, Items, no_items, item}
 use Rattle.serde_json.specs.Written.{compact_text, items_text, comma_if}
 use Rattle.bf_value.specs.declared.xval.Xval.{Xval}
-use Rattle.bf_value.specs.Json.{data_of, data_items, text_of}
-use Rattle.bf_value.specs.Line.{is_blank, is_line_feed, last_line, without_blanks, without_line_feed}
+use Rattle.bf_value.specs.Json.{data_of, data_items, json_of}
+use Rattle.bf_value.specs.Line.{is_blank_in, is_line_feed, last_line_of, without_blanks_of, without_line_feed_of}
 use Rattle.bf_value.specs.Plain.{Plain, flag, int, text, list, nil}
 use Rattle.bf_value.specs.Views.{plain_of}
 use Rattle.bf_value.proofs.LackLemmas.{Lacks, text_lacks}
@@ -76,7 +76,7 @@ some_out : (front : List ℕ) (b : ℕ) → out_data (front ++ b ∷ []) ≡ Som
 some_out [] b = refl
 some_out (x ∷ xs) b = refl
 
-pub out_there : (x : Xval) → out_data (text_of x) ≡ Some (string (text_of x))
+pub out_there : (x : Xval) → out_data (json_of x) ≡ Some (string (json_of x))
 out_there x = let (front, b, is, high) = plain_end (plain_of x) in ap out_data is ∙ some_out front b ∙ ap (λ s. Some (string s)) (sym is)
 
 stops : (p : ℕ → Bool) (front : List ℕ) (b : ℕ) → p b ≡ false → suffix_len p (front ++ b ∷ []) ≡ 0
@@ -85,7 +85,7 @@ stops p front b fails = ap (prefix_len p) (reverse-append front (b ∷ [])) ∙ 
 no_feed : (b : ℕ) → 32 < b → is_line_feed b ≡ false
 no_feed b high = grind (arith, nat_tests, high)
 
-no_blank : (b : ℕ) → 32 < b → is_blank b ≡ false
+no_blank : (b : ℕ) → 32 < b → is_blank_in b ≡ false
 no_blank b high = grind (arith, nat_tests, high)
 
 not_false : (b : Bool) → (b ≡ true → ⊥) → not b ≡ true
@@ -101,17 +101,17 @@ feedless s lacks =
 uncut : (s : List ℕ) (n : ℕ) → n ≡ 0 → take (length s - n) s ≡ s
 uncut s n none = let whole : length s - n ≡ length s = omega (arith, none) in ap (λ k. take k s) whole ∙ take_all (length s) s (omega arith)
 
-whole_line : (front : List ℕ) (b : ℕ) → 32 < b → Lacks 10 (front ++ b ∷ []) → last_line (front ++ b ∷ []) ≡ front ++ b ∷ []
+whole_line : (front : List ℕ) (b : ℕ) → 32 < b → Lacks 10 (front ++ b ∷ []) → last_line_of (front ++ b ∷ []) ≡ front ++ b ∷ []
 whole_line front b high lacks =
     let s = front ++ b ∷ [] in
     let size : length s - 1 ≡ length front = omega (arith, length-append front (b ∷ [])) in
     let last : drop (length s - 1) s ≡ b ∷ [] = ap (λ n. drop n s) size ∙ drop-append_seam front (b ∷ []) in
     let none : suffix_len is_line_feed (drop (length s - 1) s) ≡ 0 = ap (suffix_len is_line_feed) last ∙ stops is_line_feed [] b (no_feed b high) in
-    let fed : without_line_feed s ≡ s = uncut s (suffix_len is_line_feed (drop (length s - 1) s)) none in
-    let unblank : without_blanks s ≡ s = uncut s (suffix_len is_blank s) (stops is_blank front b (no_blank b high)) in
-    ap (λ t. without_blanks (after_last is_line_feed t)) fed ∙ ap without_blanks (feedless s lacks) ∙ unblank
+    let fed : without_line_feed_of s ≡ s = uncut s (suffix_len is_line_feed (drop (length s - 1) s)) none in
+    let unblank : without_blanks_of s ≡ s = uncut s (suffix_len is_blank_in s) (stops is_blank_in front b (no_blank b high)) in
+    ap (λ t. without_blanks_of (after_last is_line_feed t)) fed ∙ ap without_blanks_of (feedless s lacks) ∙ unblank
 
-pub text_is_its_last_line : (x : Xval) → last_line (text_of x) ≡ text_of x
+pub text_is_its_last_line : (x : Xval) → last_line_of (json_of x) ≡ json_of x
 text_is_its_last_line x =
     let (front, b, is, high) = plain_end (plain_of x) in
-    ap last_line is ∙ whole_line front b high (subst (Lacks 10) is (text_lacks x)) ∙ sym is
+    ap last_line_of is ∙ whole_line front b high (subst (Lacks 10) is (text_lacks x)) ∙ sym is

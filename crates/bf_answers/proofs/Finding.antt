@@ -19,7 +19,7 @@ use Rattle.bf_report.specs.declared.report.RunReport.{RunReport}
 use Rattle.bf_report.specs.declared.report.Report.{Report}
 use Rattle.bf_report_reader.specs.Rules.{IsShownReport, IsShownRun, Rise}
 use Rattle.bf_report_reader.specs.Runs.{IsReportMoment}
-use Rattle.bf_clear.specs.Entries.{found_at, instance_at, outcome_of_try}
+use Rattle.bf_clear.specs.Entries.{found_at, instance_in, outcome_of_try_in}
 use Rattle.bf_answers.specs.Answers.{answers_in, entries_for, entry_at, instance_entries, run_entries, task_entries, tasks_entries}
 use Rattle.bf_answers.proofs.Found.{first_of, somewhere, asks, retried_missed, instance_missed, task_missed, tasks_missed, ended_missed, ended_found}
 
@@ -99,7 +99,7 @@ module _ (id date : List ℕ) (name : JobName) where
       (λ i attempt e other. ended_missed id date name date id name.index attempt Outcome.Failed (inr (inr (inr (λ same. let place = range_at 1 n i attempt e in other (omega (arith, place.0, same)))))))
       ∙ here)
 
-  instance_found : (result : TaskResult) (outcome : Outcome) → outcome_of_try result name.attempt ≡ Some outcome → find (asks id date name) (instance_entries date id name.index result) ≡ answer outcome
+  instance_found : (result : TaskResult) (outcome : Outcome) → outcome_of_try_in result name.attempt ≡ Some outcome → find (asks id date name) (instance_entries date id name.index result) ≡ answer outcome
   instance_found result outcome e = by (name.attempt == result.tries) refl (nat_lt 0 name.attempt) refl (nat_lt name.attempt result.tries) refl e
     where
       by : (b : Bool) → (name.attempt == result.tries) ≡ b → (c : Bool) → nat_lt 0 name.attempt ≡ c → (d : Bool) → nat_lt name.attempt result.tries ≡ d
@@ -112,7 +112,7 @@ module _ (id date : List ℕ) (name : JobName) where
 
   -- ---- an instance of a task
 
-  task_found : (told : TaskReport) (x : InstanceReport) (outcome : Outcome) → instance_at told name.index ≡ Some x → outcome_of_try x.result name.attempt ≡ Some outcome
+  task_found : (told : TaskReport) (x : InstanceReport) (outcome : Outcome) → instance_in told name.index ≡ Some x → outcome_of_try_in x.result name.attempt ≡ Some outcome
       → find (asks id date name) (task_entries date id told) ≡ answer outcome
   task_found told x outcome e f = by told name.index refl e
     where
@@ -120,7 +120,7 @@ module _ (id date : List ℕ) (name : JobName) where
       at_index index is y same =
           ap₂ (λ (i : ℤ) (z : InstanceReport). find (asks id date name) (instance_entries date id i z.result)) (sym is) same ∙ instance_found x.result outcome f
 
-      by : (told : TaskReport) (index : ℤ) → name.index ≡ index → instance_at told index ≡ Some x → find (asks id date name) (task_entries date id told) ≡ answer outcome
+      by : (told : TaskReport) (index : ℤ) → name.index ≡ index → instance_in told index ≡ Some x → find (asks id date name) (task_entries date id told) ≡ answer outcome
       by TaskReport.NoStatus index is h = cc
       by TaskReport.Skipped index is h = cc
       by TaskReport.UpstreamFailed index is h = cc
@@ -138,7 +138,7 @@ module _ (id date : List ℕ) (name : JobName) where
   -- ---- a task of a run
 
   tasks_found : (ids : List (List ℕ)) (told : List TaskReport) → AreDistinct ids → (t : ℕ) (task : TaskReport) (x : InstanceReport) (outcome : Outcome)
-      → slice_get ids t ≡ Some id → slice_get told t ≡ Some task → instance_at task name.index ≡ Some x → outcome_of_try x.result name.attempt ≡ Some outcome
+      → slice_get ids t ≡ Some id → slice_get told t ≡ Some task → instance_in task name.index ≡ Some x → outcome_of_try_in x.result name.attempt ≡ Some outcome
       → find (asks id date name) (tasks_entries date ids told) ≡ answer outcome
   tasks_found ids told distinct t task x outcome is_id is_task e f =
       somewhere (asks id date name) (λ pair. task_entries date pair.0 pair.1) (zip ids told) t (id, task) (zipped_at ids told t id task is_id is_task)
@@ -188,18 +188,18 @@ module _ (differ : (m n : ℤ) → IsShown m → IsShown n → IsWhole m → IsW
 
   -- the entry of a try that the report tells of
   pub answer_found : (name : JobName) (id : List ℕ) (run : RunReport) (x : InstanceReport) (outcome : Outcome) → slice_get report.runs name.run ≡ Some run → slice_get report.tasks name.task ≡ Some id
-      → found_at report name.run name.task name.index ≡ Some x → outcome_of_try x.result name.attempt ≡ Some outcome
+      → found_at report name.run name.task name.index ≡ Some x → outcome_of_try_in x.result name.attempt ≡ Some outcome
       → find (asks id (moment_text run.interval.start.nanosecond) name) (answers_in report) ≡ first_of (entries_for (moment_text run.interval.start.nanosecond) id name.index name.attempt outcome)
   answer_found name id run x outcome is_run is_id found e =
       let date = moment_text run.interval.start.nanosecond in
       somewhere (asks id date name) (run_entries report.tasks) report.runs name.run run is_run
       (λ i other h unlike. tasks_missed id date name (moment_text other.interval.start.nanosecond) report.tasks other.tasks (dates_apart i name.run other run h is_run unlike))
-      ∙ by (slice_get run.tasks name.task) refl (ap (λ o. option_and_then (λ told. instance_at told name.index) (option_and_then (λ r. slice_get r.tasks name.task) o)) (sym is_run) ∙ found)
+      ∙ by (slice_get run.tasks name.task) refl (ap (λ o. option_and_then (λ told. instance_in told name.index) (option_and_then (λ r. slice_get r.tasks name.task) o)) (sym is_run) ∙ found)
     where
       date : List ℕ
       date = moment_text run.interval.start.nanosecond
 
-      by : (o : Option TaskReport) → slice_get run.tasks name.task ≡ o → option_and_then (λ told. instance_at told name.index) o ≡ Some x
+      by : (o : Option TaskReport) → slice_get run.tasks name.task ≡ o → option_and_then (λ told. instance_in told name.index) o ≡ Some x
           → find (asks id date name) (run_entries report.tasks run) ≡ first_of (entries_for date id name.index name.attempt outcome)
       by None is h = cc
       by (Some task) is h = tasks_found id date name report.tasks run.tasks shown.distinct name.task task x outcome is_id is h e

@@ -10,9 +10,9 @@ use Rattle.std.proofs.lemmas.List.Concat.{flat_map_single}
 use Rattle.std.proofs.lemmas.List.Folds.{find-append}
 use Rattle.std.proofs.lemmas.Slice.Eq.{bytes_eq-Decides}
 use Rattle.bf_value.specs.declared.name.JobName.{JobName}
-use Rattle.bf_value.specs.Json.{text_of}
+use Rattle.bf_value.specs.Json.{json_of}
 use Rattle.bf_table.specs.declared.table.TableEntry.{TableEntry}
-use Rattle.bf_table.specs.Tables.{answers_for}
+use Rattle.bf_table.specs.Tables.{answers_for_in}
 use Rattle.bf_xcom.specs.declared.values.Outcome.{Outcome}
 use Rattle.bf_xcom.specs.declared.values.Outcome.TheVariants.{Success, Failed, Skipped}
 use Rattle.bf_xcom.specs.declared.values.TaskResult.{TaskResult}
@@ -79,7 +79,7 @@ Differs id date name run task index attempt = (task ≢ id) ⊎ ((run ≢ date) 
 
 module _ (id date : List ℕ) (name : JobName) where
   abbrev pub asks : TableEntry → Bool
-  asks = answers_for id date name
+  asks = answers_for_in id date name
 
   other : (run task : List ℕ) (index : ℤ) (attempt status : ℕ) (line : List ℕ) → Differs id date name run task index attempt → asks (entry_at run task index attempt status line) ≡ false
   other run task index attempt status line (inl unlike) = four _ _ _ _ (inl (text_other task id unlike))
@@ -103,7 +103,7 @@ module _ (id date : List ℕ) (name : JobName) where
 
     pub ended_missed : (attempt : ℕ) (outcome : Outcome) → None_of attempt → find asks (entries_for run task index attempt outcome) ≡ None
     ended_missed attempt (Success None) unlike = refl
-    ended_missed attempt (Success (Some value)) unlike = rw (other run task index attempt 0 (text_of value) unlike) refl
+    ended_missed attempt (Success (Some value)) unlike = rw (other run task index attempt 0 (json_of value) unlike) refl
     ended_missed attempt Failed unlike = failed_missed attempt unlike
     ended_missed attempt Skipped unlike = rw (other run task index attempt 99 [] unlike) refl
 
@@ -136,6 +136,6 @@ module _ (id date : List ℕ) (name : JobName) where
 
   pub ended_found : (outcome : Outcome) → find asks (entries_for date id name.index name.attempt outcome) ≡ first_of (entries_for date id name.index name.attempt outcome)
   ended_found (Success None) = refl
-  ended_found (Success (Some value)) = rw (own 0 (text_of value)) refl
+  ended_found (Success (Some value)) = rw (own 0 (json_of value)) refl
   ended_found Failed = rw (own 1 []) refl
   ended_found Skipped = rw (own 99 []) refl

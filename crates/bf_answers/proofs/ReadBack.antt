@@ -21,10 +21,10 @@ use Rattle.serde_json.specs.Find.{as_str, as_array, get}
 use Rattle.serde_json.specs.Read.{read, max_depth, of_json, of_items, of_members}
 use Rattle.serde_json.specs.Written.{number_text, outline, items_outline, members_outline, comma_if, compact_text, members_text}
 use Rattle.serde_json.proofs.Numbers.{number_of-decimal, number_of-negative}
-use Rattle.bf_value.specs.Line.{last_line}
+use Rattle.bf_value.specs.Line.{last_line_of}
 use Rattle.bf_moment.specs.Long.{is_long}
 use Rattle.bf_table.specs.declared.table.TableEntry.{TableEntry}
-use Rattle.bf_table.specs.Tables.{entries_from, entries_of, entry_of, entry_with, if_there, number_of, date_in, status_in, status_from, line_in, json_of_file, longest_table, table_of, table_with, with_first}
+use Rattle.bf_table.specs.Tables.{entries_from, entries_of, entry_of, entry_with, if_there, number_of, date_in, status_in, status_from, line_in, json_of_file, longest_table, table_in, table_with, with_first}
 use Rattle.bf_answers.specs.Answers.{entry_at}
 use Rattle.bf_answers.specs.Answers.{number_of as index_number}
 use Rattle.bf_answers.specs.Pieces.{named_members}
@@ -284,7 +284,7 @@ entry_read e t =
     attempt : if_there number_of (Some (whole (pos t.attempt))) ≡ Some (Some (pos t.attempt))
     attempt = ap (option_map Some) (attempt_read t.attempt t.low_attempt)
 
-    by : (status : ℕ) (line : List ℕ) → status ≤ 255 → last_line line ≡ line → entry_of (read_data t.run t.task t.index t.attempt status line) ≡ Some (entry_at t.run t.task (index_number t.index) t.attempt status line)
+    by : (status : ℕ) (line : List ℕ) → status ≤ 255 → last_line_of line ≡ line → entry_of (read_data t.run t.task t.index t.attempt status line) ≡ Some (entry_at t.run t.task (index_number t.index) t.attempt status line)
     by zero [] low one = with_parts (read_data t.run t.task t.index t.attempt 0 []) t.task t.run (index_number t.index) (pos t.attempt) 0 [] refl index run attempt refl refl
     by zero (b ∷ bs) low one = with_parts (read_data t.run t.task t.index t.attempt 0 (b ∷ bs)) t.task t.run (index_number t.index) (pos t.attempt) 0 (b ∷ bs) refl index run attempt refl (ap Some one)
     by (suc n) [] low one = with_parts (read_data t.run t.task t.index t.attempt (suc n) []) t.task t.run (index_number t.index) (pos t.attempt) (suc n) [] refl index run attempt (status_read (suc n) low) refl
@@ -357,8 +357,8 @@ table_utf8 (e ∷ es) h =
 -- ---- the whole
 
 -- what is written is read as the same entries
-pub table_back : (es : List TableEntry) → AllByRecursion IsTellable es → length (table_text es) ≤ longest_table → table_of (table_text es) ≡ Ok es
-unfolding table_of json_of_file
+pub table_back : (es : List TableEntry) → AllByRecursion IsTellable es → length (table_text es) ≤ longest_table → table_in (table_text es) ≡ Ok es
+unfolding table_in json_of_file
 table_back es h short =
     let text = table_text es in
     let flat = are_flat es h in

@@ -2,11 +2,11 @@
 use Rattle.std.proofs.Common.{◌≡◌, ◌↔◌, ℕ, zero, suc, ◌+◌, ◌-◌, ◌≤◌, true, List, [], ◌∷◌, ◌++◌, Option, Some, None, pos, length, map, flat_map, IsUtf8, refl, arith}
 use Rattle.std.specs.List.{AllByRecursion, enumerate_from, range_with_len}
 use Rattle.std.proofs.lemmas.Str.{IsUtf8-nil}
-use Rattle.bf_value.specs.Json.{text_of}
-use Rattle.bf_value.specs.Line.{last_line}
+use Rattle.bf_value.specs.Json.{json_of}
+use Rattle.bf_value.specs.Line.{last_line_of}
 use Rattle.bf_moment.specs.Long.{is_long, IsTextOfMoment}
 use Rattle.bf_moment.specs.Moment.{moment_text}
-use Rattle.bf_plan.specs.Ids.{is_id}
+use Rattle.bf_plan.specs.Ids.{is_id_in}
 use Rattle.bf_table.specs.declared.table.TableEntry.{TableEntry}
 use Rattle.bf_xcom.specs.declared.values.Outcome.{Outcome}
 use Rattle.bf_xcom.specs.declared.values.Outcome.TheVariants.{Success, Failed, Skipped}
@@ -30,18 +30,18 @@ both : (es fs : List TableEntry) → AreTellable es → AreTellable fs → AreTe
 both [] fs h k = k
 both (e ∷ es) fs h k = (h.0, both es fs h.1 k)
 
-nothing_last : last_line [] ≡ []
+nothing_last : last_line_of [] ≡ []
 nothing_last = refl
 
 module _ (run id : List ℕ) (long : is_long run ≡ true) (date : IsUtf8 run) (utf8 : IsUtf8 id) where
   module _ (index : Option ℕ) (low : IsLow index) where
-    one : (attempt status : ℕ) (line : List ℕ) → attempt ≤ 101 → status ≤ 255 → IsUtf8 line → last_line line ≡ line → IsTellable (entry_at run id (number_of index) attempt status line)
+    one : (attempt status : ℕ) (line : List ℕ) → attempt ≤ 101 → status ≤ 255 → IsUtf8 line → last_line_of line ≡ line → IsTellable (entry_at run id (number_of index) attempt status line)
     one attempt status line few code out last =
         record { run = run; task = id; index = index; attempt = attempt; status = status; line = line; is = refl; moment = long; date = date; id = utf8; low_index = low; low_attempt = omega (arith, few); exit_code = code; out = out; one_line = last }
 
     ended : (attempt : ℕ) (outcome : Outcome) → attempt ≤ 101 → IsShownOutcome outcome → AreTellable (entries_for run id (number_of index) attempt outcome)
     ended attempt (Success None) few shown = tt
-    ended attempt (Success (Some value)) few shown = (one attempt 0 (text_of value) few (omega arith) shown.utf8 (text_is_its_last_line value), tt)
+    ended attempt (Success (Some value)) few shown = (one attempt 0 (json_of value) few (omega arith) shown.utf8 (text_is_its_last_line value), tt)
     ended attempt Failed few shown = (one attempt 1 [] few (omega arith) IsUtf8-nil nothing_last, tt)
     ended attempt Skipped few shown = (one attempt 99 [] few (omega arith) IsUtf8-nil nothing_last, tt)
 
@@ -67,7 +67,7 @@ module _ (run id : List ℕ) (long : is_long run ≡ true) (date : IsUtf8 run) (
   task version (TaskReport.Ran x) shown = instance None tt x.result shown.result
   task version (TaskReport.Mapped xs) shown = mapped version 0 xs (omega (arith, shown.1)) shown.2
 
-tasks : (run : List ℕ) → is_long run ≡ true → IsUtf8 run → (version : Version) (ids : List (List ℕ)) (told : List TaskReport) → AllByRecursion (λ id. is_id id ≡ true) ids → AllByRecursion (IsShownTask version) told
+tasks : (run : List ℕ) → is_long run ≡ true → IsUtf8 run → (version : Version) (ids : List (List ℕ)) (told : List TaskReport) → AllByRecursion (λ id. is_id_in id ≡ true) ids → AllByRecursion (IsShownTask version) told
     → AreTellable (tasks_entries run ids told)
 tasks run long date version [] told are shown = tt
 tasks run long date version (id ∷ ids) [] are shown = tt
@@ -75,7 +75,7 @@ tasks run long date version (id ∷ ids) (x ∷ xs) are shown =
     both (task_entries run id x) (tasks_entries run ids xs) (task run id long date (id_utf8 id are.0) version x shown.0) (tasks run long date version ids xs are.1 shown.1)
 
 module _ (long_form : (text : List ℕ) → (is_long text ≡ true) ↔ IsTextOfMoment text) where
-  runs : (version : Version) (n : ℕ) (ids : List (List ℕ)) (rs : List RunReport) → AllByRecursion (λ id. is_id id ≡ true) ids → AllByRecursion (IsShownRun version n) rs → AreTellable (flat_map (run_entries ids) rs)
+  runs : (version : Version) (n : ℕ) (ids : List (List ℕ)) (rs : List RunReport) → AllByRecursion (λ id. is_id_in id ≡ true) ids → AllByRecursion (IsShownRun version n) rs → AreTellable (flat_map (run_entries ids) rs)
   runs version n ids [] are shown = tt
   runs version n ids (r ∷ rs) are shown =
       let at = r.interval.start.nanosecond in

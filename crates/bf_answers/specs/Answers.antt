@@ -1,7 +1,7 @@
 -- The entries of a table that answers as a report tells.
 use Rattle.std.specs.Prelude.{ℕ, ◌-◌, ℤ, pos, negsuc, List, [], ◌∷◌, ◌++◌, map, Option, Some, None}
 use Rattle.std.specs.List.{flat_map, enumerate_from, range_with_len, zip}
-use Rattle.bf_value.specs.Json.{text_of}
+use Rattle.bf_value.specs.Json.{json_of}
 use Rattle.bf_moment.specs.Moment.{moment_text}
 use Rattle.bf_xcom.specs.declared.values.Outcome.{Outcome}
 use Rattle.bf_xcom.specs.declared.values.Outcome.TheVariants.{Success, Failed, Skipped}
@@ -25,7 +25,7 @@ entry_at run id index attempt status line =
 -- the entry by which a try ends so; a success that pushes nothing needs none
 abbrev pub entries_for : List ℕ → List ℕ → ℤ → ℕ → Outcome → List TableEntry
 entries_for run id index attempt (Success None) = []
-entries_for run id index attempt (Success (Some value)) = entry_at run id index attempt 0 (text_of value) ∷ []
+entries_for run id index attempt (Success (Some value)) = entry_at run id index attempt 0 (json_of value) ∷ []
 entries_for run id index attempt Failed = entry_at run id index attempt 1 [] ∷ []
 entries_for run id index attempt Skipped = entry_at run id index attempt 99 [] ∷ []
 

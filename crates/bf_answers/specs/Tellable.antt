@@ -1,6 +1,6 @@
 -- Entries that a table can say.
 use Rattle.std.specs.Prelude.{◌≡◌, ℕ, ◌<◌, ◌≤◌, ◌^◌, true, List, Option, Some, None, IsUtf8}
-use Rattle.bf_value.specs.Line.{last_line}
+use Rattle.bf_value.specs.Line.{last_line_of}
 use Rattle.bf_moment.specs.Long.{is_long}
 use Rattle.bf_table.specs.declared.table.TableEntry.{TableEntry}
 use Rattle.bf_answers.specs.Answers.{entry_at, number_of}
@@ -25,4 +25,4 @@ pub record IsTellable (entry : TableEntry) : Type 0 where
   pub low_attempt : attempt < 2 ^ 63
   pub exit_code : status ≤ 255
   pub out : IsUtf8 line
-  pub one_line : last_line line ≡ line
+  pub one_line : last_line_of line ≡ line

@@ -7,7 +7,7 @@ use Rattle.bf_check.specs.declared.fault.CheckFault.TheVariants as check
 use Rattle.bf_check.specs.Refusals.{IsAccepted, IsFaultOf}
 use Rattle.bf_check.specs.Schedules.{IsScheduled}
 use Rattle.bf_interval.specs.declared.interval.Interval.{Interval}
-use Rattle.bf_table.specs.Tables.{table_of}
+use Rattle.bf_table.specs.Tables.{table_in}
 use Rattle.bf_command_fault.specs.declared.fault.CommandFault.{CommandFault}
 use Rattle.bf_command_fault.specs.declared.fault.CommandFault.TheVariants.{Read, Check, Table, Range, CannotWrite, Stopped}
 use Rattle.bf_command_fault.specs.declared.range.RangeFault.{RangeFault}
@@ -108,7 +108,7 @@ module _ (read held : List ℕ) (one two : Option (List ℕ)) (alike : AreAlike 
   }
   run_fault launching may_lose range fault is = list_fault range fault is
 
-  module _ (table other : List ℕ) (same : table_of table ≡ table_of other) where
+  module _ (table other : List ℕ) (same : table_in table ≡ table_in other) where
     a_table : IsTable table → IsTable other
     a_table is = record { entries = is.entries; says = sym same ∙ is.says }
 

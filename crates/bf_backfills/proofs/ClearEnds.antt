@@ -5,7 +5,7 @@ use Rattle.bf_interval.specs.declared.interval.Interval.{Interval}
 use Rattle.bf_table.specs.declared.table.TableEntry.{TableEntry}
 use Rattle.bf_report.specs.declared.report.Report.{Report as Reported}
 use Rattle.bf_commands.specs.declared.cleared.ToClear.{ToClear}
-use Rattle.bf_try.specs.Tries.{Look}
+use Rattle.bf_try.specs.Tries.{Ledger}
 use Rattle.bf_command_line.specs.declared.forms.ClearAsked.{ClearAsked}
 use Rattle.bf_command_line.specs.declared.forms.ClearPlanAsked.{ClearPlanAsked}
 use Rattle.bf_command_line.specs.declared.forms.JournalAsked.{JournalAsked}
@@ -19,14 +19,14 @@ use Rattle.bf_planning.specs.declared.range.RunRange.{RunRange}
 use Rattle.bf_report_reader.specs.Reading.{IsReadAs}
 use Rattle.bf_commands.specs.Cleared.{IsFaultAgain, IsPrepared, IsReady, IsReportAfter, IsUncleared}
 use Rattle.bf_commands.specs.Journaled.{Heading, IsClearable, IsClearedBy, IsFaultSince, IsJournaledAfter}
-use Rattle.bf_commands.specs.OverTable.{is_alone}
+use Rattle.bf_commands.specs.OverTable.{is_alone_in}
 use Rattle.bf_commands.specs.Planned.{IsClearPlan, IsFaultOfClearPlan}
 use Rattle.bf_process.specs.Words.{LaunchingOf}
 use Rattle.bf_commands.specs.Programs.{Hearing, Losing, launched_by, with_clocks}
 use Rattle.bf_commands.proofs.Faults.{unwritten_leaves}
 use Rattle.bf_disk.specs.Files.{AreReadable, Files, IsHeld, IsReadable}
 use Rattle.bf_input.specs.Inputs.{IsReadOf, IsReportFault, OfFilesAndNamedTable}
-use Rattle.bf_backfills.specs.Commands.{HasNoMoment, IsClearAnswer, IsClearPlanAnswer, IsClearReportBy, IsLaunchable, Machine, MeansCleared, MeansRange, OfClearFiles, OfJournal, clear_input, first_paths, launcher_used, launching_asked, plan_input}
+use Rattle.bf_backfills.specs.Commands.{HasNoMoment, IsClearAnswer, IsClearPlanAnswer, IsClearReportBy, IsLaunchable, Machine, MeansCleared, MeansRange, OfClearFiles, OfJournal, clear_input, first_paths, launcher_used_of, launching_asked_of, plan_input}
 use Rattle.bf_backfills.specs.CommandFaults.{CanClear, GoesWrongOver, IsClearFault, IsClearFaultBy, IsClearPlanFault, IsFaultOfClear, IsFaultOfClearing, IsFaultOfLauncher, IsRecordedClearFault}
 use Rattle.bf_backfills.specs.Named.{IsUnmeant}
 use Rattle.bf_backfills.specs.Files.{IsFaultAfterFile, IsOfBytes, IsReportAfterFile}
@@ -36,7 +36,7 @@ use Rattle.bf_backfills.proofs.ClearInputs.{prepared_held, ready, unreported, un
 -- ---- the launcher
 
 pub clear_unlaunched : (may_lose : Losing) (files : Files) (machine : Machine) (asked : ClearAsked) (range : RunRange) → MeansRange asked.range range → (fault : CommandFault)
-    → IsFaultOfLauncher machine.startable (launcher_used asked.table asked.launcher) fault → IsClearFault may_lose files machine asked fault
+    → IsFaultOfLauncher machine.startable (launcher_used_of asked.table asked.launcher) fault → IsClearFault may_lose files machine asked fault
 clear_unlaunched may_lose files machine asked range means (CannotLaunch path) is = is
 clear_unlaunched may_lose files machine asked range means OutOfMemory is = (range, means, go asked.journal)
   where
@@ -88,7 +88,7 @@ module _ (may_lose : Losing) (files : Files) (machine : Machine) (asked : ClearA
   of_clearing (CannotRead path) is = (range, means, before_journal (CannotRead path) (λ i. i) (λ j i. inl i) is)
   of_clearing fault is = absurd is
 
-  module _ (launchable : IsLaunchable machine.startable (launcher_used asked.table asked.launcher))
+  module _ (launchable : IsLaunchable machine.startable (launcher_used_of asked.table asked.launcher))
       (dag : Dag) (found : List Interval) (clocks : List ℤ) (answers : Option (List TableEntry)) (readable : AreReadable files (first_paths (clear_input asked))) (what : ToClear) (means_what : MeansCleared files asked.cleared what)
       (said : IsOfBytes files asked.graph (option_map string_bytes asked.table) (λ graph zone table. IsPrepared graph zone table range dag found clocks answers)) where
     abbrev as_ready : OfFilesAndNamedTable files asked.graph (option_map string_bytes asked.table) (λ graph held other. IsReady graph held other range)
@@ -111,7 +111,7 @@ module _ (may_lose : Losing) (files : Files) (machine : Machine) (asked : ClearA
       -- ---- where no journal is named
 
       module _ (none : asked.journal ≡ None) where
-        clear_again : (fault : CommandFault) → IsFaultAgain (is_alone asked.progress) (with_clocks (launching_asked asked.launcher asked.logs) clocks) may_lose answers dag found was what fault → IsClearFault may_lose files machine asked fault
+        clear_again : (fault : CommandFault) → IsFaultAgain (is_alone_in asked.progress) (with_clocks (launching_asked_of asked.launcher asked.logs) clocks) may_lose answers dag found was what fault → IsClearFault may_lose files machine asked fault
         clear_again (Clear fault) is = clear_refused (Clear fault) is
         clear_again (Seeds fault) is = clear_refused (Seeds fault) is
         clear_again OutOfMemory is = clear_memory
@@ -124,7 +124,7 @@ module _ (may_lose : Losing) (files : Files) (machine : Machine) (asked : ClearA
         )
         clear_again fault is = absurd is
 
-        clear_answer : (may_hear : Hearing) (text : List ℕ) (success : Bool) → IsReportAfter (launched_by (launching_asked asked.launcher asked.logs) may_hear clocks) answers dag found was what text success → IsClearAnswer may_hear files machine asked text (of_runs success)
+        clear_answer : (may_hear : Hearing) (text : List ℕ) (success : Bool) → IsReportAfter (launched_by (launching_asked_of asked.launcher asked.logs) may_hear clocks) answers dag found was what text success → IsClearAnswer may_hear files machine asked text (of_runs success)
         clear_answer may_hear text success is = record {
           range = range;
           means = means;
@@ -136,7 +136,7 @@ module _ (may_lose : Losing) (files : Files) (machine : Machine) (asked : ClearA
           readable = readable;
           report_readable = report_readable;
           text_is = λ graph held other are holds reported told. (let p = as_prepared graph held other are holds in
-              subst (λ (o : Option JournalAsked). IsClearReportBy (launching_asked asked.launcher asked.logs) may_hear machine.journals o range what graph held other reported text success) (sym none) (record {
+              subst (λ (o : Option JournalAsked). IsClearReportBy (launching_asked_of asked.launcher asked.logs) may_hear machine.journals o range what graph held other reported text success) (sym none) (record {
                 draft = p.draft;
                 answers = answers;
                 found = found;
@@ -147,21 +147,21 @@ module _ (may_lose : Losing) (files : Files) (machine : Machine) (asked : ClearA
                 report_says = says reported told;
                 clocks = clocks;
                 clocks_are = p.clocks_are;
-                reported = subst (λ (d : Dag). IsReportAfter (launched_by (launching_asked asked.launcher asked.logs) may_hear clocks) answers d found was what text success) p.dag_is is;
+                reported = subst (λ (d : Dag). IsReportAfter (launched_by (launching_asked_of asked.launcher asked.logs) may_hear clocks) answers d found was what text success) p.dag_is is;
               }));
         }
 
       -- ---- where one is
 
       module _ (journal : JournalAsked) (named : asked.journal ≡ Some journal) where
-        abbrev clearable : (kept : Look) (cleared : Heading) → IsClearedBy dag found was what kept cleared → OfClearFiles files (clear_input asked) (λ graph zone table report. IsClearable graph zone table report range what)
+        abbrev clearable : (kept : Ledger) (cleared : Heading) → IsClearedBy dag found was what kept cleared → OfClearFiles files (clear_input asked) (λ graph zone table report. IsClearable graph zone table report range what)
         clearable kept cleared is graph held other are holds reported told =
             record { ready = as_ready graph held other are holds; was = was; report_says = says reported told; kept = kept; cleared = cleared; cleared_is = is }
 
-        can_clear : (kept : Look) (cleared : Heading) → IsClearedBy dag found was what kept cleared → CanClear files asked range
+        can_clear : (kept : Ledger) (cleared : Heading) → IsClearedBy dag found was what kept cleared → CanClear files asked range
         can_clear kept cleared is = (readable, report_readable, what, means_what, clearable kept cleared is)
 
-        goes_wrong : (fault : CommandFault) (kept : Look) (cleared : Heading) (is : IsClearedBy dag found was what kept cleared)
+        goes_wrong : (fault : CommandFault) (kept : Ledger) (cleared : Heading) (is : IsClearedBy dag found was what kept cleared)
             → OfJournal machine.journals journal (λ bytes. IsFaultSince journal.stop_after kept journal.retry_failed bytes cleared (option_map string_bytes asked.logs) dag found fault)
             → GoesWrongOver files machine.journals asked journal range fault
         goes_wrong fault kept cleared is wrong = (
@@ -192,7 +192,7 @@ module _ (may_lose : Losing) (files : Files) (machine : Machine) (asked : ClearA
         clear_since (CannotLaunch path) is = absurd is.fault_is
         clear_since fault is = (range, means, as_command fault (recorded fault is))
 
-        journaled_answer : (may_hear : Hearing) (text : List ℕ) (success : Bool) → OfJournal machine.journals journal (λ bytes. IsJournaledAfter (launched_by (launching_asked asked.launcher asked.logs) may_hear clocks) answers dag found was what journal.retry_failed bytes text success)
+        journaled_answer : (may_hear : Hearing) (text : List ℕ) (success : Bool) → OfJournal machine.journals journal (λ bytes. IsJournaledAfter (launched_by (launching_asked_of asked.launcher asked.logs) may_hear clocks) answers dag found was what journal.retry_failed bytes text success)
             → IsClearAnswer may_hear files machine asked text (of_runs success)
         journaled_answer may_hear text success is = record {
           range = range;
@@ -205,7 +205,7 @@ module _ (may_lose : Losing) (files : Files) (machine : Machine) (asked : ClearA
           readable = readable;
           report_readable = report_readable;
           text_is = λ graph held other are holds reported told. (let p = as_prepared graph held other are holds in
-              subst (λ (o : Option JournalAsked). IsClearReportBy (launching_asked asked.launcher asked.logs) may_hear machine.journals o range what graph held other reported text success) (sym named) (λ bytes are_held. (record {
+              subst (λ (o : Option JournalAsked). IsClearReportBy (launching_asked_of asked.launcher asked.logs) may_hear machine.journals o range what graph held other reported text success) (sym named) (λ bytes are_held. (record {
                 draft = p.draft;
                 answers = answers;
                 found = found;
@@ -216,7 +216,7 @@ module _ (may_lose : Losing) (files : Files) (machine : Machine) (asked : ClearA
                 report_says = says reported told;
                 clocks = clocks;
                 clocks_are = p.clocks_are;
-                reported = subst (λ (d : Dag). IsJournaledAfter (launched_by (launching_asked asked.launcher asked.logs) may_hear clocks) answers d found was what journal.retry_failed bytes text success) p.dag_is (is bytes are_held);
+                reported = subst (λ (d : Dag). IsJournaledAfter (launched_by (launching_asked_of asked.launcher asked.logs) may_hear clocks) answers d found was what journal.retry_failed bytes text success) p.dag_is (is bytes are_held);
               })));
         }
 
@@ -226,12 +226,12 @@ module _ (may_lose : Losing) (files : Files) (machine : Machine) (asked : ClearA
       clear_unreported fault is = of_clearing fault (unreported files (clear_input asked) range dag found clocks answers readable what means_what said fault
           (subst (λ (f : Option (Option (List ℕ))). IsReportFault (string_bytes asked.report) f fault) stays is))
 
-      clear_going_on : asked.journal ≡ None → (fault : CommandFault) → IsFaultAfterFile (is_alone asked.progress) (with_clocks (launching_asked asked.launcher asked.logs) clocks) may_lose answers dag found (string_bytes asked.report) file what fault
+      clear_going_on : asked.journal ≡ None → (fault : CommandFault) → IsFaultAfterFile (is_alone_in asked.progress) (with_clocks (launching_asked_of asked.launcher asked.logs) clocks) may_lose answers dag found (string_bytes asked.report) file what fault
           → IsClearFault may_lose files machine asked fault
       clear_going_on none fault (inl report) = clear_unreported fault report
       clear_going_on none fault (inr (was, is, again)) = clear_again (subst IsReadable stays is.readable) was (λ held told. is.says held (stays ∙ told)) none fault again
 
-      clear_gone_on : asked.journal ≡ None → (may_hear : Hearing) (text : List ℕ) (success : Bool) → IsReportAfterFile (launched_by (launching_asked asked.launcher asked.logs) may_hear clocks) answers dag found file what text success
+      clear_gone_on : asked.journal ≡ None → (may_hear : Hearing) (text : List ℕ) (success : Bool) → IsReportAfterFile (launched_by (launching_asked_of asked.launcher asked.logs) may_hear clocks) answers dag found file what text success
           → IsClearAnswer may_hear files machine asked text (of_runs success)
       clear_gone_on none may_hear text success is =
           clear_answer (subst IsReadable stays is.read.readable) is.was (λ held told. is.read.says held (stays ∙ told)) none may_hear text success is.reported
@@ -245,30 +245,30 @@ module _ (may_lose : Losing) (files : Files) (machine : Machine) (asked : ClearA
         recording_going_on fault (inl report) = clear_unreported fault report
         recording_going_on fault (inr (was, is, since)) = since_read was is fault since
 
-        recording_gone_on : (may_hear : Hearing) (text : List ℕ) (success : Bool) → IsJournaledAfterFile (launched_by (launching_asked asked.launcher asked.logs) may_hear clocks) machine.journals answers dag found file what journal text success
+        recording_gone_on : (may_hear : Hearing) (text : List ℕ) (success : Bool) → IsJournaledAfterFile (launched_by (launching_asked_of asked.launcher asked.logs) may_hear clocks) machine.journals answers dag found file what journal text success
             → IsClearAnswer may_hear files machine asked text (of_runs success)
         recording_gone_on may_hear text success is =
             journaled_answer (subst IsReadable stays is.read.readable) is.was (λ held told. is.read.says held (stays ∙ told)) journal named may_hear text success is.reported
 
       -- whether a journal is named or not
-      pub clear_faults : (launching : LaunchingOf) → launching ≡ launching_asked asked.launcher asked.logs → (fault : CommandFault)
-          → IsFaultAfterFileBy (is_alone asked.progress) (with_clocks launching clocks) may_lose machine.journals asked.journal answers dag found (string_bytes asked.report) file what fault
+      pub clear_faults : (launching : LaunchingOf) → launching ≡ launching_asked_of asked.launcher asked.logs → (fault : CommandFault)
+          → IsFaultAfterFileBy (is_alone_in asked.progress) (with_clocks launching clocks) may_lose machine.journals asked.journal answers dag found (string_bytes asked.report) file what fault
           → IsClearFault may_lose files machine asked fault
       clear_faults launching same fault is = go asked.journal refl
-          (subst (λ (l : LaunchingOf). IsFaultAfterFileBy (is_alone asked.progress) (with_clocks l clocks) may_lose machine.journals asked.journal answers dag found (string_bytes asked.report) file what fault) same is)
+          (subst (λ (l : LaunchingOf). IsFaultAfterFileBy (is_alone_in asked.progress) (with_clocks l clocks) may_lose machine.journals asked.journal answers dag found (string_bytes asked.report) file what fault) same is)
         where
-          go : (o : Option JournalAsked) → asked.journal ≡ o → IsFaultAfterFileBy (is_alone asked.progress) (with_clocks (launching_asked asked.launcher asked.logs) clocks) may_lose machine.journals o answers dag found (string_bytes asked.report) file what fault
+          go : (o : Option JournalAsked) → asked.journal ≡ o → IsFaultAfterFileBy (is_alone_in asked.progress) (with_clocks (launching_asked_of asked.launcher asked.logs) clocks) may_lose machine.journals o answers dag found (string_bytes asked.report) file what fault
               → IsClearFault may_lose files machine asked fault
           go None none is = clear_going_on none fault is
           go (Some journal) named is = recording_going_on journal named fault is
 
-      pub clear_answers : (launching : LaunchingOf) → launching ≡ launching_asked asked.launcher asked.logs → (may_hear : Hearing) (text : List ℕ) (success : Bool)
+      pub clear_answers : (launching : LaunchingOf) → launching ≡ launching_asked_of asked.launcher asked.logs → (may_hear : Hearing) (text : List ℕ) (success : Bool)
           → IsReportAfterFileBy (launched_by launching may_hear clocks) machine.journals asked.journal answers dag found file what text success
           → IsClearAnswer may_hear files machine asked text (of_runs success)
       clear_answers launching same may_hear text success is = go asked.journal refl
           (subst (λ (l : LaunchingOf). IsReportAfterFileBy (launched_by l may_hear clocks) machine.journals asked.journal answers dag found file what text success) same is)
         where
-          go : (o : Option JournalAsked) → asked.journal ≡ o → IsReportAfterFileBy (launched_by (launching_asked asked.launcher asked.logs) may_hear clocks) machine.journals o answers dag found file what text success → IsClearAnswer may_hear files machine asked text (of_runs success)
+          go : (o : Option JournalAsked) → asked.journal ≡ o → IsReportAfterFileBy (launched_by (launching_asked_of asked.launcher asked.logs) may_hear clocks) machine.journals o answers dag found file what text success → IsClearAnswer may_hear files machine asked text (of_runs success)
           go None none is = clear_gone_on none may_hear text success is
           go (Some journal) named is = recording_gone_on journal named may_hear text success is
 

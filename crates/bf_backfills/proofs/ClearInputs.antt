@@ -4,7 +4,7 @@ use Rattle.std.specs.Global.{Global}
 use Rattle.bf_plan.specs.declared.plan.Dag.{Dag}
 use Rattle.bf_interval.specs.declared.interval.Interval.{Interval}
 use Rattle.bf_table.specs.declared.table.TableEntry.{TableEntry}
-use Rattle.bf_table.specs.Tables.{table_of}
+use Rattle.bf_table.specs.Tables.{table_in}
 use Rattle.bf_report.specs.declared.report.Report.{Report as Reported}
 use Rattle.bf_report_reader.specs.declared.fault.ReportFault.TheVariants as report
 use Rattle.bf_dependents.specs.declared.seeds.Seed.{Seed}
@@ -49,7 +49,7 @@ pub held_stays : (before after : Files) (path held : Option (List ℕ)) → ((p 
 held_stays before after (Some p) (Some bytes) stays is = stays p ∙ is
 held_stays before after path held stays is = is
 
-module _ (read held : List ℕ) (one two : Option (List ℕ)) (alike : AreAlike read held one two) (table other : Option (List ℕ)) (same : option_map table_of table ≡ option_map table_of other) (range : RunRange) where
+module _ (read held : List ℕ) (one two : Option (List ℕ)) (alike : AreAlike read held one two) (table other : Option (List ℕ)) (same : option_map table_in table ≡ option_map table_in other) (range : RunRange) where
   before_alike : (fault : CommandFault) → IsFaultBefore read one table range fault → IsFaultBefore held two other range fault
   before_alike (Table fault) is = (is.0, graph_of read held one two alike is.0 is.1, sym same ∙ is.2)
   before_alike (Range fault) is = (is.0, sym same ∙ is.1, listing_of read held one two alike range _ is.2)

@@ -1,7 +1,7 @@
 -- What commands come to, by what was read of their files.
 use Rattle.std.proofs.Common.{◌≡◌, ℕ, Bool, List, [], Option, Some, None, Ok, option_map, string_bytes, refl, sym, subst, inl, inr}
 use Rattle.jiff.specs.declared.timestamp.Timestamp.{Timestamp}
-use Rattle.bf_table.specs.Tables.{table_of}
+use Rattle.bf_table.specs.Tables.{table_in}
 use Rattle.bf_read.specs.declared.draft.Draft.{Draft}
 use Rattle.bf_check.specs.Checking.{dag_of}
 use Rattle.bf_interval.specs.declared.interval.Interval.{Interval}
@@ -24,7 +24,7 @@ use Rattle.bf_command_fault.specs.Status.{of_runs}
 use Rattle.bf_planning.specs.declared.check.GraphSize.{GraphSize}
 use Rattle.bf_planning.specs.declared.range.RunRange.{RunRange}
 use Rattle.bf_commands.specs.DatedRuns.{IsFaultOfDry, IsReportIn}
-use Rattle.bf_commands.specs.OverTable.{is_alone}
+use Rattle.bf_commands.specs.OverTable.{is_alone_in}
 use Rattle.bf_planning.specs.Graphs.{IsFaultIn, IsGraph, IsSizeOf}
 use Rattle.bf_commands.specs.Journaled.{GoesWrong, IsFaultSince}
 use Rattle.bf_planning.specs.Lists.{HasListing, IsFaultOfList, IsListIn}
@@ -34,7 +34,7 @@ use Rattle.bf_commands.specs.Programs.{Hearing, Losing, IsFaultOfRun, IsRunRepor
 use Rattle.bf_disk.specs.Files.{AreReadable, Files, IsFirstUntold}
 use Rattle.bf_input.specs.Inputs.{OfFiles, OfFilesAndTable, graph_paths, table_paths, AreAlike}
 use Rattle.bf_input.specs.Moments.{Means}
-use Rattle.bf_backfills.specs.Commands.{IsCheckAnswer, IsDryAnswer, IsLaunchable, IsListAnswer, IsRunAnswer, IsRunReportBy, IsSingleAnswer, Machine, MeansRange, OfJournal, launching_asked, size_text}
+use Rattle.bf_backfills.specs.Commands.{IsCheckAnswer, IsDryAnswer, IsLaunchable, IsListAnswer, IsRunAnswer, IsRunReportBy, IsSingleAnswer, Machine, MeansRange, OfJournal, launching_asked_of, size_text}
 use Rattle.bf_backfills.specs.CommandFaults.{IsCheckFault, IsDryFault, IsFaultOfLauncher, IsListFault, HasRuns, IsRecordedRunFault, IsRunFault, IsRunFaultBy, IsSingleFault}
 use Rattle.bf_backfills.specs.Journals.{IsFaultOfRecorded, IsFaultOfRunBy, IsFaultOver}
 use Rattle.bf_backfills.proofs.Alike.{dry_fault, fault_in, graph_of, journaled_report, list_fault, list_of, listing_of, report_at, report_in, run_fault, run_report, single_fault, size_of}
@@ -49,7 +49,7 @@ pub record AreGraphBytes (files : Files) (asked : GraphAsked) (graph : List ℕ)
 -- so it is with the table behind them
 pub record AreBytesWithTable (files : Files) (asked : GraphAsked) (path graph table : List ℕ) (zone : Option (List ℕ)) : Type 0 where
   pub readable : AreReadable files (table_paths asked path)
-  pub alike : OfFilesAndTable files asked path (λ held zone_held other. AreAlike graph held zone zone_held × (table_of table ≡ table_of other))
+  pub alike : OfFilesAndTable files asked path (λ held zone_held other. AreAlike graph held zone zone_held × (table_in table ≡ table_in other))
 
 -- what was lent is what was read
 pub lent_graph : {files : Files} {asked : GraphAsked} {lent read : List ℕ} {lent_zone zone : Option (List ℕ)} → lent ≡ read → lent_zone ≡ zone → AreReadable files (graph_paths asked)
@@ -61,7 +61,7 @@ pub read_graph : {files : Files} {asked : GraphAsked} {read : List ℕ} {zone : 
 read_graph readable alike = record { readable = readable; alike = alike }
 
 pub lent_with_table : {files : Files} {asked : GraphAsked} {path lent read lent_table table : List ℕ} {lent_zone zone : Option (List ℕ)} → lent ≡ read → lent_table ≡ table → lent_zone ≡ zone → AreReadable files (table_paths asked path)
-    → OfFilesAndTable files asked path (λ graph held other. AreAlike read graph zone held × (table_of table ≡ table_of other)) → AreBytesWithTable files asked path lent lent_table lent_zone
+    → OfFilesAndTable files asked path (λ graph held other. AreAlike read graph zone held × (table_in table ≡ table_in other)) → AreBytesWithTable files asked path lent lent_table lent_zone
 lent_with_table same same_table same_zone readable alike = rw (same, same_table, same_zone) (record { readable = readable; alike = alike })
 
 -- ---- `check`
@@ -143,12 +143,12 @@ module _ {files : Files} (asked : DryAsked) (range : RunRange) (means : MeansRan
     text_is = λ graph other held are holds. (let same = bytes.alike graph other held are holds in report_in read graph zone held same.0 table other same.1 range text success is);
   }
 
-  pub dry_files : (fault : CommandFault) → IsFaultOfDry (is_alone asked.progress) read zone table range fault → IsDryFault files asked fault
+  pub dry_files : (fault : CommandFault) → IsFaultOfDry (is_alone_in asked.progress) read zone table range fault → IsDryFault files asked fault
   dry_files BadMoment is = absurd is
   dry_files OutOfMemory is = (range, means, tt)
   dry_files (CannotRead path) is = absurd is
   dry_files (CannotWriteFile path) is = absurd is
-  dry_files fault is = (range, means, (bytes.readable, λ graph other held are holds. (let same = bytes.alike graph other held are holds in dry_fault read graph zone held same.0 table other same.1 (is_alone asked.progress) range fault is)))
+  dry_files fault is = (range, means, (bytes.readable, λ graph other held are holds. (let same = bytes.alike graph other held are holds in dry_fault read graph zone held same.0 table other same.1 (is_alone_in asked.progress) range fault is)))
 
 -- ---- `run`
 
@@ -157,7 +157,7 @@ module _ (may_lose : Losing) (files : Files) (machine : Machine) (asked : RunAsk
   pub run_memory : IsRunFault may_lose files machine asked OutOfMemory
   run_memory = (range, means, go asked.journal)
     where
-      go : (o : Option JournalAsked) → IsRunFaultBy (launching_asked asked.launcher asked.logs) may_lose files machine.journals asked.graph o range OutOfMemory
+      go : (o : Option JournalAsked) → IsRunFaultBy (launching_asked_of asked.launcher asked.logs) may_lose files machine.journals asked.graph o range OutOfMemory
       go None = tt
       go (Some journal) = tt
 
@@ -170,14 +170,14 @@ module _ (may_lose : Losing) (files : Files) (machine : Machine) (asked : RunAsk
   pub run_unread : (path : List ℕ) → IsFirstUntold files (graph_paths asked.graph) path → IsRunFault may_lose files machine asked (CannotRead path)
   run_unread path unread = (range, means, go asked.journal)
     where
-      go : (o : Option JournalAsked) → IsRunFaultBy (launching_asked asked.launcher asked.logs) may_lose files machine.journals asked.graph o range (CannotRead path)
+      go : (o : Option JournalAsked) → IsRunFaultBy (launching_asked_of asked.launcher asked.logs) may_lose files machine.journals asked.graph o range (CannotRead path)
       go None = unread
       go (Some journal) = inl unread
 
 module _ {files : Files} (machine : Machine) (asked : RunAsked) (range : RunRange) (means : MeansRange asked.range range) (launchable : IsLaunchable machine.startable (option_map string_bytes asked.launcher)) {read : List ℕ} {zone : Option (List ℕ)} (bytes : AreGraphBytes files asked.graph read zone) where
   -- where no journal is named
   module _ (none : asked.journal ≡ None) where
-    run_answer : (may_hear : Hearing) (text : List ℕ) (success : Bool) → IsRunReport (launching_asked asked.launcher asked.logs) may_hear read zone range text success
+    run_answer : (may_hear : Hearing) (text : List ℕ) (success : Bool) → IsRunReport (launching_asked_of asked.launcher asked.logs) may_hear read zone range text success
         → IsRunAnswer may_hear files machine asked text (of_runs success)
     run_answer may_hear text success is = record {
       range = range;
@@ -186,28 +186,28 @@ module _ {files : Files} (machine : Machine) (asked : RunAsked) (range : RunRang
       status_is = refl;
       launchable = launchable;
       readable = bytes.readable;
-      text_is = λ graph held are. subst (λ (o : Option JournalAsked). IsRunReportBy (launching_asked asked.launcher asked.logs) may_hear machine.journals o range graph held text success) (sym none)
-          (run_report read graph zone held (bytes.alike graph held are) (launching_asked asked.launcher asked.logs) may_hear range text success is);
+      text_is = λ graph held are. subst (λ (o : Option JournalAsked). IsRunReportBy (launching_asked_of asked.launcher asked.logs) may_hear machine.journals o range graph held text success) (sym none)
+          (run_report read graph zone held (bytes.alike graph held are) (launching_asked_of asked.launcher asked.logs) may_hear range text success is);
     }
 
-    by_files : (may_lose : Losing) (fault : CommandFault) → IsFaultOfRun (launching_asked asked.launcher asked.logs) may_lose read zone range fault → IsRunFaultBy (launching_asked asked.launcher asked.logs) may_lose files machine.journals asked.graph None range fault
+    by_files : (may_lose : Losing) (fault : CommandFault) → IsFaultOfRun (launching_asked_of asked.launcher asked.logs) may_lose read zone range fault → IsRunFaultBy (launching_asked_of asked.launcher asked.logs) may_lose files machine.journals asked.graph None range fault
     by_files may_lose BadMoment is = absurd is
     by_files may_lose OutOfMemory is = tt
     by_files may_lose (CannotRead path) is = absurd is
     by_files may_lose (CannotWriteFile path) is = absurd is
-    by_files may_lose fault is = (bytes.readable, λ graph held are. run_fault read graph zone held (bytes.alike graph held are) (launching_asked asked.launcher asked.logs) may_lose range fault is)
+    by_files may_lose fault is = (bytes.readable, λ graph held are. run_fault read graph zone held (bytes.alike graph held are) (launching_asked_of asked.launcher asked.logs) may_lose range fault is)
 
-    as_run : (may_lose : Losing) (fault : CommandFault) → IsRunFaultBy (launching_asked asked.launcher asked.logs) may_lose files machine.journals asked.graph None range fault → IsRunFaultBy (launching_asked asked.launcher asked.logs) may_lose files machine.journals asked.graph asked.journal range fault
-    as_run may_lose fault is = subst (λ (o : Option JournalAsked). IsRunFaultBy (launching_asked asked.launcher asked.logs) may_lose files machine.journals asked.graph o range fault) (sym none) is
+    as_run : (may_lose : Losing) (fault : CommandFault) → IsRunFaultBy (launching_asked_of asked.launcher asked.logs) may_lose files machine.journals asked.graph None range fault → IsRunFaultBy (launching_asked_of asked.launcher asked.logs) may_lose files machine.journals asked.graph asked.journal range fault
+    as_run may_lose fault is = subst (λ (o : Option JournalAsked). IsRunFaultBy (launching_asked_of asked.launcher asked.logs) may_lose files machine.journals asked.graph o range fault) (sym none) is
 
-    run_files : (may_lose : Losing) (fault : CommandFault) → IsFaultOfRun (launching_asked asked.launcher asked.logs) may_lose read zone range fault → IsRunFault may_lose files machine asked fault
+    run_files : (may_lose : Losing) (fault : CommandFault) → IsFaultOfRun (launching_asked_of asked.launcher asked.logs) may_lose read zone range fault → IsRunFault may_lose files machine asked fault
     run_files may_lose BadMoment is = absurd is
     run_files may_lose (CannotLaunch path) is = absurd is
     run_files may_lose fault is = (range, means, as_run may_lose fault (by_files may_lose fault is))
 
   -- where one is
   module _ (journal : JournalAsked) (named : asked.journal ≡ Some journal) where
-    recorded_answer : (may_hear : Hearing) (text : List ℕ) (success : Bool) → IsRunReportBy (launching_asked asked.launcher asked.logs) may_hear machine.journals (Some journal) range read zone text success
+    recorded_answer : (may_hear : Hearing) (text : List ℕ) (success : Bool) → IsRunReportBy (launching_asked_of asked.launcher asked.logs) may_hear machine.journals (Some journal) range read zone text success
         → IsRunAnswer may_hear files machine asked text (of_runs success)
     recorded_answer may_hear text success is = record {
       range = range;
@@ -216,8 +216,8 @@ module _ {files : Files} (machine : Machine) (asked : RunAsked) (range : RunRang
       status_is = refl;
       launchable = launchable;
       readable = bytes.readable;
-      text_is = λ graph held are. subst (λ (o : Option JournalAsked). IsRunReportBy (launching_asked asked.launcher asked.logs) may_hear machine.journals o range graph held text success) (sym named)
-          (λ holds told. journaled_report read graph zone held (bytes.alike graph held are) (launching_asked asked.launcher asked.logs) may_hear journal.retry_failed holds range text success (is holds told));
+      text_is = λ graph held are. subst (λ (o : Option JournalAsked). IsRunReportBy (launching_asked_of asked.launcher asked.logs) may_hear machine.journals o range graph held text success) (sym named)
+          (λ holds told. journaled_report read graph zone held (bytes.alike graph held are) (launching_asked_of asked.launcher asked.logs) may_hear journal.retry_failed holds range text success (is holds told));
     }
 
     has_runs : (found : List Interval) → HasListing read zone range (Ok found) → OfFiles files asked.graph (HasRuns range)
@@ -266,8 +266,8 @@ module _ {files : Files} (machine : Machine) (asked : RunAsked) (range : RunRang
     no_launcher path (inl is) = is
     no_launcher path (inr is) = is.4
 
-    as_recorded : (may_lose : Losing) (fault : CommandFault) → IsRecordedRunFault (option_map string_bytes asked.logs) files machine.journals asked.graph journal range fault → IsRunFaultBy (launching_asked asked.launcher asked.logs) may_lose files machine.journals asked.graph asked.journal range fault
-    as_recorded may_lose fault is = subst (λ (o : Option JournalAsked). IsRunFaultBy (launching_asked asked.launcher asked.logs) may_lose files machine.journals asked.graph o range fault) (sym named) is
+    as_recorded : (may_lose : Losing) (fault : CommandFault) → IsRecordedRunFault (option_map string_bytes asked.logs) files machine.journals asked.graph journal range fault → IsRunFaultBy (launching_asked_of asked.launcher asked.logs) may_lose files machine.journals asked.graph asked.journal range fault
+    as_recorded may_lose fault is = subst (λ (o : Option JournalAsked). IsRunFaultBy (launching_asked_of asked.launcher asked.logs) may_lose files machine.journals asked.graph o range fault) (sym named) is
 
     recorded_files : (may_lose : Losing) (fault : CommandFault) → IsFaultOfRecorded (option_map string_bytes asked.logs) machine.journals journal range read zone fault → IsRunFault may_lose files machine asked fault
     recorded_files may_lose BadMoment is = absurd (no_moment is)
@@ -275,20 +275,20 @@ module _ {files : Files} (machine : Machine) (asked : RunAsked) (range : RunRang
     recorded_files may_lose fault is = (range, means, as_recorded may_lose fault (recorded fault is))
 
   -- whether one is named or not
-  pub run_answer_by : (launching : LaunchingOf) → launching ≡ launching_asked asked.launcher asked.logs → (may_hear : Hearing) (text : List ℕ) (success : Bool)
+  pub run_answer_by : (launching : LaunchingOf) → launching ≡ launching_asked_of asked.launcher asked.logs → (may_hear : Hearing) (text : List ℕ) (success : Bool)
       → IsRunReportBy launching may_hear machine.journals asked.journal range read zone text success → IsRunAnswer may_hear files machine asked text (of_runs success)
   run_answer_by launching same may_hear text success is =
       go asked.journal refl (subst (λ (l : LaunchingOf). IsRunReportBy l may_hear machine.journals asked.journal range read zone text success) same is)
     where
-      go : (o : Option JournalAsked) → asked.journal ≡ o → IsRunReportBy (launching_asked asked.launcher asked.logs) may_hear machine.journals o range read zone text success → IsRunAnswer may_hear files machine asked text (of_runs success)
+      go : (o : Option JournalAsked) → asked.journal ≡ o → IsRunReportBy (launching_asked_of asked.launcher asked.logs) may_hear machine.journals o range read zone text success → IsRunAnswer may_hear files machine asked text (of_runs success)
       go None none is = run_answer none may_hear text success is
       go (Some journal) named is = recorded_answer journal named may_hear text success is
 
-  pub run_files_by : (launching : LaunchingOf) → launching ≡ launching_asked asked.launcher asked.logs → (may_lose : Losing) (fault : CommandFault)
+  pub run_files_by : (launching : LaunchingOf) → launching ≡ launching_asked_of asked.launcher asked.logs → (may_lose : Losing) (fault : CommandFault)
       → IsFaultOfRunBy launching may_lose machine.journals asked.journal range read zone fault → IsRunFault may_lose files machine asked fault
   run_files_by launching same may_lose fault is =
       go asked.journal refl (subst (λ (l : LaunchingOf). IsFaultOfRunBy l may_lose machine.journals asked.journal range read zone fault) same is)
     where
-      go : (o : Option JournalAsked) → asked.journal ≡ o → IsFaultOfRunBy (launching_asked asked.launcher asked.logs) may_lose machine.journals o range read zone fault → IsRunFault may_lose files machine asked fault
+      go : (o : Option JournalAsked) → asked.journal ≡ o → IsFaultOfRunBy (launching_asked_of asked.launcher asked.logs) may_lose machine.journals o range read zone fault → IsRunFault may_lose files machine asked fault
       go None none is = run_files none may_lose fault is
       go (Some journal) named is = recorded_files journal named may_lose fault is

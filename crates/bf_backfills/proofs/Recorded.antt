@@ -7,7 +7,7 @@ use Rattle.bf_plan.specs.declared.plan.Dag.{Dag}
 use Rattle.bf_interval.specs.declared.interval.Interval.{Interval}
 use Rattle.bf_xcom.specs.declared.values.Given.{Given}
 use Rattle.bf_try.specs.declared.answers.Raw.{Raw}
-use Rattle.bf_try.specs.Tries.{Look}
+use Rattle.bf_try.specs.Tries.{Ledger}
 use Rattle.bf_kept.specs.Kept.{nothing}
 use Rattle.bf_process.specs.Words.{LaunchingOf, MayAnswer}
 use Rattle.bf_table.specs.declared.table.TableEntry.{TableEntry}
@@ -31,7 +31,7 @@ use Rattle.bf_backfills.specs.Commands.{OfJournal}
 use Rattle.bf_input.specs.Inputs.{IsReadOf}
 use Rattle.bf_backfills.specs.Journals.{IsFaultOfRecorded, IsFaultOver, IsJournaledAfterFile, IsReportOver, journaled_fault}
 
-module _ (journals : Files) (asked : JournalAsked) (held : List ℕ) (is_held : OfJournal journals asked (λ told. held ≡ told)) (before : Look) (cleared : Heading) (dag : Dag) (found : List Interval) where
+module _ (journals : Files) (asked : JournalAsked) (held : List ℕ) (is_held : OfJournal journals asked (λ told. held ≡ told)) (before : Ledger) (cleared : Heading) (dag : Dag) (found : List Interval) where
   module _ (logs : Option (List ℕ)) where
     as_told : (fault : CommandFault) → IsFaultSince asked.stop_after before asked.retry_failed held cleared logs dag found fault
         → OfJournal journals asked (λ told. IsFaultSince asked.stop_after before asked.retry_failed told cleared logs dag found fault)
@@ -62,7 +62,7 @@ told_leaves path Halted IsDue before after fault left = left
 -- ---- what comes of the journal that was opened
 
 module _ (journals : Files) (asked : JournalAsked) (held : List ℕ) (is_held : OfJournal journals asked (λ told. held ≡ told)) (retry : Bool) (is_retry : retry ≡ asked.retry_failed)
-    (before : Look) (cleared : Heading) (dag : Dag) (found : List Interval) (report : Result Bool CommandFault) where
+    (before : Ledger) (cleared : Heading) (dag : Dag) (found : List Interval) (report : Result Bool CommandFault) where
   module _ (may_answer : JobName → Given → Raw → Type 0) (went went_after : Option (List ℕ)) where
     abbrev Reported : Bool → List ℕ → Bool → Type 0
     Reported r text success = IsReportSince before r held cleared may_answer dag found text success
@@ -128,7 +128,7 @@ module _ {graph : List ℕ} {file : Option (List ℕ)} {plan : Checked} (range :
 
 -- the report over the journal is that of `clear`
 pub after_file : (journals : Files) (asked : JournalAsked) (may_hear : HearingTries) (answers : Option (List TableEntry)) (dag : Dag) (found : List Interval) (file : Option (Option (List ℕ))) (what : ToClear)
-    (was : Report) → IsReadOf file was → (kept : Look) (cleared : Heading) → IsClearedBy dag found was what kept cleared → (text : List ℕ) (success : Bool)
+    (was : Report) → IsReadOf file was → (kept : Ledger) (cleared : Heading) → IsClearedBy dag found was what kept cleared → (text : List ℕ) (success : Bool)
     → IsReportOver journals asked kept cleared (MayAnswerBy may_hear answers dag found) dag found text success → IsJournaledAfterFile may_hear journals answers dag found file what asked text success
 after_file journals asked may_hear answers dag found file what was read kept cleared cleared_is text success over = record {
   was = was;

@@ -23,13 +23,13 @@ use Rattle.bf_planning.specs.Graphs.{IsFaultIn}
 use Rattle.bf_commands.specs.Journaled.{GoesWrong, GoesWrongClearing, IsClearable}
 use Rattle.bf_planning.specs.Lists.{HasListing, IsFaultOfList}
 use Rattle.bf_commands.specs.OneRun.{IsFaultOfSingle}
-use Rattle.bf_commands.specs.OverTable.{is_alone}
+use Rattle.bf_commands.specs.OverTable.{is_alone_in}
 use Rattle.bf_process.specs.Words.{LaunchingOf}
 use Rattle.bf_commands.specs.Programs.{Losing, IsFaultOfRun}
 use Rattle.bf_disk.specs.Files.{Files, IsReadable, IsUntold, AreReadable, IsFirstUntold}
 use Rattle.bf_input.specs.Inputs.{OfFiles, OfFilesAndTable, OfFilesAndNamedTable, graph_paths, table_paths}
 use Rattle.bf_input.specs.Moments.{Means, IsNoMoment}
-use Rattle.bf_backfills.specs.Commands.{OfJournal, IsUnopened, Startable, Machine, IsUnlaunchable, launcher_used, launching_asked, MeansCleared, MeansRange, HasNoMoment, IsNoStarts, ClearInput, clear_input, plan_input, first_paths, OfClearFiles}
+use Rattle.bf_backfills.specs.Commands.{OfJournal, IsUnopened, Startable, Machine, IsUnlaunchable, launcher_used_of, launching_asked_of, MeansCleared, MeansRange, HasNoMoment, IsNoStarts, ClearInput, clear_input, plan_input, first_paths, OfClearFiles}
 
 -- ---- why there is no answer
 
@@ -69,7 +69,7 @@ abbrev pub IsDryFault : Files → DryAsked → CommandFault → Type 0
 IsDryFault files asked BadMoment = IsNoStarts asked.range.starts
 IsDryFault files asked fault = (range : RunRange) × MeansRange asked.range range × IsFaultOfFiles files (table_paths asked.graph (string_bytes asked.table))
     (OfFilesAndTable files asked.graph (string_bytes asked.table) (λ graph zone table.
-    IsFaultOfDry (is_alone asked.progress) graph zone table range fault)) fault
+    IsFaultOfDry (is_alone_in asked.progress) graph zone table range fault)) fault
 
 -- runs lie in the range
 abbrev pub HasRuns : RunRange → List ℕ → Option (List ℕ) → Type 0
@@ -102,7 +102,7 @@ abbrev pub IsRunFault : Losing → Files → Machine → RunAsked → CommandFau
 IsRunFault may_lose files machine asked BadMoment = IsNoStarts asked.range.starts
 IsRunFault may_lose files machine asked (CannotLaunch path) = IsUnlaunchable machine.startable (option_map string_bytes asked.launcher) path
 IsRunFault may_lose files machine asked fault = (range : RunRange) × MeansRange asked.range range
-    × IsRunFaultBy (launching_asked asked.launcher asked.logs) may_lose files machine.journals asked.graph asked.journal range fault
+    × IsRunFaultBy (launching_asked_of asked.launcher asked.logs) may_lose files machine.journals asked.graph asked.journal range fault
 
 -- the files but for the report can be read, this is to be cleared, and so it is with what they and the report hold
 abbrev pub OfReadClearFiles : Files → ClearInput → (ToClear → List ℕ → Option (List ℕ) → Option (List ℕ) → List ℕ → Type 0) → Type 0
@@ -142,7 +142,7 @@ IsFaultOfClearing files input range fault = ⊥
 -- so it is; or there is none of these, and it is what stops the backfill
 abbrev pub IsFaultOfClear : Losing → Files → ClearAsked → RunRange → CommandFault → Type 0
 IsFaultOfClear may_lose files asked range (Stopped stop) = OfReadClearFiles files (clear_input asked) (λ what graph zone table report.
-    StopsClearing (is_alone asked.progress) (launching_asked asked.launcher asked.logs) may_lose graph zone table report range what stop)
+    StopsClearing (is_alone_in asked.progress) (launching_asked_of asked.launcher asked.logs) may_lose graph zone table report range what stop)
 IsFaultOfClear may_lose files asked range fault = IsFaultOfClearing files (clear_input asked) range fault
 
 -- nothing keeps this from being cleared in the report
@@ -174,7 +174,7 @@ IsClearFaultBy may_lose files journals asked (Some journal) range fault = IsReco
 -- they are used for
 abbrev pub IsClearFault : Losing → Files → Machine → ClearAsked → CommandFault → Type 0
 IsClearFault may_lose files machine asked BadMoment = IsNoStarts asked.range.starts ⊎ HasNoMoment asked.cleared
-IsClearFault may_lose files machine asked (CannotLaunch path) = IsUnlaunchable machine.startable (launcher_used asked.table asked.launcher) path
+IsClearFault may_lose files machine asked (CannotLaunch path) = IsUnlaunchable machine.startable (launcher_used_of asked.table asked.launcher) path
 IsClearFault may_lose files machine asked fault = (range : RunRange) × MeansRange asked.range range
     × IsClearFaultBy may_lose files machine.journals asked asked.journal range fault
 

@@ -80,13 +80,13 @@ abbrev pub IsUnlaunchable : Startable → Option (List ℕ) → List ℕ → Typ
 IsUnlaunchable startable launcher path = (launcher ≡ Some path) × (startable path ≢ Some true)
 
 -- the launcher that is named, where no table is
-abbrev pub launcher_used : Option (String Global) → Option (String Global) → Option (List ℕ)
-launcher_used None launcher = option_map string_bytes launcher
-launcher_used (Some table) launcher = None
+abbrev pub launcher_used_of : Option (String Global) → Option (String Global) → Option (List ℕ)
+launcher_used_of None launcher = option_map string_bytes launcher
+launcher_used_of (Some table) launcher = None
 
 -- how programs are launched where such a launcher and such a folder of logs are named; what clocks show is left open
-abbrev pub launching_asked : Option (String Global) → Option (String Global) → LaunchingOf
-launching_asked launcher logs = record { launcher = option_map string_bytes launcher; logs = option_map string_bytes logs; clocks = [] }
+abbrev pub launching_asked_of : Option (String Global) → Option (String Global) → LaunchingOf
+launching_asked_of launcher logs = record { launcher = option_map string_bytes launcher; logs = option_map string_bytes logs; clocks = [] }
 
 -- ---- moments
 
@@ -185,7 +185,7 @@ pub record IsRunAnswer (may_hear : Hearing) (files : Files) (machine : Machine) 
   pub status_is : status ≡ of_runs succeeded
   pub launchable : IsLaunchable machine.startable (option_map string_bytes asked.launcher)
   pub readable : AreReadable files (graph_paths asked.graph)
-  pub text_is : OfFiles files asked.graph (λ graph zone. IsRunReportBy (launching_asked asked.launcher asked.logs) may_hear machine.journals asked.journal range graph zone text succeeded)
+  pub text_is : OfFiles files asked.graph (λ graph zone. IsRunReportBy (launching_asked_of asked.launcher asked.logs) may_hear machine.journals asked.journal range graph zone text succeeded)
 
 -- what `clear` is given to read, and what is to be cleared in it
 pub record ClearInput : Type 0 where
@@ -230,11 +230,11 @@ pub record IsClearAnswer (may_hear : Hearing) (files : Files) (machine : Machine
   pub means_what : MeansCleared files asked.cleared what
   pub succeeded : Bool
   pub status_is : status ≡ of_runs succeeded
-  pub launchable : IsLaunchable machine.startable (launcher_used asked.table asked.launcher)
+  pub launchable : IsLaunchable machine.startable (launcher_used_of asked.table asked.launcher)
   pub readable : AreReadable files (first_paths (clear_input asked))
   pub report_readable : IsReadable (files (string_bytes asked.report))
   pub text_is : OfClearFiles files (clear_input asked) (λ graph zone table report.
-      IsClearReportBy (launching_asked asked.launcher asked.logs) may_hear machine.journals asked.journal range what graph zone table report text succeeded)
+      IsClearReportBy (launching_asked_of asked.launcher asked.logs) may_hear machine.journals asked.journal range what graph zone table report text succeeded)
 
 -- the bytes say a graph, which has no fault, and a report of its runs in the range, and the text tells what is cleared in it
 pub record IsClearPlanIn (graph : List ℕ) (file : Option (List ℕ)) (report : List ℕ) (range : RunRange) (what : ToClear) (text : List ℕ) : Type 0 where

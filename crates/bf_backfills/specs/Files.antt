@@ -5,7 +5,7 @@ use Rattle.bf_commands.specs.declared.cleared.ToClear.{ToClear}
 use Rattle.bf_interval.specs.declared.interval.Interval.{Interval}
 use Rattle.bf_report.specs.declared.report.Report.{Report}
 use Rattle.bf_table.specs.declared.table.TableEntry.{TableEntry}
-use Rattle.bf_table.specs.Tables.{table_of}
+use Rattle.bf_table.specs.Tables.{table_in}
 use Rattle.bf_command_line.specs.declared.forms.GraphAsked.{GraphAsked}
 use Rattle.bf_command_fault.specs.declared.fault.CommandFault.{CommandFault}
 use Rattle.bf_planning.specs.declared.range.RunRange.{RunRange}
@@ -20,7 +20,7 @@ pub record IsOfBytes (files : Files) (asked : GraphAsked) (path : Option (List �
   pub graph : List ℕ
   pub zone : Option (List ℕ)
   pub table : Option (List ℕ)
-  pub alike : OfFilesAndNamedTable files asked path (λ held zone_held other. AreAlike graph held zone zone_held × (option_map table_of table ≡ option_map table_of other))
+  pub alike : OfFilesAndNamedTable files asked path (λ held zone_held other. AreAlike graph held zone zone_held × (option_map table_in table ≡ option_map table_in other))
   pub holds : P graph zone table
 
 -- the first fault of the files, the graph, the table and the range

@@ -7,7 +7,7 @@ use Rattle.bf_check.specs.Checking.{dag_of}
 use Rattle.bf_interval.specs.declared.interval.Interval.{Interval}
 use Rattle.bf_xcom.specs.declared.values.Given.{Given}
 use Rattle.bf_try.specs.declared.answers.Raw.{Raw}
-use Rattle.bf_try.specs.Tries.{Look}
+use Rattle.bf_try.specs.Tries.{Ledger}
 use Rattle.bf_kept.specs.Kept.{nothing}
 use Rattle.bf_table.specs.declared.table.TableEntry.{TableEntry}
 use Rattle.bf_commands.specs.declared.cleared.ToClear.{ToClear}
@@ -51,7 +51,7 @@ journaled_fault path (Stopped StopFault.CannotRecord) = CannotWriteFile path
 journaled_fault path fault = fault
 
 -- a journal that is asked for can't be opened or written; or the backfill that goes on from what it is told to hold has this fault
-abbrev pub IsFaultOver : Files → JournalAsked → Look → Heading → Option (List ℕ) → Dag → List Interval → CommandFault → Type 0
+abbrev pub IsFaultOver : Files → JournalAsked → Ledger → Heading → Option (List ℕ) → Dag → List Interval → CommandFault → Type 0
 IsFaultOver journals asked before cleared logs dag found (CannotRead path) = IsFaultOfOpening journals asked (CannotRead path)
 IsFaultOver journals asked before cleared logs dag found JournalInUse = IsFaultOfOpening journals asked JournalInUse
 IsFaultOver journals asked before cleared logs dag found (CannotWriteFile path) = path ≡ string_bytes asked.path
@@ -63,7 +63,7 @@ IsFaultOver journals asked before cleared logs dag found (Stopped stop) =
 IsFaultOver journals asked before cleared logs dag found fault = IsWanting fault
 
 -- the report of the backfill that goes on from what the journal is told to hold
-abbrev pub IsReportOver : Files → JournalAsked → Look → Heading → (JobName → Given → Raw → Type 0) → Dag → List Interval → List ℕ → Bool → Type 0
+abbrev pub IsReportOver : Files → JournalAsked → Ledger → Heading → (JobName → Given → Raw → Type 0) → Dag → List Interval → List ℕ → Bool → Type 0
 IsReportOver journals asked before cleared may_answer dag found text success =
     OfJournal journals asked (λ held. IsReportSince before asked.retry_failed held cleared may_answer dag found text success)
 
@@ -91,7 +91,7 @@ pub record IsJournaledAfterFile (may_hear : HearingTries) (journals : Files) (an
 
 -- what is kept of a report where this is cleared, and the backfill that goes on from a journal and from that has this fault
 pub record GoesWrongAfter (logs : Option (List ℕ)) (journals : Files) (dag : Dag) (found : List Interval) (was : Report) (what : ToClear) (asked : JournalAsked) (fault : CommandFault) : Type 0 where
-  pub kept : Look
+  pub kept : Ledger
   pub cleared : Heading
   pub cleared_is : IsClearedBy dag found was what kept cleared
   pub fault_is : IsFaultOver journals asked kept cleared logs dag found fault

@@ -2,7 +2,7 @@
 ghost use Rattle.std.specs.Prelude.{IfOk, IfErr, ◌≡◌, string_bytes};
 ghost use Rattle.bf_device.specs.Device.{HasHalted};
 ghost use Rattle.bf_command_fault.specs.Refusal.{Leaves, Sends};
-ghost use Rattle.bf_command_fault.specs.declared.status.Status.{Status as StatusTerm};
+ghost use Rattle.bf_command_fault.specs.declared.status.Status.{Status};
 ghost use Rattle.bf_backfills.specs.Commands.{IsCheckAnswer, size_text};
 ghost use Rattle.bf_backfills.specs.CommandFaults.{IsCheckFault};
 
@@ -35,7 +35,7 @@ pub fn check_answered<S: Source, W: Write>(
     ensures fault { IfErr result (IsCheckFault (S.file files.old) asked) }
     ensures left { IfErr result (Leaves (HasHalted (W.failures out.old) (W.failures out.new)
         (W.interruptions out.old) (W.interruptions out.new))
-        (λ text. (status : StatusTerm) × IsCheckAnswer (S.file files.old) asked text status)
+        (λ text. (status : Status) × IsCheckAnswer (S.file files.old) asked text status)
         (W.written out.old) (W.written out.new)) }
 {
     let files = graph_files(alloc, asked, files)?;

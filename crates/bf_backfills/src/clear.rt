@@ -2,17 +2,17 @@
 //! nothing is, it is `run --keep` and `dry --keep`.
 ghost use Rattle.std.specs.Prelude.{◌≡◌, ℕ, Bool, List, IfOk, IfErr, OnOk, option_map, string_bytes};
 ghost use Rattle.bf_device.specs.Device.{HasHalted};
-ghost use Rattle.bf_table.specs.Tables.{table_of};
+ghost use Rattle.bf_table.specs.Tables.{table_in};
 ghost use Rattle.bf_commands.specs.Cleared.{IsPrepared};
-ghost use Rattle.bf_commands.specs.OverTable.{is_alone};
+ghost use Rattle.bf_commands.specs.OverTable.{is_alone_in};
 ghost use Rattle.bf_process.specs.Words.{launching_of};
 ghost use Rattle.bf_planning.specs.Clocks.{clocks_in};
 ghost use Rattle.bf_commands.specs.Programs.{launched_in, with_clocks};
 ghost use Rattle.bf_command_fault.specs.Refusal.{Leaves, Sends};
-ghost use Rattle.bf_command_fault.specs.declared.status.Status.{Status as StatusTerm};
+ghost use Rattle.bf_command_fault.specs.declared.status.Status.{Status};
 ghost use Rattle.bf_disk.specs.Files.{AreReadable};
 ghost use Rattle.bf_input.specs.Inputs.{OfFilesAndNamedTable, clear_paths, AreAlike, IsReadingFault, bytes_of};
-ghost use Rattle.bf_backfills.specs.Commands.{IsClearAnswer, launcher_used as used, machine_of};
+ghost use Rattle.bf_backfills.specs.Commands.{IsClearAnswer, launcher_used_of, machine_of};
 ghost use Rattle.bf_backfills.specs.CommandFaults.{IsClearFault};
 ghost use Rattle.bf_backfills.specs.Files.{IsFaultAfterFile, IsOfBytes, IsPreparingFault, IsReportAfterFile};
 ghost use Rattle.bf_backfills.specs.Journals.{IsFaultAfterFileBy, IsFaultSinceFile, IsJournaledAfterFile, IsReportAfterFileBy};
@@ -37,7 +37,7 @@ use std::time::Clock;
 
 /// The launcher that is named, where no table is.
 fn launcher_used<'a>(table: &Option<String>, launcher: &'a Option<String>) -> Option<&'a str>
-    ensures { option_map (λ l. l.now) result ≡ used table.now launcher.entry.now }
+    ensures { option_map (λ l. l.now) result ≡ launcher_used_of table.now launcher.entry.now }
 {
     match table {
         Some(_) => None,
@@ -73,7 +73,7 @@ fn clear_files<S: Source>(
     ensures alike { IfOk result (λ f. OfFilesAndNamedTable (S.file files.old) graph
         (option_map string_bytes table) (λ held zone other.
         AreAlike f.graph.graph.items held (bytes_of f.graph.zone_file) zone
-        × (option_map table_of (bytes_of f.table) ≡ option_map table_of other))) }
+        × (option_map table_in (bytes_of f.table) ≡ option_map table_in other))) }
     ensures what { IfOk result (λ f. IsReadFor (S.file files.old) named f.what) }
     ensures readable { OnOk result
         (AreReadable (S.file files.old)
@@ -145,7 +145,7 @@ fn go_on<RT: Starter + Screen + Threads + Wait + Clock + Sync, S: Source, W: Wri
         prepared.answers prepared.dated.plan.dag prepared.dated.runs
         (S.file files.old (string_bytes report)) what text success)
         (W.written out.old) (W.written out.new)) }
-    ensures fault { IfErr result (IsFaultAfterFile (is_alone crew.now.progress)
+    ensures fault { IfErr result (IsFaultAfterFile (is_alone_in crew.now.progress)
         (with_clocks (launching_of crew.now.launching) (clocks_in prepared.dated))
         (RT.may_lose crew.now.rt.now)
         prepared.answers prepared.dated.plan.dag prepared.dated.runs (string_bytes report)
@@ -221,7 +221,7 @@ where
         prepared.dated.runs
         (S.file files.old (string_bytes report)) what text success) (W.written out.old)
         (W.written out.new)) }
-    ensures fault { IfErr result (IsFaultAfterFileBy (is_alone crew.now.progress)
+    ensures fault { IfErr result (IsFaultAfterFileBy (is_alone_in crew.now.progress)
         (with_clocks (launching_of crew.now.launching) (clocks_in prepared.dated))
         (RT.may_lose crew.now.rt.now) (J.journal journals.now) journal
         prepared.answers prepared.dated.plan.dag prepared.dated.runs (string_bytes report)
@@ -268,7 +268,7 @@ where
         (machine_of (J.journal journals.now) (J.startable journals.now)) asked) }
     ensures left { IfErr result (Leaves (HasHalted (W.failures out.old) (W.failures out.new)
         (W.interruptions out.old) (W.interruptions out.new))
-        (λ text. (status : StatusTerm)
+        (λ text. (status : Status)
         × IsClearAnswer (RT.may_hear rt.now) (S.file files.old)
         (machine_of (J.journal journals.now) (J.startable journals.now)) asked text status)
         (W.written out.old) (W.written out.new)) }

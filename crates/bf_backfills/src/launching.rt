@@ -1,7 +1,7 @@
 //! How the programs of tries are launched, and whether tries that fail are told.
 ghost use Rattle.std.specs.Prelude.{◌≡◌, IfErr, OnOk, false, option_map, string_bytes, true};
 ghost use Rattle.bf_process.specs.Words.{launching_of};
-ghost use Rattle.bf_backfills.specs.Commands.{IsLaunchable, launching_asked as asked};
+ghost use Rattle.bf_backfills.specs.Commands.{IsLaunchable, launching_asked_of};
 ghost use Rattle.bf_backfills.specs.CommandFaults.{IsFaultOfLauncher};
 
 use bf_command_fault::CommandFault;
@@ -44,7 +44,7 @@ pub(crate) fn launching_asked<'a>(
     launcher: &'a Option<String>,
     logs: &'a Option<String>,
 ) -> Launching<'a>
-    ensures { launching_of result ≡ asked launcher.entry.now logs.entry.now }
+    ensures { launching_of result ≡ launching_asked_of launcher.entry.now logs.entry.now }
 {
     Launching {
         launcher: path_named(launcher),

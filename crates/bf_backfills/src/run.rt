@@ -2,7 +2,7 @@
 ghost use Rattle.std.specs.Prelude.{IfOk, IfErr};
 ghost use Rattle.bf_device.specs.Device.{HasHalted};
 ghost use Rattle.bf_command_fault.specs.Refusal.{Leaves, Sends};
-ghost use Rattle.bf_command_fault.specs.declared.status.Status.{Status as StatusTerm};
+ghost use Rattle.bf_command_fault.specs.declared.status.Status.{Status};
 ghost use Rattle.bf_backfills.specs.Commands.{IsRunAnswer, machine_of};
 ghost use Rattle.bf_backfills.specs.CommandFaults.{IsRunFault};
 
@@ -45,7 +45,7 @@ where
         (machine_of (J.journal journals.now) (J.startable journals.now)) asked) }
     ensures left { IfErr result (Leaves (HasHalted (W.failures out.old) (W.failures out.new)
         (W.interruptions out.old) (W.interruptions out.new))
-        (λ text. (status : StatusTerm)
+        (λ text. (status : Status)
         × IsRunAnswer (RT.may_hear rt.now) (S.file files.old)
         (machine_of (J.journal journals.now) (J.startable journals.now)) asked text status)
         (W.written out.old) (W.written out.new)) }

@@ -2,7 +2,7 @@
 ghost use Rattle.std.specs.Prelude.{IfOk, IfErr};
 ghost use Rattle.bf_device.specs.Device.{HasHalted};
 ghost use Rattle.bf_command_fault.specs.Refusal.{Leaves, Sends};
-ghost use Rattle.bf_command_fault.specs.declared.status.Status.{Status as StatusTerm};
+ghost use Rattle.bf_command_fault.specs.declared.status.Status.{Status};
 ghost use Rattle.bf_backfills.specs.Commands.{IsSingleAnswer};
 ghost use Rattle.bf_backfills.specs.CommandFaults.{IsSingleFault};
 
@@ -32,7 +32,7 @@ pub fn single_answered<RT: Starter + Screen + Threads + Wait + Clock + Sync, S: 
     ensures fault { IfErr result (IsSingleFault (S.file files.old) asked) }
     ensures left { IfErr result (Leaves (HasHalted (W.failures out.old) (W.failures out.new)
         (W.interruptions out.old) (W.interruptions out.new))
-        (λ text. (status : StatusTerm) × IsSingleAnswer (S.file files.old) asked text status)
+        (λ text. (status : Status) × IsSingleAnswer (S.file files.old) asked text status)
         (W.written out.old) (W.written out.new)) }
 {
     let at = moment_of(asked.at.as_str())?;

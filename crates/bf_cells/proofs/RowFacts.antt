@@ -9,9 +9,9 @@ use Rattle.bf_report.specs.declared.report.RunReport.{RunReport}
 use Rattle.bf_report.specs.declared.report.Report.{Report}
 use Rattle.bf_clear.specs.Entries.{value_in}
 use Rattle.bf_report.specs.declared.report.InstanceReport.{InstanceReport}
-use Rattle.bf_reason.specs.Letters.{ended_letter, instance_letter, letter_of}
+use Rattle.bf_reason.specs.Letters.{ended_letter_of, instance_letter, letter_of}
 use Rattle.bf_reason.specs.Settled.{results_of}
-use Rattle.bf_reason.specs.Runs.{tasks_at, tasks_before, tasks_of}
+use Rattle.bf_reason.specs.Runs.{tasks_in, tasks_before, tasks_in_run}
 use Rattle.bf_cells.specs.Cells.{instances_word, letters_from}
 use Rattle.bf_cells.specs.Rows.{word_behind}
 
@@ -37,10 +37,10 @@ there_at [] k x low is = absurd (omega arith)
 there_at (y ∷ ys) zero x low is = ap Some (sym is)
 there_at (y ∷ ys) (suc k) x low is = there_at ys k x (omega arith) is
 
-pub tasks_there : (report : Report) (runs : List RunReport) (number : ℕ) (run : RunReport) → runs ≡ report.runs → number < length runs → run ≡ get_or runs number run → run.tasks ≡ tasks_at report number
-tasks_there report runs number run all low is = sym (ap tasks_of (ap (λ rs. slice_get rs number) (sym all) ∙ there_at runs number run low is))
+pub tasks_there : (report : Report) (runs : List RunReport) (number : ℕ) (run : RunReport) → runs ≡ report.runs → number < length runs → run ≡ get_or runs number run → run.tasks ≡ tasks_in report number
+tasks_there report runs number run all low is = sym (ap tasks_in_run (ap (λ rs. slice_get rs number) (sym all) ∙ there_at runs number run low is))
 
-pub tasks_before_next : (report : Report) (number : ℕ) → tasks_at report number ≡ tasks_before report (number + 1)
+pub tasks_before_next : (report : Report) (number : ℕ) → tasks_in report number ≡ tasks_before report (number + 1)
 tasks_before_next report number = let next : suc number ≡ number + 1 = omega arith in ap (tasks_before report) next
 
 -- ---- a row in its pieces
@@ -71,11 +71,11 @@ row_in_pieces before start end state letters tasks =
 
 -- ---- the word of a task
 
-letters_of : (instances : List InstanceReport) → map (λ ended. ended_letter ended.outcome ended.tries) (map (λ (instance : InstanceReport). instance.result) instances) ≡ map instance_letter instances
+letters_of : (instances : List InstanceReport) → map (λ ended. ended_letter_of ended.outcome ended.tries) (map (λ (instance : InstanceReport). instance.result) instances) ≡ map instance_letter instances
 letters_of [] = refl
 letters_of (instance ∷ instances) = ap (λ letters. instance_letter instance ∷ letters) (letters_of instances)
 
 pub word_of : (told : TaskReport) (instances : List InstanceReport) → told ≡ TaskReport.Mapped instances →
-    32 ∷ map (λ ended. ended_letter ended.outcome ended.tries) (results_of (value_in told)) ≡ word_behind told
+    32 ∷ map (λ ended. ended_letter_of ended.outcome ended.tries) (results_of (value_in told)) ≡ word_behind told
 word_of told instances is =
-    subst (λ (t : TaskReport). 32 ∷ map (λ ended. ended_letter ended.outcome ended.tries) (results_of (value_in t)) ≡ word_behind t) (sym is) (ap (λ letters. 32 ∷ letters) (letters_of instances))
+    subst (λ (t : TaskReport). 32 ∷ map (λ ended. ended_letter_of ended.outcome ended.tries) (results_of (value_in t)) ≡ word_behind t) (sym is) (ap (λ letters. 32 ∷ letters) (letters_of instances))

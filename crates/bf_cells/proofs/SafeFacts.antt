@@ -15,17 +15,17 @@ use Rattle.bf_core.specs.Terms.{Dag, Outcome, task_of}
 use Rattle.bf_moment.specs.Long.{IsTextOfMoment, four_from, is_date, is_long, is_long_of, is_time, two_from}
 use Rattle.bf_moment.specs.Moment.{IsShown, IsWhole, date_parts_text, moment_text, time_parts_text}
 use Rattle.bf_page.specs.Safe.{is_cell_byte}
-use Rattle.bf_plan.specs.Ids.{is_id, is_id_byte}
+use Rattle.bf_plan.specs.Ids.{is_id_in, is_id_byte_in}
 use Rattle.bf_report.specs.declared.report.InstanceReport.{InstanceReport}
 use Rattle.bf_report.specs.declared.report.TaskReport.{TaskReport}
 use Rattle.bf_report.specs.declared.report.RunReport.{RunReport}
 use Rattle.bf_report.specs.declared.report.Report.{Report}
-use Rattle.bf_report.specs.Report.{line, run_state_word}
+use Rattle.bf_report.specs.Report.{line, run_state_word_of}
 use Rattle.bf_xcom.specs.declared.values.RunState.{RunState}
 use Rattle.bf_reason.specs.declared.cause.StateCause.{StateCause}
 use Rattle.bf_reason.specs.Causes.{cause_of}
 use Rattle.bf_reason.specs.Reasons.{reason}
-use Rattle.bf_reason.specs.Letters.{before_at, digit_for, ended_letter, expanded_letter, first_letter, foreign_letter, instance_letter, letter_for, letter_of, seen_at}
+use Rattle.bf_reason.specs.Letters.{before_at, digit_for, ended_letter_of, expanded_letter, first_letter_of, foreign_letter, instance_letter, letter_for, letter_of, seen_at}
 use Rattle.bf_cells.specs.Cells.{cells_text, instances_word, letters_from, row}
 use Rattle.bf_cells.specs.Whole.{HasWholeMoments}
 
@@ -49,7 +49,7 @@ digit b l h = alphanumeric b (or_left _ _ (or_left _ _ (in_range 48 57 b l h)))
 equal : (n b : ℕ) → Cell n → (b == n) ≡ true → Cell b
 equal n b cell e = subst Cell (sym (eqb-true b n e)) cell
 
-id_byte : (b : ℕ) → is_id_byte b ≡ true → Cell b
+id_byte : (b : ℕ) → is_id_byte_in b ≡ true → Cell b
 id_byte b e =
     let lower = is_in_range 97 122 b in let upper = is_in_range 65 90 b in let digits = is_in_range 48 57 b in
     ⊎_elim (λ more. ⊎_elim (λ more. ⊎_elim (λ more. ⊎_elim (λ more. ⊎_elim
@@ -65,12 +65,12 @@ id_byte b e =
     (equal 95 b refl)
     (or_cases (lower || upper || digits || b == 45 || b == 46) (b == 95) e)
 
-id_bytes : (text : List ℕ) → list_all is_id_byte text ≡ true → All Cell text
+id_bytes : (text : List ℕ) → list_all is_id_byte_in text ≡ true → All Cell text
 id_bytes [] e = All-nil Cell
-id_bytes (b ∷ bs) e = let (first, rest) = and_parts (is_id_byte b) (list_all is_id_byte bs) e in All-cons Cell b bs (id_byte b first) (id_bytes bs rest)
+id_bytes (b ∷ bs) e = let (first, rest) = and_parts (is_id_byte_in b) (list_all is_id_byte_in bs) e in All-cons Cell b bs (id_byte b first) (id_bytes bs rest)
 
-id_cells : (text : List ℕ) → is_id text ≡ true → All Cell text
-id_cells text e = id_bytes text (and_parts (nat_le 1 (length text) && nat_le (length text) 250) (list_all is_id_byte text) e).1
+id_cells : (text : List ℕ) → is_id_in text ≡ true → All Cell text
+id_cells text e = id_bytes text (and_parts (nat_le 1 (length text) && nat_le (length text) 250) (list_all is_id_byte_in text) e).1
 
 decimal_cells : (n : ℕ) → n < 2 ^ 64 → All Cell (decimal n)
 decimal_cells n small = decimal_by_steps (λ _ digits. All Cell digits)
@@ -164,7 +164,7 @@ first_plain : (first : Bool) → is_ascii_alphanumeric (if first then byte "s" e
 first_plain true = refl
 first_plain false = refl
 
-ended_plain : (outcome : Outcome) (tries : ℕ) → is_ascii_alphanumeric (ended_letter outcome tries) ≡ true
+ended_plain : (outcome : Outcome) (tries : ℕ) → is_ascii_alphanumeric (ended_letter_of outcome tries) ≡ true
 ended_plain (Outcome.Success value) tries = first_plain (tries == 1)
 ended_plain Outcome.Failed tries = refl
 ended_plain Outcome.Skipped tries = refl
@@ -205,8 +205,8 @@ one_of_four false false false = refl
 mapped_plain : (expanded : Bool) (cause : StateCause) (instances : List InstanceReport) → is_ascii_alphanumeric (letter_for expanded cause (TaskReport.Mapped instances)) ≡ true
 mapped_plain expanded (StateCause.Runs count) instances =
     cond_both (expanded && length instances == count) (expanded_letter instances) (foreign_letter (TaskReport.Mapped instances)) (λ letter. is_ascii_alphanumeric letter ≡ true)
-    (λ _. one_of_four (first_letter instances == byte "f") (first_letter instances == byte "r") (first_letter instances == byte "s")) (λ _. one_of_three (first_letter instances == byte "f") (first_letter instances == byte "x"))
-mapped_plain expanded _ instances = one_of_three (first_letter instances == byte "f") (first_letter instances == byte "x")
+    (λ _. one_of_four (first_letter_of instances == byte "f") (first_letter_of instances == byte "r") (first_letter_of instances == byte "s")) (λ _. one_of_three (first_letter_of instances == byte "f") (first_letter_of instances == byte "x"))
+mapped_plain expanded _ instances = one_of_three (first_letter_of instances == byte "f") (first_letter_of instances == byte "x")
 
 letter_plain : (expanded : Bool) (cause : StateCause) (task : TaskReport) → is_ascii_alphanumeric (letter_for expanded cause task) ≡ true
 letter_plain expanded cause TaskReport.NoStatus = no_status_plain expanded cause
@@ -246,7 +246,7 @@ joined_cells (field ∷ next ∷ rest) each =
 line_cells : (fields : List (List ℕ)) → AllByRecursion (All Cell) fields → All Cell (line fields)
 line_cells fields each = All-append Cell (join_with_byte 32 fields) (10 ∷ []) (joined_cells fields each) (All-cons Cell 10 [] refl (All-nil Cell))
 
-state_cells : (state : RunState) → All Cell (run_state_word state)
+state_cells : (state : RunState) → All Cell (run_state_word_of state)
 state_cells RunState.Success = cells (codes "success") refl
 state_cells RunState.Failed = cells (codes "failed") refl
 
@@ -257,7 +257,7 @@ module _ (long : (text : List ℕ) → IsTextOfMoment text → is_long text ≡ 
 
   row_cells : (dag : Dag) (report : Report) (number : ℕ) (run : RunReport) → IsWhole run.interval.start.nanosecond → IsWhole run.interval.end.nanosecond → All Cell (row dag report number run)
   row_cells dag report number run start end =
-      line_cells (moment_text run.interval.start.nanosecond ∷ moment_text run.interval.end.nanosecond ∷ run_state_word run.state ∷ letters_from dag report number 0 run.tasks ∷ filter_map instances_word run.tasks)
+      line_cells (moment_text run.interval.start.nanosecond ∷ moment_text run.interval.end.nanosecond ∷ run_state_word_of run.state ∷ letters_from dag report number 0 run.tasks ∷ filter_map instances_word run.tasks)
       (moment_cells run.interval.start.nanosecond run.shown_start start, (moment_cells run.interval.end.nanosecond run.shown_end end, (state_cells run.state, (letters_cells dag report number 0 run.tasks, words_cells run.tasks))))
 
   rows_cells : (dag : Dag) (report : Report) (number : ℕ) (runs : List RunReport) → HasWholeMoments runs → All Cell (flat_map (λ pair. row dag report pair.0 pair.1) (enumerate_from number runs))
@@ -266,7 +266,7 @@ module _ (long : (text : List ℕ) → IsTextOfMoment text → is_long text ≡ 
       All-append Cell (row dag report number run) (flat_map (λ pair. row dag report pair.0 pair.1) (enumerate_from (number + 1) runs))
       (row_cells dag report number run whole.0.0 whole.0.1) (rows_cells dag report (number + 1) runs whole.1)
 
-  pub all_cells : (dag : Dag) (report : Report) (bytes : ℕ) → is_id report.dag_id ≡ true → HasWholeMoments report.runs → length dag.tasks < 2 ^ 64 → length report.runs < 2 ^ 64 → bytes < 2 ^ 64 → AllPass is_cell_byte (cells_text dag report bytes)
+  pub all_cells : (dag : Dag) (report : Report) (bytes : ℕ) → is_id_in report.dag_id ≡ true → HasWholeMoments report.runs → length dag.tasks < 2 ^ 64 → length report.runs < 2 ^ 64 → bytes < 2 ^ 64 → AllPass is_cell_byte (cells_text dag report bytes)
   all_cells dag report bytes id whole tasks runs small =
       All-append Cell (line (codes "@cells" ∷ codes "1" ∷ report.dag_id ∷ decimal (length dag.tasks) ∷ decimal (length report.runs) ∷ decimal bytes ∷ [])) _
       (line_cells (codes "@cells" ∷ codes "1" ∷ report.dag_id ∷ decimal (length dag.tasks) ∷ decimal (length report.runs) ∷ decimal bytes ∷ [])

@@ -6,7 +6,7 @@ use Rattle.bf_moment.specs.Moment.{moment_text}
 use Rattle.bf_report.specs.declared.report.TaskReport.{TaskReport}
 use Rattle.bf_report.specs.declared.report.RunReport.{RunReport}
 use Rattle.bf_report.specs.declared.report.Report.{Report}
-use Rattle.bf_report.specs.Report.{line, run_state_word}
+use Rattle.bf_report.specs.Report.{line, run_state_word_of}
 use Rattle.bf_reason.specs.Letters.{instance_letter, letter_of}
 
 -- a letter for each of these tasks of a run, of which the first stands in this place
@@ -20,7 +20,7 @@ instances_word (TaskReport.Mapped instances) = Some (map instance_letter instanc
 instances_word task = None
 
 abbrev pub row : Dag → Report → ℕ → RunReport → List ℕ
-row dag report number run = line (moment_text run.interval.start.nanosecond ∷ moment_text run.interval.end.nanosecond ∷ run_state_word run.state
+row dag report number run = line (moment_text run.interval.start.nanosecond ∷ moment_text run.interval.end.nanosecond ∷ run_state_word_of run.state
     ∷ letters_from dag report number 0 run.tasks ∷ filter_map instances_word run.tasks)
 
 -- the first line has the numbers of tasks, of runs, and of the report's bytes

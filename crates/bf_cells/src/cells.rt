@@ -4,11 +4,11 @@ ghost use Rattle.std.specs.List.{enumerate_from, flat_map};
 ghost use Rattle.bf_cells.specs.Cells.{cells_text, letters_from, row};
 ghost use Rattle.bf_cells.specs.Rows.{word_behind};
 ghost use Rattle.bf_moment.specs.Moment.{moment_text};
-ghost use Rattle.bf_reason.specs.Letters.{ended_letter};
-ghost use Rattle.bf_reason.specs.Runs.{tasks_at, tasks_before};
+ghost use Rattle.bf_reason.specs.Letters.{ended_letter_of};
+ghost use Rattle.bf_reason.specs.Runs.{tasks_in, tasks_before};
 ghost use Rattle.bf_reason.specs.Settled.{IsFewTask};
-ghost use Rattle.bf_report.specs.declared.report.Report.{Report as ReportTerm};
-ghost use Rattle.bf_report.specs.Report.{run_state_word};
+ghost use Rattle.bf_report.specs.declared.report.Report.{Report};
+ghost use Rattle.bf_report.specs.Report.{run_state_word_of};
 
 use bf_moment::Moment;
 use bf_plan::Plan;
@@ -27,7 +27,7 @@ fn push_letters(
     before: &[Settled<'_>],
 ) -> Result<(), OutOfMemory>
     requires { length settled.now ≡ length plan.now.dag.tasks }
-    ensures { (report : ReportTerm) → settled.now ≡ tasks_at report run → before.now
+    ensures { (report : Report) → settled.now ≡ tasks_in report run → before.now
         ≡ tasks_before report run →
         OnOk result (string_bytes text.new
         ≡ string_bytes text.old ++ letters_from plan.now.dag report run 0 settled.now) }
@@ -43,7 +43,7 @@ fn push_letters(
 /// The letter of each instance.
 fn push_results(text: &mut String, results: &[TaskResult]) -> Result<(), OutOfMemory>
     ensures { OnOk result (string_bytes text.new
-        ≡ string_bytes text.old ++ map (λ ended. ended_letter ended.outcome ended.tries)
+        ≡ string_bytes text.old ++ map (λ ended. ended_letter_of ended.outcome ended.tries)
         results.now) }
 {
     for ended in results {
@@ -74,7 +74,7 @@ fn push_words(text: &mut String, settled: &[Settled<'_>]) -> Result<(), OutOfMem
 }
 
 fn state_word(state: RunState) -> &'static str
-    ensures { result.now ≡ run_state_word state }
+    ensures { result.now ≡ run_state_word_of state }
 {
     match state {
         RunState::Success => "success",
@@ -87,7 +87,7 @@ fn push_run(text: &mut String, run: &RunReport) -> Result<(), OutOfMemory>
     ensures { OnOk result (string_bytes text.new ≡ string_bytes text.old
         ++ (moment_text run.now.interval.start.nanosecond
         ++ 32 ∷ (moment_text run.now.interval.end.nanosecond
-        ++ 32 ∷ (run_state_word run.now.state ++ 32 ∷ [])))) }
+        ++ 32 ∷ (run_state_word_of run.now.state ++ 32 ∷ [])))) }
 {
     let start = Moment::new(run.interval.start);
     let end = Moment::new(run.interval.end);
@@ -106,7 +106,7 @@ fn push_row(
 ) -> Result<(), OutOfMemory>
     requires all { length settled.now ≡ length plan.now.dag.tasks }
     requires tasks { settled.now ≡ run.now.tasks }
-    ensures { (report : ReportTerm) → settled.now ≡ tasks_at report number → before.now
+    ensures { (report : Report) → settled.now ≡ tasks_in report number → before.now
         ≡ tasks_before report number →
         OnOk result (string_bytes text.new
         ≡ string_bytes text.old ++ row plan.now.dag report number run.now) }

@@ -7,7 +7,7 @@ ghost use Rattle.bf_cells.specs.Whole.{HasWholeMoments};
 ghost use Rattle.bf_core.specs.Terms.{Dag, IsSound, Ledger};
 ghost use Rattle.bf_interval.specs.declared.interval.Interval.{Interval};
 ghost use Rattle.bf_page.specs.Safe.{safe};
-ghost use Rattle.bf_plan.specs.Ids.{is_id};
+ghost use Rattle.bf_plan.specs.Ids.{is_id_in};
 ghost use Rattle.bf_report.specs.Dated.{IsDated};
 ghost use Rattle.bf_report.specs.declared.report.Report.{Report};
 ghost use Rattle.bf_report.specs.declared.report.RunReport.{RunReport};
@@ -34,7 +34,7 @@ pub fn own_letters_have_no_digit()
 
 /// The cells of a report, whose dag id is an id and whose moments are whole seconds, stand on a page as they are.
 pub fn cells_stand_as_they_are()
-    ensures { (dag : Dag) (report : Report) (bytes : ℕ) → is_id report.dag_id ≡ true
+    ensures { (dag : Dag) (report : Report) (bytes : ℕ) → is_id_in report.dag_id ≡ true
         → HasWholeMoments report.runs →
         length dag.tasks < 2 ^ 64 → length report.runs < 2 ^ 64 → bytes < 2 ^ 64 →
         safe (cells_text dag report bytes) ≡ cells_text dag report bytes }

@@ -12,7 +12,7 @@ use Rattle.bf_check.specs.declared.fault.TaskFault.{TaskFault}
 use Rattle.bf_check.specs.declared.fault.TaskFault.TheVariants.{UnknownUpstream, UnknownPool, SlotsBeyondPool, BadRule, PullNotSettled, ExpandSource, ExpandRule, BranchMisuse}
 use Rattle.bf_check.specs.Checking.{shape_in}
 use Rattle.bf_check.specs.Looks.{IsPlaceOfFirst}
-use Rattle.bf_check.specs.Refusals.{number, Has, NoneHas, HasNoneBelow, HasNoFault}
+use Rattle.bf_check.specs.Refusals.{refusal_number_of, Has, NoneHas, HasNoneBelow, HasNoFault}
 use Rattle.bf_plan.proofs.ListLemmas.{some_same}
 use Rattle.bf_graph.proofs.Places.{none_passing}
 use Rattle.bf_check.proofs.ListLemmas.{item_at, pair_at}
@@ -30,7 +30,7 @@ fault_at n =
     else (if n == 16 then Some ExpandRule
     else (if n == 17 then Some BranchMisuse else None)))))))
 
-fault_at-number : (fault : TaskFault) → fault_at (number fault) ≡ Some fault
+fault_at-number : (fault : TaskFault) → fault_at (refusal_number_of fault) ≡ Some fault
 unfolding fault_at
 fault_at-number UnknownUpstream = refl
 fault_at-number UnknownPool = refl
@@ -42,7 +42,7 @@ fault_at-number ExpandRule = refl
 fault_at-number BranchMisuse = refl
 
 -- a number is that of one fault
-pub one_number : (a b : TaskFault) → number a ≡ number b → a ≡ b
+pub one_number : (a b : TaskFault) → refusal_number_of a ≡ refusal_number_of b → a ≡ b
 one_number a b e = let both : Some a ≡ Some b = sym (fault_at-number a) ∙ ap fault_at e ∙ fault_at-number b in cc
 
 -- ---- below a number
@@ -51,7 +51,7 @@ module _ (draft : Draft) where
   pub with_edges : HasNoneBelow draft 7 → IsAcyclic (shape_in draft.tasks).upstreams → HasNoneBelow draft 8
   with_edges below acyclic = record { tasks = by; edges = λ h. acyclic }
     where
-      by : (fault : TaskFault) → number fault < 8 → NoneHas draft fault
+      by : (fault : TaskFault) → refusal_number_of fault < 8 → NoneHas draft fault
       by UnknownUpstream h = below.tasks UnknownUpstream (omega arith)
       by UnknownPool h = absurd (omega (arith, h))
       by SlotsBeyondPool h = absurd (omega (arith, h))
@@ -65,7 +65,7 @@ module _ (draft : Draft) where
   pub up_to : (n : ℕ) → n ≤ 14 → HasNoneBelow draft 11 → HasNoneBelow draft n
   up_to n most below = record { tasks = by; edges = λ h. below.edges (omega arith) }
     where
-      by : (fault : TaskFault) → number fault < n → NoneHas draft fault
+      by : (fault : TaskFault) → refusal_number_of fault < n → NoneHas draft fault
       by UnknownUpstream h = below.tasks UnknownUpstream (omega arith)
       by UnknownPool h = below.tasks UnknownPool (omega arith)
       by SlotsBeyondPool h = below.tasks SlotsBeyondPool (omega arith)
@@ -143,7 +143,7 @@ module _ (draft : Draft) (fault : TaskFault) where
 pub no_fault : (draft : Draft) → HasNoneBelow draft 18 → HasNoFault draft
 no_fault draft below = record { tasks = λ fault. below.tasks fault (last fault); edges = below.edges (omega arith) }
   where
-    last : (fault : TaskFault) → number fault < 18
+    last : (fault : TaskFault) → refusal_number_of fault < 18
     last UnknownUpstream = omega arith
     last UnknownPool = omega arith
     last SlotsBeyondPool = omega arith

@@ -20,14 +20,14 @@ use Rattle.bf_check.specs.declared.fault.CheckFault.TheVariants.{Task, Cycle, Ba
 use Rattle.bf_check.specs.declared.fault.TaskFault.{TaskFault}
 use Rattle.bf_check.specs.declared.fault.TaskFault.TheVariants.{UnknownUpstream, UnknownPool, SlotsBeyondPool, BadRule, PullNotSettled, ExpandSource, ExpandRule, BranchMisuse}
 use Rattle.bf_check.specs.Schedules.{Fires, IsScheduled, NeverFiresIn, IsNoZone}
-use Rattle.bf_check.specs.Refusals.{number, IsFirst, NameCycle, HasNoneBelow, IsAccepted, IsFaultOf}
+use Rattle.bf_check.specs.Refusals.{refusal_number_of, IsFirst, NameCycle, HasNoneBelow, IsAccepted, IsFaultOf}
 use Rattle.bf_check.specs.Checking.{shape_in}
 use Rattle.bf_check.proofs.FaultLemmas.{one_number}
 
 -- ---- numbers
 
 -- no task's fault has a number from 11 to 13, or that of a cycle
-late : (fault : TaskFault) → 11 ≤ number fault → 13 < number fault
+late : (fault : TaskFault) → 11 ≤ refusal_number_of fault → 13 < refusal_number_of fault
 late UnknownUpstream h = absurd (omega (arith, h))
 late UnknownPool h = absurd (omega (arith, h))
 late SlotsBeyondPool h = absurd (omega (arith, h))
@@ -37,7 +37,7 @@ late ExpandSource h = omega arith
 late ExpandRule h = omega arith
 late BranchMisuse h = omega arith
 
-behind_cycle : (fault : TaskFault) → 7 ≤ number fault → 7 < number fault
+behind_cycle : (fault : TaskFault) → 7 ≤ refusal_number_of fault → 7 < refusal_number_of fault
 behind_cycle UnknownUpstream h = absurd (omega (arith, h))
 behind_cycle UnknownPool h = omega arith
 behind_cycle SlotsBeyondPool h = omega arith
@@ -69,8 +69,8 @@ module _ (draft : Draft) (file : Option (List ℕ)) where
 
   -- ---- what two faults would say
 
-  not_below : (fault : TaskFault) (id : List ℕ) (n : ℕ) → IsFirst draft fault id → HasNoneBelow draft n → n ≤ number fault
-  not_below fault id n first none = elim (cases_lt (number fault) n) [
+  not_below : (fault : TaskFault) (id : List ℕ) (n : ℕ) → IsFirst draft fault id → HasNoneBelow draft n → n ≤ refusal_number_of fault
+  not_below fault id n first none = elim (cases_lt (refusal_number_of fault) n) [
     | inl low ↦ absurd (none.tasks fault low first.t first.task first.there first.has)
     | inr high ↦ high
   ]
@@ -101,16 +101,16 @@ module _ (draft : Draft) (file : Option (List ℕ)) where
   Told fault = IsFaultOf draft file fault
 
   -- of two unlike faults only one is told
-  task_cycle : (x : TaskFault) (a : List ℕ) (b : List (List ℕ)) → IsFirst draft x a → HasNoneBelow draft (number x) → NameCycle (shape_in draft.tasks) b → HasNoneBelow draft 7 → ⊥
+  task_cycle : (x : TaskFault) (a : List ℕ) (b : List (List ℕ)) → IsFirst draft x a → HasNoneBelow draft (refusal_number_of x) → NameCycle (shape_in draft.tasks) b → HasNoneBelow draft 7 → ⊥
   task_cycle x a b first none named below = no_cycle b named (none.edges (behind_cycle x (not_below x a 7 first below)))
 
-  task_late : (x : TaskFault) (a : List ℕ) (n : ℕ) → 11 ≤ n → IsFirst draft x a → HasNoneBelow draft n → (13 < number x → IsScheduled draft file) → IsScheduled draft file
+  task_late : (x : TaskFault) (a : List ℕ) (n : ℕ) → 11 ≤ n → IsFirst draft x a → HasNoneBelow draft n → (13 < refusal_number_of x → IsScheduled draft file) → IsScheduled draft file
   task_late x a n h first none scheduled = let low = not_below x a n first none in scheduled (late x (omega (arith, h, low)))
 
   pub one_fault : (f g : CheckFault) → IsFaultOf draft file f → IsFaultOf draft file g → f ≢ OutOfMemory → g ≢ OutOfMemory → f ≡ g
   one_fault (Task x a) (Task y b) f g _ _ =
-      let low = not_below x a (number y) f.0 g.1 in
-      let high = not_below y b (number x) g.0 f.1 in
+      let low = not_below x a (refusal_number_of y) f.0 g.1 in
+      let high = not_below y b (refusal_number_of x) g.0 f.1 in
       let same : x ≡ y = one_number x y (omega (arith, low, high)) in
       let moved : IsFirst draft x b = subst (λ (z : TaskFault). IsFirst draft z b) (sym same) g.0 in
       λ i. Task (same i) (one_id x a b f.0 moved i)

@@ -14,9 +14,9 @@ use Rattle.std.proofs.lemmas.Map.Lookups.{exact_bytes}
 use Rattle.std.proofs.Math.Seq.{get_or-append_seam}
 use Rattle.bf_read.specs.declared.draft.PoolDraft.{PoolDraft}
 use Rattle.bf_read.specs.Drafts.{StandByName}
-use Rattle.bf_check.specs.Checking.{default_pool, names_default, pool_number, pools_of}
+use Rattle.bf_check.specs.Checking.{default_pool, names_default_in, pool_number, pools_in}
 use Rattle.bf_check.specs.declared.pools.TaskPool.{TaskPool}
-use Rattle.bf_check.specs.Looks.{pool_named, with_size}
+use Rattle.bf_check.specs.Looks.{pool_named_of, with_size}
 use Rattle.bf_plan.proofs.ListLemmas.{some_same}
 use Rattle.bf_graph.proofs.Places.{placed, missing, none_passing}
 
@@ -85,11 +85,11 @@ module _ (q : List ℕ) where
 abbrev with_default : Bool → List PoolDraft → List PoolDraft
 with_default named pools = cond named pools (pools ++ default_pool ∷ [])
 
-none_default : (pools : List PoolDraft) → position (is_named (codes "default_pool")) pools ≡ None → names_default pools ≡ false
+none_default : (pools : List PoolDraft) → position (is_named (codes "default_pool")) pools ≡ None → names_default_in pools ≡ false
 none_default pools e = list_any_none (is_named (codes "default_pool")) pools (λ k d h. none_passing (is_named (codes "default_pool")) pools d e k h)
 
 -- the default pool that the file doesn't name stands behind the others
-pub number_of_default : (q : List ℕ) (pools : List PoolDraft) → position (is_named q) pools ≡ None → q ≡ codes "default_pool" → pool_number (pools_of pools) q ≡ Some (length pools)
+pub number_of_default : (q : List ℕ) (pools : List PoolDraft) → position (is_named q) pools ≡ None → q ≡ codes "default_pool" → pool_number (pools_in pools) q ≡ Some (length pools)
 number_of_default q pools e is =
     let d = default_pool in
     let P : List ℕ → Type 0 = λ s. position (is_named s) pools ≡ None in
@@ -100,8 +100,8 @@ number_of_default q pools e is =
     ∙ placed (is_named q) (pools ++ d ∷ []) d (length pools) (omega (arith, all)) (λ k h. ap (is_named q) (get_or_append_left pools (d ∷ []) d k h) ∙ none_passing (is_named q) pools d e k h) last
 
 -- a pool of another name isn't there
-pub number_of_none : (q : List ℕ) (pools : List PoolDraft) → position (is_named q) pools ≡ None → (q ≡ codes "default_pool" → ⊥) → pool_number (pools_of pools) q ≡ None
-number_of_none q pools e differs = go (names_default pools)
+pub number_of_none : (q : List ℕ) (pools : List PoolDraft) → position (is_named q) pools ≡ None → (q ≡ codes "default_pool" → ⊥) → pool_number (pools_in pools) q ≡ None
+number_of_none q pools e differs = go (names_default_in pools)
   where
     d : PoolDraft
     d = default_pool
@@ -122,17 +122,17 @@ last_size : (pools : List PoolDraft) → slice_index_or (map (λ (pool : PoolDra
 last_size [] = refl
 last_size (pool ∷ pools) = last_size pools
 
-pub default_named : (q : List ℕ) (pools : List PoolDraft) → position (is_named q) pools ≡ None → q ≡ codes "default_pool" → pool_named (pools_of pools) q ≡ Some (record { number = length pools; slots = 128 })
+pub default_named : (q : List ℕ) (pools : List PoolDraft) → position (is_named q) pools ≡ None → q ≡ codes "default_pool" → pool_named_of (pools_in pools) q ≡ Some (record { number = length pools; slots = 128 })
 default_named q pools e is =
     let P : List ℕ → Type 0 = λ s. position (is_named s) pools ≡ None in
-    let size : slice_index_or (map (λ (pool : PoolDraft). pool.slots) (pools_of pools)) (length pools) 0 ≡ 128 = ap (λ b. slice_index_or (map (λ (pool : PoolDraft). pool.slots) (with_default b pools)) (length pools) 0) (none_default pools (subst P is e)) ∙ last_size pools in
-    ap (option_map (with_size (pools_of pools))) (number_of_default q pools e is) ∙ ap (λ n. Some (record { number = length pools; slots = n })) size
+    let size : slice_index_or (map (λ (pool : PoolDraft). pool.slots) (pools_in pools)) (length pools) 0 ≡ 128 = ap (λ b. slice_index_or (map (λ (pool : PoolDraft). pool.slots) (with_default b pools)) (length pools) 0) (none_default pools (subst P is e)) ∙ last_size pools in
+    ap (option_map (with_size (pools_in pools))) (number_of_default q pools e is) ∙ ap (λ n. Some (record { number = length pools; slots = n })) size
 
-pub none_named : (q : List ℕ) (pools : List PoolDraft) → position (is_named q) pools ≡ None → (q ≡ codes "default_pool" → ⊥) → pool_named (pools_of pools) q ≡ None
-none_named q pools e differs = ap (option_map (with_size (pools_of pools))) (number_of_none q pools e differs)
+pub none_named : (q : List ℕ) (pools : List PoolDraft) → position (is_named q) pools ≡ None → (q ≡ codes "default_pool" → ⊥) → pool_named_of (pools_in pools) q ≡ None
+none_named q pools e differs = ap (option_map (with_size (pools_in pools))) (number_of_none q pools e differs)
 
 -- what is found of a pool with a name
-pub named_pool : (pools : List PoolDraft) (name : List ℕ) (pool : TaskPool) → pool_named pools name ≡ Some pool
+pub named_pool : (pools : List PoolDraft) (name : List ℕ) (pool : TaskPool) → pool_named_of pools name ≡ Some pool
     → (pool.number ≡ unwrap_or (pool_number pools name) 0) × (pool.slots ≡ slice_index_or (map (λ (p : PoolDraft). p.slots) pools) (unwrap_or (pool_number pools name) 0) 0)
 named_pool pools name pool e = go (pool_number pools name) e
   where

@@ -16,7 +16,7 @@ use Rattle.bf_check.specs.declared.pulls.Pulls.{Pulls}
 use Rattle.bf_plan.specs.Plans.{no_task, task_of}
 use Rattle.bf_plan.specs.Sound.{IsOneOf, IsSettledAncestor, Direct, Above}
 use Rattle.bf_check.specs.Checking.{ids_of, number_or_0, rule_of, task_in, dag_of, shape_in}
-use Rattle.bf_check.specs.Looks.{numbers_in, pulls_in, settling_upstreams, settling_edges, AllMayPull, IsFoundOfPulls, IsPlaceOfFirst}
+use Rattle.bf_check.specs.Looks.{numbers_in, pulls_in, settling_upstreams, settling_edges_of, AllMayPull, IsFoundOfPulls, IsPlaceOfFirst}
 use Rattle.bf_check.specs.Refusals.{MayPull, PullsUnsettled}
 use Rattle.bf_plan.proofs.PlanLemmas.{contains_one, one_contained}
 use Rattle.bf_check.proofs.FaultLemmas.{first_told}
@@ -30,7 +30,7 @@ module _ (draft : Draft) where
   dag = dag_of draft
 
   abbrev edges : List (List ℕ)
-  edges = settling_edges draft.tasks
+  edges = settling_edges_of draft.tasks
 
   settling_at : (t : ℕ) → upstreams_of edges t ≡ cond (is_waiting (task_of dag t).rule) (task_of dag t).upstreams []
   unfolding task_of

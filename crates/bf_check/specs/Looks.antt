@@ -42,8 +42,8 @@ abbrev pub with_size : List PoolDraft → ℕ → TaskPool
 with_size pools n = record { number = n; slots = slice_index_or (map (λ pool. pool.slots) pools) n 0 }
 
 -- the pool with a name, if it is there
-abbrev pub pool_named : List PoolDraft → List ℕ → Option TaskPool
-pool_named pools name = option_map (with_size pools) (pool_number pools name)
+abbrev pub pool_named_of : List PoolDraft → List ℕ → Option TaskPool
+pool_named_of pools name = option_map (with_size pools) (pool_number pools name)
 
 -- what a try of a task takes of this pool
 abbrev pub demand_from : TaskPool → TaskDraft → Demand
@@ -103,5 +103,5 @@ pub record HasLinks (graph : Shape) (rules : List Rule) (sources : List (Option 
 abbrev pub settling_upstreams : List (List ℕ) → TaskDraft → List ℕ
 settling_upstreams ids task = if is_waiting (rule_of task) then map (number_or_0 ids) task.upstreams else []
 
-abbrev pub settling_edges : List TaskDraft → List (List ℕ)
-settling_edges tasks = map (settling_upstreams (ids_of tasks)) tasks
+abbrev pub settling_edges_of : List TaskDraft → List (List ℕ)
+settling_edges_of tasks = map (settling_upstreams (ids_of tasks)) tasks

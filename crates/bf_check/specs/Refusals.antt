@@ -20,7 +20,7 @@ use Rattle.bf_cron.specs.declared.spec.CronSpec.{CronSpec}
 use Rattle.bf_plan.specs.Plans.{is_branch_kind}
 use Rattle.bf_check.specs.Schedules.{Fires, IsScheduled, NeverFiresIn, IsNoZone}
 use Rattle.bf_plan.specs.Sound.{IsSettledAncestor}
-use Rattle.bf_check.specs.Checking.{ids_of, number_of, pool_number, pools_of, rule_of, dag_of, shape_in}
+use Rattle.bf_check.specs.Checking.{ids_of, number_of, pool_number, pools_in, rule_of, dag_of, shape_in}
 
 -- ---- what may be wrong with a task
 
@@ -71,19 +71,19 @@ expands_branch task = is_some task.expand && is_branch_kind task.kind
 -- ---- which of several faults is answered
 
 -- the number of a refusal
-abbrev pub number : TaskFault → ℕ
-number UnknownUpstream = 6
-number UnknownPool = 8
-number SlotsBeyondPool = 9
-number BadRule = 10
-number PullNotSettled = 14
-number ExpandSource = 15
-number ExpandRule = 16
-number BranchMisuse = 17
+abbrev pub refusal_number_of : TaskFault → ℕ
+refusal_number_of UnknownUpstream = 6
+refusal_number_of UnknownPool = 8
+refusal_number_of SlotsBeyondPool = 9
+refusal_number_of BadRule = 10
+refusal_number_of PullNotSettled = 14
+refusal_number_of ExpandSource = 15
+refusal_number_of ExpandRule = 16
+refusal_number_of BranchMisuse = 17
 
 -- want of memory has no number
 abbrev pub check_number : CheckFault → Option ℕ
-check_number (Task fault id) = Some (number fault)
+check_number (Task fault id) = Some (refusal_number_of fault)
 check_number (Cycle ids) = Some 7
 check_number BadCron = Some 11
 check_number NeverFires = Some 12
@@ -113,8 +113,8 @@ fault_text OutOfMemory = codes "out of memory"
 -- the task t of the draft has this fault
 abbrev pub Has : Draft → TaskFault → ℕ → TaskDraft → Type 0
 Has draft UnknownUpstream t task = has_unknown_upstream (ids_of draft.tasks) task ≡ true
-Has draft UnknownPool t task = has_unknown_pool (pools_of draft.pools) task ≡ true
-Has draft SlotsBeyondPool t task = takes_too_much (pools_of draft.pools) task ≡ true
+Has draft UnknownPool t task = has_unknown_pool (pools_in draft.pools) task ≡ true
+Has draft SlotsBeyondPool t task = takes_too_much (pools_in draft.pools) task ≡ true
 Has draft BadRule t task = has_bad_rule task ≡ true
 Has draft PullNotSettled t task = PullsUnsettled draft t task
 Has draft ExpandSource t task = expands_no_upstream task ≡ true
@@ -140,7 +140,7 @@ NameCycle shape names = (ts : List ℕ) × IsNamedCycle shape.upstreams ts × (n
 
 -- the tasks and edges of the draft have no fault whose number is below n
 pub record HasNoneBelow (draft : Draft) (n : ℕ) : Type 0 where
-  pub tasks : (fault : TaskFault) → number fault < n → NoneHas draft fault
+  pub tasks : (fault : TaskFault) → refusal_number_of fault < n → NoneHas draft fault
   pub edges : 7 < n → IsAcyclic (shape_in draft.tasks).upstreams
 
 -- the tasks and edges of the draft have no fault
@@ -155,7 +155,7 @@ pub record IsAccepted (draft : Draft) (file : Option (List ℕ)) : Type 0 where
 
 -- of the faults that the draft has, with this zone file, this is the one of the least number; want of memory may stand in its place
 abbrev pub IsFaultOf : Draft → Option (List ℕ) → CheckFault → Type 0
-IsFaultOf draft file (Task fault id) = IsFirst draft fault id × HasNoneBelow draft (number fault) × (13 < number fault → IsScheduled draft file)
+IsFaultOf draft file (Task fault id) = IsFirst draft fault id × HasNoneBelow draft (refusal_number_of fault) × (13 < refusal_number_of fault → IsScheduled draft file)
 IsFaultOf draft file (Cycle ids) = NameCycle (shape_in draft.tasks) ids × HasNoneBelow draft 7
 IsFaultOf draft file BadCron = (schedule_of draft.schedule ≡ None) × HasNoneBelow draft 11
 IsFaultOf draft file NeverFires = NeverFiresIn draft.schedule × HasNoneBelow draft 12

@@ -1,6 +1,6 @@
 //! Why a draft is refused.
 ghost use Rattle.std.specs.Prelude.{◌≡◌};
-ghost use Rattle.bf_check.specs.Refusals.{number as number_of, check_number};
+ghost use Rattle.bf_check.specs.Refusals.{refusal_number_of, check_number};
 
 use bf_value::{OutOfMemory, Sequence, Text};
 use std::error::Error;
@@ -29,7 +29,7 @@ pub enum TaskFault {
 impl TaskFault {
     /// The number of the refusal.
     pub fn number(self) -> u32
-        ensures { result ≡ number_of self }
+        ensures { result ≡ refusal_number_of self }
     {
         match self {
             TaskFault::UnknownUpstream => 6,
@@ -143,9 +143,9 @@ impl fmt::Display for Spaced<'_> {
 
 impl From<OutOfMemory> for CheckFault {
     ghost use Rattle.std.specs.Prelude.{◌≡◌};
-    ghost use Rattle.bf_check.specs.declared.fault.CheckFault.TheVariants.{OutOfMemory as NoMemory};
+    ghost use Rattle.bf_check.specs.declared.fault.CheckFault.TheVariants.{OutOfMemory};
 
-    ghost from_gives = { λ _ e. e ≡ NoMemory };
+    ghost from_gives = { λ _ e. e ≡ OutOfMemory };
 
     fn from(_e: OutOfMemory) -> CheckFault {
         CheckFault::OutOfMemory

@@ -2,7 +2,7 @@
 ghost use Rattle.std.specs.Prelude.{◌≡◌, ◌<◌, suc, is_none, map, option_map, position, None, Some, IfOk, IfErr, OnOk};
 ghost use Rattle.bf_check.specs.Checking.{ids_of};
 ghost use Rattle.bf_check.specs.Looks.{IsPlaceOfFirst};
-ghost use Rattle.bf_check.specs.Refusals.{number, HasNoneBelow, IsFaultOf};
+ghost use Rattle.bf_check.specs.Refusals.{refusal_number_of, HasNoneBelow, IsFaultOf};
 ghost use Rattle.bf_check.specs.Schedules.{IsScheduled};
 
 use crate::fault::{CheckFault, TaskFault};
@@ -43,10 +43,10 @@ impl Looks<'_> {
         place: Option<usize>,
     ) -> Result<(), CheckFault>
         requires first { IsPlaceOfFirst self.now.draft.now fault place }
-        requires below { HasNoneBelow self.now.draft.now (number fault) }
-        requires scheduled { 13 < number fault → IsScheduled self.now.draft.now (option_map (λ s. s.now) self.now.zone_file) }
+        requires below { HasNoneBelow self.now.draft.now (refusal_number_of fault) }
+        requires scheduled { 13 < refusal_number_of fault → IsScheduled self.now.draft.now (option_map (λ s. s.now) self.now.zone_file) }
         ensures none { OnOk result (place ≡ None) }
-        ensures ok { OnOk result (HasNoneBelow self.now.draft.now (suc (number fault))) }
+        ensures ok { OnOk result (HasNoneBelow self.now.draft.now (suc (refusal_number_of fault))) }
         ensures err { IfErr result (IsFaultOf self.now.draft.now (option_map (λ s. s.now) self.now.zone_file)) }
     {
         match place {
@@ -66,10 +66,10 @@ impl Looks<'_> {
         found: Vec<Option<T>>,
     ) -> Result<Vec<T>, CheckFault>
         requires first { IsPlaceOfFirst self.now.draft.now fault (position is_none found.items) }
-        requires below { HasNoneBelow self.now.draft.now (number fault) }
-        requires scheduled { 13 < number fault → IsScheduled self.now.draft.now (option_map (λ s. s.now) self.now.zone_file) }
+        requires below { HasNoneBelow self.now.draft.now (refusal_number_of fault) }
+        requires scheduled { 13 < refusal_number_of fault → IsScheduled self.now.draft.now (option_map (λ s. s.now) self.now.zone_file) }
         ensures found { IfOk result (λ each. map Some each.items ≡ found.items) }
-        ensures ok { OnOk result (HasNoneBelow self.now.draft.now (suc (number fault))) }
+        ensures ok { OnOk result (HasNoneBelow self.now.draft.now (suc (refusal_number_of fault))) }
         ensures err { IfErr result (IsFaultOf self.now.draft.now (option_map (λ s. s.now) self.now.zone_file)) }
     {
         self.refuse_at(alloc, fault, first_missing(found.as_slice()))?;

@@ -1,12 +1,12 @@
 //! Pulls: a task may pull only from what is settled whenever it is decided.
 ghost use Rattle.std.specs.Prelude.{◌≡◌, ◌<◌, ℕ, false, [], if◌then◌else◌, length, map, option_map, Contains, IsTrue, slice_get, Option, Some, IfOk, IfErr, OnOk};
-ghost use Rattle.bf_read.specs.declared.draft.TaskDraft.{TaskDraft as Task};
-ghost use Rattle.bf_check.specs.declared.pulls.Pulls.{Pulls as Pulled};
+ghost use Rattle.bf_read.specs.declared.draft.TaskDraft.{TaskDraft};
+ghost use Rattle.bf_check.specs.declared.pulls.Pulls.{Pulls};
 ghost use Rattle.bf_graph.specs.Edges.{lists, AreInRange};
 ghost use Rattle.bf_graph.specs.Reach.{Reaches};
 ghost use Rattle.bf_rule.specs.Verdicts.{is_waiting};
 ghost use Rattle.bf_check.specs.Checking.{rule_of, shape_in};
-ghost use Rattle.bf_check.specs.Looks.{pulls_in, settling_edges as settling_in, AllMayPull, IsFoundOfPulls};
+ghost use Rattle.bf_check.specs.Looks.{pulls_in, settling_edges_of, AllMayPull, IsFoundOfPulls};
 ghost use Rattle.bf_check.specs.Refusals.{HasNoneBelow, IsFaultOf};
 ghost use Rattle.bf_check.specs.Schedules.{IsScheduled};
 
@@ -79,7 +79,7 @@ impl Looks<'_> {
     ) -> Result<Vec<Vec<u32>>, OutOfMemory>
         requires graph { graph.now ≡ shape_in self.now.draft.now.tasks }
         requires rules { rules.now ≡ map rule_of self.now.draft.now.tasks }
-        ensures { IfOk result (λ v. lists v.items ≡ settling_in self.now.draft.now.tasks) }
+        ensures { IfOk result (λ v. lists v.items ≡ settling_edges_of self.now.draft.now.tasks) }
     {
         let mut edges = Vec::new(alloc);
         for (t, rule) in rules.iter().enumerate() {
@@ -96,7 +96,7 @@ impl Looks<'_> {
         t: u32,
         task: &TaskDraft,
     ) -> Result<Option<Pulls>, OutOfMemory>
-        requires settling { lists settling.now ≡ settling_in self.now.draft.now.tasks }
+        requires settling { lists settling.now ≡ settling_edges_of self.now.draft.now.tasks }
         requires in_range { AreInRange (lists settling.now) }
         requires within { t < length settling.now }
         ensures { IfOk result (IsFoundOfPulls self.now.draft.now t task.now) }
@@ -120,10 +120,10 @@ impl Looks<'_> {
         alloc: Global,
         settling: &[Vec<u32>],
     ) -> Result<Vec<Option<Pulls>>, OutOfMemory>
-        requires settling { lists settling.now ≡ settling_in self.now.draft.now.tasks }
+        requires settling { lists settling.now ≡ settling_edges_of self.now.draft.now.tasks }
         requires in_range { AreInRange (lists settling.now) }
         ensures one_each { IfOk result (λ found. length found.items ≡ length self.now.draft.now.tasks) }
-        ensures each { IfOk result (λ found. (t : ℕ) (task : Task) (one : Option Pulled)
+        ensures each { IfOk result (λ found. (t : ℕ) (task : TaskDraft) (one : Option Pulls)
             → slice_get self.now.draft.now.tasks t ≡ Some task → slice_get found.items t ≡ Some one
             → IsFoundOfPulls self.now.draft.now t task one) }
     {

@@ -2,7 +2,7 @@
 ghost use Rattle.std.specs.Prelude.{option_map, IfOk, IfErr, OnOk};
 ghost use Rattle.bf_check.specs.Refusals.{HasNoneBelow, IsFaultOf};
 ghost use Rattle.bf_check.specs.Schedules.{Fires, IsScheduled, IsScheduleOf, IsZoneFor};
-ghost use Rattle.bf_cron.specs.declared.spec.CronSpec.{CronSpec as Spec};
+ghost use Rattle.bf_cron.specs.declared.spec.CronSpec.{CronSpec};
 
 use crate::fault::CheckFault;
 use crate::looks::Looks;
@@ -40,7 +40,7 @@ impl Looks<'_> {
     /// The look 13: the zone of a schedule that is right.
     fn zone(&self, alloc: Global) -> Result<Zone, CheckFault>
         requires below { HasNoneBelow self.now.draft.now 13 }
-        requires fires { (spec : Spec) × Fires self.now.draft.now.schedule spec }
+        requires fires { (spec : CronSpec) × Fires self.now.draft.now.schedule spec }
         ensures ok { IfOk result (IsZoneFor self.now.draft.now.zone (option_map (λ s. s.now) self.now.zone_file)) }
         ensures below { OnOk result (HasNoneBelow self.now.draft.now 14) }
         ensures scheduled { OnOk result (IsScheduled self.now.draft.now (option_map (λ s. s.now) self.now.zone_file)) }

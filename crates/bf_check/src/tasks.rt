@@ -2,7 +2,7 @@
 ghost use Rattle.std.specs.Prelude.{◌≡◌, ◌≤◌, ℕ, List, length, map, slice_index_or, All, Contains, position, None, Some, IfOk};
 ghost use Rattle.std.specs.Str.{bytes_eq};
 ghost use Rattle.bf_graph.specs.Edges.{upstreams_of};
-ghost use Rattle.bf_rule.specs.declared.rule.Rule.{Rule as RuleTerm};
+ghost use Rattle.bf_rule.specs.declared.rule.Rule.{Rule};
 ghost use Rattle.bf_read.specs.Limits.{most_pulls, most_tasks};
 ghost use Rattle.bf_read.specs.Drafts.{IsTask, pulled_by, pulled_in};
 ghost use Rattle.bf_check.specs.Checking.{ids_of, task_in, word_in};
@@ -97,7 +97,7 @@ fn links_of(
     requires { HasLinks graph.now rules.now sources.now task }
     ensures { IfOk result (λ links. links ≡ record {
       upstreams = upstreams_of graph.now.upstreams task;
-      rule = slice_index_or rules.now task RuleTerm.AllSuccess;
+      rule = slice_index_or rules.now task Rule.AllSuccess;
       pulls = pulls;
       source = slice_index_or sources.now task None;
     }) }

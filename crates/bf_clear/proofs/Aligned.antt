@@ -19,7 +19,7 @@ use Rattle.bf_report.specs.declared.report.Report.{Report}
 use Rattle.bf_report.specs.declared.report.RunReport.{RunReport}
 use Rattle.bf_clear.specs.Aligning.{AreAligned, AreAlignedBy, AreApart, IsAligned, is_over, tasks_at, tasks_in, tasks_told, told_at}
 use Rattle.bf_clear.specs.Entries.{IsWithin}
-use Rattle.bf_clear.specs.Matching.{is_same_interval}
+use Rattle.bf_clear.specs.Matching.{is_same_interval_in}
 use Rattle.bf_clear.proofs.Within.{sized-within}
 
 -- what stands at the place of the first that passes is the first that passes
@@ -64,7 +64,7 @@ pub told-else : (runs : List RunReport) (interval : Interval) (place : ℕ) (run
     → (other : Interval) → other.start.nanosecond ≢ interval.start.nanosecond → tasks_at (set runs place taken) other ≡ tasks_at runs other
 told-else runs interval place run taken is here same other far =
     let gone = over-one run interval other here far in
-    ap tasks_in (find-set-unfound (is_over other) runs place taken run (ap (λ (i : Interval). is_same_interval i other) same ∙ gone) (ap (is_over other) (sym is) ∙ gone))
+    ap tasks_in (find-set-unfound (is_over other) runs place taken run (ap (λ (i : Interval). is_same_interval_in i other) same ∙ gone) (ap (is_over other) (sym is) ∙ gone))
 
 mapped-twice : {X Y Z : Type 0} (h : Y → Z) (g : X → Y) (xs : List X) → map h (map g xs) ≡ map (λ x. h (g x)) xs
 mapped-twice h g [] = refl

@@ -13,8 +13,8 @@ use Rattle.bf_report.specs.declared.report.Report.{Report}
 use Rattle.bf_dependents.specs.declared.place.Place.{Place}
 use Rattle.bf_dependents.specs.Listing.{up_to}
 use Rattle.bf_dependents.proofs.Listed.{in-up_to, up_to-has}
-use Rattle.bf_clear.specs.Entries.{found_at, instance_at, report_at}
-use Rattle.bf_clear.specs.Failing.{count_at, count_of, failed_at, failed_of_run, failed_of_task, failed_place, AreFailed, HasFailed, IsOfFailed}
+use Rattle.bf_clear.specs.Entries.{found_at, instance_in, report_at}
+use Rattle.bf_clear.specs.Failing.{count_at, count_of, failed_at, failed_of_run, failed_of_task_in, failed_place, AreFailed, HasFailed, IsOfFailed}
 
 -- ---- one instance
 
@@ -42,7 +42,7 @@ failed-one p o x is failed =
 
 -- ---- a task
 
-count-over : (o : Option TaskReport) (j : ℕ) (x : InstanceReport) → option_and_then (λ task. instance_at task (pos j)) o ≡ Some x → j < 2_147_483_648 → j < count_of o
+count-over : (o : Option TaskReport) (j : ℕ) (x : InstanceReport) → option_and_then (λ task. instance_in task (pos j)) o ≡ Some x → j < 2_147_483_648 → j < count_of o
 count-over None j x e l = cc
 count-over (Some TaskReport.NoStatus) j x e l = cc
 count-over (Some TaskReport.Skipped) j x e l = cc
@@ -50,7 +50,7 @@ count-over (Some TaskReport.UpstreamFailed) j x e l = cc
 count-over (Some (TaskReport.Ran y)) j x e l = cc
 count-over (Some (TaskReport.Mapped ys)) j x e l = let low : j < length ys = slice_get_within ys j x e in omega (arith, low, l)
 
-none-below : (o : Option TaskReport) (n : ℕ) (x : InstanceReport) → option_and_then (λ task. instance_at task (negsuc (suc n))) o ≡ Some x → ⊥
+none-below : (o : Option TaskReport) (n : ℕ) (x : InstanceReport) → option_and_then (λ task. instance_in task (negsuc (suc n))) o ≡ Some x → ⊥
 none-below None n x e = cc
 none-below (Some TaskReport.NoStatus) n x e = cc
 none-below (Some TaskReport.Skipped) n x e = cc
@@ -64,13 +64,13 @@ module _ (report : Report) where
       let is : _ = one-failed (at k t i) p (found_at report k t i) c in
       subst (IsOfFailed report) (sym is.0) (i, refl, is.1)
 
-  of-task : (k t : ℕ) (p : Place) → Contains (failed_of_task report k t) p → IsOfFailed report p
+  of-task : (k t : ℕ) (p : Place) → Contains (failed_of_task_in report k t) p → IsOfFailed report p
   of-task k t p c = elim (Contains-append_cases (failed_at report k t (negsuc 0)) _ p c) [
     | inl d ↦ of-place k t (negsuc 0) p d
     | inr d ↦ let one : _ = in-up_to (λ i. failed_at report k t (pos i)) (count_at report k t) p d in of-place k t (pos one.0) p one.2
   ]
 
-  task-has : (k t : ℕ) (i : ℤ) → i <ℤ pos 2_147_483_648 → HasFailed report k t i → Contains (failed_of_task report k t) (at k t i)
+  task-has : (k t : ℕ) (i : ℤ) → i <ℤ pos 2_147_483_648 → HasFailed report k t i → Contains (failed_of_task_in report k t) (at k t i)
   task-has k t (pos j) l (x, found, failed) =
       let small : j < 2_147_483_648 = omega (arith, ints, l) in
       Contains-append_right (failed_at report k t (negsuc 0)) _ (at k t (pos j))
@@ -85,9 +85,9 @@ pub listed-failed : (dag : Dag) (intervals : List Interval) (report : Report) (r
 listed-failed dag intervals report runs tasks places are all_runs all_tasks = subst (AreFailed dag intervals report) (sym are) (record {
   each = λ p c.
       let run : _ = in-up_to (failed_of_run report tasks) runs p c in
-      let task : _ = in-up_to (failed_of_task report run.0) tasks p run.2 in
+      let task : _ = in-up_to (failed_of_task_in report run.0) tasks p run.2 in
       of-task report run.0 task.0 p task.2;
   all = λ k t i l m low failed.
       up_to-has (failed_of_run report tasks) runs k (at k t i) (omega (arith, l, all_runs))
-      (up_to-has (failed_of_task report k) tasks t (at k t i) (omega (arith, m, all_tasks)) (task-has report k t i low failed));
+      (up_to-has (failed_of_task_in report k) tasks t (at k t i) (omega (arith, m, all_tasks)) (task-has report k t i low failed));
 })

@@ -22,9 +22,9 @@ use Rattle.bf_report.specs.declared.report.Version.{Version}
 use Rattle.bf_report.specs.declared.report.InstanceReport.{InstanceReport}
 use Rattle.bf_report.specs.declared.report.RunReport.{RunReport}
 use Rattle.bf_report.specs.declared.report.Report.{Report}
-use Rattle.bf_report.specs.Dated.{pulls_of, instance_report, reported, reported_instance, reported_instances, cell_by, reports_from, ids_shown, AreDated, IsDated}
+use Rattle.bf_report.specs.Dated.{pulls_in, instance_report, reported, reported_instance, reported_instances, cell_by, reports_from, ids_shown, AreDated, IsDated}
 use Rattle.bf_report.proofs.DatedFacts.{length-reports_from}
-use Rattle.bf_clear.specs.Matching.{has_id, are_ids_of, is_pull_of, has_pulls_of, is_task_of, are_tasks_of, is_same_interval, is_run_of, are_runs_of, is_report_of}
+use Rattle.bf_clear.specs.Matching.{has_id_in, are_ids_in, is_pull_in, has_pulls_in, is_task_in, are_tasks_in, is_same_interval_in, is_run_in, are_runs_in, is_report_in}
 use Rattle.bf_clear.proofs.Told.{decided-pulled}
 
 same-count : (m n : ℕ) → m ≡ n → (m == n) ≡ true
@@ -36,19 +36,19 @@ same-bytes b = (bytes_decides b b).1 refl
 same-moment : (n : _) → int_eq n n ≡ true
 same-moment n = (Decides-int_eq n n).1 refl
 
-pub same-interval : (i : Interval) → is_same_interval i i ≡ true
+pub same-interval : (i : Interval) → is_same_interval_in i i ≡ true
 same-interval i = and_from _ _ (same-moment i.start.nanosecond) (same-moment i.end.nanosecond)
 
 -- ---- ids
 
-each-id : (tasks : List Task) → list_all (λ p. has_id (Some p.1) p.0) (zip (map (λ task. task.id) tasks) tasks) ≡ true
+each-id : (tasks : List Task) → list_all (λ p. has_id_in (Some p.1) p.0) (zip (map (λ task. task.id) tasks) tasks) ≡ true
 each-id [] = refl
 each-id (task ∷ tasks) = and_from _ _ (same-bytes task.id) (each-id tasks)
 
-ids-are : (tasks : List Task) → are_ids_of (map (λ task. task.id) tasks) tasks ≡ true
+ids-are : (tasks : List Task) → are_ids_in (map (λ task. task.id) tasks) tasks ≡ true
 ids-are tasks = and_from _ _ (same-count _ _ (length-map tasks (λ (task : Task). task.id))) (each-id tasks)
 
-ids-shown : (dag : Dag) (intervals : List Interval) → (length intervals == 0 || are_ids_of (ids_shown dag intervals) dag.tasks) ≡ true
+ids-shown : (dag : Dag) (intervals : List Interval) → (length intervals == 0 || are_ids_in (ids_shown dag intervals) dag.tasks) ≡ true
 ids-shown dag [] = refl
 ids-shown dag (interval ∷ intervals) = rw (ids-are dag.tasks) (or-true (length (interval ∷ intervals) == 0))
 
@@ -58,40 +58,40 @@ ids-shown dag (interval ∷ intervals) = rw (ids-are dag.tasks) (or-true (length
 pub pull-in : (dag : Dag) → IsSound dag → (t p : ℕ) → IsOneOf (task_of dag t).pulls p → p < length dag.tasks
 pull-in dag sound t p one = ancestor-in dag sound t p (pick (IsSettledAncestor dag t) (task_of dag t).pulls p (sound.pulls_settled t) one)
 
-pull-is : (dag : Dag) (p : ℕ) → p < length dag.tasks → has_id (slice_get dag.tasks p) (task_of dag p).id ≡ true
+pull-is : (dag : Dag) (p : ℕ) → p < length dag.tasks → has_id_in (slice_get dag.tasks p) (task_of dag p).id ≡ true
 unfolding task_of
-pull-is dag p l = ap (λ o. has_id o (task_of dag p).id) (slice_get-get_or dag.tasks p no_task l) ∙ same-bytes (task_of dag p).id
+pull-is dag p l = ap (λ o. has_id_in o (task_of dag p).id) (slice_get-get_or dag.tasks p no_task l) ∙ same-bytes (task_of dag p).id
 
-each-pull : (dag : Dag) (f : ℕ → Option Xval) (ps : List ℕ) → ((p : ℕ) → IsOneOf ps p → p < length dag.tasks) → list_all (λ q. is_pull_of dag q.0 q.1) (zip (pulls_of dag ps (map f ps)) ps) ≡ true
+each-pull : (dag : Dag) (f : ℕ → Option Xval) (ps : List ℕ) → ((p : ℕ) → IsOneOf ps p → p < length dag.tasks) → list_all (λ q. is_pull_in dag q.0 q.1) (zip (pulls_in dag ps (map f ps)) ps) ≡ true
 each-pull dag f [] low = refl
 each-pull dag f (p ∷ ps) low = and_from _ _ (pull-is dag p (low p (inl refl))) (each-pull dag f ps (λ q one. low q (inr one)))
 
-pulls-len : (dag : Dag) (f : ℕ → Option Xval) (ps : List ℕ) → length (pulls_of dag ps (map f ps)) ≡ length ps
+pulls-len : (dag : Dag) (f : ℕ → Option Xval) (ps : List ℕ) → length (pulls_in dag ps (map f ps)) ≡ length ps
 pulls-len dag f [] = refl
 pulls-len dag f (p ∷ ps) = ap suc (pulls-len dag f ps)
 
-has-pulls : (dag : Dag) → IsSound dag → (t : ℕ) (f : ℕ → Option Xval) (g : Given) (r : TaskResult) → g.pulled ≡ map f (task_of dag t).pulls → has_pulls_of dag (task_of dag t) (instance_report dag t g r) ≡ true
+has-pulls : (dag : Dag) → IsSound dag → (t : ℕ) (f : ℕ → Option Xval) (g : Given) (r : TaskResult) → g.pulled ≡ map f (task_of dag t).pulls → has_pulls_in dag (task_of dag t) (instance_report dag t g r) ≡ true
 has-pulls dag sound t f g r same =
-    ap (λ vs. (length (pulls_of dag (task_of dag t).pulls vs) == length (task_of dag t).pulls) && list_all (λ q. is_pull_of dag q.0 q.1) (zip (pulls_of dag (task_of dag t).pulls vs) (task_of dag t).pulls)) same
+    ap (λ vs. (length (pulls_in dag (task_of dag t).pulls vs) == length (task_of dag t).pulls) && list_all (λ q. is_pull_in dag q.0 q.1) (zip (pulls_in dag (task_of dag t).pulls vs) (task_of dag t).pulls)) same
     ∙ and_from _ _ (same-count _ _ (pulls-len dag f (task_of dag t).pulls)) (each-pull dag f (task_of dag t).pulls (pull-in dag sound t))
 
 -- ---- tasks
 
-each-instance : (dag : Dag) (t : ℕ) (f : ℕ → TaskResult) (from : ℕ) (gs : List Given) → ((i : ℕ) (g : Given) (r : TaskResult) → slice_get gs i ≡ Some g → has_pulls_of dag (task_of dag t) (instance_report dag t g r) ≡ true) →
-    list_all (has_pulls_of dag (task_of dag t)) (filter_map (reported_instance dag t) (finished_from f from gs)) ≡ true
+each-instance : (dag : Dag) (t : ℕ) (f : ℕ → TaskResult) (from : ℕ) (gs : List Given) → ((i : ℕ) (g : Given) (r : TaskResult) → slice_get gs i ≡ Some g → has_pulls_in dag (task_of dag t) (instance_report dag t g r) ≡ true) →
+    list_all (has_pulls_in dag (task_of dag t)) (filter_map (reported_instance dag t) (finished_from f from gs)) ≡ true
 each-instance dag t f from [] has = refl
 each-instance dag t f from (g ∷ gs) has = and_from _ _ (has 0 g (record { outcome = (f from).outcome; tries = (f from).tries }) refl) (each-instance dag t f (suc from) gs (λ i h r e. has (suc i) h r e))
 
-by-kind : (dag : Dag) (task : Task) (b : Bool) (xs : List InstanceReport) → list_all (has_pulls_of dag task) xs ≡ true → is_task_of Version.Two dag (reported_instances b xs) task ≡ true
+by-kind : (dag : Dag) (task : Task) (b : Bool) (xs : List InstanceReport) → list_all (has_pulls_in dag task) xs ≡ true → is_task_in Version.Two dag (reported_instances b xs) task ≡ true
 by-kind dag task true xs all = all
 by-kind dag task false [] all = refl
-by-kind dag task false (x ∷ xs) all = (and_parts (has_pulls_of dag task x) (list_all (has_pulls_of dag task) xs) all).0
+by-kind dag task false (x ∷ xs) all = (and_parts (has_pulls_in dag task x) (list_all (has_pulls_in dag task) xs) all).0
 
-task-is : (dag : Dag) → IsSound dag → (ledger : Ledger) (k t : ℕ) → is_task_of Version.Two dag (reported dag t (cell_by dag ledger k t)) (task_of dag t) ≡ true
+task-is : (dag : Dag) → IsSound dag → (ledger : Ledger) (k t : ℕ) → is_task_in Version.Two dag (reported dag t (cell_by dag ledger k t)) (task_of dag t) ≡ true
 unfolding cell_by
 task-is dag sound ledger k t = go (decided dag ledger k t) refl
   where
-    go : (d : Decision) → decided dag ledger k t ≡ d → is_task_of Version.Two dag (reported dag t (final_cell d (result_of dag ledger k t))) (task_of dag t) ≡ true
+    go : (d : Decision) → decided dag ledger k t ≡ d → is_task_in Version.Two dag (reported dag t (final_cell d (result_of dag ledger k t))) (task_of dag t) ≡ true
     go Decision.Wait e = refl
     go Decision.Blocked e = refl
     go Decision.Skipped e = refl
@@ -101,15 +101,15 @@ task-is dag sound ledger k t = go (decided dag ledger k t) refl
         (each-instance dag t (result_of dag ledger k t) 0 gs (λ i g r h. has-pulls dag sound t _ g r (decided-pulled dag ledger k t gs e i g h)))
 
 each-task : (dag : Dag) → IsSound dag → (ledger : Ledger) (k from : ℕ) (tasks : List Task) → ((i : ℕ) (task : Task) → slice_get tasks i ≡ Some task → task ≡ task_of dag (from + i)) →
-    list_all (λ p. is_task_of Version.Two dag p.0 p.1) (zip (reports_from dag (cell_by dag ledger k) from tasks) tasks) ≡ true
+    list_all (λ p. is_task_in Version.Two dag p.0 p.1) (zip (reports_from dag (cell_by dag ledger k) from tasks) tasks) ≡ true
 each-task dag sound ledger k from [] is = refl
 each-task dag sound ledger k from (task ∷ tasks) is =
     let at : from + 0 ≡ from = omega arith in
     let same : task ≡ task_of dag from = is 0 task refl ∙ ap (task_of dag) at in
-    and_from _ _ (ap (is_task_of Version.Two dag (reported dag from (cell_by dag ledger k from))) same ∙ task-is dag sound ledger k from)
+    and_from _ _ (ap (is_task_in Version.Two dag (reported dag from (cell_by dag ledger k from))) same ∙ task-is dag sound ledger k from)
     (each-task dag sound ledger k (suc from) tasks (λ i other e. let next : from + suc i ≡ suc from + i = omega arith in is (suc i) other e ∙ ap (task_of dag) next))
 
-tasks-are : (dag : Dag) → IsSound dag → (ledger : Ledger) (k : ℕ) → are_tasks_of Version.Two dag (reports_from dag (cell_by dag ledger k) 0 dag.tasks) ≡ true
+tasks-are : (dag : Dag) → IsSound dag → (ledger : Ledger) (k : ℕ) → are_tasks_in Version.Two dag (reports_from dag (cell_by dag ledger k) 0 dag.tasks) ≡ true
 unfolding task_of
 tasks-are dag sound ledger k =
     and_from _ _ (same-count _ _ (length-reports_from dag (cell_by dag ledger k) 0 dag.tasks))
@@ -124,18 +124,18 @@ runs-len dag ledger from (i ∷ is) [] are = absurd are
 runs-len dag ledger from (i ∷ is) (r ∷ rs) are = ap suc (runs-len dag ledger (suc from) is rs are.3)
 
 each-run : (dag : Dag) → IsSound dag → (ledger : Ledger) (from : ℕ) (intervals : List Interval) (runs : List RunReport) → AreDated dag ledger from intervals runs →
-    list_all (λ p. is_run_of Version.Two dag p.0 p.1) (zip runs intervals) ≡ true
+    list_all (λ p. is_run_in Version.Two dag p.0 p.1) (zip runs intervals) ≡ true
 each-run dag sound ledger from [] [] are = refl
 each-run dag sound ledger from [] (r ∷ rs) are = absurd are
 each-run dag sound ledger from (i ∷ is) [] are = absurd are
 each-run dag sound ledger from (i ∷ is) (r ∷ rs) are =
     and_from _ _
-    (and_from _ _ (ap (λ j. is_same_interval j i) are.0 ∙ same-interval i) (ap (are_tasks_of Version.Two dag) are.2 ∙ tasks-are dag sound ledger from))
+    (and_from _ _ (ap (λ j. is_same_interval_in j i) are.0 ∙ same-interval i) (ap (are_tasks_in Version.Two dag) are.2 ∙ tasks-are dag sound ledger from))
     (each-run dag sound ledger (suc from) is rs are.3)
 
-pub own-report : (dag : Dag) → IsSound dag → (intervals : List Interval) (ledger : Ledger) (report : Report) → IsDated dag intervals ledger report → is_report_of dag intervals report ≡ true
-unfolding is_report_of
+pub own-report : (dag : Dag) → IsSound dag → (intervals : List Interval) (ledger : Ledger) (report : Report) → IsDated dag intervals ledger report → is_report_in dag intervals report ≡ true
+unfolding is_report_in
 own-report dag sound intervals ledger report is =
     and_from _ _ (ap (λ b. bytes_eq b dag.id) is.dag_id ∙ same-bytes dag.id)
-    (and_from _ _ (ap (λ ids. length intervals == 0 || are_ids_of ids dag.tasks) is.tasks ∙ ids-shown dag intervals)
-    (ap (λ v. are_runs_of v dag report.runs intervals) is.version ∙ and_from _ _ (same-count _ _ (runs-len dag ledger 0 intervals report.runs is.runs)) (each-run dag sound ledger 0 intervals report.runs is.runs)))
+    (and_from _ _ (ap (λ ids. length intervals == 0 || are_ids_in ids dag.tasks) is.tasks ∙ ids-shown dag intervals)
+    (ap (λ v. are_runs_in v dag report.runs intervals) is.version ∙ and_from _ _ (same-count _ _ (runs-len dag ledger 0 intervals report.runs is.runs)) (each-run dag sound ledger 0 intervals report.runs is.runs)))

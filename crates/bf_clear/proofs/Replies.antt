@@ -1,11 +1,11 @@
 -- Answers from what is kept.
 use Rattle.std.proofs.Common.{◌≡◌, ℕ, nat_lt, ◌&&◌, not, Bool, true, false, if◌then◌else◌, length, Option, None, Some, option_map, refl, sym, ap, ◌∙◌}
 use Rattle.bf_try.specs.declared.answers.Raw.{Raw}
-use Rattle.bf_core.specs.Terms.{Dag, Entry, Given, JobName, Ledger, Outcome, fits}
+use Rattle.bf_core.specs.Terms.{Dag, Entry, Given, JobName, Ledger, Outcome, fits_in}
 use Rattle.bf_report.specs.declared.report.InstanceReport.{InstanceReport}
 use Rattle.bf_kept.specs.Kept.{IsAnsweredBy}
-use Rattle.bf_dependents.specs.Dependents.{has}
-use Rattle.bf_clear.specs.Entries.{entry_by, entry_of_try, found_at, given_by, outcome_of_try, told, worked_out}
+use Rattle.bf_dependents.specs.Dependents.{has_in}
+use Rattle.bf_clear.specs.Entries.{entry_by, entry_of_try, found_at, given_by, outcome_of_try_in, told, worked_out_in}
 use Rattle.bf_clear.specs.Keeping.{Clearance, fit_outcome, fitting, kept_in, kept_of, IsAnswerOf, IsRawFor}
 
 -- what is kept is looked up in one way or the other
@@ -17,28 +17,28 @@ none-kept : (kept : Ledger) (n : JobName) (given : Given) → kept n ≡ None �
 none-kept kept n given e = λ d held. let both : ◌≡◌ {A = Option Entry} None (Some d) = sym e ∙ held.0 in cc
 
 outcome-answers : (dag : Dag) (x : InstanceReport) (n : JobName) (given : Given) (o : Option Raw) →
-    IsRawFor (fit_outcome dag n.task (outcome_of_try x.result n.attempt)) o → IsAnswerOf dag (Some given) x n given o
-outcome-answers dag x n given o is = go (outcome_of_try x.result n.attempt) refl o is
+    IsRawFor (fit_outcome dag n.task (outcome_of_try_in x.result n.attempt)) o → IsAnswerOf dag (Some given) x n given o
+outcome-answers dag x n given o is = go (outcome_of_try_in x.result n.attempt) refl o is
   where
     entry : Outcome → Entry
     entry w = record { given = given; outcome = w }
 
-    fit : (w : Outcome) (f : Bool) → fits dag n.task w ≡ f → (r : Option Raw) → IsRawFor (if f then Some w else None) r →
+    fit : (w : Outcome) (f : Bool) → fits_in dag n.task w ≡ f → (r : Option Raw) → IsRawFor (if f then Some w else None) r →
         IsAnsweredBy (λ m. if f then Some (entry w) else None) n given r
     fit w true e None h = absurd h
     fit w true e (Some raw) h = record { held = entry w; is_kept = (refl, refl); grades = h }
     fit w false e None h = λ d held. let both : ◌≡◌ {A = Option Entry} None (Some d) = held.0 in cc
     fit w false e (Some raw) h = absurd h
 
-    go : (w : Option Outcome) → outcome_of_try x.result n.attempt ≡ w → (r : Option Raw) → IsRawFor (fit_outcome dag n.task w) r →
+    go : (w : Option Outcome) → outcome_of_try_in x.result n.attempt ≡ w → (r : Option Raw) → IsRawFor (fit_outcome dag n.task w) r →
         IsAnsweredBy (λ m. fitting dag n.task (option_map entry w)) n given r
     go None e None h = λ d held. let both : ◌≡◌ {A = Option Entry} None (Some d) = held.0 in cc
     go None e (Some raw) h = absurd h
-    go (Some w) e r h = fit w (fits dag n.task w) refl r h
+    go (Some w) e r h = fit w (fits_in dag n.task w) refl r h
 
 -- the outcome of the try, where it fits
 pub raw-answers : (dag : Dag) (told : Option Given) (x : InstanceReport) (n : JobName) (given : Given) (o : Option Raw) → told ≡ Some given →
-    IsRawFor (fit_outcome dag n.task (outcome_of_try x.result n.attempt)) o → IsAnswerOf dag told x n given o
+    IsRawFor (fit_outcome dag n.task (outcome_of_try_in x.result n.attempt)) o → IsAnswerOf dag told x n given o
 raw-answers dag told x n given o same is =
     answers-same (λ m. fitting dag n.task (entry_of_try x.result n.attempt told)) (λ m. fitting dag n.task (entry_of_try x.result n.attempt (Some given))) n given o
     (ap (λ g. fitting dag n.task (entry_of_try x.result n.attempt g)) same) (outcome-answers dag x n given o is)
@@ -46,14 +46,14 @@ raw-answers dag told x n given o same is =
 -- ---- by the report
 
 pub answers-here : (c : Clearance) (n : JobName) (given : Given) (x : InstanceReport) (o : Option Raw) →
-    nat_lt n.task (length c.dag.tasks) ≡ true → has c.dag c.cleared n.run n.task n.index ≡ false → found_at c.report n.run n.task n.index ≡ Some x →
-    IsAnswerOf c.dag (given_by c.report.version (worked_out c.dag c.report n.run n.task n.index) x) x n given o → IsAnsweredBy (kept_in c) n given o
+    nat_lt n.task (length c.dag.tasks) ≡ true → has_in c.dag c.cleared n.run n.task n.index ≡ false → found_at c.report n.run n.task n.index ≡ Some x →
+    IsAnswerOf c.dag (given_by c.report.version (worked_out_in c.dag c.report n.run n.task n.index) x) x n given o → IsAnsweredBy (kept_in c) n given o
 unfolding told
 answers-here c n given x o there beside found is =
-    answers-same (kept_in c) (λ m. fitting c.dag n.task (entry_of_try x.result n.attempt (given_by c.report.version (worked_out c.dag c.report n.run n.task n.index) x))) n given o
-    (ap (λ b. kept_of (b && not (has c.dag c.cleared n.run n.task n.index)) c.dag n.task (told c.dag c.report n)) there
+    answers-same (kept_in c) (λ m. fitting c.dag n.task (entry_of_try x.result n.attempt (given_by c.report.version (worked_out_in c.dag c.report n.run n.task n.index) x))) n given o
+    (ap (λ b. kept_of (b && not (has_in c.dag c.cleared n.run n.task n.index)) c.dag n.task (told c.dag c.report n)) there
     ∙ (ap (λ b. kept_of (not b) c.dag n.task (told c.dag c.report n)) beside
-    ∙ ap (λ m. fitting c.dag n.task (entry_by c.report.version (worked_out c.dag c.report n.run n.task n.index) m n.attempt)) found)) is
+    ∙ ap (λ m. fitting c.dag n.task (entry_by c.report.version (worked_out_in c.dag c.report n.run n.task n.index) m n.attempt)) found)) is
 
 fitting-none : (b : Bool) (dag : Dag) (t : ℕ) → kept_of b dag t None ≡ None
 fitting-none true dag t = refl
@@ -64,5 +64,5 @@ pub answers-none : (c : Clearance) (n : JobName) (given : Given) → found_at c.
 unfolding told
 answers-none c n given none =
     none-kept (kept_in c) n given
-    (ap (λ m. kept_of (nat_lt n.task (length c.dag.tasks) && not (has c.dag c.cleared n.run n.task n.index)) c.dag n.task (entry_by c.report.version (worked_out c.dag c.report n.run n.task n.index) m n.attempt)) none
-    ∙ fitting-none (nat_lt n.task (length c.dag.tasks) && not (has c.dag c.cleared n.run n.task n.index)) c.dag n.task)
+    (ap (λ m. kept_of (nat_lt n.task (length c.dag.tasks) && not (has_in c.dag c.cleared n.run n.task n.index)) c.dag n.task (entry_by c.report.version (worked_out_in c.dag c.report n.run n.task n.index) m n.attempt)) none
+    ∙ fitting-none (nat_lt n.task (length c.dag.tasks) && not (has_in c.dag c.cleared n.run n.task n.index)) c.dag n.task)

@@ -24,8 +24,8 @@ use Rattle.bf_report.specs.declared.report.Report.{Report}
 use Rattle.bf_report.specs.Dated.{AreDated, IsDated, cell_by, ids_shown}
 use Rattle.bf_report.proofs.DatedFacts.{length-reports_from}
 use Rattle.bf_clear.specs.Aligning.{AreAligned, IsAligned, is_over, tasks_at, tasks_in, tasks_told, told_at}
-use Rattle.bf_clear.specs.Entries.{entry_by, found_at, instance_at, report_at, told, worked_out}
-use Rattle.bf_clear.specs.Matching.{is_same_interval}
+use Rattle.bf_clear.specs.Entries.{entry_by, found_at, instance_in, report_at, told, worked_out_in}
+use Rattle.bf_clear.specs.Matching.{is_same_interval_in}
 use Rattle.bf_clear.proofs.Aligned.{over-one}
 use Rattle.bf_clear.proofs.Own.{same-interval}
 use Rattle.bf_clear.proofs.Told.{told-is}
@@ -48,13 +48,13 @@ module _ (dag : Dag) (ledger : Ledger) where
   first-over from (i ∷ is) [] are rising j interval run e f = absurd are
   first-over from (i ∷ is) (r ∷ rs) are rising zero interval run e f =
       let same : i ≡ interval = cc in
-      let over : is_over interval r ≡ true = ap (λ (x : Interval). is_same_interval x interval) (are.0 ∙ same) ∙ same-interval interval in
+      let over : is_over interval r ≡ true = ap (λ (x : Interval). is_same_interval_in x interval) (are.0 ∙ same) ∙ same-interval interval in
       rw over f
   first-over from (i ∷ is) (r ∷ rs) are rising (suc j) interval run e f =
       let low : j < length is = slice_get_within is j interval e in
       let later : i.start.nanosecond <ℤ interval.start.nanosecond =
       subst (λ (x : Interval). i.start.nanosecond <ℤ x.start.nanosecond) (get_or_from_slice_get is j interval interval e) (rising 0 (suc j) interval (omega arith) (omega (arith, low))) in
-      let here : is_over i r ≡ true = ap (λ (x : Interval). is_same_interval x i) are.0 ∙ same-interval i in
+      let here : is_over i r ≡ true = ap (λ (x : Interval). is_same_interval_in x i) are.0 ∙ same-interval i in
       let gone : is_over interval r ≡ false = over-one r i interval here (λ same. omega (arith, ints, later, same)) in
       rw gone (first-over (suc from) is rs are.3 (λ a b d lt within. rising (suc a) (suc b) d (omega (arith, lt)) (omega (arith, within))) j interval run e f)
 
@@ -147,13 +147,13 @@ module _ (dag : Dag) (named : IsNamed dag) (before intervals : List Interval) (o
       ∙ (ap (λ (ts : List TaskReport). slice_get ts t) told ∙ (same-tasks dag named run.0.tasks run.2 t ∙ sym (ap (option_and_then (λ (r : RunReport). slice_get r.tasks t)) run.1)))
 
   same-found : (t : ℕ) (index : ℤ) → found_at aligned k t index ≡ found_at report j t index
-  same-found t index = ap (option_and_then (λ (told : TaskReport). instance_at told index)) (same-report t)
+  same-found t index = ap (option_and_then (λ (told : TaskReport). instance_in told index)) (same-report t)
 
 pub kept-tells : (dag : Dag) → IsNamed dag → (before intervals : List Interval) → AreOfRuns before → (ledger : Ledger) → HoldsItsTries dag (length before) ledger → (report aligned : Report)
     → IsDated dag before ledger report → IsAligned dag intervals report aligned → (interval : Interval) (j : ℕ) (n : JobName) → slice_get before j ≡ Some interval → slice_get intervals n.run ≡ Some interval
     → told dag aligned n ≡ ledger (record n { run = j })
 unfolding told
 kept-tells dag named before intervals of_runs ledger holds report aligned dated is interval j n at there =
-    same-entry aligned.version report.version (is.version ∙ dated.version) dated.version (worked_out dag aligned n.run n.task n.index) (worked_out dag report j n.task n.index) _ _
+    same-entry aligned.version report.version (is.version ∙ dated.version) dated.version (worked_out_in dag aligned n.run n.task n.index) (worked_out_in dag report j n.task n.index) _ _
     (same-found dag named before intervals of_runs ledger report aligned dated is interval j n.run at there n.task n.index) n.attempt
     ∙ told-is dag before ledger holds report dated (record n { run = j })

@@ -5,7 +5,7 @@ use Rattle.std.specs.Option.{option_and_then}
 use Rattle.bf_interval.specs.declared.interval.Interval.{Interval}
 use Rattle.bf_plan.specs.declared.plan.Task.{Task}
 use Rattle.bf_core.specs.Terms.{Dag, Entry, Given, JobName, Ledger, Outcome, TaskResult, TaskValue, Verdict, Xval, Items, items, result_of, name_of, task_of, map_index, place_of, is_failed, last_try, outcome_of, outcome_at}
-use Rattle.bf_core.specs.Deciding.{Seen, settled, decision, after_verdict, instances, mapped, pulled}
+use Rattle.bf_core.specs.Deciding.{Seen, settled, decision, after_verdict, instances_of, mapped, pulled}
 use Rattle.bf_core.specs.declared.decision.Decision.{Decision}
 use Rattle.bf_core.specs.declared.state.Cell.{Cell}
 use Rattle.bf_core.specs.Recursion.{out, decided, Asks}
@@ -19,8 +19,8 @@ use Rattle.bf_report.specs.declared.report.Pull.{Pull}
 use Rattle.bf_report.specs.declared.report.TaskReport.{TaskReport}
 use Rattle.bf_report.specs.declared.report.RunReport.{RunReport}
 use Rattle.bf_report.specs.declared.report.Report.{Report}
-use Rattle.bf_report.specs.Dated.{pulls_of, instance_report, reported, reported_instance, reported_instances, cell_by, reports_from, AreDated, IsDated}
-use Rattle.bf_clear.specs.Entries.{report_at, instance_at, found_at, given_in, entry_by, entry_of_try, outcome_of_try, told, IsWithin}
+use Rattle.bf_report.specs.Dated.{pulls_in, instance_report, reported, reported_instance, reported_instances, cell_by, reports_from, AreDated, IsDated}
+use Rattle.bf_clear.specs.Entries.{report_at, instance_in, found_at, given_in, entry_by, entry_of_try, outcome_of_try_in, told, IsWithin}
 
 -- ---- tries
 
@@ -36,7 +36,7 @@ last_try-failed f a (suc left) b from to = go (is_failed (f a)) refl (decide_lt 
     go true e (inr m) more l = more m l
 
 -- what is told of the tries of an instance
-tried : (f : ℕ → Outcome) (left a : ℕ) → 1 ≤ a → a ≤ last_try f 1 left → outcome_of_try (record { outcome = f (last_try f 1 left); tries = last_try f 1 left }) a ≡ Some (f a)
+tried : (f : ℕ → Outcome) (left a : ℕ) → 1 ≤ a → a ≤ last_try f 1 left → outcome_of_try_in (record { outcome = f (last_try f 1 left); tries = last_try f 1 left }) a ≡ Some (f a)
 tried f left a from to = go (a == last_try f 1 left) refl
   where
     go : (b : Bool) → (a == last_try f 1 left) ≡ b →
@@ -52,7 +52,7 @@ tried f left a from to = go (a == last_try f 1 left) refl
 abbrev IsTold : TaskResult → ℕ → Type 0
 IsTold r a = (a ≡ r.tries) ⊎ ((1 ≤ a) × (a ≤ r.tries))
 
-told-of : (r : TaskResult) (a : ℕ) (o : Outcome) → outcome_of_try r a ≡ Some o → IsTold r a
+told-of : (r : TaskResult) (a : ℕ) (o : Outcome) → outcome_of_try_in r a ≡ Some o → IsTold r a
 told-of r a o h = go (a == r.tries) refl (nat_lt 0 a) refl (nat_lt a r.tries) refl h
   where
     go : (b : Bool) → (a == r.tries) ≡ b → (c : Bool) → nat_lt 0 a ≡ c → (d : Bool) → nat_lt a r.tries ≡ d →
@@ -87,7 +87,7 @@ found-pulled : (p : List (Option Xval)) (found : Option TaskValue) (give : TaskV
 found-pulled p None give gs e i g h = cc
 found-pulled p (Some v) give gs e i g h = mapped-pulled p (give v) gs e i g h
 
-instances-pulled : (dag : Dag) (seen : ℕ → Seen) (p : List (Option Xval)) (expand : Option ℕ) (gs : List Given) → instances dag seen p expand ≡ Decision.Instances gs → (i : ℕ) (g : Given) → slice_get gs i ≡ Some g → g.pulled ≡ p
+instances-pulled : (dag : Dag) (seen : ℕ → Seen) (p : List (Option Xval)) (expand : Option ℕ) (gs : List Given) → instances_of dag seen p expand ≡ Decision.Instances gs → (i : ℕ) (g : Given) → slice_get gs i ≡ Some g → g.pulled ≡ p
 instances-pulled dag seen p None gs e i g h = one-pulled p gs e i g h
 instances-pulled dag seen p (Some source) gs e i g h = found-pulled p (seen source).value (items (task_of dag source)) gs e i g h
 
@@ -104,7 +104,7 @@ pub decided-pulled : (dag : Dag) (ledger : Ledger) (k t : ℕ) (gs : List Given)
 unfolding decided decision
 decided-pulled dag ledger k t gs e i g h = verdict-pulled dag (λ u. settled (out dag ledger k u)) t _ gs e i g h
 
-values-back : (dag : Dag) (f : ℕ → Option Xval) (ps : List ℕ) → map (λ (p : Pull). p.value) (pulls_of dag ps (map f ps)) ≡ map f ps
+values-back : (dag : Dag) (f : ℕ → Option Xval) (ps : List ℕ) → map (λ (p : Pull). p.value) (pulls_in dag ps (map f ps)) ≡ map f ps
 values-back dag f [] = refl
 values-back dag f (p ∷ ps) = ap (λ vs. f p ∷ vs) (values-back dag f ps)
 
@@ -112,7 +112,7 @@ given-back : (dag : Dag) (ledger : Ledger) (k t : ℕ) (gs : List Given) → dec
     given_in (instance_report dag t g r) ≡ g
 given-back dag ledger k t gs e i g h r =
     let same : g.pulled ≡ pulled dag (λ u. settled (out dag ledger k u)) t = decided-pulled dag ledger k t gs e i g h in
-    λ j. record { item = g.item; pulled = (ap (λ vs. map (λ (p : Pull). p.value) (pulls_of dag (task_of dag t).pulls vs)) same ∙ (values-back dag _ (task_of dag t).pulls ∙ sym same)) j }
+    λ j. record { item = g.item; pulled = (ap (λ vs. map (λ (p : Pull). p.value) (pulls_in dag (task_of dag t).pulls vs)) same ∙ (values-back dag _ (task_of dag t).pulls ∙ sym same)) j }
 
 -- ---- the instances of a report
 
@@ -153,7 +153,7 @@ index_by b i = if b then pos i else negsuc 0
 abbrev place_by : Bool → ℤ → ℕ
 place_by b index = if b then nat_abs index else 0
 
-by-index : (b : Bool) (xs : List InstanceReport) (index : ℤ) → index_by b (place_by b index) ≡ index → instance_at (reported_instances b xs) index ≡ slice_get xs (place_by b index)
+by-index : (b : Bool) (xs : List InstanceReport) (index : ℤ) → index_by b (place_by b index) ≡ index → instance_in (reported_instances b xs) index ≡ slice_get xs (place_by b index)
 by-index true xs (pos i) e = refl
 by-index true xs (negsuc i) e = cc
 by-index false [] (negsuc zero) e = refl
@@ -161,7 +161,7 @@ by-index false (x ∷ xs) (negsuc zero) e = refl
 by-index false xs (negsuc (suc i)) e = cc
 by-index false xs (pos i) e = cc
 
-index-of : (b : Bool) (xs : List InstanceReport) (index : ℤ) (x : InstanceReport) → instance_at (reported_instances b xs) index ≡ Some x → index_by b (place_by b index) ≡ index
+index-of : (b : Bool) (xs : List InstanceReport) (index : ℤ) (x : InstanceReport) → instance_in (reported_instances b xs) index ≡ Some x → index_by b (place_by b index) ≡ index
 index-of true xs (pos i) x e = refl
 index-of true xs (negsuc i) x e = cc
 index-of false [] index x e = cc
@@ -241,7 +241,7 @@ reported-there dag ledger intervals report is k t r e = go (less-or k (length in
 task-there : (dag : Dag) (ledger : Ledger) (intervals : List Interval) (report : Report) → IsDated dag intervals ledger report → IsWithin dag (length intervals) report
 task-there dag ledger intervals report is k t index x e = go (report_at report k t) refl e
   where
-    go : (o : Option TaskReport) → report_at report k t ≡ o → option_and_then (λ r. instance_at r index) o ≡ Some x → (k < length intervals) × (t < length dag.tasks)
+    go : (o : Option TaskReport) → report_at report k t ≡ o → option_and_then (λ r. instance_in r index) o ≡ Some x → (k < length intervals) × (t < length dag.tasks)
     go None same h = cc
     go (Some r) same h = reported-there dag ledger intervals report is k t r same
 
@@ -251,7 +251,7 @@ from-zero : (m : ℕ) → 0 + m ≡ m
 from-zero m = omega arith
 
 told-here : (dag : Dag) (t : ℕ) (f : ℕ → TaskResult) (gs : List Given) (index : ℤ) → map_index (task_of dag t) (place_of (task_of dag t) index) ≡ index → (g : Given) → slice_get gs (place_of (task_of dag t) index) ≡ Some g →
-    instance_at (reported dag t (final_cell (Decision.Instances gs) f)) index ≡ Some (instance_report dag t g (f (place_of (task_of dag t) index)))
+    instance_in (reported dag t (final_cell (Decision.Instances gs) f)) index ≡ Some (instance_report dag t g (f (place_of (task_of dag t) index)))
 told-here dag t f gs index named g e =
     by-index (is_some (task_of dag t).expand) (filter_map (reported_instance dag t) (finished_from f 0 gs)) index named
     ∙ (instances-there dag t f 0 gs (place_of (task_of dag t) index) g e ∙ ap (λ m. Some (instance_report dag t g (f m))) (from-zero (place_of (task_of dag t) index)))
@@ -263,7 +263,7 @@ pub record IsHere (dag : Dag) (t : ℕ) (f : ℕ → TaskResult) (d : Decision) 
   pub named : map_index (task_of dag t) (place_of (task_of dag t) index) ≡ index
   pub given : IsGiven dag t f 0 givens (place_of (task_of dag t) index) x
 
-decided-here : (dag : Dag) (t : ℕ) (f : ℕ → TaskResult) (d : Decision) (index : ℤ) (x : InstanceReport) → instance_at (reported dag t (final_cell d f)) index ≡ Some x → IsHere dag t f d index x
+decided-here : (dag : Dag) (t : ℕ) (f : ℕ → TaskResult) (d : Decision) (index : ℤ) (x : InstanceReport) → instance_in (reported dag t (final_cell d f)) index ≡ Some x → IsHere dag t f d index x
 decided-here dag t f Decision.Wait index x e = cc
 decided-here dag t f Decision.Blocked index x e = cc
 decided-here dag t f Decision.Skipped index x e = cc
@@ -281,9 +281,9 @@ pub record IsFound (m : Option InstanceReport) (a : ℕ) : Type 0 where
 
 found-of : (m : Option InstanceReport) (a : ℕ) (d : Entry) → entry_by Version.Two None m a ≡ Some d → IsFound m a
 found-of None a d e = cc
-found-of (Some x) a d e = record { held = x; is_held = refl; told = go (outcome_of_try x.result a) refl e }
+found-of (Some x) a d e = record { held = x; is_held = refl; told = go (outcome_of_try_in x.result a) refl e }
   where
-    go : (o : Option Outcome) → outcome_of_try x.result a ≡ o → option_map (λ o. record { given = given_in x; outcome = o }) o ≡ Some d → IsTold x.result a
+    go : (o : Option Outcome) → outcome_of_try_in x.result a ≡ o → option_map (λ o. record { given = given_in x; outcome = o }) o ≡ Some d → IsTold x.result a
     go None f h = cc
     go (Some o) f h = told-of x.result a o f
 
@@ -317,7 +317,7 @@ module _ (dag : Dag) (intervals : List Interval) (ledger : Ledger) (holds : Hold
 
       there : found_at report n.run n.task n.index ≡ Some (instance_report dag n.task e.given (result_of dag ledger n.run n.task i))
       there =
-          ap (option_and_then (λ r. instance_at r n.index)) (task-at dag ledger intervals report is n.run n.task a.0 a.1
+          ap (option_and_then (λ r. instance_in r n.index)) (task-at dag ledger intervals report is n.run n.task a.0 a.1
           ∙ ap (λ d. Some (reported dag n.task (final_cell d (result_of dag ledger n.run n.task)))) asks.runs)
           ∙ told-here dag n.task (result_of dag ledger n.run n.task) asks.givens n.index named e.given asks.is_one
 
@@ -336,7 +336,7 @@ module _ (dag : Dag) (intervals : List Interval) (ledger : Ledger) (holds : Hold
 
       here : IsHere dag n.task (result_of dag ledger n.run n.task) (decided dag ledger n.run n.task) n.index found.held
       here = decided-here dag n.task (result_of dag ledger n.run n.task) (decided dag ledger n.run n.task) n.index found.held
-          (ap (option_and_then (λ r. instance_at r n.index)) (sym (task-at dag ledger intervals report is n.run n.task within.0 within.1)) ∙ found.is_held)
+          (ap (option_and_then (λ r. instance_in r n.index)) (sym (task-at dag ledger intervals report is n.run n.task within.0 within.1)) ∙ found.is_held)
 
       same : found.held.result ≡ result_of dag ledger n.run n.task i
       same = here.given.result ∙ ap (result_of dag ledger n.run n.task) (from-zero i)

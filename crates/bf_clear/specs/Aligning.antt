@@ -4,14 +4,14 @@ use Rattle.std.specs.List.{find, position}
 use Rattle.std.specs.Str.{bytes_eq}
 use Rattle.bf_interval.specs.declared.interval.Interval.{Interval}
 use Rattle.bf_plan.specs.declared.plan.Dag.{Dag}
-use Rattle.bf_try.specs.Tries.{Look}
+use Rattle.bf_try.specs.Tries.{Ledger}
 use Rattle.bf_report.specs.declared.report.TaskReport.{TaskReport}
 use Rattle.bf_report.specs.declared.report.RunReport.{RunReport}
 use Rattle.bf_report.specs.declared.report.Report.{Report}
 use Rattle.bf_dependents.specs.declared.fault.ClearFault.{ClearFault}
 use Rattle.bf_dependents.specs.declared.place.Place.{Place}
 use Rattle.bf_clear.specs.Keeping.{AreKept}
-use Rattle.bf_clear.specs.Matching.{fault_after, is_same_interval}
+use Rattle.bf_clear.specs.Matching.{fault_after, is_same_interval_in}
 
 abbrev pub or_nothing : Option TaskReport → TaskReport
 or_nothing None = TaskReport.NoStatus
@@ -30,7 +30,7 @@ tasks_in None = []
 tasks_in (Some run) = run.tasks
 
 abbrev pub is_over : Interval → RunReport → Bool
-is_over interval run = is_same_interval run.interval interval
+is_over interval run = is_same_interval_in run.interval interval
 
 -- what is told of the run over that data interval
 abbrev pub tasks_at : List RunReport → Interval → List TaskReport
@@ -52,7 +52,7 @@ pub record IsAligned (dag : Dag) (intervals : List Interval) (told aligned : Rep
   pub runs : AreAligned dag told intervals aligned.runs
 
 -- this is kept of what the report tells of the plan and of these runs
-pub record AreKeptByIds (dag : Dag) (intervals : List Interval) (seeds : List Place) (report : Report) (kept : Look) : Type 0 where
+pub record AreKeptByIds (dag : Dag) (intervals : List Interval) (seeds : List Place) (report : Report) (kept : Ledger) : Type 0 where
   pub aligned : Report
   pub is_aligned : IsAligned dag intervals report aligned
   pub are_kept : AreKept dag seeds aligned kept

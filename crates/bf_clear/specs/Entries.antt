@@ -9,9 +9,9 @@ use Rattle.bf_xcom.specs.declared.values.Given.{Given}
 use Rattle.bf_xcom.specs.declared.values.Outcome.{Outcome}
 use Rattle.bf_xcom.specs.declared.values.TaskResult.{TaskResult}
 use Rattle.bf_xcom.specs.declared.values.TaskValue.{TaskValue}
-use Rattle.bf_xcom.specs.Pulls.{pull}
+use Rattle.bf_xcom.specs.Pulls.{pull_of}
 use Rattle.bf_try.specs.declared.ledger.Entry.{Entry}
-use Rattle.bf_try.specs.Tries.{Look}
+use Rattle.bf_try.specs.Tries.{Ledger}
 use Rattle.bf_report.specs.declared.report.Version.{Version}
 use Rattle.bf_report.specs.declared.report.InstanceReport.{InstanceReport}
 use Rattle.bf_report.specs.declared.report.TaskReport.{TaskReport}
@@ -23,14 +23,14 @@ use Rattle.bf_report.specs.declared.report.Report.{Report}
 abbrev pub report_at : Report → ℕ → ℕ → Option TaskReport
 report_at report number task = option_and_then (λ run. slice_get run.tasks task) (slice_get report.runs number)
 
-abbrev pub instance_at : TaskReport → ℤ → Option InstanceReport
-instance_at (TaskReport.Ran instance) (negsuc zero) = Some instance
-instance_at (TaskReport.Mapped instances) (pos place) = slice_get instances place
-instance_at _ _ = None
+abbrev pub instance_in : TaskReport → ℤ → Option InstanceReport
+instance_in (TaskReport.Ran instance) (negsuc zero) = Some instance
+instance_in (TaskReport.Mapped instances) (pos place) = slice_get instances place
+instance_in _ _ = None
 
 -- the instance of that index of the task in the run
 abbrev pub found_at : Report → ℕ → ℕ → ℤ → Option InstanceReport
-found_at report run task index = option_and_then (λ instance. instance_at instance index) (report_at report run task)
+found_at report run task index = option_and_then (λ instance. instance_in instance index) (report_at report run task)
 
 -- ---- what an instance was given
 
@@ -51,12 +51,12 @@ value_by None = TaskValue.Blocked
 value_by (Some task) = value_in task
 
 -- the value of the task in the run
-abbrev pub value_at : Report → ℕ → ℕ → TaskValue
-value_at report run task = value_by (report_at report run task)
+abbrev pub value_reported_at : Report → ℕ → ℕ → TaskValue
+value_reported_at report run task = value_by (report_at report run task)
 
 -- what a pull from a task gave in the run
 abbrev pub pull_from : Dag → Report → ℕ → ℕ → Option Xval
-pull_from dag report run source = option_and_then (λ task. pull task (value_at report run source)) (slice_get dag.tasks source)
+pull_from dag report run source = option_and_then (λ task. pull_of task (value_reported_at report run source)) (slice_get dag.tasks source)
 
 -- the item of that index, of a list
 abbrev pub item_in : Option Xval → ℤ → Option Xval
@@ -70,8 +70,8 @@ given_of from pulled None _ = None
 given_of from pulled (Some source) index = option_map (λ item. record { item = Some item; pulled = pulled }) (item_in (from source) index)
 
 -- what the values of the report give the instance of that index of the task in the run
-unfoldable pub worked_out : Dag → Report → ℕ → ℕ → ℤ → Option Given
-worked_out dag report run task index = given_of (pull_from dag report run) (map (pull_from dag report run) (task_of dag task).pulls) (task_of dag task).expand index
+unfoldable pub worked_out_in : Dag → Report → ℕ → ℕ → ℤ → Option Given
+worked_out_in dag report run task index = given_of (pull_from dag report run) (map (pull_from dag report run) (task_of dag task).pulls) (task_of dag task).expand index
 
 -- what an instance was given, by the version of the report
 abbrev pub given_by : Version → Option Given → InstanceReport → Option Given
@@ -81,22 +81,22 @@ given_by Version.Two worked instance = Some (given_in instance)
 -- ---- tries
 
 -- the outcome of a try: those before the last failed
-abbrev pub outcome_of_try : TaskResult → ℕ → Option Outcome
-outcome_of_try result attempt =
+abbrev pub outcome_of_try_in : TaskResult → ℕ → Option Outcome
+outcome_of_try_in result attempt =
     if attempt == result.tries then Some result.outcome
     else (if nat_lt 0 attempt && nat_lt attempt result.tries then Some Outcome.Failed else None)
 
 abbrev pub entry_of_try : TaskResult → ℕ → Option Given → Option Entry
 entry_of_try result attempt None = None
-entry_of_try result attempt (Some given) = option_map (λ outcome. record { given = given; outcome = outcome }) (outcome_of_try result attempt)
+entry_of_try result attempt (Some given) = option_map (λ outcome. record { given = given; outcome = outcome }) (outcome_of_try_in result attempt)
 
 abbrev pub entry_by : Version → Option Given → Option InstanceReport → ℕ → Option Entry
 entry_by version worked None attempt = None
 entry_by version worked (Some instance) attempt = entry_of_try instance.result attempt (given_by version worked instance)
 
 -- the entries that a report tells of, by their names: version 2 tells what they were given, and for version 1 it is worked out
-unfoldable pub told : Dag → Report → Look
-told dag report name = entry_by report.version (worked_out dag report name.run name.task name.index) (found_at report name.run name.task name.index) name.attempt
+unfoldable pub told : Dag → Report → Ledger
+told dag report name = entry_by report.version (worked_out_in dag report name.run name.task name.index) (found_at report name.run name.task name.index) name.attempt
 
 -- what stands in the report is of tasks and runs that are there
 abbrev pub IsWithin : Dag → ℕ → Report → Type 0

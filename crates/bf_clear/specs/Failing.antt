@@ -41,8 +41,8 @@ count_of _ = 0
 abbrev pub count_at : Report → ℕ → ℕ → ℕ
 count_at report k t = count_of (report_at report k t)
 
-abbrev pub failed_of_task : Report → ℕ → ℕ → List Place
-failed_of_task report k t = failed_at report k t (negsuc 0) ++ up_to (λ i. failed_at report k t (pos i)) (count_at report k t)
+abbrev pub failed_of_task_in : Report → ℕ → ℕ → List Place
+failed_of_task_in report k t = failed_at report k t (negsuc 0) ++ up_to (λ i. failed_at report k t (pos i)) (count_at report k t)
 
 abbrev pub failed_of_run : Report → ℕ → ℕ → List Place
-failed_of_run report tasks k = up_to (failed_of_task report k) tasks
+failed_of_run report tasks k = up_to (failed_of_task_in report k) tasks

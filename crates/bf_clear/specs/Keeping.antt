@@ -6,18 +6,18 @@ use Rattle.bf_xcom.specs.declared.values.Given.{Given}
 use Rattle.bf_xcom.specs.declared.values.Outcome.{Outcome}
 use Rattle.bf_try.specs.declared.answers.Raw.{Raw}
 use Rattle.bf_try.specs.declared.ledger.Entry.{Entry}
-use Rattle.bf_try.specs.Grades.{fits, GradesTo}
-use Rattle.bf_try.specs.Tries.{Look}
+use Rattle.bf_try.specs.Grades.{fits_in, GradesTo}
+use Rattle.bf_try.specs.Tries.{Ledger}
 use Rattle.bf_report.specs.declared.report.InstanceReport.{InstanceReport}
 use Rattle.bf_report.specs.declared.report.Report.{Report}
 use Rattle.bf_kept.specs.Kept.{IsAnsweredBy}
 use Rattle.bf_dependents.specs.declared.place.Place.{Place}
-use Rattle.bf_dependents.specs.Dependents.{has, Following, IsBeside}
+use Rattle.bf_dependents.specs.Dependents.{has_in, Following, IsBeside}
 use Rattle.bf_clear.specs.Entries.{entry_of_try, told}
 
 -- an entry is kept exactly where the report tells of it, it isn't cleared, and its outcome fits
-abbrev pub AreKept : Dag → List Place → Report → Look → Type 0
-AreKept dag seeds report kept = (name : JobName) (entry : Entry) → (kept name ≡ Some entry) ↔ ((told dag report name ≡ Some entry) × IsBeside dag seeds name × (fits dag name.task entry.outcome ≡ true))
+abbrev pub AreKept : Dag → List Place → Report → Ledger → Type 0
+AreKept dag seeds report kept = (name : JobName) (entry : Entry) → (kept name ≡ Some entry) ↔ ((told dag report name ≡ Some entry) × IsBeside dag seeds name × (fits_in dag name.task entry.outcome ≡ true))
 
 -- ---- as it is looked up
 
@@ -29,20 +29,20 @@ pub record Clearance : Type 0 where
 
 abbrev pub fitting : Dag → ℕ → Option Entry → Option Entry
 fitting dag task None = None
-fitting dag task (Some entry) = if fits dag task entry.outcome then Some entry else None
+fitting dag task (Some entry) = if fits_in dag task entry.outcome then Some entry else None
 
 abbrev pub kept_of : Bool → Dag → ℕ → Option Entry → Option Entry
 kept_of beside dag task entry = if beside then fitting dag task entry else None
 
 -- what is kept: the entries of the report but for what is cleared and what doesn't fit
-abbrev pub kept_in : Clearance → Look
-kept_in clearance name = kept_of (nat_lt name.task (length clearance.dag.tasks) && not (has clearance.dag clearance.cleared name.run name.task name.index)) clearance.dag name.task (told clearance.dag clearance.report name)
+abbrev pub kept_in : Clearance → Ledger
+kept_in clearance name = kept_of (nat_lt name.task (length clearance.dag.tasks) && not (has_in clearance.dag clearance.cleared name.run name.task name.index)) clearance.dag name.task (told clearance.dag clearance.report name)
 
 -- ---- answers
 
 abbrev pub fit_outcome : Dag → ℕ → Option Outcome → Option Outcome
 fit_outcome dag task None = None
-fit_outcome dag task (Some outcome) = if fits dag task outcome then Some outcome else None
+fit_outcome dag task (Some outcome) = if fits_in dag task outcome then Some outcome else None
 
 -- an answer by which a try ends so
 abbrev pub IsRawFor : Option Outcome → Option Raw → Type 0

@@ -4,7 +4,7 @@ ghost use Rattle.std.specs.List.{position};
 ghost use Rattle.std.specs.Str.{bytes_eq};
 ghost use Rattle.bf_interval.specs.Intervals.{IsShownInterval};
 ghost use Rattle.bf_interval.specs.Runs.{AreOfRuns};
-ghost use Rattle.bf_interval.specs.declared.interval.Interval.{Interval as IntervalTerm};
+ghost use Rattle.bf_interval.specs.declared.interval.Interval.{Interval};
 ghost use Rattle.bf_clear.specs.Aligning.{AreAlignedBy, AreApart, IsAligned, is_over, tasks_at, told_at};
 
 use crate::matching::is_same_interval;
@@ -83,7 +83,7 @@ fn place_at(runs: &[RunReport], interval: &Interval) -> Option<usize>
 /// Takes what is told of the run over a data interval.
 fn take_tasks(alloc: Global, runs: &mut Vec<RunReport>, interval: &Interval) -> Sequence<TaskReport>
     ensures told { result ≡ tasks_at runs.old.items interval.now }
-    ensures others { (other : IntervalTerm) → other.start.nanosecond ≢ interval.now.start.nanosecond
+    ensures others { (other : Interval) → other.start.nanosecond ≢ interval.now.start.nanosecond
         → tasks_at runs.new.items other ≡ tasks_at runs.old.items other }
 {
     match place_at(runs.as_slice(), interval) {

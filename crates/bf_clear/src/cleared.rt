@@ -23,14 +23,14 @@ pub struct Cleared<'a> {
 
 impl<'a> Model for Cleared<'a> {
     ghost use Rattle.std.specs.Coded.{codes};
-    ghost use Rattle.bf_plan.specs.contracts.plan.Dag as d;
-    ghost use Rattle.bf_dependents.specs.contracts.found.Followers as f;
-    ghost use Rattle.bf_report.specs.contracts.report.Report as r;
+    ghost use Rattle.bf_plan.specs.contracts.plan.Dag;
+    ghost use Rattle.bf_dependents.specs.contracts.found.Followers;
+    ghost use Rattle.bf_report.specs.contracts.report.Report;
     ghost use Rattle.bf_clear.specs.Keeping.{Clearance};
 
     ghost Value = { Clearance };
 
-    ghost coded = { Prim.hlevel (codes, d.the_row.coded, f.the_row.coded, r.the_row.coded) };
+    ghost coded = { Prim.hlevel (codes, Dag.the_row.coded, Followers.the_row.coded, Report.the_row.coded) };
 
     ghost view = { λ c. record { dag = c.plan.now.dag; cleared = c.cleared; report = c.report } };
 }

@@ -2,7 +2,7 @@
 ghost use Rattle.std.specs.Prelude.{◌≡◌, ◌≤◌, ◌++◌, IfOk, OnOk};
 ghost use Rattle.bf_try.specs.Tries.{is_failed};
 ghost use Rattle.bf_dependents.specs.Listing.{up_to};
-ghost use Rattle.bf_clear.specs.Failing.{count_at, failed_at, failed_of_run, failed_of_task as of_task, AreFailed};
+ghost use Rattle.bf_clear.specs.Failing.{count_at, failed_at, failed_of_run, failed_of_task_in, AreFailed};
 
 use crate::looking::{instance_at, task_at};
 use bf_dependents::Place;
@@ -75,7 +75,7 @@ fn add_of_task(
     task: u32,
     found: &mut Vec<Place>,
 ) -> Result<(), OutOfMemory>
-    ensures { OnOk result (found.new.items ≡ found.old.items ++ of_task report.now run task) }
+    ensures { OnOk result (found.new.items ≡ found.old.items ++ failed_of_task_in report.now run task) }
 {
     add_failed(alloc, report, first_try(run, task, -1), found)?;
     for place in 0..instances_at(report, run, task) {

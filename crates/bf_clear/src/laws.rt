@@ -1,14 +1,14 @@
 //! What holds of every backfill that goes on from a report. These functions do nothing: their contracts are the laws, over the
 //! definitions alone.
 ghost use Rattle.std.specs.Prelude.{◌≡◌, ℕ, true, List, Some, length, slice_get};
-ghost use Rattle.bf_value.specs.declared.name.JobName.{JobName as JobNameTerm};
-ghost use Rattle.bf_interval.specs.declared.interval.Interval.{Interval as IntervalTerm};
+ghost use Rattle.bf_value.specs.declared.name.JobName.{JobName};
+ghost use Rattle.bf_interval.specs.declared.interval.Interval.{Interval};
 ghost use Rattle.bf_interval.specs.Runs.{AreOfRuns};
-ghost use Rattle.bf_plan.specs.declared.plan.Dag.{Dag as DagTerm};
+ghost use Rattle.bf_plan.specs.declared.plan.Dag.{Dag};
 ghost use Rattle.bf_plan.specs.Sound.{IsNamed, IsSound};
-ghost use Rattle.bf_try.specs.Tries.{Look, AreAlike};
+ghost use Rattle.bf_try.specs.Tries.{Ledger, AreAlike};
 ghost use Rattle.bf_core.specs.Agreement.{HoldsItsTries};
-ghost use Rattle.bf_report.specs.declared.report.Report.{Report as ReportTerm};
+ghost use Rattle.bf_report.specs.declared.report.Report.{Report};
 ghost use Rattle.bf_report.specs.Dated.{IsDated};
 ghost use Rattle.bf_kept.specs.Kept.{AreFit};
 ghost use Rattle.bf_dependents.specs.declared.place.Place.{Place};
@@ -16,42 +16,42 @@ ghost use Rattle.bf_dependents.specs.Dependents.{IsBeside};
 ghost use Rattle.bf_clear.specs.Aligning.{IsAligned};
 ghost use Rattle.bf_clear.specs.Entries.{told};
 ghost use Rattle.bf_clear.specs.Keeping.{AreKept};
-ghost use Rattle.bf_clear.specs.Matching.{is_report_of};
+ghost use Rattle.bf_clear.specs.Matching.{is_report_in};
 
 /// The report of a backfill that has ended tells of the entries of its ledger, and of no other.
 pub fn reports_tell_ledgers()
-    ensures { (dag : DagTerm) (intervals : List IntervalTerm) (ledger : Look)
+    ensures { (dag : Dag) (intervals : List Interval) (ledger : Ledger)
         → HoldsItsTries dag (length intervals) ledger →
-        (report : ReportTerm) → IsDated dag intervals ledger report → (n : JobNameTerm)
+        (report : Report) → IsDated dag intervals ledger report → (n : JobName)
         → told dag report n ≡ ledger n }
 {}
 
 /// A backfill that goes on from what is kept of the report of another has the entries of that one, but for what is cleared.
 pub fn resumed_backfills_keep_the_rest()
-    ensures { (dag : DagTerm) → IsSound dag
-        → (intervals : List IntervalTerm) (seeds : List Place) (was kept resumed : Look)
-        (report : ReportTerm) →
+    ensures { (dag : Dag) → IsSound dag
+        → (intervals : List Interval) (seeds : List Place) (was kept resumed : Ledger)
+        (report : Report) →
         HoldsItsTries dag (length intervals) was → AreFit dag was → IsDated dag intervals was report
         → AreKept dag seeds report kept →
         HoldsItsTries dag (length intervals) resumed → AreAlike kept resumed →
-        (n : JobNameTerm) → IsBeside dag seeds n → resumed n ≡ was n }
+        (n : JobName) → IsBeside dag seeds n → resumed n ≡ was n }
 {}
 
 /// The report of a backfill of a plan over data intervals is never refused there as another's.
 pub fn own_reports_match()
-    ensures { (dag : DagTerm) → IsSound dag
-        → (intervals : List IntervalTerm) (ledger : Look) (report : ReportTerm) →
-        IsDated dag intervals ledger report → is_report_of dag intervals report ≡ true }
+    ensures { (dag : Dag) → IsSound dag
+        → (intervals : List Interval) (ledger : Ledger) (report : Report) →
+        IsDated dag intervals ledger report → is_report_in dag intervals report ≡ true }
 {}
 
 /// What a report of a backfill of the plan tells by ids and data intervals are the entries of its ledger, in each run over a data interval that was one
 /// of its own.
 pub fn kept_reports_tell_ledgers()
-    ensures { (dag : DagTerm) → IsNamed dag → (before intervals : List IntervalTerm)
-        → AreOfRuns before → (ledger : Look) → HoldsItsTries dag (length before) ledger →
-        (report aligned : ReportTerm) → IsDated dag before ledger report
+    ensures { (dag : Dag) → IsNamed dag → (before intervals : List Interval)
+        → AreOfRuns before → (ledger : Ledger) → HoldsItsTries dag (length before) ledger →
+        (report aligned : Report) → IsDated dag before ledger report
         → IsAligned dag intervals report aligned →
-        (interval : IntervalTerm) (j : ℕ) (n : JobNameTerm) → slice_get before j ≡ Some interval
+        (interval : Interval) (j : ℕ) (n : JobName) → slice_get before j ≡ Some interval
         → slice_get intervals n.run ≡ Some interval →
         told dag aligned n ≡ ledger (record n { run = j }) }
 {}

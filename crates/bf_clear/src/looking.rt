@@ -1,13 +1,13 @@
 //! Looking things up by run and task.
 ghost use Rattle.std.specs.Prelude.{◌≡◌, option_copied};
-ghost use Rattle.bf_clear.specs.Entries.{found_at, instance_at as instance_by, report_at};
+ghost use Rattle.bf_clear.specs.Entries.{found_at, instance_in, report_at};
 
 use bf_report::{InstanceReport, Report, TaskReport};
 use bf_value::JobName;
 
 /// The instance of a map index.
 fn instance_of(task: &TaskReport, index: i32) -> Option<&InstanceReport>
-    ensures { option_copied result ≡ instance_by task.now index }
+    ensures { option_copied result ≡ instance_in task.now index }
 {
     match task {
         TaskReport::Ran(instance) if index == -1 => Some(instance),

@@ -2,7 +2,7 @@
 ghost use Rattle.std.specs.Prelude.{◌≡◌, Some, option_copied};
 ghost use Rattle.std.specs.List.{list_all, zip};
 ghost use Rattle.std.specs.Str.{bytes_eq};
-ghost use Rattle.bf_clear.specs.Matching.{are_ids_of as ids_of, are_runs_of as runs_of, are_tasks_of as tasks_of, has_id as id_is, has_pulls_of as instance_of, is_pull_of as pull_is, is_report_of as report_of, is_run_of as run_of, is_same_interval as same_interval, is_task_of as task_of};
+ghost use Rattle.bf_clear.specs.Matching.{are_ids_in, are_runs_in, are_tasks_in, has_id_in, has_pulls_in, is_pull_in, is_report_in, is_run_in, is_same_interval_in, is_task_in};
 
 use bf_interval::Interval;
 use bf_plan::{Dag, Task};
@@ -10,7 +10,7 @@ use bf_report::{InstanceReport, Pull, Report, RunReport, TaskReport, Version};
 use bf_value::Text;
 
 fn has_id(task: Option<&Task>, id: &Text) -> bool
-    ensures { result ≡ id_is (option_copied task.entry) id.now }
+    ensures { result ≡ has_id_in (option_copied task.entry) id.now }
 {
     match task {
         Some(task) => id.as_str() == task.id.as_str(),
@@ -19,7 +19,7 @@ fn has_id(task: Option<&Task>, id: &Text) -> bool
 }
 
 fn each_has_id(ids: &[Text], tasks: &[Task]) -> bool
-    ensures { result ≡ list_all (λ p. id_is (Some p.1) p.0) (zip ids.now tasks.now) }
+    ensures { result ≡ list_all (λ p. has_id_in (Some p.1) p.0) (zip ids.now tasks.now) }
 {
     ids.iter()
         .zip(tasks)
@@ -27,19 +27,19 @@ fn each_has_id(ids: &[Text], tasks: &[Task]) -> bool
 }
 
 fn are_ids_of(ids: &[Text], tasks: &[Task]) -> bool
-    ensures { result ≡ ids_of ids.now tasks.now }
+    ensures { result ≡ are_ids_in ids.now tasks.now }
 {
     ids.len() == tasks.len() && each_has_id(ids, tasks)
 }
 
 fn is_pull_of(dag: &Dag, pull: &Pull, source: u32) -> bool
-    ensures { result ≡ pull_is dag.now pull.now source }
+    ensures { result ≡ is_pull_in dag.now pull.now source }
 {
     has_id(dag.tasks.get(source as usize), &pull.task)
 }
 
 fn each_is_pull_of(dag: &Dag, pulls: &[Pull], sources: &[u32]) -> bool
-    ensures { result ≡ list_all (λ p. pull_is dag.now p.0 p.1) (zip pulls.now sources.now) }
+    ensures { result ≡ list_all (λ p. is_pull_in dag.now p.0 p.1) (zip pulls.now sources.now) }
 {
     pulls
         .iter()
@@ -48,7 +48,7 @@ fn each_is_pull_of(dag: &Dag, pulls: &[Pull], sources: &[u32]) -> bool
 }
 
 fn has_pulls_of(dag: &Dag, task: &Task, instance: &InstanceReport) -> bool
-    ensures { result ≡ instance_of dag.now task.now instance.now }
+    ensures { result ≡ has_pulls_in dag.now task.now instance.now }
 {
     let pulls = instance.pulls();
     let sources = task.pulls.as_slice();
@@ -56,7 +56,7 @@ fn has_pulls_of(dag: &Dag, task: &Task, instance: &InstanceReport) -> bool
 }
 
 fn have_pulls_of(dag: &Dag, task: &Task, instances: &[InstanceReport]) -> bool
-    ensures { result ≡ list_all (instance_of dag.now task.now) instances.now }
+    ensures { result ≡ list_all (has_pulls_in dag.now task.now) instances.now }
 {
     instances
         .iter()
@@ -64,7 +64,7 @@ fn have_pulls_of(dag: &Dag, task: &Task, instances: &[InstanceReport]) -> bool
 }
 
 fn is_task_of(version: Version, dag: &Dag, report: &TaskReport, task: &Task) -> bool
-    ensures { result ≡ task_of version dag.now report.now task.now }
+    ensures { result ≡ is_task_in version dag.now report.now task.now }
 {
     match (version, report) {
         (Version::Two, TaskReport::Ran(instance)) => has_pulls_of(dag, task, instance),
@@ -76,7 +76,7 @@ fn is_task_of(version: Version, dag: &Dag, report: &TaskReport, task: &Task) -> 
 }
 
 fn each_is_task_of(version: Version, dag: &Dag, reports: &[TaskReport], tasks: &[Task]) -> bool
-    ensures { result ≡ list_all (λ p. task_of version dag.now p.0 p.1) (zip reports.now tasks.now) }
+    ensures { result ≡ list_all (λ p. is_task_in version dag.now p.0 p.1) (zip reports.now tasks.now) }
 {
     reports
         .iter()
@@ -85,26 +85,26 @@ fn each_is_task_of(version: Version, dag: &Dag, reports: &[TaskReport], tasks: &
 }
 
 fn are_tasks_of(version: Version, dag: &Dag, reports: &[TaskReport]) -> bool
-    ensures { result ≡ tasks_of version dag.now reports.now }
+    ensures { result ≡ are_tasks_in version dag.now reports.now }
 {
     let tasks = dag.tasks.as_slice();
     reports.len() == tasks.len() && each_is_task_of(version, dag, reports, tasks)
 }
 
 pub(crate) fn is_same_interval(one: &Interval, other: &Interval) -> bool
-    ensures { result ≡ same_interval one.now other.now }
+    ensures { result ≡ is_same_interval_in one.now other.now }
 {
     one.start == other.start && one.end == other.end
 }
 
 fn is_run_of(version: Version, dag: &Dag, run: &RunReport, interval: &Interval) -> bool
-    ensures { result ≡ run_of version dag.now run.now interval.now }
+    ensures { result ≡ is_run_in version dag.now run.now interval.now }
 {
     is_same_interval(&run.interval, interval) && are_tasks_of(version, dag, run.tasks.as_slice())
 }
 
 fn each_is_run_of(version: Version, dag: &Dag, runs: &[RunReport], intervals: &[Interval]) -> bool
-    ensures { result ≡ list_all (λ p. run_of version dag.now p.0 p.1) (zip runs.now intervals.now) }
+    ensures { result ≡ list_all (λ p. is_run_in version dag.now p.0 p.1) (zip runs.now intervals.now) }
 {
     runs.iter()
         .zip(intervals)
@@ -112,7 +112,7 @@ fn each_is_run_of(version: Version, dag: &Dag, runs: &[RunReport], intervals: &[
 }
 
 fn are_runs_of(version: Version, dag: &Dag, runs: &[RunReport], intervals: &[Interval]) -> bool
-    ensures { result ≡ runs_of version dag.now runs.now intervals.now }
+    ensures { result ≡ are_runs_in version dag.now runs.now intervals.now }
 {
     runs.len() == intervals.len() && each_is_run_of(version, dag, runs, intervals)
 }
@@ -128,7 +128,7 @@ pub(crate) fn has_dag_id(dag: &Dag, report: &Report) -> bool
 /// One without runs has no tasks.
 #[tactic(auto, unfolding(crate::specs::Matching::is_report_of))]
 pub fn is_report_of(dag: &Dag, intervals: &[Interval], report: &Report) -> bool
-    ensures { result ≡ report_of dag.now intervals.now report.now }
+    ensures { result ≡ is_report_in dag.now intervals.now report.now }
 {
     let tasks = dag.tasks.as_slice();
     has_dag_id(dag, report)

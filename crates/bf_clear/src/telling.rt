@@ -1,6 +1,6 @@
 //! What a report tells of a try.
 ghost use Rattle.std.specs.Prelude.{◌≡◌, ◌<◌, ◌↔◌, length, map, Some, IsTrue, IfOk};
-ghost use Rattle.bf_clear.specs.Entries.{given_by, given_in, outcome_of_try as outcome_by, worked_out};
+ghost use Rattle.bf_clear.specs.Entries.{given_by, given_in, outcome_of_try_in, worked_out_in};
 ghost use Rattle.bf_clear.specs.Keeping.{fit_outcome, IsAnswerOf, IsRawFor};
 
 use crate::working::was_worked_out;
@@ -44,7 +44,7 @@ fn was_given(
 ) -> Result<bool, OutOfMemory>
     requires { name.task < length plan.now.dag.tasks }
     ensures { IfOk result (λ was. IsTrue was ↔
-        (given_by report.now.version (worked_out plan.now.dag report.now name.run name.task
+        (given_by report.now.version (worked_out_in plan.now.dag report.now name.run name.task
         name.index) instance.now ≡ Some given.now)) }
 {
     match report.version {
@@ -64,7 +64,7 @@ fn answer_of_try(
 ) -> Result<Option<Raw>, OutOfMemory>
     requires { task < length plan.now.dag.tasks }
     ensures { IfOk result (IsRawFor
-        (fit_outcome plan.now.dag task (outcome_by instance.now attempt))) }
+        (fit_outcome plan.now.dag task (outcome_of_try_in instance.now attempt))) }
 {
     if attempt == instance.tries {
         if !fits(plan, task, &instance.outcome) {
@@ -89,7 +89,7 @@ pub(crate) fn answer_of_instance(
 ) -> Result<Option<Raw>, OutOfMemory>
     requires { name.task < length plan.now.dag.tasks }
     ensures { IfOk result (IsAnswerOf plan.now.dag
-        (given_by report.now.version (worked_out plan.now.dag report.now name.run name.task
+        (given_by report.now.version (worked_out_in plan.now.dag report.now name.run name.task
         name.index) instance.now) instance.now name given.now) }
 {
     let was_given = was_given(alloc, plan, report, name, instance, given)?;

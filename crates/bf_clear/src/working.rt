@@ -1,6 +1,6 @@
 //! What an instance was given, worked out where a report of version 1 doesn't tell it.
 ghost use Rattle.std.specs.Prelude.{◌≡◌, ◌<◌, ◌↔◌, length, map, Some, IsTrue, IfOk};
-ghost use Rattle.bf_clear.specs.Entries.{item_in, pull_from, value_in, value_at as value_by, worked_out as worked_by};
+ghost use Rattle.bf_clear.specs.Entries.{item_in, pull_from, value_in, value_reported_at, worked_out_in};
 
 use crate::looking::task_at;
 use bf_plan::Dag;
@@ -42,7 +42,7 @@ pub fn value_of(alloc: Global, task: &TaskReport) -> Result<TaskValue, OutOfMemo
 }
 
 fn value_at(alloc: Global, report: &Report, run: u32, task: u32) -> Result<TaskValue, OutOfMemory>
-    ensures { IfOk result (λ value. value ≡ value_by report.now run task) }
+    ensures { IfOk result (λ value. value ≡ value_reported_at report.now run task) }
 {
     match task_at(report, run, task) {
         Some(task) => value_of(alloc, task),
@@ -108,7 +108,7 @@ fn worked_out(
 ) -> Result<Option<Given>, OutOfMemory>
     requires { name.task < length dag.now.tasks }
     ensures { IfOk result (λ given. given
-        ≡ worked_by dag.now report.now name.run name.task name.index) }
+        ≡ worked_out_in dag.now report.now name.run name.task name.index) }
 {
     let task = dag.task(name.task);
     let pulled = all_pulled(alloc, dag, report, name.run, task.pulls.as_slice())?;
@@ -139,7 +139,7 @@ pub(crate) fn was_worked_out(
 ) -> Result<bool, OutOfMemory>
     requires { name.task < length dag.now.tasks }
     ensures { IfOk result (λ was. IsTrue was ↔
-        (worked_by dag.now report.now name.run name.task name.index ≡ Some given.now)) }
+        (worked_out_in dag.now report.now name.run name.task name.index ≡ Some given.now)) }
 {
     match worked_out(alloc, dag, report, name)? {
         Some(worked) => Ok(worked.is_same(given)),

@@ -137,9 +137,9 @@ impl fmt::Display for CommandFault {
 impl Error for CommandFault {}
 
 impl From<OutOfMemory> for CommandFault {
-    ghost use Rattle.bf_command_fault.specs.declared.fault.CommandFault.TheVariants.{OutOfMemory as NoMemory};
+    ghost use Rattle.bf_command_fault.specs.declared.fault.CommandFault.TheVariants.{OutOfMemory};
 
-    ghost from_gives = { λ _ e. e ≡ NoMemory };
+    ghost from_gives = { λ _ e. e ≡ OutOfMemory };
 
     fn from(_e: OutOfMemory) -> CommandFault {
         CommandFault::OutOfMemory
@@ -147,9 +147,9 @@ impl From<OutOfMemory> for CommandFault {
 }
 
 impl From<AllocError> for CommandFault {
-    ghost use Rattle.bf_command_fault.specs.declared.fault.CommandFault.TheVariants.{OutOfMemory as NoMemory};
+    ghost use Rattle.bf_command_fault.specs.declared.fault.CommandFault.TheVariants.{OutOfMemory};
 
-    ghost from_gives = { λ _ e. e ≡ NoMemory };
+    ghost from_gives = { λ _ e. e ≡ OutOfMemory };
 
     fn from(_e: AllocError) -> CommandFault {
         CommandFault::OutOfMemory

@@ -5,7 +5,7 @@ use Rattle.clap.specs.Matches.{matched_of, raw_values}
 use Rattle.clap.specs.Words.{Text, first_value, first_of, rows_of}
 use Rattle.clap.specs.declared.parser.matches.Found.{Found}
 use Rattle.clap.proofs.WalkLemmas.{first_value-rows, raw_values-rows}
-use Rattle.bf_command_line.specs.Asked.{texts_of}
+use Rattle.bf_command_line.specs.Asked.{texts_in}
 
 pub first_rows : (f : Found) (id : Text) → first_value f id ≡ first_of id (rows_of f)
 first_rows f id = first_value-rows f id
@@ -14,7 +14,7 @@ first_rows f id = first_value-rows f id
 abbrev pub GivesAll : Found → Text → Option (List Text) → Type 0
 GivesAll f id given = given ≡ option_map raw_values (matched_of f id)
 
-pub all_of_found : (f : Found) (id : Text) (given : Option (List Text)) → GivesAll f id given → unwrap_or given [] ≡ texts_of id (rows_of f)
+pub all_of_found : (f : Found) (id : Text) (given : Option (List Text)) → GivesAll f id given → unwrap_or given [] ≡ texts_in id (rows_of f)
 all_of_found f id given is = ap (λ (o : Option (List Text)). unwrap_or o []) (is ∙ raw_values-rows f id)
 
 -- with one more at the end, each is as it is to be

@@ -36,18 +36,18 @@ says_true None = false
 says_true (Some text) = bytes_eq text (codes "true")
 
 -- the text is this one
-abbrev pub says : Option Text → Text → Bool
-says None words = false
-says (Some text) words = bytes_eq text words
+abbrev pub says_in : Option Text → Text → Bool
+says_in None words = false
+says_in (Some text) words = bytes_eq text words
 
 -- the path is that of a graph, a table, a zone file, seeds or a journal
-abbrev pub is_overwritten : List Row → Option Text → Bool
-is_overwritten rows None = false
-is_overwritten rows (Some path) = says (first_of (codes "graph") rows) path
-    || (says (first_of (codes "table") rows) path
-    || (says (first_of (codes "zone_file") rows) path
-    || (says (first_of (codes "seeds") rows) path
-    || says (first_of (codes "journal") rows) path)))
+abbrev pub is_overwritten_in : List Row → Option Text → Bool
+is_overwritten_in rows None = false
+is_overwritten_in rows (Some path) = says_in (first_of (codes "graph") rows) path
+    || (says_in (first_of (codes "table") rows) path
+    || (says_in (first_of (codes "zone_file") rows) path
+    || (says_in (first_of (codes "seeds") rows) path
+    || says_in (first_of (codes "journal") rows) path)))
 
 -- where data intervals start: the first and the last moment of a range, or days
 abbrev pub IsStartsBy : List Row → StartsAsked → Type 0
@@ -63,8 +63,8 @@ abbrev pub IsRangeBy : List Row → RangeAsked → Type 0
 IsRangeBy rows r = IsStartsBy rows r.starts × (r.some ≡ says_true (first_of (codes "some") rows))
 
 -- each value of an argument
-abbrev pub texts_of : Text → List Row → List Text
-texts_of id rows = unwrap_or (all_of id rows) []
+abbrev pub texts_in : Text → List Row → List Text
+texts_in id rows = unwrap_or (all_of id rows) []
 
 -- the number that the text says in decimal digits, maybe behind a sign, where there is a text
 abbrev pub IsIntegerIfGiven : Option Text → Option ℤ → Type 0
@@ -74,21 +74,21 @@ IsIntegerIfGiven (Some text) (Some n) = ParsesSigned {E = Unit {0}} w32 10 text 
 
 -- the task, the logical date of its run and maybe the map index in this place of theirs
 abbrev pub IsSeedAt : List Row → ℕ → SeedAsked → Type 0
-IsSeedAt rows k s = (slice_get (texts_of (codes "task") rows) k ≡ Some (string_bytes s.task))
-    × (slice_get (texts_of (codes "run") rows) k ≡ Some (string_bytes s.run))
-    × IsIntegerIfGiven (slice_get (texts_of (codes "index") rows) k) s.index
+IsSeedAt rows k s = (slice_get (texts_in (codes "task") rows) k ≡ Some (string_bytes s.task))
+    × (slice_get (texts_in (codes "run") rows) k ≡ Some (string_bytes s.run))
+    × IsIntegerIfGiven (slice_get (texts_in (codes "index") rows) k) s.index
 
 -- one seed for each task, in order
 abbrev pub AreSeedsBy : List Row → List SeedAsked → Type 0
-AreSeedsBy rows seeds = (length seeds ≡ length (texts_of (codes "task") rows))
+AreSeedsBy rows seeds = (length seeds ≡ length (texts_in (codes "task") rows))
     × ((k : ℕ) (seed : SeedAsked) → slice_get seeds k ≡ Some seed → IsSeedAt rows k seed)
 
 abbrev pub has_some : List Text → Bool
 has_some texts = not (length texts == 0)
 
 -- something is told of seeds one by one
-abbrev pub has_seeds : List Row → Bool
-has_seeds rows = has_some (texts_of (codes "task") rows) || (has_some (texts_of (codes "run") rows) || has_some (texts_of (codes "index") rows))
+abbrev pub has_seeds_in : List Row → Bool
+has_seeds_in rows = has_some (texts_in (codes "task") rows) || (has_some (texts_in (codes "run") rows) || has_some (texts_in (codes "index") rows))
 
 -- what is cleared: seeds, the lines of a file, or what failed
 abbrev pub IsClearedBy : List Row → ClearedAsked → Type 0
@@ -97,10 +97,10 @@ IsClearedBy rows (cleared.Seeds seeds) = (first_of (codes "seeds") rows ≡ None
     × AreSeedsBy rows seeds.items
 IsClearedBy rows (cleared.File path) = (first_of (codes "seeds") rows ≡ Some (string_bytes path))
     × (says_true (first_of (codes "failed") rows) ≡ false)
-    × (has_seeds rows ≡ false)
+    × (has_seeds_in rows ≡ false)
 IsClearedBy rows cleared.Failed = (first_of (codes "seeds") rows ≡ None)
     × (says_true (first_of (codes "failed") rows) ≡ true)
-    × (has_seeds rows ≡ false)
+    × (has_seeds_in rows ≡ false)
 IsClearedBy rows cleared.Nothing = ⊥
 
 -- the task that is explained, where there is one, and maybe the map index of one of its instances
@@ -152,14 +152,14 @@ IsJournalBy rows (Some j) = (first_of (codes "journal") rows ≡ Some (string_by
     × (j.retry_failed ≡ says_true (first_of (codes "retry_failed") rows))
 
 -- an argument has a value
-abbrev pub is_given : Text → List Row → Bool
-is_given id rows = is_some (first_of id rows)
+abbrev pub is_given_in : Text → List Row → Bool
+is_given_in id rows = is_some (first_of id rows)
 
 -- something is told of a grid
-abbrev pub has_grid : List Row → Bool
-has_grid rows = is_given (codes "graph") rows || (is_given (codes "report") rows || (is_given (codes "zone_file") rows
-    || (is_given (codes "from") rows || (is_given (codes "to") rows || (is_given (codes "width") rows
-    || (is_given (codes "color") rows || says_true (first_of (codes "failed") rows)))))))
+abbrev pub has_grid_in : List Row → Bool
+has_grid_in rows = is_given_in (codes "graph") rows || (is_given_in (codes "report") rows || (is_given_in (codes "zone_file") rows
+    || (is_given_in (codes "from") rows || (is_given_in (codes "to") rows || (is_given_in (codes "width") rows
+    || (is_given_in (codes "color") rows || says_true (first_of (codes "failed") rows)))))))
 
 -- the word for when text is coloured
 abbrev pub color_word : Color → Text
@@ -277,7 +277,7 @@ IsAskedBy (Some (name, rows)) (Show s) = (name ≡ codes "show")
     × IsColorBy (first_of (codes "color") rows) s.color
 IsAskedBy (Some (name, rows)) (ShowJson report) = (name ≡ codes "show")
     × (first_of (codes "json") rows ≡ Some (string_bytes report))
-    × (has_grid rows ≡ false)
+    × (has_grid_in rows ≡ false)
 IsAskedBy (Some (name, rows)) (Page p) = (name ≡ codes "page")
     × IsGraphBy rows p.graph
     × (first_of (codes "report") rows ≡ Some (string_bytes p.report))

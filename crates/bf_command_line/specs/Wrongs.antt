@@ -4,7 +4,7 @@ use Rattle.std.specs.List.{list_any}
 use Rattle.clap.specs.Kinds.{or_else}
 use Rattle.clap.specs.Words.{Kinds, Row, Text, fault_of, first_of, subcommand_of}
 use Rattle.clap.specs.declared.error.kind.ErrorKind.TheVariants.{ArgumentConflict, InvalidValue, MissingRequiredArgument, WrongNumberOfValues}
-use Rattle.bf_command_line.specs.Asked.{color_word, format_word, has_grid, has_seeds, has_some, is_given, is_overwritten, says_true, shell_word, texts_of}
+use Rattle.bf_command_line.specs.Asked.{color_word, format_word, has_grid_in, has_seeds_in, has_some, is_given_in, is_overwritten_in, says_true, shell_word, texts_in}
 use Rattle.bf_grammar.specs.Grammar.{backfill_app}
 use Rattle.bf_command_line.specs.declared.forms.Color.TheVariants.{Always, Auto, Never}
 use Rattle.bf_command_line.specs.declared.forms.Format.TheVariants.{Graph, Table}
@@ -65,10 +65,10 @@ choice_wrongs None true true paired = ArgumentConflict ∷ []
 choice_wrongs (Some file) seeds failed paired = ArgumentConflict ∷ []
 
 abbrev pub seeds_wrongs : List Row → Kinds
-seeds_wrongs rows = pair_wrongs (texts_of (codes "task") rows) (texts_of (codes "run") rows) (texts_of (codes "index") rows)
+seeds_wrongs rows = pair_wrongs (texts_in (codes "task") rows) (texts_in (codes "run") rows) (texts_in (codes "index") rows)
 
 abbrev pub cleared_wrongs : List Row → Kinds
-cleared_wrongs rows = choice_wrongs (first_of (codes "seeds") rows) (has_seeds rows) (says_true (first_of (codes "failed") rows)) (seeds_wrongs rows)
+cleared_wrongs rows = choice_wrongs (first_of (codes "seeds") rows) (has_seeds_in rows) (says_true (first_of (codes "failed") rows)) (seeds_wrongs rows)
 
 -- what is cleared comes before the range
 abbrev pub clear_wrongs : List Row → Kinds
@@ -77,8 +77,8 @@ clear_wrongs rows = or_else (cleared_wrongs rows) (programs_wrongs rows)
 -- a report stands beside a graph, or alone behind `--json`
 abbrev pub show_wrongs : List Row → Kinds
 show_wrongs rows =
-    if is_given (codes "json") rows then (if has_grid rows then ArgumentConflict ∷ [] else [])
-    else (if is_given (codes "graph") rows && is_given (codes "report") rows then value_wrongs color_words (first_of (codes "color") rows)
+    if is_given_in (codes "json") rows then (if has_grid_in rows then ArgumentConflict ∷ [] else [])
+    else (if is_given_in (codes "graph") rows && is_given_in (codes "report") rows then value_wrongs color_words (first_of (codes "color") rows)
     else MissingRequiredArgument ∷ [])
 
 -- `--index` stands beside a task alone
@@ -98,7 +98,7 @@ command_wrongs name rows = if bytes_eq name (codes "schema") then value_wrongs f
 
 -- a report is written over no file that the command reads, but the report that it goes on from, and not over its journal
 abbrev pub out_wrongs : List Row → Kinds
-out_wrongs rows = if is_overwritten rows (first_of (codes "out") rows) then ArgumentConflict ∷ [] else []
+out_wrongs rows = if is_overwritten_in rows (first_of (codes "out") rows) then ArgumentConflict ∷ [] else []
 
 -- the path of the report comes before the command's other arguments
 abbrev pub found_wrongs : Option (Text × List Row) → Kinds

@@ -2,7 +2,7 @@
 ghost use Rattle.std.specs.Prelude.{◌≡◌, IfOk, slice_get, Some, codes};
 ghost use Rattle.clap.specs.Words.{FailsBy, found_of, rows_of};
 ghost use Rattle.bf_command_line.specs.Wrongs.{cleared_wrongs, clear_wrongs, seeds_wrongs};
-ghost use Rattle.bf_command_line.specs.Asked.{has_seeds as has_seeds_in, texts_of as texts_in, AreSeedsBy, IsAskedBy, IsClearedBy, IsIntegerIfGiven, IsSeedAt};
+ghost use Rattle.bf_command_line.specs.Asked.{has_seeds_in, texts_in, AreSeedsBy, IsAskedBy, IsClearedBy, IsIntegerIfGiven, IsSeedAt};
 
 use crate::forms::{Asked, ClearAsked, ClearPlanAsked, ClearedAsked, SeedAsked};
 use crate::programs::programs_asked;

@@ -3,7 +3,7 @@ ghost use Rattle.std.specs.Prelude.{◌≡◌, IfOk, map, option_map, string_byt
 ghost use Rattle.clap.specs.Words.{fault_of, FailsBy, first_of, subcommand_of, found_of, rows_of, subcommand_rows_of};
 ghost use Rattle.bf_grammar.specs.Grammar.{backfill_app};
 ghost use Rattle.bf_command_line.specs.Wrongs.{command_wrongs, found_wrongs, out_wrongs, range_wrongs, wrongs_of};
-ghost use Rattle.bf_command_line.specs.Asked.{is_overwritten as is_overwritten_in, IsAskedBy, IsLineBy};
+ghost use Rattle.bf_command_line.specs.Asked.{is_overwritten_in, IsAskedBy, IsLineBy};
 
 use crate::choice::{format_asked, shell_asked};
 use crate::clearing::clear_asked;

@@ -2,7 +2,7 @@
 ghost use Rattle.std.specs.Prelude.{◌≡◌, IfOk, Some, codes, false};
 ghost use Rattle.clap.specs.Words.{FailsBy, first_of, found_of, rows_of};
 ghost use Rattle.bf_command_line.specs.Wrongs.{color_words, show_wrongs, value_wrongs};
-ghost use Rattle.bf_command_line.specs.Asked.{is_given as is_given_in, has_grid as has_grid_in, IsAskedBy};
+ghost use Rattle.bf_command_line.specs.Asked.{is_given_in, has_grid_in, IsAskedBy};
 
 use crate::choice::color_asked;
 use crate::forms::{Asked, ShowAsked};

@@ -1,7 +1,7 @@
 //! The values of a command's arguments.
 ghost use Rattle.std.specs.Prelude.{◌≡◌, IfOk, length, slice_get, option_map, string_bytes, Some};
 ghost use Rattle.clap.specs.Words.{first_of, found_of, rows_of};
-ghost use Rattle.bf_command_line.specs.Asked.{texts_of as texts_in, is_given as is_given_in, IsIntegerIfGiven, IsNumberIfGiven, says as says_in, says_true};
+ghost use Rattle.bf_command_line.specs.Asked.{texts_in, is_given_in, IsIntegerIfGiven, IsNumberIfGiven, says_in, says_true};
 
 use clap::ArgMatches;
 use std::alloc::{AllocError, Global};

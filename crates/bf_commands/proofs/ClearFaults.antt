@@ -5,8 +5,8 @@ use Rattle.bf_plan.specs.Checked.{Checked}
 use Rattle.bf_plan.specs.declared.plan.Dag.{Dag}
 use Rattle.bf_interval.specs.declared.interval.Interval.{Interval}
 use Rattle.bf_table.specs.declared.table.TableEntry.{TableEntry}
-use Rattle.bf_table.specs.Tables.{table_of}
-use Rattle.bf_try.specs.Tries.{Look}
+use Rattle.bf_table.specs.Tables.{table_in}
+use Rattle.bf_try.specs.Tries.{Ledger}
 use Rattle.bf_process.specs.Words.{LaunchingOf}
 use Rattle.bf_kept.specs.Kept.{MayGiveUpAnew}
 use Rattle.bf_report.specs.declared.report.Report.{Report}
@@ -30,7 +30,7 @@ use Rattle.bf_commands.proofs.Faults.{range_cases, stop_cases, table_cases, work
 module _ (graph : List ℕ) (file table : Option (List ℕ)) (range : RunRange) where
   pub table_before : (plan : Checked) → IsPlanOf graph file plan → (fault : CommandFault) → IsFaultOfNamed table fault → IsFaultBefore graph file table range fault
   table_before plan said fault (bytes, named, is) =
-      table_cases (IsFaultBefore graph file table range) bytes (λ f says. (said.draft, said.graph_is, ap (option_map table_of) named ∙ ap Some says)) tt fault is
+      table_cases (IsFaultBefore graph file table range) bytes (λ f says. (said.draft, said.graph_is, ap (option_map table_in) named ∙ ap Some says)) tt fault is
 
   pub range_before : (answers : Option (List TableEntry)) → AreAnswersIn table answers → (fault : CommandFault) → IsRangeFault graph file range fault → IsFaultBefore graph file table range fault
   range_before answers says = range_cases (IsFaultBefore graph file table range) graph file range (λ fault is. (answers, says, is)) tt
@@ -61,7 +61,7 @@ module _ (dag : Dag) (intervals : List Interval) (was : Report) (what : ToClear)
 
 -- ---- the faults of what comes after it
 
-module _ (alone : Bool) (launching : LaunchingOf) (may_lose : Losing) (dag : Dag) (intervals : List Interval) (was : Report) (what : ToClear) (kept : Look) (is_kept : IsKeptOf dag intervals was what kept) where
+module _ (alone : Bool) (launching : LaunchingOf) (may_lose : Losing) (dag : Dag) (intervals : List Interval) (was : Report) (what : ToClear) (kept : Ledger) (is_kept : IsKeptOf dag intervals was what kept) where
   stops_again : (answers : Option (List TableEntry)) (fault : CommandFault) → IsStopOrWantingFrom alone kept launching may_lose answers dag intervals fault → IsFaultAgain alone launching may_lose answers dag intervals was what fault
   stops_again None =
       stop_cases (IsFaultAgain alone launching may_lose None dag intervals was what) (MayGiveUpAnew kept (MayGiveUpLaunched launching may_lose dag intervals)) launching.logs dag intervals (λ stop is. (kept, is_kept, is)) tt (λ n. tt)

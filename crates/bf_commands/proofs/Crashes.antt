@@ -8,7 +8,7 @@ use Rattle.bf_interval.specs.Runs.{AreOfRuns}
 use Rattle.bf_xcom.specs.declared.values.Given.{Given}
 use Rattle.bf_try.specs.declared.answers.Raw.{Raw}
 use Rattle.bf_try.specs.declared.ledger.Entry.{Entry}
-use Rattle.bf_try.specs.Tries.{Look}
+use Rattle.bf_try.specs.Tries.{Ledger}
 use Rattle.bf_kept.specs.Kept.{HasGrade}
 use Rattle.bf_core.specs.Answered.{AreGraded}
 use Rattle.bf_journal.specs.Heads.{head_text}
@@ -24,14 +24,14 @@ use Rattle.bf_commands.proofs.FromKept.{from_graded}
 
 module _ (may_answer : JobName → Given → Raw → Type 0) (dag : Dag) (intervals : List Interval) (named : IsNamed dag) (are : AreOfRuns intervals) (cleared : Heading) where
   -- so each try of the journal has the grade of an answer that may come
-  found_graded : (held : List ℕ) (whole : ℕ) (tries : Look) → IsFoundIn dag intervals (head_text dag intervals cleared) held whole tries → IsLeftByCrashes may_answer dag intervals (head_text dag intervals cleared) held
+  found_graded : (held : List ℕ) (whole : ℕ) (tries : Ledger) → IsFoundIn dag intervals (head_text dag intervals cleared) held whole tries → IsLeftByCrashes may_answer dag intervals (head_text dag intervals cleared) held
       → (n : JobName) (e : Entry) → tries n ≡ Some e → HasGrade may_answer dag n e
   found_graded held whole tries (inl cut) left n e there = let bad : None ≡ Some e = sym (cut.nothing_kept n) ∙ there in cc
   found_graded held whole tries (inr on) left n e there =
       keeps_graded may_answer dag intervals (are_told dag intervals named are) on.records (behind_head may_answer dag intervals (head_text dag intervals cleared) held on.records on.are left) on.tries on.told n e (sym (on.last n) ∙ there)
 
   -- and the report is that of a backfill from nothing
-  pub no_report_changes : (before : Look) → AreGraded may_answer dag before → (retry : Bool) (held : List ℕ) → IsLeftByCrashes may_answer dag intervals (head_text dag intervals cleared) held → (text : List ℕ) (success : Bool)
+  pub no_report_changes : (before : Ledger) → AreGraded may_answer dag before → (retry : Bool) (held : List ℕ) → IsLeftByCrashes may_answer dag intervals (head_text dag intervals cleared) held → (text : List ℕ) (success : Bool)
       → IsReportSince before retry held cleared may_answer dag intervals text success → IsReportBy may_answer dag intervals text success
   no_report_changes before graded retry held left text success is =
       from_graded

@@ -13,10 +13,10 @@ use Rattle.bf_interval.specs.Runs.{IsNoRunAt, intervals_at}
 use Rattle.bf_interval.specs.Years.{IsInYears}
 use Rattle.bf_kept.specs.Kept.{MayGiveUpAnew, nothing}
 use Rattle.bf_process.specs.Words.{LaunchingOf, MayAnswer}
-use Rattle.bf_try.specs.Tries.{Look}
+use Rattle.bf_try.specs.Tries.{Ledger}
 use Rattle.bf_table.specs.declared.table.TableEntry.{TableEntry}
 use Rattle.bf_table.specs.declared.table.TableFault.{TableFault}
-use Rattle.bf_table.specs.Tables.{table_of}
+use Rattle.bf_table.specs.Tables.{table_in}
 use Rattle.bf_command_fault.specs.Refusal.{Leaves, of_range}
 use Rattle.bf_command_fault.specs.declared.fault.CommandFault.{CommandFault}
 use Rattle.bf_command_fault.specs.declared.fault.CommandFault.TheVariants.{Table, Range, OutOfMemory, CannotWrite, Stopped}
@@ -41,14 +41,14 @@ use Rattle.bf_planning.proofs.Faults.{wanting_cases}
 -- ---- the whole
 
 pub reported_at : {graph : List ℕ} {file : Option (List ℕ)} {table : List ℕ} {plan : Checked} {entries : List TableEntry} {at : Timestamp} {runs : List Interval}
-    → IsPlanOf graph file plan → table_of table ≡ Ok entries → IsInYears at.nanosecond → runs ≡ intervals_at at → (text : List ℕ) (success : Bool)
+    → IsPlanOf graph file plan → table_in table ≡ Ok entries → IsInYears at.nanosecond → runs ≡ intervals_at at → (text : List ℕ) (success : Bool)
     → IsReportFrom nothing (AnswersByTable plan.dag entries runs) plan.dag runs text success → IsReportAt graph file table at text success
 reported_at {plan = plan} {entries = entries} {at = at} {runs = runs} is says years same text success from =
     let over : IsReportOver plan.dag entries runs text success = from_nothing text success from in
     record { draft = is.draft; entries = entries; graph_is = is.graph_is; table_says = says; in_years = years; reported = rw (is.dag, same) at over }
 
 module _ {graph : List ℕ} {file : Option (List ℕ)} {plan : Checked} {range : RunRange} {found : List Interval} (is : IsPlanOf graph file plan) (listing : HasListing graph file range (Ok found)) where
-  pub reported_in : {table : List ℕ} {entries : List TableEntry} → table_of table ≡ Ok entries → (text : List ℕ) (success : Bool)
+  pub reported_in : {table : List ℕ} {entries : List TableEntry} → table_in table ≡ Ok entries → (text : List ℕ) (success : Bool)
       → IsReportFrom nothing (AnswersByTable plan.dag entries found) plan.dag found text success → IsReportIn graph file table range text success
   reported_in {entries = entries} says text success from =
       let over : IsReportOver plan.dag entries found text success = from_nothing text success from in
@@ -75,7 +75,7 @@ module _ (P : CommandFault → Type 0) where
   stop_cases may_give_up logs dag intervals stops memory write fault is = wanting_cases P memory write fault is
 
   -- a table has a fault, or memory is wanting
-  pub table_cases : (table : List ℕ) → ((fault : TableFault) → table_of table ≡ Err fault → P (Table fault)) → P OutOfMemory → (fault : CommandFault) → IsTableFault table fault → P fault
+  pub table_cases : (table : List ℕ) → ((fault : TableFault) → table_in table ≡ Err fault → P (Table fault)) → P OutOfMemory → (fault : CommandFault) → IsTableFault table fault → P fault
   table_cases table said memory (Table fault) is = said fault is
   table_cases table said memory OutOfMemory is = memory
   table_cases table said memory _ is = absurd is
@@ -93,7 +93,7 @@ module _ (graph : List ℕ) (file : Option (List ℕ)) (table : List ℕ) (at : 
   pub single_table : (plan : Checked) → IsPlanOf graph file plan → (fault : CommandFault) → IsTableFault table fault → IsFaultOfSingle graph file table at fault
   single_table plan said = table_cases (IsFaultOfSingle graph file table at) table (λ fault is. (said.draft, said.graph_is, is)) tt
 
-  pub single_moment : (plan : Checked) (entries : List TableEntry) → IsPlanOf graph file plan → table_of table ≡ Ok entries → (fault : IntervalFault) → IsNoRunAt at fault
+  pub single_moment : (plan : Checked) (entries : List TableEntry) → IsPlanOf graph file plan → table_in table ≡ Ok entries → (fault : IntervalFault) → IsNoRunAt at fault
       → IsFaultOfSingle graph file table at (of_range fault)
   single_moment plan entries said says fault (inl outside) =
       subst (λ (f : IntervalFault). IsFaultOfSingle graph file table at (of_range f)) (sym outside.0) (said.draft, said.graph_is, record { entries = entries; says = says }, refl, outside.1)
@@ -107,10 +107,10 @@ module _ (graph : List ℕ) (file : Option (List ℕ)) (table : List ℕ) (range
   pub dry_table : (alone : Bool) (plan : Checked) → IsPlanOf graph file plan → (fault : CommandFault) → IsTableFault table fault → IsFaultOfDry alone graph file table range fault
   dry_table alone plan said = table_cases (IsFaultOfDry alone graph file table range) table (λ fault is. (said.draft, said.graph_is, is)) tt
 
-  pub dry_range : (alone : Bool) (entries : List TableEntry) → table_of table ≡ Ok entries → (fault : CommandFault) → IsRangeFault graph file range fault → IsFaultOfDry alone graph file table range fault
+  pub dry_range : (alone : Bool) (entries : List TableEntry) → table_in table ≡ Ok entries → (fault : CommandFault) → IsRangeFault graph file range fault → IsFaultOfDry alone graph file table range fault
   dry_range alone entries says = range_cases (IsFaultOfDry alone graph file table range) graph file range (λ fault is. (record { entries = entries; says = says }, is)) tt
 
-  pub dry_stop_in : (alone : Bool) (entries : List TableEntry) → table_of table ≡ Ok entries → (found : List Interval) → HasListing graph file range (Ok found) → (r : Result Bool CommandFault)
+  pub dry_stop_in : (alone : Bool) (entries : List TableEntry) → table_in table ≡ Ok entries → (found : List Interval) → HasListing graph file range (Ok found) → (r : Result Bool CommandFault)
       → IfErr r (IsWantingWorkers alone) → IfErr r (IsFaultOfDry alone graph file table range)
   dry_stop_in alone entries says found listing r =
       IfErr-weaker r _ _ (workers_cases (IsFaultOfDry alone graph file table range) alone (λ started. (found, record { entries = entries; says = says }, listing, refl, started)) tt (λ n. tt))
@@ -129,7 +129,7 @@ module _ (launching : LaunchingOf) (may_lose : Losing) (graph : List ℕ) (file 
       (stop_weaker {Q = MayGiveUpLaunched (with_clocks launching clocks) may_lose plan.dag found} (λ n g may. may.1) launching.logs plan.dag found stop is)) tt (λ n. tt))
 
 -- what is wanting, whoever answers
-pub wanting_from : (alone : Bool) (kept : Look) (launching : LaunchingOf) (may_lose : Losing) (answers : Option (List TableEntry)) (dag : Dag) (found : List Interval) (r : Result Bool CommandFault) → IfErr r IsWanting
+pub wanting_from : (alone : Bool) (kept : Ledger) (launching : LaunchingOf) (may_lose : Losing) (answers : Option (List TableEntry)) (dag : Dag) (found : List Interval) (r : Result Bool CommandFault) → IfErr r IsWanting
     → IfErr r (IsStopOrWantingFrom alone kept launching may_lose answers dag found)
 wanting_from alone kept launching may_lose None dag found r = IfErr-weaker r _ _ (wanting_cases (IsStopOrWantingFrom alone kept launching may_lose None dag found) tt (λ n. tt))
 wanting_from alone kept launching may_lose (Some entries) dag found r = IfErr-weaker r _ _ (wanting_cases (IsStopOrWantingFrom alone kept launching may_lose (Some entries) dag found) tt (λ n. tt))

@@ -8,7 +8,7 @@ use Rattle.bf_xcom.specs.declared.values.Given.{Given}
 use Rattle.bf_try.specs.declared.answers.Raw.{Raw}
 use Rattle.bf_table.specs.declared.table.TableEntry.{TableEntry}
 use Rattle.bf_table.specs.Tables.{Answering, answer_of}
-use Rattle.bf_try.specs.Tries.{AreAlike, Look}
+use Rattle.bf_try.specs.Tries.{AreAlike, Ledger}
 use Rattle.bf_kept.specs.Kept.{AreFit, AreGradedAnew, nothing}
 use Rattle.bf_core.specs.Agreement.{HoldsItsTries}
 use Rattle.bf_core.specs.Answered.{AreGraded, MayFault}
@@ -26,14 +26,14 @@ use Rattle.bf_commands.specs.Reported.{IsEndFrom, IsReportBy, IsReportFrom, IsRe
 -- ---- ends
 
 -- what a call that goes on says of the end
-pub end_from : (kept : Look) (may_answer : JobName → Given → Raw → Type 0) (dag : Dag) (limits : Limits) (runs workers : ℕ) {E : Type 0} (r : Result Ending E)
+pub end_from : (kept : Ledger) (may_answer : JobName → Given → Raw → Type 0) (dag : Dag) (limits : Limits) (runs workers : ℕ) {E : Type 0} (r : Result Ending E)
     → IfOk r (IsEndOf dag limits runs) → IfOk r (λ e. AreAlike kept (entry_in e.state.ledger)) → IfOk r (λ e. AreGradedAnew kept may_answer dag (entry_in e.state.ledger)) → (AreGraded may_answer dag kept → IfOk r (λ e. AreGraded may_answer dag (entry_in e.state.ledger))) → IfOk r (λ e. KeepsWorkers dag runs workers e.journal)
     → IfOk r (IsEndFrom kept may_answer dag limits runs workers)
 end_from kept may_answer dag limits runs workers (Ok e) of again anew all within = record { of = of; again = again; anew = anew; all = all; within = within }
 end_from kept may_answer dag limits runs workers (Err f) of again anew all within = tt
 
 -- a runner that answers as the table does has the table's answers
-pub end_over : (kept : Look) (dag : Dag) (table : List TableEntry) (intervals : List Interval) (runner : Answering) (limits : Limits) (runs workers : ℕ) (ending : Ending) → runner ≡ answering dag table intervals
+pub end_over : (kept : Ledger) (dag : Dag) (table : List TableEntry) (intervals : List Interval) (runner : Answering) (limits : Limits) (runs workers : ℕ) (ending : Ending) → runner ≡ answering dag table intervals
     → IsEndFrom kept (λ n g raw. raw ≡ answer_of runner n) dag limits runs workers ending → IsEndFrom kept (AnswersByTable dag table intervals) dag limits runs workers ending
 end_over kept dag table intervals runner limits runs workers ending same is =
     subst (λ (x : Answering). IsEndFrom kept (λ n g raw. raw ≡ answer_of x n) dag limits runs workers ending) same is
@@ -41,7 +41,7 @@ end_over kept dag table intervals runner limits runs workers ending same is =
 -- ---- reports
 
 -- the report over the ledger of a backfill that has ended so
-pub reported_from : {kept : Look} {may_answer : JobName → Given → Raw → Type 0} {dag : Dag} {limits : Limits} {intervals : List Interval} {workers : ℕ} {ending : Ending} → IsEnd ending
+pub reported_from : {kept : Ledger} {may_answer : JobName → Given → Raw → Type 0} {dag : Dag} {limits : Limits} {intervals : List Interval} {workers : ℕ} {ending : Ending} → IsEnd ending
     → IsEndFrom kept may_answer dag limits (length intervals) workers ending → (text : List ℕ) (success : Bool) → IsReportOf ending.dag intervals (entry_in ending.state.ledger) text success
     → IsReportFrom kept may_answer dag intervals text success
 reported_from {dag = dag} {intervals = intervals} {ending = ending} end is text success reports = record {
@@ -54,13 +54,13 @@ reported_from {dag = dag} {intervals = intervals} {ending = ending} end is text 
 }
 
 -- the same of what is kept of a report where this is cleared
-pub reported_after : {may_hear : HearingTries} {answers : Option (List TableEntry)} {dag : Dag} {intervals : List Interval} {was : Report} {what : ToClear} {kept : Look} → IsKeptOf dag intervals was what kept
+pub reported_after : {may_hear : HearingTries} {answers : Option (List TableEntry)} {dag : Dag} {intervals : List Interval} {was : Report} {what : ToClear} {kept : Ledger} → IsKeptOf dag intervals was what kept
     → (text : List ℕ) (success : Bool) → IsReportFrom kept (MayAnswerBy may_hear answers dag intervals) dag intervals text success
     → IsReportAfter may_hear answers dag intervals was what text success
 reported_after {kept = kept} is text success reports = record { kept = kept; kept_is = is; reported = reports }
 
 -- where what is kept could have been answered, the report is that of a backfill from nothing
-pub from_graded : {kept : Look} {may_answer : JobName → Given → Raw → Type 0} {dag : Dag} {intervals : List Interval} → AreGraded may_answer dag kept → (text : List ℕ) (success : Bool)
+pub from_graded : {kept : Ledger} {may_answer : JobName → Given → Raw → Type 0} {dag : Dag} {intervals : List Interval} → AreGraded may_answer dag kept → (text : List ℕ) (success : Bool)
     → IsReportFrom kept may_answer dag intervals text success → IsReportBy may_answer dag intervals text success
 from_graded graded text success is = record { ledger = is.ledger; tries = is.tries; graded = is.all graded; reported = is.reported }
 

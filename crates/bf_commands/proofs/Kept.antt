@@ -1,12 +1,12 @@
 -- What a command leaves in its journal.
 use Rattle.std.proofs.Common.{◌<◌, ℕ, Bool, List, [], ◌∷◌, length, Option, subst, length-append, arith}
 use Rattle.bf_value.specs.declared.name.JobName.{JobName}
-use Rattle.bf_value.specs.Json.{text_of}
+use Rattle.bf_value.specs.Json.{json_of}
 use Rattle.bf_plan.specs.declared.plan.Dag.{Dag}
 use Rattle.bf_interval.specs.declared.interval.Interval.{Interval}
 use Rattle.bf_xcom.specs.declared.values.Given.{Given}
 use Rattle.bf_try.specs.declared.answers.Raw.{Raw}
-use Rattle.bf_try.specs.Tries.{Look}
+use Rattle.bf_try.specs.Tries.{Ledger}
 use Rattle.bf_journal.specs.Heads.{head_text, head_value}
 use Rattle.bf_journal.specs.Left.{IsLeftPart, IsMadeWhole, KeepsJournal}
 use Rattle.bf_journal.specs.Recording.{IsRecordBy, IsWritten}
@@ -23,11 +23,11 @@ module _ (may_answer : JobName → Given → Raw → Type 0) (dag : Dag) (interv
   some_head : (cleared : Heading) → 0 < length (head_text dag intervals cleared)
   unfolding head_text
   some_head cleared =
-      let long = length-append (text_of (head_value dag intervals cleared)) (10 ∷ []) in
+      let long = length-append (json_of (head_value dag intervals cleared)) (10 ∷ []) in
       omega (arith, long)
 
   -- where tries are recorded
-  pub kept_over : (cleared : Heading) (held : List ℕ) (tries : Look) (old begun new : Option (List ℕ)) (failed : Bool)
+  pub kept_over : (cleared : Heading) (held : List ℕ) (tries : Ledger) (old begun new : Option (List ℕ)) (failed : Bool)
       → IsMadeWhole dag intervals (head_text dag intervals cleared) held tries old begun → IsWritten (IsRecordBy may_answer dag intervals) begun new failed
       → KeepsJournal may_answer dag intervals (head_text dag intervals cleared) held old new
   kept_over cleared held tries old begun new failed made written told is =

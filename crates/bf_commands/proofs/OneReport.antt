@@ -12,10 +12,10 @@ use Rattle.bf_check.specs.Checking.{dag_of, ids_of, task_in}
 use Rattle.bf_interval.specs.Runs.{intervals_at}
 use Rattle.bf_interval.specs.declared.interval.Interval.{Interval}
 use Rattle.bf_table.specs.declared.table.TableEntry.{TableEntry}
-use Rattle.bf_table.specs.Tables.{table_of}
+use Rattle.bf_table.specs.Tables.{table_in}
 use Rattle.bf_try.specs.declared.ledger.Entry.{Entry}
 use Rattle.bf_try.specs.Grades.{grade_of}
-use Rattle.bf_try.specs.Tries.{Look, AreAlike}
+use Rattle.bf_try.specs.Tries.{Ledger, AreAlike}
 use Rattle.bf_core.specs.Agreement.{HoldsItsTries}
 use Rattle.bf_core.specs.Answered.{AreGraded}
 use Rattle.bf_core.proofs.Confluence.{tries-same}
@@ -27,7 +27,7 @@ use Rattle.bf_commands.specs.DatedRuns.{IsReportIn}
 use Rattle.bf_planning.specs.Graphs.{IsGraph}
 use Rattle.bf_commands.specs.OneRun.{IsReportAt}
 use Rattle.bf_commands.specs.OverTable.{AnswersByTable, IsReportOver}
-use Rattle.bf_commands.specs.Reported.{IsReportOf, is_success}
+use Rattle.bf_commands.specs.Reported.{IsReportOf, is_success_in}
 use Rattle.bf_commands.proofs.OneList.{one_list}
 
 -- alike ledgers of one plan and of the same intervals have one report
@@ -39,11 +39,11 @@ alike_reports dag sound intervals one two first second alike text others success
     let moved : IsReportOf dag intervals (finite.get two) text success = subst (λ l. IsReportOf dag intervals (finite.get l) text success) same_ledger reported in
     let same : moved.report ≡ again.report = dated-once dag intervals (finite.get two) moved.report again.report moved.dated again.dated in (
       moved.text_is ∙ ap report_text same ∙ sym again.text_is,
-      moved.state ∙ ap (λ (r : Report). list_all (λ run. is_success run.state) r.runs) same ∙ sym again.state,
+      moved.state ∙ ap (λ (r : Report). list_all (λ run. is_success_in run.state) r.runs) same ∙ sym again.state,
     )
 
 -- ledgers whose entries have the answers of one table are alike
-answered-alike : (dag : Dag) (table : List TableEntry) (intervals : List Interval) (one two : Look) → AreGraded (AnswersByTable dag table intervals) dag one → AreGraded (AnswersByTable dag table intervals) dag two → AreAlike one two
+answered-alike : (dag : Dag) (table : List TableEntry) (intervals : List Interval) (one two : Ledger) → AreGraded (AnswersByTable dag table intervals) dag one → AreGraded (AnswersByTable dag table intervals) dag two → AreAlike one two
 answered-alike dag table intervals one two first second n d e at there given =
     let a = first n d at in
     let b = second n e there in
@@ -64,7 +64,7 @@ one_dag graph file one two a b =
     ap (λ (f : GraphFile). record { id = f.dag_id; tasks = map (task_in (ids_of f.tasks)) f.tasks }) one_file
 
 -- the bytes of a table say its entries
-one_table : (table : List ℕ) (one two : List TableEntry) → table_of table ≡ Ok one → table_of table ≡ Ok two → one ≡ two
+one_table : (table : List ℕ) (one two : List TableEntry) → table_in table ≡ Ok one → table_in table ≡ Ok two → one ≡ two
 one_table table one two a b = let said : Ok one ≡ Ok two = sym a ∙ b in cc
 
 pub one_dry_report : (graph : List ℕ) (file : Option (List ℕ)) (table : List ℕ) (range : RunRange) (text others : List ℕ) (success other : Bool)

@@ -4,7 +4,7 @@ use Rattle.bf_value.specs.declared.name.JobName.{JobName}
 use Rattle.bf_plan.specs.declared.plan.Dag.{Dag}
 use Rattle.bf_interval.specs.declared.interval.Interval.{Interval}
 use Rattle.bf_xcom.specs.declared.values.Given.{Given}
-use Rattle.bf_try.specs.Tries.{Look}
+use Rattle.bf_try.specs.Tries.{Ledger}
 use Rattle.bf_kept.specs.Kept.{IsNew, MayGiveUpAnew}
 use Rattle.bf_core.specs.declared.fault.BackfillFault.{BackfillFault}
 use Rattle.bf_exec.specs.Faults.{MayFail}
@@ -22,7 +22,7 @@ use Rattle.bf_planning.specs.Wanting.{IsWanting}
 
 -- ---- what is told of what stopped one
 
-module _ (most : Option ℕ) (kept : Look) (logs : Option (List ℕ)) (dag : Dag) (intervals : List Interval) where
+module _ (most : Option ℕ) (kept : Ledger) (logs : Option (List ℕ)) (dag : Dag) (intervals : List Interval) where
   told_at : (name : JobName) (told : CommandFault) → (given : Given) × IsNew kept name given → IsToldAt most logs dag intervals name told → IsStopRecordedOrWanting most kept logs dag intervals told
   told_at name (Stopped StopFault.CannotRecord) may is = tt
   told_at name (Stopped (StopFault.EnoughFailed count)) may is = is
@@ -48,14 +48,14 @@ pub journal_fault : (dag : Dag) (intervals : List Interval) (cleared : Heading) 
 journal_fault dag intervals cleared held journal.OutOfMemory is = tt
 journal_fault dag intervals cleared held fault is = is
 
-module _ (most : Option ℕ) (before : Look) (retry : Bool) (held : List ℕ) (cleared : Heading) (logs : Option (List ℕ)) (dag : Dag) (intervals : List Interval) where
+module _ (most : Option ℕ) (before : Ledger) (retry : Bool) (held : List ℕ) (cleared : Heading) (logs : Option (List ℕ)) (dag : Dag) (intervals : List Interval) where
   pub journal_since : (fault : CommandFault) → IsFaultOfJournal dag intervals cleared held fault → IsFaultSince most before retry held cleared logs dag intervals fault
   journal_since (Journal fault) is = is
   journal_since (Stopped StopFault.CannotRecord) is = tt
   journal_since OutOfMemory is = tt
   journal_since fault is = absurd is
 
-  pub stop_since : (tries : Look) → HasTries dag intervals cleared held tries → (fault : CommandFault) → IsStopRecordedOrWanting most (since (left_of retry dag tries) before) logs dag intervals fault
+  pub stop_since : (tries : Ledger) → HasTries dag intervals cleared held tries → (fault : CommandFault) → IsStopRecordedOrWanting most (since (left_of retry dag tries) before) logs dag intervals fault
       → IsFaultSince most before retry held cleared logs dag intervals fault
   stop_since tries has (Stopped StopFault.CannotRecord) is = tt
   stop_since tries has (Stopped StopFault.CannotStart) is = (tries, has, is)

@@ -17,7 +17,7 @@ use Rattle.jiff_tz.specs.Tzif as Table
 use Rattle.jiff_tz.specs.Tzif.{count_at, floor_second, no_transition, rule_after, transition_at, type_after, tzif_view}
 use Rattle.jiff_tz.specs.declared.tzif.Tzif.{Tzif}
 use Rattle.jiff_tz.specs.declared.tzif.transition.LocalTimeType.{LocalTimeType}
-use Rattle.bf_zone.specs.Zones.{Asked, utc, offset, rule, file, IsZone}
+use Rattle.bf_zone.specs.Zones.{Asked, utc, offset, rule, file_asked, IsZone}
 use Rattle.bf_zone.proofs.SameZone.{ok_injective, same_day_time, same_offset, some_injective}
 
 -- ---- rules
@@ -137,7 +137,7 @@ posix_zone text (Posix x) (Posix y) n h k = ap (λ (o : Offset). o.seconds) (sam
 posix_zone text (Posix x) b n h k = absurd k
 posix_zone text a b n h k = absurd h
 
-file_zone : (bytes : List ℕ) (a b : Zone) (n : ℤ) → IsZone file (Some bytes) a → IsZone file (Some bytes) b → offset_at a n ≡ offset_at b n
+file_zone : (bytes : List ℕ) (a b : Zone) (n : ℤ) → IsZone file_asked (Some bytes) a → IsZone file_asked (Some bytes) b → offset_at a n ≡ offset_at b n
 unfolding offset_at
 file_zone bytes (Tzif' x) (Tzif' y) n h k = ap (λ (o : Offset). o.seconds) (same_table_at x.now y.now n (ok_injective (tzif_view x.now) (tzif_view y.now) (sym h.1 ∙ k.1)))
 file_zone bytes (Tzif' x) b n h k = absurd k

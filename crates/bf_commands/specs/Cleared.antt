@@ -8,8 +8,8 @@ use Rattle.bf_interval.specs.declared.interval.Interval.{Interval}
 use Rattle.bf_xcom.specs.declared.values.Given.{Given}
 use Rattle.bf_try.specs.declared.answers.Raw.{Raw}
 use Rattle.bf_table.specs.declared.table.TableEntry.{TableEntry}
-use Rattle.bf_table.specs.Tables.{table_of}
-use Rattle.bf_try.specs.Tries.{Look}
+use Rattle.bf_table.specs.Tables.{table_in}
+use Rattle.bf_try.specs.Tries.{Ledger}
 use Rattle.bf_process.specs.Words.{LaunchingOf, MayAnswer}
 use Rattle.bf_kept.specs.Kept.{MayGiveUpAnew}
 use Rattle.bf_report.specs.declared.report.Report.{Report}
@@ -17,7 +17,7 @@ use Rattle.bf_report_reader.specs.Reading.{IsReadAs}
 use Rattle.bf_dependents.specs.declared.fault.ClearFault.{ClearFault}
 use Rattle.bf_dependents.specs.declared.place.Place.{Place}
 use Rattle.bf_dependents.specs.declared.seeds.Seed.{Seed}
-use Rattle.bf_dependents.specs.Seeds.{places_of, seed_fault}
+use Rattle.bf_dependents.specs.Seeds.{places_in, seed_fault}
 use Rattle.bf_seeds.specs.declared.fault.SeedsFault.{SeedsFault}
 use Rattle.bf_seeds.specs.declared.fault.SeedsFault.TheVariants.{Unknown}
 use Rattle.bf_seeds.specs.Seeds.{AreSeedsOfFile, IsFaultOfFile}
@@ -47,8 +47,8 @@ MayAnswerBy may_hear None dag intervals n given raw = MayAnswer may_hear dag int
 
 -- the places that are cleared: of seeds whose tasks and runs are known, of those that a file's lines name, or of the instances that failed
 abbrev pub AreCleared : Dag → List Interval → Report → ToClear → List Place → Type 0
-AreCleared dag intervals was (to_clear.Seeds seeds) places = (seed_fault dag intervals seeds.items ≡ None) × (places ≡ places_of dag intervals seeds.items)
-AreCleared dag intervals was (to_clear.File bytes) places = (seeds : List Seed) × AreSeedsOfFile dag intervals bytes.items seeds × (places ≡ places_of dag intervals seeds)
+AreCleared dag intervals was (to_clear.Seeds seeds) places = (seed_fault dag intervals seeds.items ≡ None) × (places ≡ places_in dag intervals seeds.items)
+AreCleared dag intervals was (to_clear.File bytes) places = (seeds : List Seed) × AreSeedsOfFile dag intervals bytes.items seeds × (places ≡ places_in dag intervals seeds)
 AreCleared dag intervals was to_clear.Failed places = AreFailed dag intervals was places
 AreCleared dag intervals was to_clear.Nothing places = places ≡ []
 
@@ -58,12 +58,12 @@ report_fault to_clear.Nothing dag intervals was = keep_fault dag was
 report_fault what dag intervals was = clear_fault dag intervals was []
 
 -- this is kept of the report where these places are cleared; where nothing is, of what it tells by ids and data intervals
-abbrev pub AreKeptFor : ToClear → Dag → List Interval → List Place → Report → Look → Type 0
+abbrev pub AreKeptFor : ToClear → Dag → List Interval → List Place → Report → Ledger → Type 0
 AreKeptFor to_clear.Nothing dag intervals places was kept = AreKeptByIds dag intervals places was kept
 AreKeptFor what dag intervals places was kept = AreKept dag places was kept
 
 -- the report isn't refused, what is cleared is known, and this is what is kept
-pub record IsKeptOf (dag : Dag) (intervals : List Interval) (was : Report) (what : ToClear) (kept : Look) : Type 0 where
+pub record IsKeptOf (dag : Dag) (intervals : List Interval) (was : Report) (what : ToClear) (kept : Ledger) : Type 0 where
   pub places : List Place
   pub are_cleared : AreCleared dag intervals was what places
   pub not_refused : report_fault what dag intervals was ≡ None
@@ -71,13 +71,13 @@ pub record IsKeptOf (dag : Dag) (intervals : List Interval) (was : Report) (what
 
 -- the text is the report of the backfill that goes on from what is kept of this report where this is cleared
 pub record IsReportAfter (may_hear : HearingTries) (answers : Option (List TableEntry)) (dag : Dag) (intervals : List Interval) (was : Report) (what : ToClear) (text : List ℕ) (success : Bool) : Type 0 where
-  pub kept : Look
+  pub kept : Ledger
   pub kept_is : IsKeptOf dag intervals was what kept
   pub reported : IsReportFrom kept (MayAnswerBy may_hear answers dag intervals) dag intervals text success
 
 -- the table's bytes say these answers, where there is a table
 abbrev pub AreAnswersIn : Option (List ℕ) → Option (List TableEntry) → Type 0
-AreAnswersIn table answers = option_map table_of table ≡ option_map Ok answers
+AreAnswersIn table answers = option_map table_in table ≡ option_map Ok answers
 
 -- the bytes say a graph, which has no fault, a table where there is one, and a report of the graph's runs in the range; and the
 -- text is the report of the backfill that goes on from it where this is cleared
@@ -116,7 +116,7 @@ pub record IsReady (graph : List ℕ) (file table : Option (List ℕ)) (range : 
 
 -- the fault is the first: those of the graph go before those of the table, where there is one, and those of the range come last
 abbrev pub IsFaultBefore : List ℕ → Option (List ℕ) → Option (List ℕ) → RunRange → CommandFault → Type 0
-IsFaultBefore graph file table range (Table fault) = (draft : Draft) × IsGraph graph file draft × (option_map table_of table ≡ Some (Err fault))
+IsFaultBefore graph file table range (Table fault) = (draft : Draft) × IsGraph graph file draft × (option_map table_in table ≡ Some (Err fault))
 IsFaultBefore graph file table range (Range fault) = (answers : Option (List TableEntry)) × AreAnswersIn table answers × HasListing graph file range (Err fault)
 IsFaultBefore graph file table range fault = IsFaultIn graph file fault
 
@@ -156,7 +156,7 @@ pub record IsUnclearable (graph : List ℕ) (file table : Option (List ℕ)) (re
 
 -- where a table answers and workers are started, one can't be; else the backfill stops as one of programs does, but at no try
 -- that is kept
-abbrev pub IsStopFrom : Bool → Look → LaunchingOf → Losing → Option (List TableEntry) → Dag → List Interval → StopFault → Type 0
+abbrev pub IsStopFrom : Bool → Ledger → LaunchingOf → Losing → Option (List TableEntry) → Dag → List Interval → StopFault → Type 0
 IsStopFrom alone kept launching may_lose (Some entries) dag intervals stop = (stop ≡ StopFault.CannotStart) × (alone ≡ false)
 IsStopFrom alone kept launching may_lose None dag intervals stop = IsStopOf (MayGiveUpAnew kept (MayGiveUpLaunched launching may_lose dag intervals)) launching.logs dag intervals stop
 
@@ -164,7 +164,7 @@ IsStopFrom alone kept launching may_lose None dag intervals stop = IsStopOf (May
 abbrev pub IsFaultAgain : Bool → LaunchingOf → Losing → Option (List TableEntry) → Dag → List Interval → Report → ToClear → CommandFault → Type 0
 IsFaultAgain alone launching may_lose answers dag intervals was what (NotCleared fault) = IsUncleared dag intervals was what (NotCleared fault)
 IsFaultAgain alone launching may_lose answers dag intervals was what (BadSeeds fault) = IsUncleared dag intervals was what (BadSeeds fault)
-IsFaultAgain alone launching may_lose answers dag intervals was what (Stopped stop) = (kept : Look) × IsKeptOf dag intervals was what kept × IsStopFrom alone kept launching may_lose answers dag intervals stop
+IsFaultAgain alone launching may_lose answers dag intervals was what (Stopped stop) = (kept : Ledger) × IsKeptOf dag intervals was what kept × IsStopFrom alone kept launching may_lose answers dag intervals stop
 IsFaultAgain alone launching may_lose answers dag intervals was what fault = IsWanting fault
 
 -- they have none, the bytes say a report, this is cleared in it, and the backfill that goes on from it stops
@@ -172,19 +172,19 @@ pub record StopsClearing (alone : Bool) (launching : LaunchingOf) (may_lose : Lo
   pub ready : IsReady graph file table range
   pub was : Report
   pub report_says : IsReadAs report was
-  pub kept : Look
+  pub kept : Ledger
   pub kept_is : IsKeptOf ready.dag ready.found was what kept
   pub stops : IsStopFrom alone kept (with_clocks launching ready.clocks) may_lose ready.answers ready.dag ready.found stop
 
 -- ---- for private clauses
 
 -- the backfill with programs that goes on from what is kept stops, at no try that is kept; or memory or the device is wanting
-abbrev pub IsStopOrWantingAnew : Look → LaunchingOf → Losing → Dag → List Interval → CommandFault → Type 0
+abbrev pub IsStopOrWantingAnew : Ledger → LaunchingOf → Losing → Dag → List Interval → CommandFault → Type 0
 IsStopOrWantingAnew kept launching may_lose dag intervals fault = IsStopOfOrWanting (MayGiveUpAnew kept (MayGiveUpLaunched launching may_lose dag intervals)) launching.logs dag intervals fault
 
 -- where a table answers and workers are started, one can't be; else it stops as one of programs does; or memory or the device is
 -- wanting
-abbrev pub IsStopOrWantingFrom : Bool → Look → LaunchingOf → Losing → Option (List TableEntry) → Dag → List Interval → CommandFault → Type 0
+abbrev pub IsStopOrWantingFrom : Bool → Ledger → LaunchingOf → Losing → Option (List TableEntry) → Dag → List Interval → CommandFault → Type 0
 IsStopOrWantingFrom alone kept launching may_lose (Some entries) dag intervals fault = IsWantingWorkers alone fault
 IsStopOrWantingFrom alone kept launching may_lose None dag intervals fault = IsStopOrWantingAnew kept launching may_lose dag intervals fault
 

@@ -4,7 +4,7 @@ use Rattle.bf_read.specs.declared.draft.Draft.{Draft}
 use Rattle.bf_check.specs.Checking.{dag_of}
 use Rattle.bf_interval.specs.declared.interval.Interval.{Interval}
 use Rattle.bf_table.specs.declared.table.TableEntry.{TableEntry}
-use Rattle.bf_table.specs.Tables.{table_of}
+use Rattle.bf_table.specs.Tables.{table_in}
 use Rattle.bf_command_fault.specs.declared.fault.CommandFault.{CommandFault}
 use Rattle.bf_command_fault.specs.declared.fault.CommandFault.TheVariants.{Table, Range, CannotWrite, Stopped}
 use Rattle.bf_command_fault.specs.declared.stop.StopFault.{StopFault}
@@ -20,14 +20,14 @@ pub record IsReportIn (graph : List ℕ) (file : Option (List ℕ)) (table : Lis
   pub entries : List TableEntry
   pub found : List Interval
   pub graph_is : IsGraph graph file draft
-  pub table_says : table_of table ≡ Ok entries
+  pub table_says : table_in table ≡ Ok entries
   pub listing : HasListing graph file range (Ok found)
   pub reported : IsReportOver (dag_of draft) entries found text success
 
 -- the fault is the first: those of the graph go before those of the table, and those of the range behind them; then, where workers are
 -- started, one can't be; or memory or the device is wanting
 abbrev pub IsFaultOfDry : Bool → List ℕ → Option (List ℕ) → List ℕ → RunRange → CommandFault → Type 0
-IsFaultOfDry alone graph file table range (Table fault) = (draft : Draft) × IsGraph graph file draft × (table_of table ≡ Err fault)
+IsFaultOfDry alone graph file table range (Table fault) = (draft : Draft) × IsGraph graph file draft × (table_in table ≡ Err fault)
 IsFaultOfDry alone graph file table range (Range fault) = IsTable table × HasListing graph file range (Err fault)
 IsFaultOfDry alone graph file table range (CannotWrite n) = Unit {0}
 IsFaultOfDry alone graph file table range (Stopped stop) = (found : List Interval) × IsTable table × HasListing graph file range (Ok found) × (stop ≡ StopFault.CannotStart) × (alone ≡ false)

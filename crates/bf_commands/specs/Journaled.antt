@@ -8,7 +8,7 @@ use Rattle.bf_plan.specs.Plans.{task_of}
 use Rattle.bf_interval.specs.declared.interval.Interval.{Interval}
 use Rattle.bf_xcom.specs.declared.values.Given.{Given}
 use Rattle.bf_try.specs.declared.answers.Raw.{Raw}
-use Rattle.bf_try.specs.Tries.{Look}
+use Rattle.bf_try.specs.Tries.{Ledger}
 use Rattle.bf_table.specs.declared.table.TableEntry.{TableEntry}
 use Rattle.bf_core.specs.declared.fault.BackfillFault.{BackfillFault}
 use Rattle.bf_kept.specs.Kept.{IsNew, nothing}
@@ -55,14 +55,14 @@ TellsOf dag intervals [] cleared = cleared ≡ []
 TellsOf dag intervals (place ∷ places) cleared = TellsFirst dag (slice_get intervals place.run) place (TellsOf dag intervals places) cleared
 
 -- this is kept where it is cleared, and the head tells of the places
-pub record IsClearedBy (dag : Dag) (intervals : List Interval) (was : Report) (what : ToClear) (kept : Look) (cleared : Heading) : Type 0 where
+pub record IsClearedBy (dag : Dag) (intervals : List Interval) (was : Report) (what : ToClear) (kept : Ledger) (cleared : Heading) : Type 0 where
   pub kept_is : IsKeptOf dag intervals was what kept
   pub tells : TellsOf dag intervals kept_is.places cleared
 
 -- ---- what is kept of a journal
 
 -- a journal of these bytes tells these tries
-pub record HasTries (dag : Dag) (intervals : List Interval) (cleared : Heading) (held : List ℕ) (tries : Look) : Type 0 where
+pub record HasTries (dag : Dag) (intervals : List Interval) (cleared : Heading) (held : List ℕ) (tries : Ledger) : Type 0 where
   pub whole : ℕ
   pub found : IsFoundIn dag intervals (head_text dag intervals cleared) held whole tries
 
@@ -70,8 +70,8 @@ pub record HasTries (dag : Dag) (intervals : List Interval) (cleared : Heading) 
 
 -- the text is the report of the backfill that goes on from the tries of a journal, but for failed ones that are made again, and
 -- else from those that were kept before
-pub record IsReportSince (before : Look) (retry : Bool) (held : List ℕ) (cleared : Heading) (may_answer : JobName → Given → Raw → Type 0) (dag : Dag) (intervals : List Interval) (text : List ℕ) (success : Bool) : Type 0 where
-  pub tries : Look
+pub record IsReportSince (before : Ledger) (retry : Bool) (held : List ℕ) (cleared : Heading) (may_answer : JobName → Given → Raw → Type 0) (dag : Dag) (intervals : List Interval) (text : List ℕ) (success : Bool) : Type 0 where
+  pub tries : Ledger
   pub has_tries : HasTries dag intervals cleared held tries
   pub reported : IsReportFrom (since (left_of retry dag tries) before) may_answer dag intervals text success
 
@@ -88,7 +88,7 @@ pub record IsJournaledReport (launching : LaunchingOf) (may_hear : Hearing) (gra
 
 -- the text is the report of the backfill that goes on from a journal, and else from what is kept of a report where this is cleared
 pub record IsJournaledAfter (may_hear : HearingTries) (answers : Option (List TableEntry)) (dag : Dag) (intervals : List Interval) (was : Report) (what : ToClear) (retry : Bool) (held : List ℕ) (text : List ℕ) (success : Bool) : Type 0 where
-  pub kept : Look
+  pub kept : Ledger
   pub cleared : Heading
   pub cleared_is : IsClearedBy dag intervals was what kept cleared
   pub reported : IsReportSince kept retry held cleared (MayAnswerBy may_hear answers dag intervals) dag intervals text success
@@ -111,19 +111,19 @@ pub record IsJournaledClearReport (launching : LaunchingOf) (may_hear : Hearing)
 -- ---- what goes wrong
 
 -- a worker can't be started; or a try can't be recorded; or so many tries have failed as may; or a try was given up that isn't kept
-abbrev pub IsStopRecorded : Option ℕ → Look → Option (List ℕ) → Dag → List Interval → StopFault → Type 0
+abbrev pub IsStopRecorded : Option ℕ → Ledger → Option (List ℕ) → Dag → List Interval → StopFault → Type 0
 IsStopRecorded most kept logs dag intervals StopFault.CannotRecord = Unit {0}
 IsStopRecorded most kept logs dag intervals (StopFault.EnoughFailed count) = most ≡ Some count
 IsStopRecorded most kept logs dag intervals stop = IsStopOf (IsNew kept) logs dag intervals stop
 
 -- a try can't be recorded; or the backfill that goes on from the journal stops
-abbrev pub IsStopSince : Option ℕ → Look → Bool → List ℕ → Heading → Option (List ℕ) → Dag → List Interval → StopFault → Type 0
+abbrev pub IsStopSince : Option ℕ → Ledger → Bool → List ℕ → Heading → Option (List ℕ) → Dag → List Interval → StopFault → Type 0
 IsStopSince most before retry held cleared logs dag intervals StopFault.CannotRecord = Unit {0}
 IsStopSince most before retry held cleared logs dag intervals stop =
-    (tries : Look) × HasTries dag intervals cleared held tries × IsStopRecorded most (since (left_of retry dag tries) before) logs dag intervals stop
+    (tries : Ledger) × HasTries dag intervals cleared held tries × IsStopRecorded most (since (left_of retry dag tries) before) logs dag intervals stop
 
 -- the fault is the first: the journal is refused; or the backfill that goes on from it stops; or memory or the device is wanting
-abbrev pub IsFaultSince : Option ℕ → Look → Bool → List ℕ → Heading → Option (List ℕ) → Dag → List Interval → CommandFault → Type 0
+abbrev pub IsFaultSince : Option ℕ → Ledger → Bool → List ℕ → Heading → Option (List ℕ) → Dag → List Interval → CommandFault → Type 0
 IsFaultSince most before retry held cleared logs dag intervals (BadJournal fault) = IsFault dag intervals (head_text dag intervals cleared) held fault
 IsFaultSince most before retry held cleared logs dag intervals (Stopped stop) = IsStopSince most before retry held cleared logs dag intervals stop
 IsFaultSince most before retry held cleared logs dag intervals fault = IsWanting fault
@@ -142,7 +142,7 @@ pub record IsClearable (graph : List ℕ) (file table : Option (List ℕ)) (repo
   pub ready : IsReady graph file table range
   pub was : Report
   pub report_says : IsReadAs report was
-  pub kept : Look
+  pub kept : Ledger
   pub cleared : Heading
   pub cleared_is : IsClearedBy ready.dag ready.found was what kept cleared
 
@@ -166,7 +166,7 @@ IsFaultOfJournal dag intervals cleared held OutOfMemory = Unit {0}
 IsFaultOfJournal dag intervals cleared held fault = ⊥
 
 -- a backfill that records its tries stops; or memory or the device is wanting
-abbrev pub IsStopRecordedOrWanting : Option ℕ → Look → Option (List ℕ) → Dag → List Interval → CommandFault → Type 0
+abbrev pub IsStopRecordedOrWanting : Option ℕ → Ledger → Option (List ℕ) → Dag → List Interval → CommandFault → Type 0
 IsStopRecordedOrWanting most kept logs dag intervals (Stopped stop) = IsStopRecorded most kept logs dag intervals stop
 IsStopRecordedOrWanting most kept logs dag intervals fault = IsWanting fault
 

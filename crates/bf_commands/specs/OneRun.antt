@@ -7,7 +7,7 @@ use Rattle.bf_interval.specs.declared.fault.IntervalFault.{IntervalFault}
 use Rattle.bf_interval.specs.Runs.{intervals_at}
 use Rattle.bf_interval.specs.Years.{IsInYears}
 use Rattle.bf_table.specs.declared.table.TableEntry.{TableEntry}
-use Rattle.bf_table.specs.Tables.{table_of}
+use Rattle.bf_table.specs.Tables.{table_in}
 use Rattle.bf_command_fault.specs.declared.fault.CommandFault.{CommandFault}
 use Rattle.bf_command_fault.specs.declared.fault.CommandFault.TheVariants.{Table, Range, CannotWrite}
 use Rattle.bf_command_fault.specs.declared.range.RangeFault.TheVariants.{Unlisted}
@@ -20,13 +20,13 @@ pub record IsReportAt (graph : List ℕ) (file : Option (List ℕ)) (table : Lis
   pub draft : Draft
   pub entries : List TableEntry
   pub graph_is : IsGraph graph file draft
-  pub table_says : table_of table ≡ Ok entries
+  pub table_says : table_in table ≡ Ok entries
   pub in_years : IsInYears at.nanosecond
   pub reported : IsReportOver (dag_of draft) entries (intervals_at at) text success
 
 -- the fault is the first: those of the graph go before those of the table, and the moment comes last; or memory or the device is wanting
 abbrev pub IsFaultOfSingle : List ℕ → Option (List ℕ) → List ℕ → Timestamp → CommandFault → Type 0
-IsFaultOfSingle graph file table at (Table fault) = (draft : Draft) × IsGraph graph file draft × (table_of table ≡ Err fault)
+IsFaultOfSingle graph file table at (Table fault) = (draft : Draft) × IsGraph graph file draft × (table_in table ≡ Err fault)
 IsFaultOfSingle graph file table at (Range fault) = (draft : Draft) × IsGraph graph file draft × IsTable table × (fault ≡ Unlisted IntervalFault.OutsideYears) × ¬ (IsInYears at.nanosecond)
 IsFaultOfSingle graph file table at (CannotWrite n) = Unit {0}
 IsFaultOfSingle graph file table at fault = IsFaultIn graph file fault

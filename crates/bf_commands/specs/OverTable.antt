@@ -6,7 +6,7 @@ use Rattle.bf_interval.specs.declared.interval.Interval.{Interval}
 use Rattle.bf_xcom.specs.declared.values.Given.{Given}
 use Rattle.bf_try.specs.declared.answers.Raw.{Raw}
 use Rattle.bf_table.specs.declared.table.TableEntry.{TableEntry}
-use Rattle.bf_table.specs.Tables.{Answering, answer_of, dates_of}
+use Rattle.bf_table.specs.Tables.{Answering, answer_of, dates_in}
 use Rattle.bf_command_fault.specs.declared.fault.CommandFault.{CommandFault}
 use Rattle.bf_command_fault.specs.declared.fault.CommandFault.TheVariants.{CannotWrite, Stopped}
 use Rattle.bf_command_fault.specs.declared.stop.StopFault.{StopFault}
@@ -15,7 +15,7 @@ use Rattle.bf_planning.specs.Wanting.{IsWanting}
 
 -- a table's answers to runs over these data intervals
 abbrev pub answering : Dag → List TableEntry → List Interval → Answering
-answering dag table intervals = record { dag = dag; dates = dates_of (map (λ i. i.start) intervals); entries = table }
+answering dag table intervals = record { dag = dag; dates = dates_in (map (λ i. i.start) intervals); entries = table }
 
 -- each try is answered as the table says
 abbrev pub AnswersByTable : Dag → List TableEntry → List Interval → JobName → Given → Raw → Type 0
@@ -26,8 +26,8 @@ abbrev pub IsReportOver : Dag → List TableEntry → List Interval → List ℕ
 IsReportOver dag table intervals text success = IsReportBy (AnswersByTable dag table intervals) dag intervals text success
 
 -- where a table answers and no progress is told, the calling thread makes all tries, however many workers may run
-abbrev pub is_alone : Bool → Bool
-is_alone progress = not progress
+abbrev pub is_alone_in : Bool → Bool
+is_alone_in progress = not progress
 
 -- memory or the device is wanting, or where workers are started, the thread of one
 abbrev pub IsWantingWorkers : Bool → CommandFault → Type 0

@@ -30,8 +30,8 @@ counted p zero = 0
 counted p (suc n) = counted p n + (if p n then 1 else 0)
 
 -- the place before this one
-abbrev pub place_before : List Place → ℕ → Option Place
-place_before places i = if i == 0 then None else slice_get places (i - 1)
+abbrev pub place_before_in : List Place → ℕ → Option Place
+place_before_in places i = if i == 0 then None else slice_get places (i - 1)
 
 abbrev pub is_same_run : Option Place → Option Place → Bool
 is_same_run (Some p) (Some q) = p.run == q.run
@@ -42,18 +42,18 @@ is_same_task (Some p) (Some q) = (p.run == q.run) && (p.task == q.task)
 is_same_task _ _ = false
 
 -- the place is the first of its run, where those of one stand together
-abbrev pub begins_run : List Place → ℕ → Bool
-begins_run places i = not (is_same_run (place_before places i) (slice_get places i))
+abbrev pub begins_run_in : List Place → ℕ → Bool
+begins_run_in places i = not (is_same_run (place_before_in places i) (slice_get places i))
 
 -- and of its task there
-abbrev pub begins_task : List Place → ℕ → Bool
-begins_task places i = not (is_same_task (place_before places i) (slice_get places i))
+abbrev pub begins_task_in : List Place → ℕ → Bool
+begins_task_in places i = not (is_same_task (place_before_in places i) (slice_get places i))
 
 abbrev pub runs_in : List Place → ℕ
-runs_in places = counted (begins_run places) (length places)
+runs_in places = counted (begins_run_in places) (length places)
 
 abbrev pub tasks_in : List Place → ℕ
-tasks_in places = counted (begins_task places) (length places)
+tasks_in places = counted (begins_task_in places) (length places)
 
 -- how many tasks in runs are cleared, of which those with several instances count once, and how many runs they are of
 abbrev pub sum_line : List Place → List ℕ

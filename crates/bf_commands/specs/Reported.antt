@@ -11,7 +11,7 @@ use Rattle.bf_xcom.specs.declared.values.Given.{Given}
 use Rattle.bf_xcom.specs.declared.values.RunState.{RunState}
 use Rattle.bf_try.specs.declared.answers.Raw.{Raw}
 use Rattle.bf_try.specs.declared.ledger.Entry.{Entry}
-use Rattle.bf_try.specs.Tries.{AreAlike, Look}
+use Rattle.bf_try.specs.Tries.{AreAlike, Ledger}
 use Rattle.bf_kept.specs.Kept.{AreGradedAnew}
 use Rattle.bf_core.specs.Agreement.{HoldsItsTries}
 use Rattle.bf_core.specs.Answered.{AreGraded}
@@ -22,17 +22,17 @@ use Rattle.bf_report.specs.Dated.{IsDated}
 use Rattle.bf_report.specs.Report.{report_text}
 use Rattle.bf_report_reader.specs.Rules.{IsShownReport}
 
-abbrev pub is_success : RunState → Bool
-is_success RunState.Success = true
-is_success RunState.Failed = false
+abbrev pub is_success_in : RunState → Bool
+is_success_in RunState.Success = true
+is_success_in RunState.Failed = false
 
 -- the text is that of the recursion's report over the ledger, which keeps the rules by which reports are read; and whether every run of it is a success
-pub record IsReportOf (dag : Dag) (intervals : List Interval) (ledger : Look) (text : List ℕ) (success : Bool) : Type 0 where
+pub record IsReportOf (dag : Dag) (intervals : List Interval) (ledger : Ledger) (text : List ℕ) (success : Bool) : Type 0 where
   pub report : Report
   pub dated : IsDated dag intervals ledger report
   pub kept : IsShownReport report
   pub text_is : text ≡ report_text report
-  pub state : success ≡ list_all (λ run. is_success run.state) report.runs
+  pub state : success ≡ list_all (λ run. is_success_in run.state) report.runs
 
 -- the text is that of the recursion's report over the ledger of a backfill, each of whose tries has the grade of an answer that may
 -- come; and whether every run of it is a success
@@ -44,7 +44,7 @@ pub record IsReportBy (may_answer : JobName → Given → Raw → Type 0) (dag :
 
 -- so it is where the kept tries stand as they are kept, and every other has the grade of an answer that may come; so where those
 -- that are kept have such a grade, all have
-pub record IsReportFrom (kept : Look) (may_answer : JobName → Given → Raw → Type 0) (dag : Dag) (intervals : List Interval) (text : List ℕ) (success : Bool) : Type 0 where
+pub record IsReportFrom (kept : Ledger) (may_answer : JobName → Given → Raw → Type 0) (dag : Dag) (intervals : List Interval) (text : List ℕ) (success : Bool) : Type 0 where
   pub ledger : finite.FinMap name_cmp Entry
   pub tries : HoldsItsTries dag (length intervals) (finite.get ledger)
   pub again : AreAlike kept (finite.get ledger)
@@ -56,7 +56,7 @@ pub record IsReportFrom (kept : Look) (may_answer : JobName → Given → Raw �
 
 -- the end of a backfill in which the kept tries stand as they are kept, every other has the grade of an answer that may come, as all
 -- have where the kept ones do, and no more tries ran at once than there are workers
-pub record IsEndFrom (kept : Look) (may_answer : JobName → Given → Raw → Type 0) (dag : Dag) (limits : Limits) (runs workers : ℕ) (ending : Ending) : Type 0 where
+pub record IsEndFrom (kept : Ledger) (may_answer : JobName → Given → Raw → Type 0) (dag : Dag) (limits : Limits) (runs workers : ℕ) (ending : Ending) : Type 0 where
   pub of : IsEndOf dag limits runs ending
   pub again : AreAlike kept (entry_in ending.state.ledger)
   pub anew : AreGradedAnew kept may_answer dag (entry_in ending.state.ledger)

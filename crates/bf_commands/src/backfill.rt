@@ -6,7 +6,7 @@ ghost use Rattle.bf_table.specs.Tables.{answer_of};
 ghost use Rattle.bf_device.specs.Device.{HasHalted};
 ghost use Rattle.bf_command_fault.specs.Refusal.{Leaves, Sends};
 ghost use Rattle.bf_commands.specs.Cleared.{IsStopOrWantingAnew, IsStopOrWantingFrom, MayAnswerBy};
-ghost use Rattle.bf_commands.specs.OverTable.{AnswersByTable, IsUnsent, IsWantingWorkers, answering, is_alone};
+ghost use Rattle.bf_commands.specs.OverTable.{AnswersByTable, IsUnsent, IsWantingWorkers, answering, is_alone_in};
 ghost use Rattle.bf_commands.specs.Reported.{IsEndFrom, IsReportFrom};
 
 use crate::crew::Crew;
@@ -85,7 +85,7 @@ fn ended_over_table<'p, RT: Screen + Threads + Wait + Clock + Sync, K: KeptTries
     ensures end { IfOk result (IsEndFrom (K.kept kept.now)
         (AnswersByTable plan.entry.now.dag table runs.now)
         plan.entry.now.dag plan.entry.now.limits (length runs.now) crew.now.workers) }
-    ensures wanting { IfErr result (IsWantingWorkers (is_alone crew.now.progress)) }
+    ensures wanting { IfErr result (IsWantingWorkers (is_alone_in crew.now.progress)) }
     ensures unsent { IfErr result IsUnsent }
 {
     let runner = runner_over(crew.alloc, plan, table, runs)?;
@@ -152,7 +152,7 @@ fn ended<'p, RT: Starter + Screen + Threads + Wait + Clock + Sync, K: KeptTries 
         (MayAnswerBy (through (launching_of crew.now.launching) (RT.may_hear crew.now.rt.now))
         answers plan.entry.now.dag runs.now)
         plan.entry.now.dag plan.entry.now.limits (length runs.now) crew.now.workers) }
-    ensures stop { IfErr result (IsStopOrWantingFrom (is_alone crew.now.progress) (K.kept kept.now)
+    ensures stop { IfErr result (IsStopOrWantingFrom (is_alone_in crew.now.progress) (K.kept kept.now)
         (launching_of crew.now.launching) (RT.may_lose crew.now.rt.now) answers plan.entry.now.dag
         runs.now) }
     ensures unsent { IfErr result IsUnsent }
@@ -182,7 +182,7 @@ pub(crate) fn write_backfill<
         (MayAnswerBy (through (launching_of crew.now.launching) (RT.may_hear crew.now.rt.now))
         answers plan.now.dag runs.now)
         plan.now.dag runs.now text success) (W.written out.old) (W.written out.new)) }
-    ensures stop { IfErr result (IsStopOrWantingFrom (is_alone crew.now.progress) (K.kept kept.now)
+    ensures stop { IfErr result (IsStopOrWantingFrom (is_alone_in crew.now.progress) (K.kept kept.now)
         (launching_of crew.now.launching) (RT.may_lose crew.now.rt.now) answers plan.now.dag
         runs.now) }
     ensures left { IfErr result (Leaves (HasHalted (W.failures out.old) (W.failures out.new)

@@ -9,7 +9,7 @@ ghost use Rattle.bf_commands.specs.Cleared.{AreAnswersIn, IsFaultAgain, IsFaultB
 ghost use Rattle.bf_journal.specs.Heads.{head_text};
 ghost use Rattle.bf_journal.specs.Left.{KeepsJournal};
 ghost use Rattle.bf_commands.specs.Journaled.{IsClearedBy, IsFaultSince, IsReportSince};
-ghost use Rattle.bf_commands.specs.OverTable.{is_alone};
+ghost use Rattle.bf_commands.specs.OverTable.{is_alone_in};
 ghost use Rattle.bf_planning.specs.Clocks.{clocks_in};
 ghost use Rattle.bf_commands.specs.Programs.{launched_in, with_clocks};
 
@@ -123,7 +123,7 @@ pub fn run_again<RT: Starter + Screen + Threads + Wait + Clock + Sync, W: Write>
         (RT.may_hear crew.now.rt.now))
         prepared.answers prepared.dated.plan.dag prepared.dated.runs report what text success)
         (W.written out.old) (W.written out.new)) }
-    ensures fault { IfErr result (IsFaultAgain (is_alone crew.now.progress)
+    ensures fault { IfErr result (IsFaultAgain (is_alone_in crew.now.progress)
         (with_clocks (launching_of crew.now.launching) (clocks_in prepared.dated))
         (RT.may_lose crew.now.rt.now)
         prepared.answers prepared.dated.plan.dag prepared.dated.runs report what) }

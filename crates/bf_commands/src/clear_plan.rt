@@ -4,7 +4,7 @@ ghost use Rattle.std.specs.List.{flat_map};
 ghost use Rattle.bf_command_fault.specs.Refusal.{Leaves, Sends};
 ghost use Rattle.bf_device.specs.Device.{HasHalted};
 ghost use Rattle.bf_commands.specs.Cleared.{IsUncleared};
-ghost use Rattle.bf_commands.specs.Planned.{begins_run as run_begins, begins_task as task_begins, cleared_line, place_before as before, runs_in, sum_line, tasks_in, IsClearPlan, IsFaultOfClearPlan};
+ghost use Rattle.bf_commands.specs.Planned.{begins_run_in, begins_task_in, cleared_line, place_before_in, runs_in, sum_line, tasks_in, IsClearPlan, IsFaultOfClearPlan};
 
 use crate::cleared::{ToClear, kept_of, places_to_clear};
 use crate::heading::headings_of;
@@ -40,7 +40,7 @@ fn lines_of(alloc: Global, cleared: &[ClearedTask]) -> Result<String, OutOfMemor
 }
 
 fn place_before(places: &[Place], place: usize) -> Option<&Place>
-    ensures { option_copied result ≡ before places.now place }
+    ensures { option_copied result ≡ place_before_in places.now place }
 {
     if place == 0 {
         return None;
@@ -49,7 +49,7 @@ fn place_before(places: &[Place], place: usize) -> Option<&Place>
 }
 
 fn begins_run(places: &[Place], place: usize) -> bool
-    ensures { result ≡ run_begins places.now place }
+    ensures { result ≡ begins_run_in places.now place }
 {
     match (place_before(places, place), places.get(place)) {
         (Some(one), Some(other)) => one.run != other.run,
@@ -58,7 +58,7 @@ fn begins_run(places: &[Place], place: usize) -> bool
 }
 
 fn begins_task(places: &[Place], place: usize) -> bool
-    ensures { result ≡ task_begins places.now place }
+    ensures { result ≡ begins_task_in places.now place }
 {
     match (place_before(places, place), places.get(place)) {
         (Some(one), Some(other)) => !(one.run == other.run && one.task == other.task),

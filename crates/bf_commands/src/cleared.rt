@@ -2,7 +2,7 @@
 ghost use Rattle.std.specs.Prelude.{◌≡◌, None, IfErr, IfOk, length};
 ghost use Rattle.bf_kept.specs.Kept.{AreFit};
 ghost use Rattle.bf_dependents.specs.Dependents.{AreDependents};
-ghost use Rattle.bf_dependents.specs.Seeds.{places_of as places_in, seed_fault};
+ghost use Rattle.bf_dependents.specs.Seeds.{places_in, seed_fault};
 ghost use Rattle.bf_clear.specs.Keeping.{kept_in};
 ghost use Rattle.bf_clear.specs.Matching.{refusal};
 ghost use Rattle.bf_commands.specs.Cleared.{report_fault, AreCleared, AreKeptFor, IsUnknown, IsUnknownNamed};

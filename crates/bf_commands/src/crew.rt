@@ -2,7 +2,7 @@
 ghost use Rattle.std.specs.Prelude.{◌≡◌, IfOk, IfErr, length};
 ghost use Rattle.bf_exec.specs.Faults.{MayFail};
 ghost use Rattle.bf_kept.specs.Kept.{AreFit, MayGiveUpAnew};
-ghost use Rattle.bf_commands.specs.OverTable.{is_alone as alone_by};
+ghost use Rattle.bf_commands.specs.OverTable.{is_alone_in};
 ghost use Rattle.bf_commands.specs.Reported.{IsEndFrom};
 
 use crate::progress::Noting;
@@ -135,7 +135,7 @@ impl<'m, RT> Crew<'m, RT> {
     /// Whether the calling thread makes the tries that a table answers. To hand one to a worker takes longer than to answer it, so workers are started
     /// only where progress is told beside them.
     pub(crate) fn is_alone(&self) -> bool
-        ensures { result ≡ alone_by self.now.progress }
+        ensures { result ≡ is_alone_in self.now.progress }
     {
         !self.progress
     }

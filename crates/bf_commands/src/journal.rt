@@ -1,6 +1,6 @@
 //! The journal of a backfill: what is kept of it, and what stands in it when the first try begins.
 ghost use Rattle.std.specs.Prelude.{◌≡◌, IfErr, IfOk};
-ghost use Rattle.std.specs.FinMap as map;
+ghost use Rattle.std.specs.FinMap;
 ghost use Rattle.bf_kept.specs.Kept.{AreFit};
 ghost use Rattle.bf_journal.specs.Heads.{head_text};
 ghost use Rattle.bf_journal.specs.Left.{IsLeftPart, IsMadeWhole};
@@ -38,13 +38,13 @@ pub(crate) fn tries_of<RT: Screen, D: Cuttable + Drop>(
     journal: &mut Journal<D>,
 ) -> Result<Ledger, CommandFault>
     ensures tries { IfOk result (λ tries. HasTries plan.now.dag runs.now cleared.now
-        journal.old.held.items (map.get tries)) }
-    ensures fit { IfOk result (λ tries. AreFit plan.now.dag (map.get tries)) }
+        journal.old.held.items (FinMap.get tries)) }
+    ensures fit { IfOk result (λ tries. AreFit plan.now.dag (FinMap.get tries)) }
     ensures fault { IfErr result (IsFaultOfJournal plan.now.dag runs.now cleared.now
         journal.old.held.items) }
     ensures made_whole { IfOk result
         (λ tries. IsMadeWhole plan.now.dag runs.now (head_text plan.now.dag runs.now cleared.now)
-        journal.old.held.items (map.get tries) (D.written journal.old.device)
+        journal.old.held.items (FinMap.get tries) (D.written journal.old.device)
         (D.written journal.new.device)) }
     ensures part { IfErr result (λ _. IsLeftPart (head_text plan.now.dag runs.now cleared.now)
         journal.old.held.items (D.written journal.old.device) (D.written journal.new.device)) }

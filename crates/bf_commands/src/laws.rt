@@ -1,17 +1,17 @@
 //! What holds of the definitions. These functions do nothing: their contracts are the laws.
 ghost use Rattle.std.specs.Prelude.{◌≡◌, ℕ, Bool, List, Option, Ok};
-ghost use Rattle.jiff.specs.declared.timestamp.Timestamp.{Timestamp as TimestampTerm};
-ghost use Rattle.bf_plan.specs.declared.plan.Dag.{Dag as DagTerm};
+ghost use Rattle.jiff.specs.declared.timestamp.Timestamp.{Timestamp};
+ghost use Rattle.bf_plan.specs.declared.plan.Dag.{Dag};
 ghost use Rattle.bf_plan.specs.Sound.{IsNamed, IsSound};
-ghost use Rattle.bf_interval.specs.declared.interval.Interval.{Interval as IntervalTerm};
+ghost use Rattle.bf_interval.specs.declared.interval.Interval.{Interval};
 ghost use Rattle.bf_interval.specs.Runs.{AreOfRuns};
-ghost use Rattle.bf_try.specs.Tries.{Look};
+ghost use Rattle.bf_try.specs.Tries.{Ledger};
 ghost use Rattle.bf_core.specs.Answered.{AreGraded};
-ghost use Rattle.bf_table.specs.declared.table.TableEntry.{TableEntry as TableEntryTerm};
+ghost use Rattle.bf_table.specs.declared.table.TableEntry.{TableEntry};
 ghost use Rattle.bf_journal.specs.Heads.{head_text};
 ghost use Rattle.bf_journal.specs.Left.{IsLeftByCrashes};
 ghost use Rattle.bf_commands.specs.DatedRuns.{IsReportIn};
-ghost use Rattle.bf_planning.specs.declared.range.RunRange.{RunRange as RunRangeTerm};
+ghost use Rattle.bf_planning.specs.declared.range.RunRange.{RunRange};
 ghost use Rattle.bf_commands.specs.Journaled.{Heading, IsReportSince};
 ghost use Rattle.bf_planning.specs.Lists.{HasListing};
 ghost use Rattle.bf_commands.specs.OneRun.{IsReportAt};
@@ -22,15 +22,15 @@ use bf_try::TaskRunner;
 
 /// A graph file, a zone file and a range have one listing.
 pub fn one_list()
-    ensures { (graph : List ℕ) (file : Option (List ℕ)) (range : RunRangeTerm)
-        (xs ys : List IntervalTerm)
+    ensures { (graph : List ℕ) (file : Option (List ℕ)) (range : RunRange)
+        (xs ys : List Interval)
         → HasListing graph file range (Ok xs) → HasListing graph file range (Ok ys) → xs ≡ ys }
 {}
 
 /// A plan, a table and data intervals have one report, whatever the order in which the tries ran.
 pub fn one_report()
-    ensures { (dag : DagTerm) → IsSound dag
-        → (table : List TableEntryTerm) (intervals : List IntervalTerm) (one two : List ℕ)
+    ensures { (dag : Dag) → IsSound dag
+        → (table : List TableEntry) (intervals : List Interval) (one two : List ℕ)
         (success other : Bool)
         → IsReportOver dag table intervals one success → IsReportOver dag table intervals two other
         → (one ≡ two) × (success ≡ other) }
@@ -39,7 +39,7 @@ pub fn one_report()
 /// The bytes of a graph file, of a zone file and of a table, and a range, have one report. So what `dry` prints rests on them
 /// alone, and not on how many workers there are.
 pub fn one_dry_report()
-    ensures { (graph : List ℕ) (file : Option (List ℕ)) (table : List ℕ) (range : RunRangeTerm)
+    ensures { (graph : List ℕ) (file : Option (List ℕ)) (table : List ℕ) (range : RunRange)
         (one two : List ℕ) (success other : Bool)
         → IsReportIn graph file table range one success
         → IsReportIn graph file table range two other
@@ -48,7 +48,7 @@ pub fn one_dry_report()
 
 /// So it is with a moment, and what `single` prints.
 pub fn one_single_report()
-    ensures { (graph : List ℕ) (file : Option (List ℕ)) (table : List ℕ) (at : TimestampTerm)
+    ensures { (graph : List ℕ) (file : Option (List ℕ)) (table : List ℕ) (at : Timestamp)
         (one two : List ℕ) (success other : Bool)
         → IsReportAt graph file table at one success → IsReportAt graph file table at two other
         → (one ≡ two) × (success ≡ other) }
@@ -58,9 +58,9 @@ pub fn one_single_report()
 /// one that a backfill from nothing may write, where what was kept before it could have been answered too. (What a command leaves
 /// in its journal is again what crashes leave, and so is each beginning of that.)
 pub fn crashes_change_no_report<R: TaskRunner>(runner: &R)
-    ensures { (dag : DagTerm) (intervals : List IntervalTerm) → IsNamed dag → AreOfRuns intervals
+    ensures { (dag : Dag) (intervals : List Interval) → IsNamed dag → AreOfRuns intervals
         → (cleared : Heading)
-        → (before : Look) → AreGraded (R.may_answer runner.now) dag before
+        → (before : Ledger) → AreGraded (R.may_answer runner.now) dag before
         → (retry : Bool) (held : List ℕ)
         → IsLeftByCrashes (R.may_answer runner.now) dag intervals (head_text dag intervals cleared)
         held → (text : List ℕ) (success : Bool)

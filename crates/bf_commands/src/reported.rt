@@ -5,7 +5,7 @@ ghost use Rattle.bf_core.specs.Events.{entry_in};
 ghost use Rattle.bf_device.specs.Device.{HasHalted};
 ghost use Rattle.bf_command_fault.specs.Refusal.{Leaves, Sends};
 ghost use Rattle.bf_planning.specs.Wanting.{IsWanting};
-ghost use Rattle.bf_commands.specs.Reported.{IsReportOf, is_success as succeeds};
+ghost use Rattle.bf_commands.specs.Reported.{IsReportOf, is_success_in};
 
 use bf_command_fault::CommandFault;
 use bf_core::Ended;
@@ -16,13 +16,13 @@ use bf_xcom::RunState;
 use std::alloc::Global;
 
 fn has_succeeded(run: &RunReport) -> bool
-    ensures { result ≡ succeeds run.now.state }
+    ensures { result ≡ is_success_in run.now.state }
 {
     matches!(run.state, RunState::Success)
 }
 
 fn all_succeeded(runs: &[RunReport]) -> bool
-    ensures { result ≡ list_all (λ run. succeeds run.state) runs.now }
+    ensures { result ≡ list_all (λ run. is_success_in run.state) runs.now }
 {
     runs.iter().all(|run| has_succeeded(run))
 }

@@ -4,7 +4,7 @@ use Rattle.std.specs.List.{count_by}
 use Rattle.std.proofs.lemmas.List.{set_past}
 use Rattle.std.proofs.lemmas.List.Sums.{count_by-le-length, sum_by-cons, sum_by-set}
 use Rattle.bf_core.specs.Terms.{Cell, Dag, Event, Limits, Run, RunPhase, State}
-use Rattle.bf_core.specs.Events.{no_run, after, empty_runs, is_open, next_run, open_now, phase_in, phase_of, phase_put_in, put, put_in, undecided_cells, with_phase, IsEnabled}
+use Rattle.bf_core.specs.Events.{no_run, after, empty_runs_of, is_open, next_run, open_now, phase_in, phase_of, phase_put_in, put, put_in, undecided_cells_of, with_phase, IsEnabled}
 use Rattle.bf_core.proofs.NextRun.{next-there}
 use Rattle.bf_core.proofs.Pools.{decide_in}
 use Rattle.bf_core.proofs.Shape.{open-run}
@@ -69,10 +69,10 @@ active-after dag limits s (Event.End m o) able = put-active s m.run m.task _
 active-after dag limits s (Event.Close k) able = omega (arith, closed-active s k able.0)
 active-after dag limits s (Event.Tick m) able = refl
 
-pub none-active : (tasks n : ℕ) → count_by (λ (r : Run). is_open r.phase) (empty_runs tasks n) ≡ 0
+pub none-active : (tasks n : ℕ) → count_by (λ (r : Run). is_open r.phase) (empty_runs_of tasks n) ≡ 0
 unfolding one_open
 none-active tasks zero = refl
 none-active tasks (suc n) =
-    let e : _ = sum_by-cons (λ (r : Run). one_open r.phase) (record { phase = RunPhase.Unopened; cells = undecided_cells tasks }) (empty_runs tasks n) in
+    let e : _ = sum_by-cons (λ (r : Run). one_open r.phase) (record { phase = RunPhase.Unopened; cells = undecided_cells_of tasks }) (empty_runs_of tasks n) in
     let none : one_open RunPhase.Unopened ≡ 0 = refl in
     omega (arith, e, none, none-active tasks n)

@@ -2,8 +2,8 @@
 use Rattle.std.proofs.Common.{◌≡◌, ◌≢◌, ℕ, ◌&&◌, ◌||◌, not, Bool, true, false, List, [], ◌∷◌, Option, None, Some, is_some, refl, ap, inl, inr}
 use Rattle.std.specs.List.{list_all, AllByRecursion}
 use Rattle.std.proofs.lemmas.Bool.{and_parts}
-use Rattle.bf_core.specs.Terms.{map_index, Dag, Task, task_of, Verdict, is_waiting, Outcome, JobName, name_of, is_failed, TaskValue, State, Cell, Instance, is_branch}
-use Rattle.bf_core.specs.Deciding.{Seen, settled, lets_decide, ruling, and_then_past, gate, decision}
+use Rattle.bf_core.specs.Terms.{map_index, Dag, Task, task_of, Verdict, is_waiting, Outcome, JobName, name_of, is_failed, TaskValue, State, Cell, Instance, is_branch_in}
+use Rattle.bf_core.specs.Deciding.{Seen, settled, lets_decide_in, ruling_of, and_then_past, gate_of, decision}
 use Rattle.bf_core.specs.Events.{cell_at, put, instance_of, value_in}
 use Rattle.bf_core.proofs.Decisions.{AllKnown}
 use Rattle.bf_core.proofs.Reading.{put-cases}
@@ -13,22 +13,22 @@ pub all_of : (P Q : ℕ → Type 0) → ((u : ℕ) → P u → Q u) → (us : Li
 all_of P Q h [] all = tt
 all_of P Q h (u ∷ us) all = (h u all.0, all_of P Q h us all.1)
 
-pub ruled : (dag : Dag) (seen : ℕ → Seen) (t : ℕ) → list_all (lets_decide dag (task_of dag t) seen) (task_of dag t).upstreams ≡ false → ruling dag seen t ≡ Verdict.Wait
-unfolding ruling
+pub ruled : (dag : Dag) (seen : ℕ → Seen) (t : ℕ) → list_all (lets_decide_in dag (task_of dag t) seen) (task_of dag t).upstreams ≡ false → ruling_of dag seen t ≡ Verdict.Wait
+unfolding ruling_of
 ruled dag seen t e = rw e
 
-pub lets : (dag : Dag) (k : ℕ) (seen : ℕ → Seen) (p : Option TaskValue) (t : ℕ) → gate dag k seen p t ≢ Verdict.Wait →
-    list_all (lets_decide dag (task_of dag t) seen) (task_of dag t).upstreams ≡ true
-unfolding gate
-lets dag k seen p t decides = go (list_all (lets_decide dag (task_of dag t) seen) (task_of dag t).upstreams) refl
+pub lets : (dag : Dag) (k : ℕ) (seen : ℕ → Seen) (p : Option TaskValue) (t : ℕ) → gate_of dag k seen p t ≢ Verdict.Wait →
+    list_all (lets_decide_in dag (task_of dag t) seen) (task_of dag t).upstreams ≡ true
+unfolding gate_of
+lets dag k seen p t decides = go (list_all (lets_decide_in dag (task_of dag t) seen) (task_of dag t).upstreams) refl
   where
-    go : (b : Bool) → list_all (lets_decide dag (task_of dag t) seen) (task_of dag t).upstreams ≡ b → list_all (lets_decide dag (task_of dag t) seen) (task_of dag t).upstreams ≡ true
+    go : (b : Bool) → list_all (lets_decide_in dag (task_of dag t) seen) (task_of dag t).upstreams ≡ b → list_all (lets_decide_in dag (task_of dag t) seen) (task_of dag t).upstreams ≡ true
     go true e = e
     go false e = absurd (decides (ap (and_then_past dag k p t) (ruled dag seen t e)))
 
-pub waited : (dag : Dag) (task : Task) (seen : ℕ → Seen) → is_waiting task.rule ≡ true → (us : List ℕ) → list_all (lets_decide dag task seen) us ≡ true → AllKnown seen us
+pub waited : (dag : Dag) (task : Task) (seen : ℕ → Seen) → is_waiting task.rule ≡ true → (us : List ℕ) → list_all (lets_decide_in dag task seen) us ≡ true → AllKnown seen us
 waited dag task seen w [] e = tt
-waited dag task seen w (u ∷ us) e = (one (is_some (seen u).value) (is_branch (task_of dag u)) (and_parts _ _ e).0, waited dag task seen w us (and_parts _ _ e).1)
+waited dag task seen w (u ∷ us) e = (one (is_some (seen u).value) (is_branch_in (task_of dag u)) (and_parts _ _ e).0, waited dag task seen w us (and_parts _ _ e).1)
   where
     one : (a b : Bool) → (a || (not (is_waiting task.rule) && not b)) ≡ true → a ≡ true
     one true b h = refl

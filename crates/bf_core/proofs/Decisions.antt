@@ -2,8 +2,8 @@
 use Rattle.std.proofs.Common.{◌≡◌, ◌≢◌, ℕ, Bool, true, false, not, ◌&&◌, ◌||◌, ◌==◌, if◌then◌else◌, List, [], ◌∷◌, map, Option, None, Some, is_some, option_and_then, refl, sym, ap, ap₂, ◌∙◌, arith}
 use Rattle.std.specs.List.{list_any, list_all, AllByRecursion}
 use Rattle.std.proofs.lemmas.Bool.{and_parts, and_from}
-use Rattle.bf_core.specs.Terms.{Dag, Task, task_of, Xval, Verdict, verdict, TaskValue, pull, items, is_branch}
-use Rattle.bf_core.specs.Deciding.{Seen, lets_decide, branch_is, ruling, counts_over, past_ruling, and_then_past, Decision, pull_seen, pulled, instances, mapped, after_verdict, gate, decision, branch_skips, is_blocked}
+use Rattle.bf_core.specs.Terms.{Dag, Task, task_of, Xval, Verdict, verdict, TaskValue, pull_of, items, is_branch_in}
+use Rattle.bf_core.specs.Deciding.{Seen, lets_decide_in, branch_is, ruling_of, counts_over, past_ruling, and_then_past, Decision, pull_seen, pulled, instances_of, mapped, after_verdict, gate_of, decision, branch_skips, is_blocked_in}
 use Rattle.bf_rule.specs.Verdicts.{IsLater}
 use Rattle.bf_rule.proofs.Later.{add-later, verdict-stable}
 
@@ -21,24 +21,24 @@ known-later None (Some w) c stays e = refl
 known-later (Some v) b c stays e = rw (stays v refl)
 
 all-later : (dag : Dag) (task : Task) (a b : ℕ → Seen) → ((u : ℕ) → IsSeenLater (a u) (b u)) → (us : List ℕ) →
-    list_all (lets_decide dag task a) us ≡ true → list_all (lets_decide dag task b) us ≡ true
+    list_all (lets_decide_in dag task a) us ≡ true → list_all (lets_decide_in dag task b) us ≡ true
 all-later dag task a b later [] e = refl
 all-later dag task a b later (u ∷ us) e =
     and_from _ _ (known-later (a u).value (b u).value _ (later u).value (and_parts _ _ e).0) (all-later dag task a b later us (and_parts _ _ e).1)
 
 -- what is asked of a branch is the same, once it is settled
 branch-same : (dag : Dag) (p : TaskValue → Bool) (u : ℕ) (w : Bool) (a b : Option TaskValue) → StaysKnown a b →
-    (is_some a || (not w && not (is_branch (task_of dag u)))) ≡ true → branch_is dag p u a ≡ branch_is dag p u b
+    (is_some a || (not w && not (is_branch_in (task_of dag u)))) ≡ true → branch_is dag p u a ≡ branch_is dag p u b
 branch-same dag p u w (Some v) b stays e = rw (stays v refl)
 branch-same dag p u w None None stays e = refl
-branch-same dag p u w None (Some v) stays e = go (is_branch (task_of dag u)) (and_parts (not w) _ e).1
+branch-same dag p u w None (Some v) stays e = go (is_branch_in (task_of dag u)) (and_parts (not w) _ e).1
   where
     go : (x : Bool) → not x ≡ true → false ≡ (x && p v)
     go true h = cc
     go false h = refl
 
 any-same : (dag : Dag) (task : Task) (p : ℕ → TaskValue → Bool) (a b : ℕ → Seen) → ((u : ℕ) → IsSeenLater (a u) (b u)) → (us : List ℕ) →
-    list_all (lets_decide dag task a) us ≡ true →
+    list_all (lets_decide_in dag task a) us ≡ true →
     list_any (λ u. branch_is dag (p u) u (a u).value) us ≡ list_any (λ u. branch_is dag (p u) u (b u).value) us
 any-same dag task p a b later [] e = refl
 any-same dag task p a b later (u ∷ us) e =
@@ -63,16 +63,16 @@ lines-stable true n s t b c v w same stable decides = rw ((same refl).0, ← (sa
     go false false d = stable d
 
 pub ruling-stable : (dag : Dag) (a b : ℕ → Seen) (t : ℕ) → ((u : ℕ) → IsSeenLater (a u) (b u)) →
-    ruling dag a t ≢ Verdict.Wait → ruling dag a t ≡ ruling dag b t
-unfolding lines ruling
+    ruling_of dag a t ≢ Verdict.Wait → ruling_of dag a t ≡ ruling_of dag b t
+unfolding lines ruling_of
 ruling-stable dag a b t later decides =
     let us : List ℕ = (task_of dag t).upstreams in
     let task : Task = task_of dag t in
-    lines-stable (list_all (lets_decide dag task a) us) (list_all (lets_decide dag task b) us)
+    lines-stable (list_all (lets_decide_in dag task a) us) (list_all (lets_decide_in dag task b) us)
     (list_any (λ u. branch_is dag (branch_skips dag t u) u (a u).value) us) (list_any (λ u. branch_is dag (branch_skips dag t u) u (b u).value) us)
-    (list_any (λ u. branch_is dag is_blocked u (a u).value) us) (list_any (λ u. branch_is dag is_blocked u (b u).value) us)
+    (list_any (λ u. branch_is dag is_blocked_in u (a u).value) us) (list_any (λ u. branch_is dag is_blocked_in u (b u).value) us)
     (verdict task.rule (counts_over a us)) (verdict task.rule (counts_over b us))
-    (λ e. (all-later dag task a b later us e, any-same dag task (λ u. branch_skips dag t u) a b later us e, any-same dag task (λ u. is_blocked) a b later us e))
+    (λ e. (all-later dag task a b later us e, any-same dag task (λ u. branch_skips dag t u) a b later us e, any-same dag task (λ u. is_blocked_in) a b later us e))
     (verdict-stable task.rule _ _ (counts-later a b later us))
     decides
 
@@ -93,10 +93,10 @@ waits-anyway : (dag : Dag) (k t : ℕ) (p : Option TaskValue) (v : Verdict) → 
 waits-anyway dag k t p v e = rw e
 
 pub gate-stable : (dag : Dag) (k : ℕ) (a b : ℕ → Seen) (p q : Option TaskValue) (t : ℕ) → ((u : ℕ) → IsSeenLater (a u) (b u)) → StaysKnown p q →
-    gate dag k a p t ≢ Verdict.Wait → gate dag k a p t ≡ gate dag k b q t
-unfolding gate
+    gate_of dag k a p t ≢ Verdict.Wait → gate_of dag k a p t ≡ gate_of dag k b q t
+unfolding gate_of
 gate-stable dag k a b p q t later stays decides =
-    then_past-stable dag k t p q stays (ruling dag a t) decides
+    then_past-stable dag k t p q stays (ruling_of dag a t) decides
     ∙ ap (and_then_past dag k q t) (ruling-stable dag a b t later (λ e. decides (waits-anyway dag k t p _ e)))
 
 -- ---- the instances
@@ -113,7 +113,7 @@ pulled-same : (dag : Dag) (a b : ℕ → Seen) → ((u : ℕ) → IsSeenLater (a
     map (pull_seen dag a) ps ≡ map (pull_seen dag b) ps
 pulled-same dag a b later [] known = refl
 pulled-same dag a b later (p ∷ ps) known =
-    ap₂ (λ x xs. option_and_then (pull (task_of dag p)) x ∷ xs) (same_value (a p).value (b p).value (later p).value known.0) (pulled-same dag a b later ps known.1)
+    ap₂ (λ x xs. option_and_then (pull_of (task_of dag p)) x ∷ xs) (same_value (a p).value (b p).value (later p).value known.0) (pulled-same dag a b later ps known.1)
 
 from_source : (dag : Dag) → List (Option Xval) → ℕ → Option TaskValue → Decision
 from_source dag pulls source None = Decision.Wait
@@ -126,7 +126,7 @@ from_source-stable dag pulls source None b stays decides = absurd (decides refl)
 from_source-stable dag pulls source (Some v) b stays decides = rw (stays v refl)
 
 instances-stable : (dag : Dag) (a b : ℕ → Seen) → ((u : ℕ) → IsSeenLater (a u) (b u)) → (pulls : List (Option Xval)) (expand : Option ℕ) →
-    instances dag a pulls expand ≢ Decision.Wait → instances dag a pulls expand ≡ instances dag b pulls expand
+    instances_of dag a pulls expand ≢ Decision.Wait → instances_of dag a pulls expand ≡ instances_of dag b pulls expand
 unfolding from_source
 instances-stable dag a b later pulls None decides = refl
 instances-stable dag a b later pulls (Some source) decides = from_source-stable dag pulls source (a source).value (b source).value (later source).value decides
@@ -137,14 +137,14 @@ after-stable : (dag : Dag) (a b : ℕ → Seen) (t : ℕ) → ((u : ℕ) → IsS
 after-stable dag a b t later Verdict.Wait known decides = refl
 after-stable dag a b t later Verdict.Run known decides =
     instances-stable dag a b later (pulled dag a t) (task_of dag t).expand decides
-    ∙ ap (λ x. instances dag b x (task_of dag t).expand) (pulled-same dag a b later (task_of dag t).pulls (known (λ e. cc)))
+    ∙ ap (λ x. instances_of dag b x (task_of dag t).expand) (pulled-same dag a b later (task_of dag t).pulls (known (λ e. cc)))
 after-stable dag a b t later _ known decides = refl
 
 -- a decision that doesn't wait is the same over what is known later, where what the task pulls from is settled if it runs
 pub decision-stable : (dag : Dag) (k : ℕ) (a b : ℕ → Seen) (p q : Option TaskValue) (t : ℕ) →
-    ((u : ℕ) → IsSeenLater (a u) (b u)) → StaysKnown p q → (gate dag k a p t ≢ Verdict.Wait → AllKnown a (task_of dag t).pulls) →
+    ((u : ℕ) → IsSeenLater (a u) (b u)) → StaysKnown p q → (gate_of dag k a p t ≢ Verdict.Wait → AllKnown a (task_of dag t).pulls) →
     decision dag k a p t ≢ Decision.Wait → decision dag k a p t ≡ decision dag k b q t
 unfolding decision
 decision-stable dag k a b p q t later stays pulls decides =
-    after-stable dag a b t later (gate dag k a p t) pulls decides
+    after-stable dag a b t later (gate_of dag k a p t) pulls decides
     ∙ ap (after_verdict dag b t) (gate-stable dag k a b p q t later stays (λ e. decides (rw e)))

@@ -1,18 +1,18 @@
 -- A deeper recursion changes nothing, so the value of a task is made of the values of the others.
 use Rattle.std.proofs.Common.{◌≡◌, ℕ, suc, zero, ◌<◌, ◌≤◌, Bool, not, ◌&&◌, ◌||◌, List, [], ◌∷◌, length, map, Option, None, Some, is_some, option_and_then, refl, ap, ap₂, ◌∙◌, arith, inl, inr}
 use Rattle.std.specs.List.{list_any, list_all, AllByRecursion}
-use Rattle.bf_core.specs.Terms.{is_waiting, Dag, Task, task_of, Xval, Verdict, Ledger, TaskValue, pull, items, IsOneOf, IsSettledAncestor, Direct, Above, IsSound, add, is_branch}
-use Rattle.bf_core.specs.Deciding.{Seen, settled, lets_decide, branch_is, branch_skips, is_blocked, ruling, counts_over, Decision, pull_seen, pulled, instances, mapped, after_verdict, and_then_past, gate, decision}
+use Rattle.bf_core.specs.Terms.{is_waiting, Dag, Task, task_of, Xval, Verdict, Ledger, TaskValue, pull_of, items, IsOneOf, IsSettledAncestor, Direct, Above, IsSound, add, is_branch_in}
+use Rattle.bf_core.specs.Deciding.{Seen, settled, lets_decide_in, branch_is, branch_skips, is_blocked_in, ruling_of, counts_over, Decision, pull_seen, pulled, instances_of, mapped, after_verdict, and_then_past, gate_of, decision}
 use Rattle.bf_core.specs.Recursion.{value_of, out_to, out, before, decided}
 
 -- two sights of the tasks of a list are the same
 abbrev pub SameOn : (ℕ → Seen) → (ℕ → Seen) → List ℕ → Type 0
 SameOn a b us = (u : ℕ) → IsOneOf us u → a u ≡ b u
 
-all-cong : (dag : Dag) (task : Task) (a b : ℕ → Seen) (us : List ℕ) → SameOn a b us → list_all (lets_decide dag task a) us ≡ list_all (lets_decide dag task b) us
+all-cong : (dag : Dag) (task : Task) (a b : ℕ → Seen) (us : List ℕ) → SameOn a b us → list_all (lets_decide_in dag task a) us ≡ list_all (lets_decide_in dag task b) us
 all-cong dag task a b [] same = refl
 all-cong dag task a b (u ∷ us) same =
-    ap₂ (λ x y. (is_some x.value || (not (is_waiting task.rule) && not (is_branch (task_of dag u)))) && y) (same u (inl refl)) (all-cong dag task a b us (λ v h. same v (inr h)))
+    ap₂ (λ x y. (is_some x.value || (not (is_waiting task.rule) && not (is_branch_in (task_of dag u)))) && y) (same u (inl refl)) (all-cong dag task a b us (λ v h. same v (inr h)))
 
 any-cong : (dag : Dag) (p : ℕ → TaskValue → Bool) (a b : ℕ → Seen) (us : List ℕ) → SameOn a b us →
     list_any (λ u. branch_is dag (p u) u (a u).value) us ≡ list_any (λ u. branch_is dag (p u) u (b u).value) us
@@ -26,20 +26,20 @@ counts-cong a b (u ∷ us) same = ap₂ (λ x y. add x.counts y) (same u (inl re
 
 pulls-cong : (dag : Dag) (a b : ℕ → Seen) (us : List ℕ) → SameOn a b us → map (pull_seen dag a) us ≡ map (pull_seen dag b) us
 pulls-cong dag a b [] same = refl
-pulls-cong dag a b (u ∷ us) same = ap₂ (λ x y. option_and_then (pull (task_of dag u)) x.value ∷ y) (same u (inl refl)) (pulls-cong dag a b us (λ v h. same v (inr h)))
+pulls-cong dag a b (u ∷ us) same = ap₂ (λ x y. option_and_then (pull_of (task_of dag u)) x.value ∷ y) (same u (inl refl)) (pulls-cong dag a b us (λ v h. same v (inr h)))
 
-pub ruling-cong : (dag : Dag) (a b : ℕ → Seen) (t : ℕ) → SameOn a b (task_of dag t).upstreams → ruling dag a t ≡ ruling dag b t
-unfolding ruling
+pub ruling-cong : (dag : Dag) (a b : ℕ → Seen) (t : ℕ) → SameOn a b (task_of dag t).upstreams → ruling_of dag a t ≡ ruling_of dag b t
+unfolding ruling_of
 ruling-cong dag a b t same =
     rw (
       all-cong dag (task_of dag t) a b (task_of dag t).upstreams same,
       any-cong dag (λ u. branch_skips dag t u) a b (task_of dag t).upstreams same,
-      any-cong dag (λ u. is_blocked) a b (task_of dag t).upstreams same,
+      any-cong dag (λ u. is_blocked_in) a b (task_of dag t).upstreams same,
       counts-cong a b (task_of dag t).upstreams same,
     )
 
 source-cong : (dag : Dag) (a b : ℕ → Seen) (pulls : List (Option Xval)) (expand : Option ℕ) → ((s : ℕ) → expand ≡ Some s → a s ≡ b s) →
-    instances dag a pulls expand ≡ instances dag b pulls expand
+    instances_of dag a pulls expand ≡ instances_of dag b pulls expand
 source-cong dag a b pulls None same = refl
 source-cong dag a b pulls (Some s) same =
     ap (λ x. go x.value) (same s refl)
@@ -50,14 +50,14 @@ source-cong dag a b pulls (Some s) same =
 after-cong : (dag : Dag) (a b : ℕ → Seen) (t : ℕ) (v : Verdict) → SameOn a b (task_of dag t).pulls → ((s : ℕ) → (task_of dag t).expand ≡ Some s → a s ≡ b s) →
     after_verdict dag a t v ≡ after_verdict dag b t v
 after-cong dag a b t Verdict.Run same source =
-    ap (λ x. instances dag a x (task_of dag t).expand) (pulls-cong dag a b (task_of dag t).pulls same) ∙ source-cong dag a b (pulled dag b t) (task_of dag t).expand source
+    ap (λ x. instances_of dag a x (task_of dag t).expand) (pulls-cong dag a b (task_of dag t).pulls same) ∙ source-cong dag a b (pulled dag b t) (task_of dag t).expand source
 after-cong dag a b t Verdict.Wait same source = refl
 after-cong dag a b t _ same source = refl
 
 -- a decision rests on the upstreams, the pulls, and the source, which is an upstream
 pub decision-cong : (dag : Dag) (k : ℕ) (a b : ℕ → Seen) (p : Option TaskValue) (t : ℕ) → IsSound dag →
     SameOn a b (task_of dag t).upstreams → SameOn a b (task_of dag t).pulls → decision dag k a p t ≡ decision dag k b p t
-unfolding decision gate
+unfolding decision gate_of
 decision-cong dag k a b p t sound ups pulls =
     ap (λ v. after_verdict dag a t (and_then_past dag k p t v)) (ruling-cong dag a b t ups)
     ∙ after-cong dag a b t _ pulls (λ s e. ups s (sound.source_is_upstream t s e))

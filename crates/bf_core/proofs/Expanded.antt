@@ -7,11 +7,11 @@ use Rattle.std.proofs.lemmas.Bool.{and_parts}
 use Rattle.bf_value.specs.declared.xval.Xval.TheVariants.{Nil, Flag, Int, Text, List as ListOf}
 use Rattle.bf_value.specs.Views.{xvals_of}
 use Rattle.bf_mapped.specs.Items.{items_of}
-use Rattle.bf_xcom.specs.Pulls.{pushed_alone}
+use Rattle.bf_xcom.specs.Pulls.{pushed_alone_in}
 use Rattle.bf_plan.specs.Plans.{no_task}
-use Rattle.bf_rule.specs.Branches.{names_downstreams}
-use Rattle.bf_try.specs.Grades.{gives_items, is_list_of_items, is_short, is_source, is_value_of_lines, most_items}
-use Rattle.bf_core.specs.Terms.{Cell, Dag, Instance, Items, Outcome, Phase, SourceValues, Task, TaskResult, TaskValue, Xval, fits, is_branch, items, pushed, shape_of, source_values, task_of}
+use Rattle.bf_rule.specs.Branches.{names_downstreams_in}
+use Rattle.bf_try.specs.Grades.{gives_items_in, is_list_of_items_in, is_short_in, is_source, is_value_of_lines_in, most_items}
+use Rattle.bf_core.specs.Terms.{Cell, Dag, Instance, Items, Outcome, Phase, SourceValues, Task, TaskResult, TaskValue, Xval, fits_in, is_branch_in, items, pushed_of, shape_of, source_values, task_of}
 use Rattle.bf_core.specs.Events.{cons_result, results, value_in}
 use Rattle.bf_core.specs.Few.{HasFitting, IsFew, IsFitting}
 use Rattle.bf_core.specs.Words.{pushed_by_first, pushed_by_one, pushed_in, sourced_from}
@@ -22,8 +22,8 @@ use Rattle.bf_core.proofs.Numbers.{le-from}
 -- ---- by instances
 
 -- each result has pushed what its instance has
-each-cons : (a : ℕ) (p : Phase) (o : Option (List TaskResult)) (values : List (Option Xval)) → ((ts : List TaskResult) → o ≡ Some ts → map pushed ts ≡ values) →
-    (rs : List TaskResult) → cons_result a p o ≡ Some rs → map pushed rs ≡ pushed_in p ∷ values
+each-cons : (a : ℕ) (p : Phase) (o : Option (List TaskResult)) (values : List (Option Xval)) → ((ts : List TaskResult) → o ≡ Some ts → map pushed_of ts ≡ values) →
+    (rs : List TaskResult) → cons_result a p o ≡ Some rs → map pushed_of rs ≡ pushed_in p ∷ values
 each-cons a (Phase.Finished o) (Some ts) values h [] e = cc
 each-cons a (Phase.Finished o) (Some ts) values h (r ∷ rs) e =
     let out : r.outcome ≡ o = cc in
@@ -33,7 +33,7 @@ each-cons a (Phase.Finished o) None values h rs e = cc
 each-cons a Phase.Waiting o values h rs e = cc
 each-cons a Phase.Running o values h rs e = cc
 
-each-pushed : (xs : List Instance) (rs : List TaskResult) → results xs ≡ Some rs → map pushed rs ≡ map pushed_by_one xs
+each-pushed : (xs : List Instance) (rs : List TaskResult) → results xs ≡ Some rs → map pushed_of rs ≡ map pushed_by_one xs
 each-pushed [] [] e = refl
 each-pushed [] (r ∷ rs) e = cc
 each-pushed (x ∷ xs) rs e = each-cons x.attempt x.phase (results xs) _ (each-pushed xs) rs e
@@ -43,7 +43,7 @@ either None one each = refl
 either (Some source) one each = refl
 
 source-of : (source : Task) (one : Option Xval) (each : List (Option Xval)) (o : Option (List TaskResult)) (f : Bool) → is_some o ≡ f →
-    ((rs : List TaskResult) → o ≡ Some rs → pushed_alone rs ≡ one) → ((rs : List TaskResult) → o ≡ Some rs → map pushed rs ≡ each) →
+    ((rs : List TaskResult) → o ≡ Some rs → pushed_alone_in rs ≡ one) → ((rs : List TaskResult) → o ≡ Some rs → map pushed_of rs ≡ each) →
     (if not f then None else (if is_none source.expand then Some (SourceValues.Pushed one) else Some (SourceValues.Each each))) ≡ option_map (source_values source) (option_map TaskValue.Ran o)
 source-of source one each None f e alone all = rw (← e)
 source-of source one each (Some rs) f e alone all =
@@ -102,17 +102,17 @@ source-in (x ∷ xs) (suc t) p e = go (is_source x.expand p) (source-in xs t p e
     go true h = refl
     go false h = h
 
-gives : (dag : Dag) (t p : ℕ) → (task_of dag t).expand ≡ Some p → (task_of dag p).expand ≡ None → gives_items dag p ≡ true
+gives : (dag : Dag) (t p : ℕ) → (task_of dag t).expand ≡ Some p → (task_of dag p).expand ≡ None → gives_items_in dag p ≡ true
 unfolding task_of
 gives dag t p e alone = ap (λ o. not (is_some o) && list_any (λ task. is_source task.expand p) dag.tasks) alone ∙ source-in dag.tasks t p e
 
-few-list : (dag : Dag) (p : ℕ) (v : Option Xval) → fits dag p (Outcome.Success v) ≡ true → gives_items dag p ≡ true → is_list_of_items v ≡ true
-unfolding fits
+few-list : (dag : Dag) (p : ℕ) (v : Option Xval) → fits_in dag p (Outcome.Success v) ≡ true → gives_items_in dag p ≡ true → is_list_of_items_in v ≡ true
+unfolding fits_in
 few-list dag p v e h =
-    or-else (gives_items dag p) (is_list_of_items v)
-    (and_parts (not (is_branch (task_of dag p)) || names_downstreams (shape_of dag) p v) _ (and_parts (is_short v) _ (and_parts (is_value_of_lines v) _ e).1).1).1 h
+    or-else (gives_items_in dag p) (is_list_of_items_in v)
+    (and_parts (not (is_branch_in (task_of dag p)) || names_downstreams_in (shape_of dag) p v) _ (and_parts (is_short_in v) _ (and_parts (is_value_of_lines_in v) _ e).1).1).1 h
 
-few-pushed : (v : Option Xval) → is_list_of_items v ≡ true → AreFewItems (items_of (SourceValues.Pushed v))
+few-pushed : (v : Option Xval) → is_list_of_items_in v ≡ true → AreFewItems (items_of (SourceValues.Pushed v))
 few-pushed None e = tt
 few-pushed (Some Nil) e = tt
 few-pushed (Some (Flag b)) e = tt
@@ -121,19 +121,19 @@ few-pushed (Some (Text t)) e = tt
 few-pushed (Some (ListOf values)) e = le-from (length (xvals_of values)) most_items e
 
 -- the one instance of a source has finished with a list of few, or with no value
-few-first : (dag : Dag) (p : ℕ) (q : Phase) → IsFitting dag p q → gives_items dag p ≡ true → AreFewItems (items_of (SourceValues.Pushed (pushed_in q)))
+few-first : (dag : Dag) (p : ℕ) (q : Phase) → IsFitting dag p q → gives_items_in dag p ≡ true → AreFewItems (items_of (SourceValues.Pushed (pushed_in q)))
 few-first dag p (Phase.Finished (Outcome.Success v)) fit h = few-pushed v (few-list dag p v fit h)
 few-first dag p (Phase.Finished Outcome.Failed) fit h = tt
 few-first dag p (Phase.Finished Outcome.Skipped) fit h = tt
 few-first dag p Phase.Waiting fit h = tt
 few-first dag p Phase.Running fit h = tt
 
-few-alone : (dag : Dag) (p : ℕ) (xs : List Instance) → AllByRecursion (λ x. IsFitting dag p x.phase) xs → gives_items dag p ≡ true → AreFewItems (items_of (SourceValues.Pushed (pushed_by_first xs)))
+few-alone : (dag : Dag) (p : ℕ) (xs : List Instance) → AllByRecursion (λ x. IsFitting dag p x.phase) xs → gives_items_in dag p ≡ true → AreFewItems (items_of (SourceValues.Pushed (pushed_by_first xs)))
 few-alone dag p [] fit h = tt
 few-alone dag p (x ∷ xs) fit h = few-first dag p x.phase fit.0 h
 
-few-each : (xs : List Instance) (rs : List TaskResult) → length xs ≤ most_items → length rs ≡ length xs → length (filter_map (λ v. v) (map pushed rs)) ≤ most_items
-few-each xs rs few same = omega (arith, length-filter_map (λ (v : Option Xval). v) (map pushed rs), length-map rs pushed, few, same)
+few-each : (xs : List Instance) (rs : List TaskResult) → length xs ≤ most_items → length rs ≡ length xs → length (filter_map (λ v. v) (map pushed_of rs)) ≤ most_items
+few-each xs rs few same = omega (arith, length-filter_map (λ (v : Option Xval). v) (map pushed_of rs), length-map rs pushed_of, few, same)
 
 by-kind : (o : Option ℕ) (each one : SourceValues) → AreFewItems (items_of each) → (o ≡ None → AreFewItems (items_of one)) → AreFewItems (items_of (if is_some o then each else one))
 by-kind None each one x y = y refl
@@ -154,6 +154,6 @@ few-items dag t p e Cell.Skipped few fit v is = let same : TaskValue.Skipped ≡
 few-items dag t p e Cell.UpstreamFailed few fit v is = let same : TaskValue.UpstreamFailed ≡ v = cc in subst (λ (w : TaskValue). AreFewItems (items (task_of dag p) w)) same tt
 few-items dag t p e (Cell.Ran xs) few fit v is =
     few-ran (task_of dag p) v (results xs) (λ rs h.
-    by-kind (task_of dag p).expand (SourceValues.Each (map pushed rs)) (SourceValues.Pushed (pushed_alone rs))
+    by-kind (task_of dag p).expand (SourceValues.Each (map pushed_of rs)) (SourceValues.Pushed (pushed_alone_in rs))
     (few-each xs rs few (length-results xs rs h))
     (λ alone. subst (λ (w : Option Xval). AreFewItems (items_of (SourceValues.Pushed w))) (sym (first-pushed xs rs h)) (few-alone dag p xs fit (gives dag t p e alone)))) is

@@ -11,7 +11,7 @@ use Rattle.bf_plan.specs.Plans.{no_task, task_of, shape_of}
 use Rattle.bf_plan.proofs.PlanLemmas.{upstreams_of_task}
 use Rattle.bf_plan.proofs.ListLemmas.{any_contained}
 use Rattle.bf_pool.proofs.WeightFacts.{tasks_there, any_of}
-use Rattle.bf_core.specs.Recursion.{is_leaf}
+use Rattle.bf_core.specs.Recursion.{is_leaf_in}
 use Rattle.bf_core.proofs.Placing.{any-default}
 
 named : (dag : Dag) (t d : ℕ) → IsUpstream (shape_of dag).upstreams t d → list_any (λ task. list_any (λ u. u == t) task.upstreams) dag.tasks ≡ true
@@ -33,7 +33,7 @@ namer dag t e =
     (d, subst (λ (us : List ℕ). Contains us t) (ap (λ (x : Task). x.upstreams) is ∙ upstreams_of_task dag d) one)
 
 -- a task is a leaf where the list of its downstreams is empty
-pub no_downstreams : (dag : Dag) (t : ℕ) (ds : List ℕ) → IsRisingListOf (IsUpstream (shape_of dag).upstreams t) ds → (length ds == 0) ≡ is_leaf dag t
+pub no_downstreams : (dag : Dag) (t : ℕ) (ds : List ℕ) → IsRisingListOf (IsUpstream (shape_of dag).upstreams t) ds → (length ds == 0) ≡ is_leaf_in dag t
 no_downstreams dag t [] are =
     elim (cases_Bool (list_any (λ task. list_any (λ u. u == t) task.upstreams) dag.tasks)) [
       | inl e ↦ let (d, up) = namer dag t e in let (k, within, at) = (are.exact d).1 up in absurd (omega (arith, within))

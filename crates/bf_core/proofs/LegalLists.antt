@@ -2,7 +2,7 @@
 use Rattle.std.proofs.Common.{◌≡◌, ℕ, suc, zero, List, [], ◌∷◌, length, slice_index_or, None, refl}
 use Rattle.std.specs.FinMap as map
 use Rattle.bf_core.specs.Terms.{name_cmp, Dag, JobName, Ledger, IsSound, State, Cell, Event, Limits}
-use Rattle.bf_core.specs.Events.{cell_at, instance_of, entry_in, cell_in, after, IsLegal, replay, start, undecided_cells, empty_runs, no_run}
+use Rattle.bf_core.specs.Events.{cell_at, instance_of, entry_in, cell_in, after, IsLegal, replay, start, undecided_cells_of, empty_runs_of, no_run}
 use Rattle.bf_core.specs.Agreement.{Holds, Agrees}
 use Rattle.bf_core.proofs.Invariant.{Invariant}
 use Rattle.bf_core.proofs.Steps.{event-keeps}
@@ -14,12 +14,12 @@ legal-keeps dag sound limits s (e ∷ es) inv legal =
 
 -- ---- the start
 
-undecided-read : (n t : ℕ) → slice_index_or (undecided_cells n) t Cell.Undecided ≡ Cell.Undecided
+undecided-read : (n t : ℕ) → slice_index_or (undecided_cells_of n) t Cell.Undecided ≡ Cell.Undecided
 undecided-read zero t = refl
 undecided-read (suc n) zero = refl
 undecided-read (suc n) (suc t) = undecided-read n t
 
-empty-read : (tasks n k t : ℕ) → slice_index_or (slice_index_or (empty_runs tasks n) k no_run).cells t Cell.Undecided ≡ Cell.Undecided
+empty-read : (tasks n k t : ℕ) → slice_index_or (slice_index_or (empty_runs_of tasks n) k no_run).cells t Cell.Undecided ≡ Cell.Undecided
 empty-read tasks zero k t = refl
 empty-read tasks (suc n) zero t = undecided-read tasks t
 empty-read tasks (suc n) (suc k) t = empty-read tasks n k t

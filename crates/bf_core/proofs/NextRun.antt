@@ -1,7 +1,7 @@
 -- Which run is the next to open.
 use Rattle.std.proofs.Common.{◌≡◌, ◌≢◌, ◌⊎◌, ℕ, zero, suc, ◌<◌, ◌≤◌, if◌then◌else◌, List, [], ◌∷◌, length, slice_index_or, refl, sym, ap, ◌∙◌, subst, inl, inr, arith}
 use Rattle.bf_core.specs.Terms.{Dag, Limits, State, Run, RunPhase, Event}
-use Rattle.bf_core.specs.Events.{no_run, after, first_unopened, is_unopened, next_run, phase_of, phase_in, with_phase, empty_runs, IsEnabled}
+use Rattle.bf_core.specs.Events.{no_run, after, first_unopened, is_unopened, next_run, phase_of, phase_in, with_phase, empty_runs_of, IsEnabled}
 use Rattle.bf_core.proofs.Shape.{IsShaped, put-phase, phase-cases, phase-there, before-next, open-run, length-put, length-phase}
 
 unopened? : (p : RunPhase) → (p ≡ RunPhase.Unopened) ⊎ (p ≢ RunPhase.Unopened)
@@ -143,6 +143,6 @@ next-after dag runs limits s shaped (Event.End m o) able = same-next (after dag 
 next-after dag runs limits s shaped (Event.Close k) able = next-closed s k able.0
 next-after dag runs limits s shaped (Event.Tick m) able = refl
 
-pub none-opened : (tasks n : ℕ) → first_unopened (empty_runs tasks n) ≡ 0
+pub none-opened : (tasks n : ℕ) → first_unopened (empty_runs_of tasks n) ≡ 0
 none-opened tasks zero = refl
 none-opened tasks (suc n) = refl

@@ -2,28 +2,28 @@
 use Rattle.std.proofs.Common.{◌≡◌, Bool, true, not, if◌then◌else◌, List, [], ◌∷◌, Option, None, Some, is_some, is_none, option_map, option_and_then, ℕ, refl, sym, ap, ap₂, ◌∙◌}
 use Rattle.std.specs.List.{filter_map, cons_option}
 use Rattle.bf_value.specs.Views.{list_of}
-use Rattle.bf_xcom.specs.Pulls.{pushed_alone, pushed_by, all_pushed}
-use Rattle.bf_core.specs.Terms.{Instance, Phase, Task, TaskResult, TaskValue, Xval, pull}
+use Rattle.bf_xcom.specs.Pulls.{pushed_alone_in, pushed_by, all_pushed_in}
+use Rattle.bf_core.specs.Terms.{Instance, Phase, Task, TaskResult, TaskValue, Xval, pull_of}
 use Rattle.bf_core.specs.Events.{results, cons_result}
 use Rattle.bf_core.specs.Words.{pushed_in, pushed_by_one, pushed_by_first, pulled_from}
 use Rattle.bf_core.proofs.Sums.{some-results}
 
 -- the first result is the first instance's
-first-cons : (a : ℕ) (p : Phase) (o : Option (List TaskResult)) (rs : List TaskResult) → cons_result a p o ≡ Some rs → pushed_alone rs ≡ pushed_in p
+first-cons : (a : ℕ) (p : Phase) (o : Option (List TaskResult)) (rs : List TaskResult) → cons_result a p o ≡ Some rs → pushed_alone_in rs ≡ pushed_in p
 first-cons a (Phase.Finished o) (Some ts) [] e = cc
 first-cons a (Phase.Finished o) (Some ts) (r ∷ rs) e = let out : r.outcome ≡ o = cc in rw out
 first-cons a (Phase.Finished o) None rs e = cc
 first-cons a Phase.Waiting o rs e = cc
 first-cons a Phase.Running o rs e = cc
 
-pub first-pushed : (xs : List Instance) (rs : List TaskResult) → results xs ≡ Some rs → pushed_alone rs ≡ pushed_by_first xs
+pub first-pushed : (xs : List Instance) (rs : List TaskResult) → results xs ≡ Some rs → pushed_alone_in rs ≡ pushed_by_first xs
 first-pushed [] [] e = refl
 first-pushed [] (r ∷ rs) e = cc
 first-pushed (x ∷ xs) rs e = first-cons x.attempt x.phase (results xs) rs e
 
 -- the results have pushed what the instances have
-all-cons : (a : ℕ) (p : Phase) (o : Option (List TaskResult)) (values : List Xval) → ((ts : List TaskResult) → o ≡ Some ts → all_pushed ts ≡ values) →
-    (rs : List TaskResult) → cons_result a p o ≡ Some rs → all_pushed rs ≡ cons_option (pushed_in p) values
+all-cons : (a : ℕ) (p : Phase) (o : Option (List TaskResult)) (values : List Xval) → ((ts : List TaskResult) → o ≡ Some ts → all_pushed_in ts ≡ values) →
+    (rs : List TaskResult) → cons_result a p o ≡ Some rs → all_pushed_in rs ≡ cons_option (pushed_in p) values
 all-cons a (Phase.Finished o) (Some ts) values h [] e = cc
 all-cons a (Phase.Finished o) (Some ts) values h (r ∷ rs) e =
     let out : r.outcome ≡ o = cc in
@@ -33,7 +33,7 @@ all-cons a (Phase.Finished o) None values h rs e = cc
 all-cons a Phase.Waiting o values h rs e = cc
 all-cons a Phase.Running o values h rs e = cc
 
-all-have-pushed : (xs : List Instance) (rs : List TaskResult) → results xs ≡ Some rs → all_pushed rs ≡ filter_map pushed_by_one xs
+all-have-pushed : (xs : List Instance) (rs : List TaskResult) → results xs ≡ Some rs → all_pushed_in rs ≡ filter_map pushed_by_one xs
 all-have-pushed [] [] e = refl
 all-have-pushed [] (r ∷ rs) e = cc
 all-have-pushed (x ∷ xs) rs e = all-cons x.attempt x.phase (results xs) _ (all-have-pushed xs) rs e
@@ -43,8 +43,8 @@ either None one list = refl
 either (Some source) one list = refl
 
 pull-of : (source : Task) (one : Option Xval) (values : List Xval) (o : Option (List TaskResult)) (f : Bool) → is_some o ≡ f →
-    ((rs : List TaskResult) → o ≡ Some rs → pushed_alone rs ≡ one) → ((rs : List TaskResult) → o ≡ Some rs → all_pushed rs ≡ values) →
-    (if not f then None else (if is_none source.expand then one else Some (list_of values))) ≡ option_and_then (pull source) (option_map TaskValue.Ran o)
+    ((rs : List TaskResult) → o ≡ Some rs → pushed_alone_in rs ≡ one) → ((rs : List TaskResult) → o ≡ Some rs → all_pushed_in rs ≡ values) →
+    (if not f then None else (if is_none source.expand then one else Some (list_of values))) ≡ option_and_then (pull_of source) (option_map TaskValue.Ran o)
 pull-of source one values None f e alone all = rw (← e)
 pull-of source one values (Some rs) f e alone all =
     let known : f ≡ true = sym e in
@@ -52,5 +52,5 @@ pull-of source one values (Some rs) f e alone all =
     ∙ ap₂ (λ a vs. if is_some source.expand then Some (list_of vs) else a) (sym (alone rs refl)) (sym (all rs refl))
 
 -- what is pulled by instances is what is pulled by their value
-pub ran_pull : (source : Task) (xs : List Instance) → pulled_from source xs ≡ option_and_then (pull source) (option_map TaskValue.Ran (results xs))
+pub ran_pull : (source : Task) (xs : List Instance) → pulled_from source xs ≡ option_and_then (pull_of source) (option_map TaskValue.Ran (results xs))
 ran_pull source xs = pull-of source _ _ (results xs) _ (some-results xs) (first-pushed xs) (all-have-pushed xs)

@@ -8,7 +8,7 @@ use Rattle.bf_plan.specs.Sound.{AreLimits}
 use Rattle.bf_try.specs.Asked.{Asked}
 use Rattle.bf_core.specs.Terms.{Dag, task_of, Limits, Given, Outcome, JobName, State, Run, RunPhase, Cell, Instance, Phase, Event, name_cmp, name_of, Entry, demand_of, pool_size}
 use Rattle.bf_core.specs.Deciding.{Decision}
-use Rattle.bf_core.specs.Events.{no_run, cell_at, cell_in, put, put_in, phase_put_in, with_phase, next_run, instance_of, change_at, change_instance, begun, ended, fresh, cell_of, decision_in, given_in, given_of, place_in, one_running, running_in, held_by, held_from, occupied, has_room, IsPresent, IsDecidable, IsEnabled, after, empty_runs, start, undecided_cells}
+use Rattle.bf_core.specs.Events.{no_run, cell_at, cell_in, put, put_in, phase_put_in, with_phase, next_run, instance_of, change_at, change_instance, begun, ended, fresh, cell_of, decision_in, given_in, given_of, place_in, one_running, running_in, held_by, held_from, occupied, has_room_in, IsPresent, IsDecidable, IsEnabled, after, empty_runs_of, start, undecided_cells_of}
 use Rattle.bf_core.specs.Running.{running_by_place, running_now, running_tries, sum_by_place, sum_of_running, while_running}
 use Rattle.bf_core.specs.Cores.{Backfill, GoesOn, IsReplay}
 use Rattle.bf_core.proofs.Decided.{decided-held}
@@ -230,7 +230,7 @@ le-test : (a b : ℕ) → a ≤ b → nat_le a b ≡ true
 le-test a b h = grind (arith, nat_tests)
 
 -- while no try runs, each pool has room for each of its tasks
-idle-room : (dag : Dag) (limits : Limits) (s : State) → AreLimits dag limits → running_now s ≡ 0 → (t : ℕ) → has_room limits s t ≡ true
+idle-room : (dag : Dag) (limits : Limits) (s : State) → AreLimits dag limits → running_now s ≡ 0 → (t : ℕ) → has_room_in limits s t ≡ true
 idle-room dag limits s fit e t =
     let none : occupied limits s (demand_of limits t).pool ≡ 0 = runs-none limits (demand_of limits t).pool s.runs e in
     let fits : (demand_of limits t).slots ≤ pool_size limits (demand_of limits t).pool = fit.within_pool t in
@@ -249,11 +249,11 @@ ends-run s e dag n at = none-runs (cell_at s n.run n.task) (place_in dag n) at.h
 
 -- ---- the start
 
-idle-row : (f : ℕ → ℕ → Instance → ℕ) (n : ℕ) → sum_by_place (λ t c. running_by_place (f t) c) (undecided_cells n) ≡ 0
+idle-row : (f : ℕ → ℕ → Instance → ℕ) (n : ℕ) → sum_by_place (λ t c. running_by_place (f t) c) (undecided_cells_of n) ≡ 0
 idle-row f zero = refl
 idle-row f (suc n) = let rest : _ = idle-row (λ t. f (suc t)) n in omega (arith, rest)
 
-idle-rows : (f : ℕ → ℕ → ℕ → Instance → ℕ) (tasks n : ℕ) → sum_by_place (λ k (r : Run). sum_by_place (λ t c. running_by_place (f k t) c) r.cells) (empty_runs tasks n) ≡ 0
+idle-rows : (f : ℕ → ℕ → ℕ → Instance → ℕ) (tasks n : ℕ) → sum_by_place (λ k (r : Run). sum_by_place (λ t c. running_by_place (f k t) c) r.cells) (empty_runs_of tasks n) ≡ 0
 idle-rows f tasks zero = refl
 idle-rows f tasks (suc n) =
     let first : _ = idle-row (f 0) tasks in

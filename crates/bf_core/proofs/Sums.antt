@@ -1,7 +1,7 @@
 -- Counts of instances, one after another, and what is seen of instances that ran.
 use Rattle.std.proofs.Common.{◌≡◌, ℕ, ◌+◌, ◌≤◌, Bool, not, ◌&&◌, if◌then◌else◌, List, [], ◌∷◌, length, Option, None, Some, is_some, option_map, refl, sym, ap, ap₂, ◌∙◌, arith}
 use Rattle.std.specs.List.{list_all}
-use Rattle.bf_rule.specs.Verdicts.{total}
+use Rattle.bf_rule.specs.Verdicts.{total_of}
 use Rattle.bf_try.specs.Grades.{most_items}
 use Rattle.bf_core.specs.Few.{IsFew}
 use Rattle.bf_core.specs.Terms.{Counts, add, Cell, Instance, Phase, Outcome, TaskValue, TaskResult, Verdict, is_failed}
@@ -9,17 +9,17 @@ use Rattle.bf_core.specs.Deciding.{past_ruling, all_passed}
 use Rattle.bf_core.specs.Events.{counts_of_cell, counts_of_instance, counts_of_instances, results, cons_result}
 use Rattle.bf_core.specs.Words.{is_finished, passed, ran_ruling}
 
-pub total-add : (a b : Counts) → total (add a b) ≡ total a + total b
+pub total-add : (a b : Counts) → total_of (add a b) ≡ total_of a + total_of b
 total-add a b = omega arith
 
-pub total-instance : (p : Phase) → total (counts_of_instance p) ≡ 1
+pub total-instance : (p : Phase) → total_of (counts_of_instance p) ≡ 1
 total-instance (Phase.Finished (Outcome.Success v)) = refl
 total-instance (Phase.Finished Outcome.Failed) = refl
 total-instance (Phase.Finished Outcome.Skipped) = refl
 total-instance Phase.Waiting = refl
 total-instance Phase.Running = refl
 
-pub total-instances : (xs : List Instance) → total (counts_of_instances xs) ≡ length xs
+pub total-instances : (xs : List Instance) → total_of (counts_of_instances xs) ≡ length xs
 total-instances [] = refl
 total-instances (x ∷ xs) = omega (arith, total-add (counts_of_instance x.phase) (counts_of_instances xs), total-instance x.phase, total-instances xs)
 
@@ -71,7 +71,7 @@ past_ran xs = sym (past-of (results xs) _ _ (some-results xs) (passed-results xs
 -- ---- a loop over upstreams
 
 -- few instances are counted of a cell that has few
-pub few-total : (c : Cell) → IsFew c → total (counts_of_cell c) ≤ most_items
+pub few-total : (c : Cell) → IsFew c → total_of (counts_of_cell c) ≤ most_items
 few-total Cell.Undecided few = omega arith
 few-total Cell.Blocked few = omega arith
 few-total Cell.Skipped few = omega arith

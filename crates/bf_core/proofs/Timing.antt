@@ -10,11 +10,11 @@ use Rattle.bf_value.specs.Names.{name_cmp_total, name_cmp-IsAntisymmetric}
 use Rattle.bf_try.proofs.Maps.{same_name}
 use Rattle.bf_core.specs.Terms.{Clock, Dag, Entry, Event, JobName, Ledger, Limits, State, name_cmp, demand_of, task_of}
 use Rattle.bf_core.specs.Events.{after, entry_in, is_made_again}
-use Rattle.bf_core.specs.Clocks.{AreTimely, IsTimely, KeepsTime, clock_after, clock_of, after_end, last_moment, next_try, start_clock}
+use Rattle.bf_core.specs.Clocks.{AreTimely, IsTimely, KeepsTime, clock_after, clock_of, after_end, last_moment, next_try_of, start_clock}
 
 -- ---- names
 
-next-one : (a b : JobName) → next_try a ≡ next_try b → a ≡ b
+next-one : (a b : JobName) → next_try_of a ≡ next_try_of b → a ≡ b
 next-one a b e =
     let run : a.run ≡ b.run = ap (λ (n : JobName). n.run) e in
     let task : a.task ≡ b.task = ap (λ (n : JobName). n.task) e in
@@ -77,10 +77,10 @@ at-most x y = omega (arith, ints, clamps)
 
 module _ (c : Clock) (look : Ledger) (is : KeepsTime c look) where
   -- the next try of one that has not ended has no moment
-  pub unawaited : (n : JobName) → look n ≡ None → map.get c.moments (next_try n) ≡ None
-  unawaited n none = go (map.get c.moments (next_try n)) refl
+  pub unawaited : (n : JobName) → look n ≡ None → map.get c.moments (next_try_of n) ≡ None
+  unawaited n none = go (map.get c.moments (next_try_of n)) refl
     where
-      go : (o : Option ℤ) → map.get c.moments (next_try n) ≡ o → o ≡ None
+      go : (o : Option ℤ) → map.get c.moments (next_try_of n) ≡ o → o ≡ None
       go None e = refl
       go (Some m) e = absurd (let some : IsSome (look n) = is.after_one n (rw e refl) in let no : false ≡ true = rw none at some in cc)
 
@@ -89,20 +89,20 @@ module _ (c : Clock) (look : Ledger) (is : KeepsTime c look) where
     begun = is.begun;
     within = is.within;
     bounded = λ q m h. go-bounded q m (eq_by_cmp name_cmp q n) (rw (map.get-remove name_cmp_total c.moments n q) at h);
-    after_one = λ q h. go-some q (eq_by_cmp name_cmp (next_try q) n) (rw (map.get-remove name_cmp_total c.moments n (next_try q)) at h);
+    after_one = λ q h. go-some q (eq_by_cmp name_cmp (next_try_of q) n) (rw (map.get-remove name_cmp_total c.moments n (next_try_of q)) at h);
   }
     where
       go-bounded : (q : JobName) (m : ℤ) (b : Bool) → cond b None (map.get c.moments q) ≡ Some m → m ≤ℤ last_moment
       go-bounded q m true h = cc
       go-bounded q m false h = is.bounded q m h
 
-      go-some : (q : JobName) (b : Bool) → IsSome (cond b None (map.get c.moments (next_try q))) → IsSome (look q)
+      go-some : (q : JobName) (b : Bool) → IsSome (cond b None (map.get c.moments (next_try_of q))) → IsSome (look q)
       go-some q true h = cc
       go-some q false h = is.after_one q h
 
 -- the end of a try, which the ledger gets, keeps it
 pub end-keeps-time : (c : Clock) (ledger : map.FinMap name_cmp Entry) → KeepsTime c (entry_in ledger) → (n : JobName) (e : Entry) (again : Bool) (delay : ℕ) →
-    KeepsTime (after_end c (next_try n) again delay) (entry_in (map.insert ledger n e))
+    KeepsTime (after_end c (next_try_of n) again delay) (entry_in (map.insert ledger n e))
 unfolding after_end
 end-keeps-time c ledger is n e false delay = record {
   begun = is.begun;
@@ -119,17 +119,17 @@ end-keeps-time c ledger is n e true delay = go (int_lt c.time m)
     bound q o true h = let same : m ≡ o = cc in rw (← same) (at-most (c.time +ℤ pos delay) last_moment)
     bound q o false h = is.bounded q o h
 
-    one : (q : JobName) (b : Bool) → eq_by_cmp name_cmp (next_try q) (next_try n) ≡ b → IsSome (cond b (Some m) (map.get c.moments (next_try q))) → IsSome (map.get (map.insert ledger n e) q)
+    one : (q : JobName) (b : Bool) → eq_by_cmp name_cmp (next_try_of q) (next_try_of n) ≡ b → IsSome (cond b (Some m) (map.get c.moments (next_try_of q))) → IsSome (map.get (map.insert ledger n e) q)
     one q true f h = some-own ledger n e q (next-one q n (same_name _ _ f))
     one q false f h = some-kept ledger n e q (is.after_one q h)
 
-    go : (b : Bool) → KeepsTime (cond b (record { time = c.time; moments = map.insert c.moments (next_try n) m }) c) (entry_in (map.insert ledger n e))
+    go : (b : Bool) → KeepsTime (cond b (record { time = c.time; moments = map.insert c.moments (next_try_of n) m }) c) (entry_in (map.insert ledger n e))
     go false = record { begun = is.begun; within = is.within; bounded = is.bounded; after_one = λ q h. some-kept ledger n e q (is.after_one q h) }
     go true = record {
       begun = is.begun;
       within = is.within;
-      bounded = λ q o h. bound q o (eq_by_cmp name_cmp q (next_try n)) (rw (map.get-insert name_cmp_total c.moments (next_try n) m q) at h);
-      after_one = λ q h. one q (eq_by_cmp name_cmp (next_try q) (next_try n)) refl (rw (map.get-insert name_cmp_total c.moments (next_try n) m (next_try q)) at h);
+      bounded = λ q o h. bound q o (eq_by_cmp name_cmp q (next_try_of n)) (rw (map.get-insert name_cmp_total c.moments (next_try_of n) m q) at h);
+      after_one = λ q h. one q (eq_by_cmp name_cmp (next_try_of q) (next_try_of n)) refl (rw (map.get-insert name_cmp_total c.moments (next_try_of n) m (next_try_of q)) at h);
     }
 
 pub keeps-time : (dag : Dag) (limits : Limits) (c : Clock) (s : State) (e : Event) → IsTimely c e → KeepsTime c (entry_in s.ledger) → KeepsTime (clock_after dag limits c e) (entry_in (after dag s e).ledger)
@@ -147,7 +147,7 @@ start-keeps-time = record {
   begun = omega (arith, ints);
   within = omega (arith, ints);
   bounded = λ n m h. absurd (let none : map.get {R = name_cmp} (map.empty {X = ℤ}) n ≡ None = map.get-empty name_cmp n in cc);
-  after_one = λ n h. absurd (let none : map.get {R = name_cmp} (map.empty {X = ℤ}) (next_try n) ≡ None = map.get-empty name_cmp (next_try n) in let no : false ≡ true = rw none at h in cc);
+  after_one = λ n h. absurd (let none : map.get {R = name_cmp} (map.empty {X = ℤ}) (next_try_of n) ≡ None = map.get-empty name_cmp (next_try_of n) in let no : false ≡ true = rw none at h in cc);
 }
 
 -- ---- lists of events

@@ -4,7 +4,7 @@ use Rattle.std.proofs.lemmas.Int.{by_lt_z}
 use Rattle.std.specs.FinMap as map
 use Rattle.bf_plan.specs.Sound.{AreLimits}
 use Rattle.bf_core.specs.Terms.{Event, Instance, JobName, Phase}
-use Rattle.bf_core.specs.Events.{IsEnabled, cell_at, has_room, instance_of}
+use Rattle.bf_core.specs.Events.{IsEnabled, cell_at, has_room_in, instance_of}
 use Rattle.bf_core.specs.Cores.{Backfill, GoesOn, IsReplay, MayCome, WaitsLater}
 use Rattle.bf_core.specs.Clocks.{IsMove}
 use Rattle.bf_core.proofs.Kept.{replay-invariant, replay-shaped}
@@ -25,7 +25,7 @@ in-time b (Event.Begin n) able move = go (map.get b.clock.moments n) refl
     go (Some m) e = by_lt_z b.clock.time m (λ later. inr (n, record { waits = able.0; moment = m; is_moment = e; is_later = later })) (λ come. inl (Event.Begin n, (able, rw e come), tt))
 
 pub never-stuck-in-time : (b : Backfill) → IsReplay b → AreLimits b.dag b.limits →
-    ((k t i : ℕ) (x : Instance) → instance_of (cell_at b.state k t) i ≡ Some x → x.phase ≡ Phase.Running → ⊥) → ((t : ℕ) → has_room b.limits b.state t ≡ true) →
+    ((k t i : ℕ) (x : Instance) → instance_of (cell_at b.state k t) i ≡ Some x → x.phase ≡ Phase.Running → ⊥) → ((t : ℕ) → has_room_in b.limits b.state t ≡ true) →
     GoesOn b
 never-stuck-in-time b is fit idle room =
     elim (never-stuck b.dag is.sound b.limits b.runs b.state (replay-invariant b is) (replay-shaped b is) idle room fit.some_runs) [

@@ -2,7 +2,7 @@
 use Rattle.std.specs.Prelude.{◌≡◌, ℕ, suc, ◌<◌, length, List, [], ◌∷◌, map, Some, slice_get}
 use Rattle.bf_core.specs.Terms.{Dag, Given, Entry, JobName, Ledger, RunState, TaskResult, result_of, name_of, State, Cell, Instance, Phase}
 use Rattle.bf_core.specs.Deciding.{Decision}
-use Rattle.bf_core.specs.Recursion.{run_fails, run_state_of, out, decided, Asks, IsDefined}
+use Rattle.bf_core.specs.Recursion.{run_fails_in, run_state_of, out, decided, Asks, IsDefined}
 use Rattle.bf_core.specs.Events.{cell_at, value_in, entry_in, place_in, has_failed}
 
 -- the ledger holds all entries of the other
@@ -64,7 +64,7 @@ pub record IsOutcome (dag : Dag) (runs : ℕ) (state : State) : Type 0 where
   pub tries : HoldsItsTries dag runs (entry_in state.ledger)
   pub cells : (run task : ℕ) → run < runs → task < length dag.tasks → cell_at state run task ≡ final_cell (decided dag (entry_in state.ledger) run task) (result_of dag (entry_in state.ledger) run task)
   pub values : (run task : ℕ) → run < runs → task < length dag.tasks → value_in (cell_at state run task) ≡ Some (out dag (entry_in state.ledger) run task)
-  pub run_states : (run : ℕ) → run < runs → has_failed dag state run ≡ run_fails dag (out dag (entry_in state.ledger) run)
+  pub run_states : (run : ℕ) → run < runs → has_failed dag state run ≡ run_fails_in dag (out dag (entry_in state.ledger) run)
 
 -- the states of the runs are the recursion's
 abbrev pub AreRunStates : Dag → Ledger → ℕ → List RunState → Type 0

@@ -13,8 +13,8 @@ abbrev pub start_clock : Clock
 start_clock = record { time = pos 0; moments = map.empty }
 
 -- the next try of the same instance
-abbrev pub next_try : JobName → JobName
-next_try name = record { run = name.run; task = name.task; index = name.index; attempt = suc name.attempt }
+abbrev pub next_try_of : JobName → JobName
+next_try_of name = record { run = name.run; task = name.task; index = name.index; attempt = suc name.attempt }
 
 -- the name waits for the moment, where that is later
 abbrev pub waiting_for : Clock → JobName → ℤ → Clock
@@ -28,7 +28,7 @@ after_end clock next again delay = if again then waiting_for clock next (int_min
 abbrev pub clock_after : Dag → Limits → Clock → Event → Clock
 clock_after dag limits clock (Event.Tick moment) = record { time = moment; moments = clock.moments }
 clock_after dag limits clock (Event.Begin name) = record { time = clock.time; moments = map.remove clock.moments name }
-clock_after dag limits clock (Event.End name outcome) = after_end clock (next_try name) (is_made_again (task_of dag name.task).retries name.attempt outcome) (demand_of limits name.task).retry_delay
+clock_after dag limits clock (Event.End name outcome) = after_end clock (next_try_of name) (is_made_again (task_of dag name.task).retries name.attempt outcome) (demand_of limits name.task).retry_delay
 clock_after dag limits clock Event.Open = clock
 clock_after dag limits clock (Event.Settle run task) = clock
 clock_after dag limits clock (Event.Expand run task) = clock
@@ -63,7 +63,7 @@ pub record KeepsTime (clock : Clock) (look : Ledger) : Type 0 where
   pub begun : pos 0 ≤ℤ clock.time
   pub within : clock.time ≤ℤ last_moment
   pub bounded : (name : JobName) (moment : ℤ) → map.get clock.moments name ≡ Some moment → moment ≤ℤ last_moment
-  pub after_one : (name : JobName) → IsSome (map.get clock.moments (next_try name)) → IsSome (look name)
+  pub after_one : (name : JobName) → IsSome (map.get clock.moments (next_try_of name)) → IsSome (look name)
 
 -- the event is none of the clock
 abbrev pub IsMove : Event → Type 0

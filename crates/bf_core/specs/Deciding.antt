@@ -3,7 +3,7 @@
 use Rattle.std.specs.Prelude.{ℕ, ◌==◌, Bool, true, false, not, ◌&&◌, ◌||◌, if◌then◌else◌, List, [], ◌∷◌, map, Option, None, Some, is_some, option_and_then}
 use Rattle.std.specs.List.{list_any, list_all}
 pub use Rattle.bf_core.specs.declared.decision.Decision.{Decision}
-use Rattle.bf_core.specs.Terms.{TaskValue, pull, items, Items, Xval, Task, Dag, task_of, is_branch, shape_of, followed, Counts, none_counted, add, Verdict, is_waiting, verdict, Outcome, TaskResult, is_failed}
+use Rattle.bf_core.specs.Terms.{TaskValue, pull_of, items, Items, Xval, Task, Dag, task_of, is_branch_in, shape_of, followed_at, Counts, none_counted, add, Verdict, is_waiting, verdict, Outcome, TaskResult, is_failed}
 
 -- what is known of a task: its instances counted by state, and its value once it is settled
 pub record Seen : Type 0 where
@@ -29,36 +29,36 @@ one_of (Outcome.Success value) = record none_counted { success = 1 }
 one_of Outcome.Failed = record none_counted { failed = 1 }
 one_of Outcome.Skipped = one_skipped
 
-abbrev pub counts_of_results : List TaskResult → Counts
-counts_of_results [] = none_counted
-counts_of_results (result ∷ results) = add (one_of result.outcome) (counts_of_results results)
+abbrev pub counts_of_results_of : List TaskResult → Counts
+counts_of_results_of [] = none_counted
+counts_of_results_of (result ∷ results) = add (one_of result.outcome) (counts_of_results_of results)
 
-abbrev pub counts_of : TaskValue → Counts
-counts_of TaskValue.Blocked = one_blocked
-counts_of TaskValue.Skipped = one_skipped
-counts_of TaskValue.UpstreamFailed = one_upstream_failed
-counts_of (TaskValue.Ran results) = counts_of_results results
+abbrev pub counts_in : TaskValue → Counts
+counts_in TaskValue.Blocked = one_blocked
+counts_in TaskValue.Skipped = one_skipped
+counts_in TaskValue.UpstreamFailed = one_upstream_failed
+counts_in (TaskValue.Ran results) = counts_of_results_of results
 
 -- a task that is settled
 abbrev pub settled : TaskValue → Seen
-settled value = record { counts = counts_of value; value = Some value }
+settled value = record { counts = counts_in value; value = Some value }
 
 -- ---- branches
 
 -- the branch succeeded and does not follow the task
 abbrev pub branch_skips : Dag → ℕ → ℕ → TaskValue → Bool
 branch_skips dag task upstream (TaskValue.Ran []) = false
-branch_skips dag task upstream (TaskValue.Ran (result ∷ results)) = elim result.outcome [ Outcome.Success pushed ↦ not (followed (shape_of dag) upstream pushed task) | Outcome.Failed ↦ false | Outcome.Skipped ↦ false ]
+branch_skips dag task upstream (TaskValue.Ran (result ∷ results)) = elim result.outcome [ Outcome.Success pushed ↦ not (followed_at (shape_of dag) upstream pushed task) | Outcome.Failed ↦ false | Outcome.Skipped ↦ false ]
 branch_skips dag task upstream _ = false
 
-abbrev pub is_blocked : TaskValue → Bool
-is_blocked TaskValue.Blocked = true
-is_blocked _ = false
+abbrev pub is_blocked_in : TaskValue → Bool
+is_blocked_in TaskValue.Blocked = true
+is_blocked_in _ = false
 
 -- a fact about the value of an upstream that is a branch
 abbrev pub branch_is : Dag → (TaskValue → Bool) → ℕ → Option TaskValue → Bool
 branch_is dag holds upstream None = false
-branch_is dag holds upstream (Some value) = is_branch (task_of dag upstream) && holds value
+branch_is dag holds upstream (Some value) = is_branch_in (task_of dag upstream) && holds value
 
 -- ---- the verdict
 
@@ -67,14 +67,14 @@ counts_over seen [] = none_counted
 counts_over seen (upstream ∷ rest) = add (seen upstream).counts (counts_over seen rest)
 
 -- the upstream lets the task be decided: it is settled, or the task's rule need not wait for it and it is no branch
-abbrev pub lets_decide : Dag → Task → (ℕ → Seen) → ℕ → Bool
-lets_decide dag task seen upstream = is_some (seen upstream).value || (not (is_waiting task.rule) && not (is_branch (task_of dag upstream)))
+abbrev pub lets_decide_in : Dag → Task → (ℕ → Seen) → ℕ → Bool
+lets_decide_in dag task seen upstream = is_some (seen upstream).value || (not (is_waiting task.rule) && not (is_branch_in (task_of dag upstream)))
 
-unfoldable pub ruling : Dag → (ℕ → Seen) → ℕ → Verdict
-ruling dag seen task =
-    if not (list_all (lets_decide dag (task_of dag task) seen) (task_of dag task).upstreams) then Verdict.Wait
+unfoldable pub ruling_of : Dag → (ℕ → Seen) → ℕ → Verdict
+ruling_of dag seen task =
+    if not (list_all (lets_decide_in dag (task_of dag task) seen) (task_of dag task).upstreams) then Verdict.Wait
     else (if list_any (λ upstream. branch_is dag (branch_skips dag task upstream) upstream (seen upstream).value) (task_of dag task).upstreams then Verdict.Skip
-    else (if list_any (λ upstream. branch_is dag is_blocked upstream (seen upstream).value) (task_of dag task).upstreams then Verdict.Blocked
+    else (if list_any (λ upstream. branch_is dag is_blocked_in upstream (seen upstream).value) (task_of dag task).upstreams then Verdict.Blocked
     else verdict (task_of dag task).rule (counts_over seen (task_of dag task).upstreams)))
 
 -- ---- the past, the expansion
@@ -84,14 +84,14 @@ all_passed [] = true
 all_passed (result ∷ results) = not (is_failed result.outcome) && all_passed results
 
 -- a task that depends on its past goes on after this value of its previous run
-abbrev pub lets_pass : TaskValue → Bool
-lets_pass TaskValue.Skipped = true
-lets_pass (TaskValue.Ran results) = all_passed results
-lets_pass _ = false
+abbrev pub lets_pass_in : TaskValue → Bool
+lets_pass_in TaskValue.Skipped = true
+lets_pass_in (TaskValue.Ran results) = all_passed results
+lets_pass_in _ = false
 
 abbrev pub past_ruling : Option TaskValue → Verdict
 past_ruling None = Verdict.Wait
-past_ruling (Some value) = if lets_pass value then Verdict.Run else Verdict.Blocked
+past_ruling (Some value) = if lets_pass_in value then Verdict.Run else Verdict.Blocked
 
 -- where the verdict is run and the task depends on its past, the past decides; nothing is asked of it in the first run
 abbrev pub past_after : Bool → ℕ → Option TaskValue → Verdict → Verdict
@@ -102,7 +102,7 @@ abbrev pub and_then_past : Dag → ℕ → Option TaskValue → ℕ → Verdict 
 and_then_past dag run before task ruling = past_after (task_of dag task).depends_on_past run before ruling
 
 abbrev pub pull_seen : Dag → (ℕ → Seen) → ℕ → Option Xval
-pull_seen dag seen source = option_and_then (pull (task_of dag source)) (seen source).value
+pull_seen dag seen source = option_and_then (pull_of (task_of dag source)) (seen source).value
 
 abbrev pub pulled : Dag → (ℕ → Seen) → ℕ → List (Option Xval)
 pulled dag seen task = map (pull_seen dag seen) (task_of dag task).pulls
@@ -113,21 +113,21 @@ mapped pulled (Items.List []) = Decision.Skipped
 mapped pulled (Items.List (first ∷ rest)) = Decision.Instances (map (λ item. record { item = Some item; pulled = pulled }) (first ∷ rest))
 
 -- the instances of a task that goes on
-abbrev pub instances : Dag → (ℕ → Seen) → List (Option Xval) → Option ℕ → Decision
-instances dag seen pulled None = Decision.Instances (record { item = None; pulled = pulled } ∷ [])
-instances dag seen pulled (Some source) = elim (seen source).value [ None ↦ Decision.Wait | Some value ↦ mapped pulled (items (task_of dag source) value) ]
+abbrev pub instances_of : Dag → (ℕ → Seen) → List (Option Xval) → Option ℕ → Decision
+instances_of dag seen pulled None = Decision.Instances (record { item = None; pulled = pulled } ∷ [])
+instances_of dag seen pulled (Some source) = elim (seen source).value [ None ↦ Decision.Wait | Some value ↦ mapped pulled (items (task_of dag source) value) ]
 
 abbrev pub after_verdict : Dag → (ℕ → Seen) → ℕ → Verdict → Decision
 after_verdict dag seen task Verdict.Wait = Decision.Wait
 after_verdict dag seen task Verdict.Blocked = Decision.Blocked
 after_verdict dag seen task Verdict.Skip = Decision.Skipped
 after_verdict dag seen task Verdict.UpstreamFailed = Decision.UpstreamFailed
-after_verdict dag seen task Verdict.Run = instances dag seen (pulled dag seen task) (task_of dag task).expand
+after_verdict dag seen task Verdict.Run = instances_of dag seen (pulled dag seen task) (task_of dag task).expand
 
 -- the verdict, with the past
-unfoldable pub gate : Dag → ℕ → (ℕ → Seen) → Option TaskValue → ℕ → Verdict
-gate dag run seen before task = and_then_past dag run before task (ruling dag seen task)
+unfoldable pub gate_of : Dag → ℕ → (ℕ → Seen) → Option TaskValue → ℕ → Verdict
+gate_of dag run seen before task = and_then_past dag run before task (ruling_of dag seen task)
 
 -- what is decided of the task in the run
 unfoldable pub decision : Dag → ℕ → (ℕ → Seen) → Option TaskValue → ℕ → Decision
-decision dag run seen before task = after_verdict dag seen task (gate dag run seen before task)
+decision dag run seen before task = after_verdict dag seen task (gate_of dag run seen before task)

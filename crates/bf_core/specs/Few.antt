@@ -2,7 +2,7 @@
 use Rattle.std.specs.Prelude.{◌≡◌, ℕ, ◌≤◌, true, length}
 use Rattle.std.specs.List.{AllByRecursion}
 use Rattle.bf_try.specs.Grades.{most_items}
-use Rattle.bf_core.specs.Terms.{Cell, Dag, Phase, State, fits}
+use Rattle.bf_core.specs.Terms.{Cell, Dag, Phase, State, fits_in}
 use Rattle.bf_core.specs.Events.{cell_at}
 
 abbrev pub IsFew : Cell → Type 0
@@ -14,7 +14,7 @@ AreFew state = (run task : ℕ) → IsFew (cell_at state run task)
 
 -- an instance of the task that has finished has an outcome that fits
 abbrev pub IsFitting : Dag → ℕ → Phase → Type 0
-IsFitting dag task (Phase.Finished outcome) = fits dag task outcome ≡ true
+IsFitting dag task (Phase.Finished outcome) = fits_in dag task outcome ≡ true
 IsFitting dag task _ = Unit {0}
 
 abbrev pub HasFitting : Dag → ℕ → Cell → Type 0

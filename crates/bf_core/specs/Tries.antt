@@ -2,7 +2,7 @@
 use Rattle.std.specs.Prelude.{◌≡◌, ◌<◌, ◌+◌, ◌^◌, length}
 use Rattle.bf_core.specs.Terms.{Demand, Event, Instance, JobName, Outcome, Phase, demand_of, task_of}
 use Rattle.bf_core.specs.Events.{IsEnabled, IsPresent, begun, cell_at, ended, given_in, is_made_again, place_in}
-use Rattle.bf_core.specs.Clocks.{IsTimely, next_try}
+use Rattle.bf_core.specs.Clocks.{IsTimely, next_try_of}
 use Rattle.bf_core.specs.Cores.{Backfill}
 use Rattle.bf_core.specs.declared.clock.Retry.{Retry}
 use Rattle.bf_core.specs.declared.machine.Ending.{Ending}
@@ -17,7 +17,7 @@ pub record IsBeginning (backfill : Backfill) (name : JobName) (demand : Demand) 
 
 -- the next try of the same instance, whether it is made, and how long it waits
 pub record IsRetry (backfill : Backfill) (name : JobName) (outcome : Outcome) (retry : Retry) : Type 0 where
-  pub next_is : retry.next ≡ next_try name
+  pub next_is : retry.next ≡ next_try_of name
   pub again_is : retry.again ≡ is_made_again (task_of backfill.dag name.task).retries name.attempt outcome
   pub delay_is : retry.delay ≡ (demand_of backfill.limits name.task).retry_delay
 

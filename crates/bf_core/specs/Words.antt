@@ -3,7 +3,7 @@ use Rattle.std.specs.Prelude.{ℕ, Bool, true, false, not, ◌&&◌, ◌||◌, i
 use Rattle.std.specs.List.{list_all, list_any, filter_map}
 use Rattle.bf_value.specs.Views.{list_of}
 use Rattle.bf_xcom.specs.Pulls.{pushed_by}
-use Rattle.bf_core.specs.Terms.{Dag, Instance, Outcome, Phase, SourceValues, Task, TaskValue, Verdict, Xval, followed, is_failed, shape_of}
+use Rattle.bf_core.specs.Terms.{Dag, Instance, Outcome, Phase, SourceValues, Task, TaskValue, Verdict, Xval, followed_at, is_failed, shape_of}
 
 abbrev pub is_finished : Phase → Bool
 is_finished (Phase.Finished outcome) = true
@@ -25,13 +25,13 @@ known_to_be holds None = false
 known_to_be holds (Some value) = holds value
 
 -- the branch whose instance is in this phase succeeded, and does not follow the task
-abbrev pub phase_skips : Dag → ℕ → ℕ → Phase → Bool
-phase_skips dag task upstream (Phase.Finished (Outcome.Success value)) = not (followed (shape_of dag) upstream value task)
-phase_skips dag task upstream _ = false
+abbrev pub phase_skips_in : Dag → ℕ → ℕ → Phase → Bool
+phase_skips_in dag task upstream (Phase.Finished (Outcome.Success value)) = not (followed_at (shape_of dag) upstream value task)
+phase_skips_in dag task upstream _ = false
 
-abbrev pub instances_skip : Dag → ℕ → ℕ → List Instance → Bool
-instances_skip dag task upstream [] = false
-instances_skip dag task upstream (instance ∷ rest) = list_all (λ instance. is_finished instance.phase) (instance ∷ rest) && phase_skips dag task upstream instance.phase
+abbrev pub instances_skip_in : Dag → ℕ → ℕ → List Instance → Bool
+instances_skip_in dag task upstream [] = false
+instances_skip_in dag task upstream (instance ∷ rest) = list_all (λ instance. is_finished instance.phase) (instance ∷ rest) && phase_skips_in dag task upstream instance.phase
 
 -- what an instance pushed, where it has finished
 abbrev pub pushed_in : Phase → Option Xval

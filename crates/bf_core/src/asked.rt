@@ -1,10 +1,10 @@
 //! What callers ask of a core: what it has, and which events may come now. Nothing here takes memory.
 ghost use Rattle.std.specs.Prelude.{◌≡◌, ◌<◌, ◌≤◌, ◌↔◌, length, is_some, IsTrue, IfSome, IfNone, OnSome, option_copied, IsSome, Some};
-ghost use Rattle.std.specs.FinMap as map;
-ghost use Rattle.bf_core.specs.Events.{cell_at, value_in, goes_on as goes_on_now, instance_of, place_in, given_in, IsPresent, IsDecidable, has_room, next_run, entry_in, occupied};
+ghost use Rattle.std.specs.FinMap;
+ghost use Rattle.bf_core.specs.Events.{cell_at, value_in, goes_on_in, instance_of, place_in, given_in, IsPresent, IsDecidable, has_room_in, next_run, entry_in, occupied};
 ghost use Rattle.bf_core.specs.Running.{running_now};
 ghost use Rattle.bf_core.specs.Cores.{GoesOn, IsThere, MayCome, deciding, IsReplay};
-ghost use Rattle.bf_core.specs.Terms.{Ledger as Look, Phase, pool_size};
+ghost use Rattle.bf_core.specs.Terms.{Ledger, Phase, pool_size};
 ghost use Rattle.bf_core.specs.Agreement.{Holds, Agrees};
 ghost use Rattle.bf_core.specs.Clocks.{IsTimely};
 ghost use Rattle.bf_core.specs.Few.{AreFew};
@@ -66,7 +66,7 @@ impl<'a> Core<'a> {
         ensures there { IsSome result ↔ IsThere self.now.dag self.now.state run task }
         ensures cell { IfSome result (λ c. c.now ≡ cell_at self.now.state run task) }
         ensures few { AreFew self.now.state }
-        ensures agrees { (ledger : Look) → Holds ledger (entry_in self.now.state.ledger)
+        ensures agrees { (ledger : Ledger) → Holds ledger (entry_in self.now.state.ledger)
             → Agrees self.now.dag self.now.state ledger }
     {
         self.state.cell(run, task)
@@ -101,7 +101,7 @@ impl<'a> Core<'a> {
 
     /// The moment for which a try waits, where that is later than what the clock shows. The clock may come to it.
     pub fn moment(&self, name: JobName) -> Option<i64>
-        ensures moment { IfSome result (λ m. map.get self.now.clock.moments name ≡ Some m) }
+        ensures moment { IfSome result (λ m. FinMap.get self.now.clock.moments name ≡ Some m) }
         ensures may_come { IfSome result (λ m. MayCome self.now (Event.Tick m)) }
         ensures none { IfNone result (IsTimely self.now.clock (Event.Begin name)) }
     {
@@ -120,7 +120,7 @@ impl<'a> Core<'a> {
     /// Whether the slots of a task fit its pool beside those that are occupied.
     pub fn has_room(&self, task: u32) -> bool
         requires { task < length self.now.dag.tasks }
-        ensures { result ≡ has_room self.now.limits self.now.state task }
+        ensures { result ≡ has_room_in self.now.limits self.now.state task }
     {
         let demand = self.plan.demand(task);
         self.pools.occupied(demand.pool) + demand.slots <= self.pools.size(demand.pool)
@@ -139,7 +139,7 @@ impl<'a> Core<'a> {
     pub fn decision_event(&self, run: u32, task: u32) -> Option<Event>
         ensures may_come { IfSome result (MayCome self.now) }
         ensures decides { IfSome result
-            (λ e. e ≡ deciding (goes_on_now self.now.dag self.now.state run task) run task) }
+            (λ e. e ≡ deciding (goes_on_in self.now.dag self.now.state run task) run task) }
         ensures none { IfNone result (¬ (IsDecidable self.now.dag self.now.state run task)) }
     {
         let dag = self.plan.dag();

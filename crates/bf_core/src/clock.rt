@@ -1,7 +1,7 @@
 //! The clock beside the state: the moment that it shows, and the moments for which tries wait.
 ghost use Rattle.std.specs.Prelude.{◌≡◌, ◌↔◌, pos, ◌+ℤ◌, ◌≤ℤ◌, ◌<ℤ◌, int_lt, None, Some, IfSome, IfNone, IsTrue, OnOk, OnErr, option_copied};
 ghost use Rattle.std.specs.Int.{int_min};
-ghost use Rattle.std.specs.FinMap as map;
+ghost use Rattle.std.specs.FinMap;
 ghost use Rattle.bf_core.specs.Clocks.{IsTimely, after_end, last_moment};
 ghost use Rattle.bf_core.specs.Terms.{Event};
 
@@ -22,21 +22,21 @@ pub struct Moments {
 
 impl Model for Moments {
     ghost use Rattle.std.specs.Prelude.{ℤ};
-    ghost use Rattle.std.specs.FinMap as map;
+    ghost use Rattle.std.specs.FinMap;
     ghost use Rattle.bf_value.specs.Names.{name_cmp, name_code};
     ghost use base.Stored.{coded_ℤ};
 
-    ghost Value = { map.FinMap name_cmp ℤ };
+    ghost Value = { FinMap.FinMap name_cmp ℤ };
 
-    ghost coded = { map.code name_code coded_ℤ };
+    ghost coded = { FinMap.code name_code coded_ℤ };
 
-    ghost view = { λ m. map.from_entries m.entries.entries };
+    ghost view = { λ m. FinMap.from_entries m.entries.entries };
 }
 
 impl Moments {
     /// No moments.
     pub(crate) fn new(alloc: Global) -> Self
-        ensures { result ≡ map.empty }
+        ensures { result ≡ FinMap.empty }
     {
         Moments {
             entries: BTreeMap::new(alloc),
@@ -45,14 +45,14 @@ impl Moments {
 
     /// The moment for which a try waits.
     pub(crate) fn get(&self, name: JobName) -> Option<&i64>
-        ensures { option_copied result ≡ map.get self.now name }
+        ensures { option_copied result ≡ FinMap.get self.now name }
     {
         self.entries.get(&name)
     }
 
     /// Lets a try wait for a moment.
     pub(crate) fn note(&mut self, name: JobName, moment: i64) -> Result<(), OutOfMemory>
-        ensures ok { OnOk result (self.new ≡ map.insert self.old name moment) }
+        ensures ok { OnOk result (self.new ≡ FinMap.insert self.old name moment) }
         ensures same { OnErr result (self.new ≡ self.old) }
     {
         self.entries.insert(name, moment)?;
@@ -61,7 +61,7 @@ impl Moments {
 
     /// Lets a try wait for no moment.
     pub(crate) fn forget(&mut self, name: JobName)
-        ensures { self.new ≡ map.remove self.old name }
+        ensures { self.new ≡ FinMap.remove self.old name }
     {
         let _ = self.entries.remove(&name);
     }
@@ -94,7 +94,7 @@ impl Clock {
 
     /// The moment for which a try waits, where that is later than what the clock shows.
     pub(crate) fn later(&self, name: JobName) -> Option<i64>
-        ensures moment { IfSome result (λ m. map.get self.now.moments name ≡ Some m) }
+        ensures moment { IfSome result (λ m. FinMap.get self.now.moments name ≡ Some m) }
         ensures later { IfSome result (λ m. self.now.time <ℤ m) }
         ensures none { IfNone result (IsTimely self.now (Event.Begin name)) }
     {
@@ -155,11 +155,11 @@ pub(crate) fn note_end(
 ) -> Result<(), OutOfMemory>
     requires begun { pos 0 ≤ℤ clock.old.time }
     requires within { clock.old.time ≤ℤ last_moment }
-    requires unrecorded { map.get ledger.old name ≡ None }
-    requires free { map.get clock.old.moments retry.next ≡ None }
+    requires unrecorded { FinMap.get ledger.old name ≡ None }
+    requires free { FinMap.get clock.old.moments retry.next ≡ None }
     ensures clock { OnOk result (clock.new
         ≡ after_end clock.old retry.next retry.again retry.delay) }
-    ensures ledger { OnOk result (ledger.new ≡ map.insert ledger.old name entry) }
+    ensures ledger { OnOk result (ledger.new ≡ FinMap.insert ledger.old name entry) }
     ensures same_clock { OnErr result (clock.new ≡ clock.old) }
     ensures same_ledger { OnErr result (ledger.new ≡ ledger.old) }
 {

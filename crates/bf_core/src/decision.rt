@@ -2,7 +2,7 @@
 ghost use Rattle.std.specs.Prelude.{◌≡◌, ◌<◌, ◌↔◌, ◌&&◌, length, map, is_some, IsTrue, IfOk, OnOk, IfErr};
 ghost use Rattle.bf_core.specs.Terms.{task_of};
 ghost use Rattle.bf_core.specs.Events.{cell_at, seen_in, before_in, is_run, fresh, cell_of};
-ghost use Rattle.bf_core.specs.Deciding.{after_verdict, gate as gate_of};
+ghost use Rattle.bf_core.specs.Deciding.{after_verdict, gate_of};
 ghost use Rattle.bf_core.specs.Few.{AreFew};
 ghost use Rattle.bf_core.specs.Checks.{HasRows, RefusedFor, IsUndecidedNow};
 ghost use Rattle.bf_core.specs.Cores.{IsThere};

@@ -1,12 +1,12 @@
 //! Backfills that have ended, and the states of their runs.
 ghost use Rattle.std.specs.Prelude.{◌≡◌, ◌<◌, ◌≤◌, ◌↔◌, length, slice_index_or, ℕ, vec_len, IsTrue, IfOk, IfErr, OnOk};
 ghost use Rattle.std.specs.List.{list_any, list_all};
-ghost use Rattle.bf_core.specs.Recursion.{is_leaf as leaf, fails_run, run_fails as fails, run_state_of};
+ghost use Rattle.bf_core.specs.Recursion.{is_leaf_in, fails_run, run_fails_in, run_state_of};
 ghost use Rattle.bf_core.specs.Events.{value_in, value_or_blocked, row_of, HasEnded, is_closed};
 ghost use Rattle.bf_core.specs.Words.{is_failed_instance, instances_fail};
 ghost use Rattle.bf_core.specs.Endings.{IsEnd, ending_of};
 ghost use Rattle.bf_core.specs.Checks.{AreStatesOf};
-ghost use Rattle.bf_core.specs.declared.state.Cell.{Cell as CellTerm};
+ghost use Rattle.bf_core.specs.declared.state.Cell.{Cell};
 
 use crate::event::Event;
 use crate::machine::Core;
@@ -31,16 +31,16 @@ pub struct Ended<'p> {
 
 impl<'p> Model for Ended<'p> {
     ghost use Rattle.bf_core.specs.Endings.{Ending, IsEnd};
-    ghost use Rattle.bf_plan.specs.contracts.plan.Dag as d;
-    ghost use Rattle.bf_plan.specs.contracts.plan.Limits as l;
-    ghost use Rattle.bf_xcom.specs.contracts.values.RunState as r;
-    ghost use Rattle.bf_core.specs.contracts.state.State as s;
-    ghost use Rattle.bf_core.specs.contracts.event.Event as e;
+    ghost use Rattle.bf_plan.specs.contracts.plan.Dag;
+    ghost use Rattle.bf_plan.specs.contracts.plan.Limits;
+    ghost use Rattle.bf_xcom.specs.contracts.values.RunState;
+    ghost use Rattle.bf_core.specs.contracts.state.State;
+    ghost use Rattle.bf_core.specs.contracts.event.Event;
     ghost use Rattle.std.specs.Coded.{codes};
 
     ghost Value = { Ending };
 
-    ghost coded = { Prim.hlevel (codes, d.the_row.coded, l.the_row.coded, r.the_row.coded, s.the_row.coded, e.the_row.coded) };
+    ghost coded = { Prim.hlevel (codes, Dag.the_row.coded, Limits.the_row.coded, RunState.the_row.coded, State.the_row.coded, Event.the_row.coded) };
 
     ghost view = { λ e. record { dag = e.plan.now.dag; limits = e.plan.now.limits; runs = e.runs; state = e.state; run_states = e.run_states; journal = e.journal } };
 
@@ -85,7 +85,7 @@ impl<'p> Ended<'p> {
 #[tactic(auto, using(crate::proofs::Leaves::no_downstreams, crate::proofs::Leaves::has_edges))]
 fn is_leaf(plan: &Plan, task: u32) -> bool
     requires { task < length plan.now.dag.tasks }
-    ensures { result ≡ leaf plan.now.dag task }
+    ensures { result ≡ is_leaf_in plan.now.dag task }
 {
     plan.graph().downstreams(task).is_empty()
 }
@@ -109,7 +109,7 @@ fn any_failed(instances: &[Instance]) -> bool
 #[tactic(auto, using(crate::proofs::Closing::ran_fails))]
 fn fails_its_run(plan: &Plan, task: u32, cell: &Cell) -> bool
     requires { task < length plan.now.dag.tasks }
-    ensures { result ≡ fails_run (leaf plan.now.dag task) (value_or_blocked (value_in cell.now)) }
+    ensures { result ≡ fails_run (is_leaf_in plan.now.dag task) (value_or_blocked (value_in cell.now)) }
 {
     match cell {
         Cell::Undecided | Cell::Blocked => true,
@@ -121,7 +121,7 @@ fn fails_its_run(plan: &Plan, task: u32, cell: &Cell) -> bool
 
 fn ran_fails(plan: &Plan, task: u32, instances: &[Instance]) -> bool
     requires { task < length plan.now.dag.tasks }
-    ensures { result ≡ instances_fail (leaf plan.now.dag task) instances.now }
+    ensures { result ≡ instances_fail (is_leaf_in plan.now.dag task) instances.now }
 {
     !are_finished(instances) || (any_failed(instances) && is_leaf(plan, task))
 }
@@ -129,8 +129,8 @@ fn ran_fails(plan: &Plan, task: u32, instances: &[Instance]) -> bool
 fn run_fails(plan: &Plan, cells: &[Cell]) -> bool
     requires few { length plan.now.dag.tasks ≤ 2_000 }
     requires one_each { length cells.now ≡ length plan.now.dag.tasks }
-    ensures { result ≡ fails plan.now.dag
-        (λ t. value_or_blocked (value_in (slice_index_or cells.now t CellTerm.Undecided))) }
+    ensures { result ≡ run_fails_in plan.now.dag
+        (λ t. value_or_blocked (value_in (slice_index_or cells.now t Cell.Undecided))) }
 {
     for task in 0..cells.len() {
         if fails_its_run(plan, task as u32, &cells[task]) {
@@ -145,7 +145,7 @@ fn run_state(plan: &Plan, cells: &[Cell]) -> RunState
     requires few { length plan.now.dag.tasks ≤ 2_000 }
     requires one_each { length cells.now ≡ length plan.now.dag.tasks }
     ensures { result ≡ run_state_of plan.now.dag
-        (λ t. value_or_blocked (value_in (slice_index_or cells.now t CellTerm.Undecided))) }
+        (λ t. value_or_blocked (value_in (slice_index_or cells.now t Cell.Undecided))) }
 {
     if run_fails(plan, cells) {
         RunState::Failed

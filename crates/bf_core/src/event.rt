@@ -78,9 +78,9 @@ pub enum Illegal {
 
 impl From<OutOfMemory> for Illegal {
     ghost use Rattle.std.specs.Prelude.{◌≡◌};
-    ghost use Rattle.bf_core.specs.declared.event.Illegal.TheVariants.{OutOfMemory as NoMemory};
+    ghost use Rattle.bf_core.specs.declared.event.Illegal.TheVariants.{OutOfMemory};
 
-    ghost from_gives = { λ _ e. e ≡ NoMemory };
+    ghost from_gives = { λ _ e. e ≡ OutOfMemory };
 
     fn from(_e: OutOfMemory) -> Illegal {
         Illegal::OutOfMemory
@@ -89,9 +89,9 @@ impl From<OutOfMemory> for Illegal {
 
 impl From<AllocError> for Illegal {
     ghost use Rattle.std.specs.Prelude.{◌≡◌};
-    ghost use Rattle.bf_core.specs.declared.event.Illegal.TheVariants.{OutOfMemory as NoMemory};
+    ghost use Rattle.bf_core.specs.declared.event.Illegal.TheVariants.{OutOfMemory};
 
-    ghost from_gives = { λ _ e. e ≡ NoMemory };
+    ghost from_gives = { λ _ e. e ≡ OutOfMemory };
 
     fn from(_e: AllocError) -> Illegal {
         Illegal::OutOfMemory

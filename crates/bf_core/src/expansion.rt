@@ -1,7 +1,7 @@
 //! The instances of a task that goes on: one, or one for each item that its source gives.
 ghost use Rattle.std.specs.Prelude.{◌≡◌, [], ◌∷◌, map, IfOk, None, Some, option_map};
 ghost use Rattle.bf_core.specs.Terms.{items as given_by, source_values as values_for, task_of};
-ghost use Rattle.bf_core.specs.Deciding.{instances as instances_of, mapped, pull_seen};
+ghost use Rattle.bf_core.specs.Deciding.{instances_of, mapped, pull_seen};
 ghost use Rattle.bf_core.specs.Events.{cell_at, seen_in, value_in};
 ghost use Rattle.bf_core.specs.Checks.{HasRows};
 ghost use Rattle.bf_core.specs.Words.{pushed_by_one, sourced_from};

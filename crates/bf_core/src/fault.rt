@@ -18,9 +18,9 @@ pub enum BackfillFault {
 }
 
 impl From<OutOfMemory> for BackfillFault {
-    ghost use Rattle.bf_core.specs.declared.fault.BackfillFault.TheVariants.{OutOfMemory as NoMemory};
+    ghost use Rattle.bf_core.specs.declared.fault.BackfillFault.TheVariants.{OutOfMemory};
 
-    ghost from_gives = { λ _ e. e ≡ NoMemory };
+    ghost from_gives = { λ _ e. e ≡ OutOfMemory };
 
     fn from(_e: OutOfMemory) -> BackfillFault {
         BackfillFault::OutOfMemory

@@ -1,7 +1,7 @@
 //! What holds of every backfill, whatever the order of its events. These functions do nothing: their contracts are
 //! the laws, over the definitions alone.
 ghost use Rattle.std.specs.Prelude.{◌≡◌, ◌<◌, ℕ, List, Option};
-ghost use Rattle.std.specs.FinMap as map;
+ghost use Rattle.std.specs.FinMap;
 ghost use Rattle.bf_core.specs.Terms.{Dag, Limits, Entry, Event, Ledger, TaskValue, name_cmp, IsSound, AreAlike};
 ghost use Rattle.bf_core.specs.Deciding.{Seen, decision};
 ghost use Rattle.bf_core.specs.Recursion.{decided, out, value_of, SolvesRecursion};
@@ -12,9 +12,9 @@ ghost use Rattle.bf_core.specs.Agreement.{Holds, Agrees, IsOutcome};
 pub fn legal_lists_agree()
     ensures { (dag : Dag) → IsSound dag → (limits : Limits) (runs : ℕ) (events : List Event)
         → IsLegal dag limits (start dag runs) events →
-        (ledger : map.FinMap name_cmp Entry)
-        → Holds (map.get ledger) (entry_in (replay dag (start dag runs) events).ledger) →
-        Agrees dag (replay dag (start dag runs) events) (map.get ledger) }
+        (ledger : FinMap.FinMap name_cmp Entry)
+        → Holds (FinMap.get ledger) (entry_in (replay dag (start dag runs) events).ledger) →
+        Agrees dag (replay dag (start dag runs) events) (FinMap.get ledger) }
 {}
 
 /// When every run is closed, the cells are the recursion's over the ledger, which holds just the tries that the

@@ -41,16 +41,16 @@ pub struct Core<'a> {
 impl<'a> Model for Core<'a> {
     ghost use Rattle.std.specs.Prelude.{vec_len};
     ghost use Rattle.bf_core.specs.Cores.{Backfill, IsCore};
-    ghost use Rattle.bf_plan.specs.contracts.plan.Dag as d;
-    ghost use Rattle.bf_plan.specs.contracts.plan.Limits as l;
-    ghost use Rattle.bf_core.specs.contracts.state.State as s;
-    ghost use Rattle.bf_core.specs.contracts.clock.Clock as k;
-    ghost use Rattle.bf_core.specs.contracts.event.Event as e;
+    ghost use Rattle.bf_plan.specs.contracts.plan.Dag;
+    ghost use Rattle.bf_plan.specs.contracts.plan.Limits;
+    ghost use Rattle.bf_core.specs.contracts.state.State;
+    ghost use Rattle.bf_core.specs.contracts.clock.Clock;
+    ghost use Rattle.bf_core.specs.contracts.event.Event;
     ghost use Rattle.std.specs.Coded.{codes};
 
     ghost Value = { Backfill };
 
-    ghost coded = { Prim.hlevel (codes, d.the_row.coded, l.the_row.coded, s.the_row.coded, k.the_row.coded, e.the_row.coded) };
+    ghost coded = { Prim.hlevel (codes, Dag.the_row.coded, Limits.the_row.coded, State.the_row.coded, Clock.the_row.coded, Event.the_row.coded) };
 
     ghost view = { λ c. record { dag = c.plan.now.dag; limits = c.plan.now.limits; runs = c.runs; state = c.state; clock = c.clock; journal = c.journal.items } };
 

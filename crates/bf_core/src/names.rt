@@ -2,10 +2,10 @@
 ghost use Rattle.std.specs.Prelude.{◌≡◌, ◌≤◌, ◌<◌, ◌+◌, ◌^◌, ◌↔◌, IsTrue, is_some, OnOk, OnSome, IfOk, IfErr, IfSome, IfNone, Some, option_copied};
 ghost use Rattle.bf_core.specs.Terms.{map_index, name_of as name_in, task_of};
 ghost use Rattle.bf_core.specs.Events.{place_in, cell_at, instance_of, IsPresent};
-ghost use Rattle.bf_core.specs.Clocks.{next_try as next_name};
+ghost use Rattle.bf_core.specs.Clocks.{next_try_of};
 ghost use Rattle.bf_core.specs.Cores.{IsKnown};
 ghost use Rattle.bf_core.specs.Checks.{HasRows, RefusedFor, IsOfName, IsKnownAs, asked_phase};
-ghost use Rattle.bf_core.specs.declared.state.Instance.{Instance as InstanceTerm};
+ghost use Rattle.bf_core.specs.declared.state.Instance.{Instance};
 
 use crate::event::Illegal;
 use crate::state::{Cell, Instance, Phase, State};
@@ -68,7 +68,7 @@ fn has_index_of_task(dag: &Dag, name: JobName) -> bool
 /// The name of the next try of an instance.
 pub(crate) fn next_try(name: JobName) -> JobName
     requires { name.attempt + 1 < 2 ^ 32 }
-    ensures { result ≡ next_name name }
+    ensures { result ≡ next_try_of name }
 {
     JobName {
         attempt: name.attempt + 1,
@@ -89,7 +89,7 @@ pub(crate) fn instance_at(state: &State, run: u32, task: u32, place: usize) -> O
 /// The instance of a name, where the task has one of that index now.
 fn named<'a>(dag: &Dag, state: &'a State, name: JobName) -> Option<&'a Instance>
     ensures some { IfSome result (λ x. IsOfName dag.now state.entry.now name x.now) }
-    ensures none { IfNone result ((x : InstanceTerm) → IsOfName dag.now state.entry.now name x
+    ensures none { IfNone result ((x : Instance) → IsOfName dag.now state.entry.now name x
         → ⊥) }
 {
     let instance = instance_at(state, name.run, name.task, place_of(dag, name) as usize)?;
@@ -103,7 +103,7 @@ fn named<'a>(dag: &Dag, state: &'a State, name: JobName) -> Option<&'a Instance>
 /// The instance of a name, where it has come to that try.
 fn known<'a>(dag: &Dag, state: &'a State, name: JobName) -> Option<&'a Instance>
     ensures some { IfSome result (λ x. IsKnownAs dag.now state.entry.now name x.now) }
-    ensures none { IfNone result ((x : InstanceTerm) → IsKnownAs dag.now state.entry.now name x
+    ensures none { IfNone result ((x : Instance) → IsKnownAs dag.now state.entry.now name x
         → ⊥) }
 {
     let instance = named(dag, state, name)?;

@@ -1,7 +1,7 @@
 //! What tasks pull from the cells of their run.
 ghost use Rattle.std.specs.Prelude.{◌≡◌, map, IfOk, option_copied, option_and_then};
 ghost use Rattle.std.specs.List.{filter_map};
-ghost use Rattle.bf_core.specs.Terms.{pull as pull_of};
+ghost use Rattle.bf_core.specs.Terms.{pull_of};
 ghost use Rattle.bf_core.specs.Deciding.{pull_seen};
 ghost use Rattle.bf_core.specs.Events.{cell_at, seen_in, value_in};
 ghost use Rattle.bf_core.specs.Checks.{HasRows};

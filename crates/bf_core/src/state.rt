@@ -2,7 +2,7 @@
 ghost use Rattle.std.specs.Prelude.{◌≡◌, ◌<◌, ◌↔◌, ◌≤◌, ◌&&◌, length, IsSome, IfSome, IfNone, is_some, IfOk};
 ghost use Rattle.std.specs.List.{list_all};
 ghost use Rattle.bf_try.specs.Grades.{most_items};
-ghost use Rattle.bf_core.specs.Events.{put, with_phase, row_of, cell_at, phase_of, is_open, is_closed, counts_of_instance, counts_of_instances, counts_of_cell, value_in, instance_of, change_instance, is_made_again, undecided_cells as undecided, empty_runs as unopened};
+ghost use Rattle.bf_core.specs.Events.{put, with_phase, row_of, cell_at, phase_of, is_open, is_closed, counts_of_instance, counts_of_instances, counts_of_cell, value_in, instance_of, change_instance, is_made_again, undecided_cells_of, empty_runs_of};
 ghost use Rattle.bf_core.specs.Deciding.{one_of};
 ghost use Rattle.bf_core.specs.Few.{IsFew};
 ghost use Rattle.bf_core.specs.Words.{is_finished};
@@ -226,7 +226,7 @@ pub(crate) fn is_closable(row: &Run) -> bool
 
 #[tactic(auto, using(crate::proofs::Starting::one_more_cell))]
 fn undecided_cells(alloc: Global, tasks: usize) -> Result<Sequence<Cell>, OutOfMemory>
-    ensures { IfOk result (λ cells. cells ≡ undecided tasks) }
+    ensures { IfOk result (λ cells. cells ≡ undecided_cells_of tasks) }
 {
     let mut cells = Vec::with_capacity(alloc, tasks)?;
     for _made in 0..tasks {
@@ -242,7 +242,7 @@ pub(crate) fn unopened_runs(
     tasks: usize,
     runs: usize,
 ) -> Result<Sequence<Run>, OutOfMemory>
-    ensures { IfOk result (λ made. made ≡ unopened tasks runs) }
+    ensures { IfOk result (λ made. made ≡ empty_runs_of tasks runs) }
 {
     let mut made = Vec::with_capacity(alloc, runs)?;
     for _made in 0..runs {

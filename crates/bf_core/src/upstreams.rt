@@ -1,11 +1,11 @@
 //! What the upstreams say of a task.
 ghost use Rattle.std.specs.Prelude.{◌≡◌, ◌<◌, ◌≤◌, length, is_some};
 ghost use Rattle.std.specs.List.{list_all, list_any};
-ghost use Rattle.bf_rule.specs.Verdicts.{total};
-ghost use Rattle.bf_core.specs.Deciding.{branch_is, branch_skips, is_blocked, counts_over, lets_decide as lets_be_decided, ruling as ruling_of};
+ghost use Rattle.bf_rule.specs.Verdicts.{total_of};
+ghost use Rattle.bf_core.specs.Deciding.{branch_is, branch_skips, is_blocked_in, counts_over, lets_decide_in, ruling_of};
 ghost use Rattle.bf_core.specs.Events.{cell_at, seen_in, counts_of_cell, value_in};
 ghost use Rattle.bf_core.specs.Few.{AreFew};
-ghost use Rattle.bf_core.specs.Words.{known_to_be, phase_skips as skipped_at, instances_skip as skipped_by};
+ghost use Rattle.bf_core.specs.Words.{known_to_be, phase_skips_in, instances_skip_in};
 
 use crate::state::{Cell, Instance, Phase, State, are_finished};
 use bf_plan::{Dag, Plan, Task};
@@ -16,7 +16,7 @@ use bf_try::Outcome;
 fn counts_at(state: &State, run: u32, task: u32) -> Counts
     requires { AreFew state.now }
     ensures counts { result ≡ counts_of_cell (cell_at state.now run task) }
-    ensures few { total result ≤ 1_024 }
+    ensures few { total_of result ≤ 1_024 }
 {
     match state.cell(run, task) {
         Some(cell) => cell.counts(),
@@ -51,14 +51,14 @@ pub(crate) fn is_settled(state: &State, run: u32, task: u32) -> bool
 
 /// Whether a task can be decided as far as one of its upstreams goes.
 fn lets_decide(dag: &Dag, state: &State, run: u32, task: &Task, upstream: u32) -> bool
-    ensures { result ≡ lets_be_decided dag.now task.now (λ u. seen_in (cell_at state.now run u))
+    ensures { result ≡ lets_decide_in dag.now task.now (λ u. seen_in (cell_at state.now run u))
         upstream }
 {
     is_settled(state, run, upstream) || (!task.rule.waits() && !dag.is_branch(upstream))
 }
 
 fn all_let_decide(dag: &Dag, state: &State, run: u32, task: &Task, upstreams: &[u32]) -> bool
-    ensures { result ≡ list_all (lets_be_decided dag.now task.now
+    ensures { result ≡ list_all (lets_decide_in dag.now task.now
         (λ u. seen_in (cell_at state.now run u))) upstreams.now }
 {
     upstreams
@@ -69,7 +69,7 @@ fn all_let_decide(dag: &Dag, state: &State, run: u32, task: &Task, upstreams: &[
 /// Whether a branch whose instance is in this phase succeeded and does not follow a task.
 fn phase_skips(plan: &Plan, branch: u32, task: u32, phase: &Phase) -> bool
     requires { task < length plan.now.dag.tasks }
-    ensures { result ≡ skipped_at plan.now.dag task branch phase.now }
+    ensures { result ≡ phase_skips_in plan.now.dag task branch phase.now }
 {
     match phase {
         Phase::Finished(Outcome::Success(value)) => {
@@ -81,7 +81,7 @@ fn phase_skips(plan: &Plan, branch: u32, task: u32, phase: &Phase) -> bool
 
 fn instances_skip(plan: &Plan, branch: u32, task: u32, instances: &[Instance]) -> bool
     requires { task < length plan.now.dag.tasks }
-    ensures { result ≡ skipped_by plan.now.dag task branch instances.now }
+    ensures { result ≡ instances_skip_in plan.now.dag task branch instances.now }
 {
     match instances {
         [] => false,
@@ -106,7 +106,7 @@ impl Cell {
 
     #[tactic(auto, using(crate::proofs::Branching::ran_not_blocked))]
     fn is_blocked(&self) -> bool
-        ensures { result ≡ known_to_be is_blocked (value_in self.now) }
+        ensures { result ≡ known_to_be is_blocked_in (value_in self.now) }
     {
         match self {
             Cell::Blocked => true,
@@ -129,7 +129,7 @@ fn branch_skips_task(plan: &Plan, state: &State, run: u32, upstream: u32, task: 
 
 #[tactic(auto, using(crate::proofs::Branching::known_branch))]
 fn branch_is_blocked(dag: &Dag, state: &State, run: u32, upstream: u32) -> bool
-    ensures { result ≡ branch_is dag.now is_blocked upstream
+    ensures { result ≡ branch_is dag.now is_blocked_in upstream
         (value_in (cell_at state.now run upstream)) }
 {
     match state.cell(run, upstream) {
@@ -147,7 +147,7 @@ fn any_skips(plan: &Plan, state: &State, run: u32, task: u32, upstreams: &[u32])
 }
 
 fn any_blocks(dag: &Dag, state: &State, run: u32, upstreams: &[u32]) -> bool
-    ensures { result ≡ list_any (λ u. branch_is dag.now is_blocked u
+    ensures { result ≡ list_any (λ u. branch_is dag.now is_blocked_in u
         (value_in (cell_at state.now run u))) upstreams.now }
 {
     upstreams

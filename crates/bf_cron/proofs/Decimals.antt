@@ -10,7 +10,7 @@ use Rattle.std.proofs.lemmas.List.Quantifiers.{position-Some}
 use Rattle.std.proofs.lemmas.Slice.Eq.{bytes_eq-Decides}
 use Rattle.bf_cron.specs.declared.field.Field.{Field}
 use Rattle.bf_cron.specs.declared.field.Field.TheVariants.{Minute, Hour, Day, Month, Weekday}
-use Rattle.bf_cron.specs.Cron.{least, greatest, digit, two_digits, small_number, names, named, within, number_of, step_within, step_of}
+use Rattle.bf_cron.specs.Cron.{least_of, greatest_of, digit, two_digits, small_number, names, named, within, number_of, step_within, step_of}
 use Rattle.bf_cron.specs.Grammar.{IsDecimal, units, tens, IsNumber, number, name, IsStep}
 
 -- ---- digits
@@ -94,9 +94,9 @@ step_read text n (is, low, high) = ap step_within (decimal_read text n is) ∙ b
 
 -- ---- numbers and names
 
-within_bounds : (f : Field) (o : Option ℕ) (n : ℕ) → within f o ≡ Some n → (o ≡ Some n) × (least f ≤ n) × (n ≤ greatest f)
+within_bounds : (f : Field) (o : Option ℕ) (n : ℕ) → within f o ≡ Some n → (o ≡ Some n) × (least_of f ≤ n) × (n ≤ greatest_of f)
 within_bounds f None n e = absurd (cc)
-within_bounds f (Some m) n e = bounds (least f) (greatest f) m n e
+within_bounds f (Some m) n e = bounds (least_of f) (greatest_of f) m n e
 
 written_by : (b : Bool) (f : Field) (text : List ℕ) (n : ℕ) → cond b (named f text) (within f (small_number text)) ≡ Some n → IsNumber f text n
 written_by true f text n e = name e
@@ -125,7 +125,7 @@ some_mapped g (Some m) n e = (m, refl)
 name_length : (f : Field) (text : List ℕ) (n : ℕ) → named f text ≡ Some n → (length text == 3) ≡ true
 name_length f text n e =
     let q : List ℕ → Bool = λ known. bytes_eq known (map to_ascii_lowercase text) in
-    let (i, at) = some_mapped (λ i. i + least f) (position q (names f)) n e in
+    let (i, at) = some_mapped (λ i. i + least_of f) (position q (names f)) n e in
     let found = position-Some q (names f) i [] at in
     let same = (bytes_eq-Decides (get_or (names f) i []) (map to_ascii_lowercase text)).0 found.1 in
     let len : length (get_or (names f) i []) ≡ length text = ap length same ∙ length-map text to_ascii_lowercase in
@@ -136,5 +136,5 @@ pub number_read : (f : Field) (text : List ℕ) (n : ℕ) → IsNumber f text n 
 number_read f text n (number is low high) =
     ap (λ b. cond b (named f text) (within f (small_number text))) (few_digits text n is)
     ∙ ap (within f) (decimal_read text n is)
-    ∙ bounded (least f) (greatest f) (Some n) n refl low high
+    ∙ bounded (least_of f) (greatest_of f) (Some n) n refl low high
 number_read f text n (name e) = ap (λ b. cond b (named f text) (within f (small_number text))) (name_length f text n e) ∙ e

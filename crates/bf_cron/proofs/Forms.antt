@@ -8,7 +8,7 @@ use Rattle.std.proofs.lemmas.Slice.Eq.{bytes_eq-Decides}
 use Rattle.std.proofs.lemmas.List.{take_all}
 use Rattle.bf_cron.specs.declared.field.Field.{Field}
 use Rattle.bf_cron.specs.declared.item.Item.{Item}
-use Rattle.bf_cron.specs.Cron.{least, greatest, number_of, step_of, after, item_between, range_of, item_of}
+use Rattle.bf_cron.specs.Cron.{least_of, greatest_of, number_of, step_of, after, item_between, range_of, item_of}
 use Rattle.bf_cron.proofs.Decimals.{number_written, step_written}
 use Rattle.bf_cron.specs.Grammar.{IsItemText, every, every_nth, one, span, span_nth}
 
@@ -72,13 +72,13 @@ known x y n a b s i w e h k =
     let o = some_same w.step n (sym w.is_step ∙ k) in
     w.is ∙ (λ j. item (sym l j) (sym m j) (sym o j))
 
-from_star : (f : Field) (text : List ℕ) (i : Item) (step : Option (List ℕ)) → IsCut 47 text (42 ∷ []) step → item_between (Some (least f)) (Some (greatest f)) (step_of step) ≡ Some i → IsItemText f text i
+from_star : (f : Field) (text : List ℕ) (i : Item) (step : Option (List ℕ)) → IsCut 47 text (42 ∷ []) step → item_between (Some (least_of f)) (Some (greatest_of f)) (step_of step) ≡ Some i → IsItemText f text i
 from_star f text i None cut e =
-    let w = between (Some (least f)) (Some (greatest f)) (Some 1) i e in
-    made f text _ i _ cut (known (least f) (greatest f) 1 _ _ _ i w refl refl refl) every
+    let w = between (Some (least_of f)) (Some (greatest_of f)) (Some 1) i e in
+    made f text _ i _ cut (known (least_of f) (greatest_of f) 1 _ _ _ i w refl refl refl) every
 from_star f text i (Some t) cut e =
-    let w = between (Some (least f)) (Some (greatest f)) (step_of (Some t)) i e in
-    made f text _ i _ cut (known (least f) (greatest f) w.step _ _ _ i w refl refl w.is_step) (every_nth t w.step (step_written t w.step w.is_step))
+    let w = between (Some (least_of f)) (Some (greatest_of f)) (step_of (Some t)) i e in
+    made f text _ i _ cut (known (least_of f) (greatest_of f) w.step _ _ _ i w refl refl w.is_step) (every_nth t w.step (step_written t w.step w.is_step))
 
 from_range : (f : Field) (text base first : List ℕ) (last step : Option (List ℕ)) (i : Item) → IsCut 47 text base step → IsCut 45 base first last → range_of f first last step ≡ Some i → IsItemText f text i
 from_range f text base first None None i cut part e =
@@ -94,7 +94,7 @@ from_range f text base first (Some last) (Some t) i cut part e =
     (span_nth first last t w.low w.high w.step (number_written f first w.low w.is_low) (number_written f last w.high w.is_high) w.ordered (step_written t w.step w.is_step))
 
 from_stepped : (b : Bool) (f : Field) (text base : List ℕ) (step : Option (List ℕ)) (i : Item) → (b ≡ true → base ≡ 42 ∷ []) → IsCut 47 text base step
-    → cond b (item_between (Some (least f)) (Some (greatest f)) (step_of step)) (range_of f (before_first (λ b. b == 45) base) (after 45 base) step) ≡ Some i → IsItemText f text i
+    → cond b (item_between (Some (least_of f)) (Some (greatest_of f)) (step_of step)) (range_of f (before_first (λ b. b == 45) base) (after 45 base) step) ≡ Some i → IsItemText f text i
 from_stepped true f text base step i star cut e =
     let P : List ℕ → Type 0 = λ l. IsCut 47 text l step in from_star f text i step (subst P (star refl) cut) e
 from_stepped false f text base step i star cut e = from_range f text base (before_first (λ b. b == 45) base) (after 45 base) step i cut (is_cut 45 base) e

@@ -17,7 +17,7 @@ use Rattle.std.proofs.Math.Seq.{get_or-append_right}
 use Rattle.bf_cron.specs.declared.field.Field.{Field}
 use Rattle.bf_cron.specs.declared.field.Field.TheVariants.{Minute, Hour, Day, Month, Weekday}
 use Rattle.bf_cron.specs.declared.item.Item.{Item}
-use Rattle.bf_cron.specs.Cron.{least, greatest, names, named, step_of, after, item_between, range_of, stepped, item_of}
+use Rattle.bf_cron.specs.Cron.{least_of, greatest_of, names, named, step_of, after, item_between, range_of, stepped, item_of}
 use Rattle.bf_cron.proofs.Decimals.{number_read, step_read, some_mapped}
 use Rattle.bf_cron.specs.Grammar.{IsItemText, every, every_nth, one, span, span_nth, IsNumber, number, name, units, tens}
 
@@ -87,7 +87,7 @@ lower_high b h = grind (arith, nat_tests)
 named_high : (f : Field) (t : List ℕ) (n : ℕ) → named f t ≡ Some n → IsHigh t
 named_high f t n e k inside =
     let q : List ℕ → Bool = λ name. bytes_eq name (map to_ascii_lowercase t) in
-    let (i, at) = some_mapped (λ i. i + least f) (position q (names f)) n e in
+    let (i, at) = some_mapped (λ i. i + least_of f) (position q (names f)) n e in
     let found = position-Some q (names f) i [] at in
     let same = (bytes_eq-Decides (get_or (names f) i []) (map to_ascii_lowercase t)).0 found.1 in
     let len : length (get_or (names f) i []) ≡ length t = ap length same ∙ length-map t to_ascii_lowercase in
@@ -123,7 +123,7 @@ not_star base h = elim (cases_Bool (bytes_eq base (42 ∷ []))) as (λ _. bytes_
 parts_give : (f : Field) (text base first : List ℕ) (step last : Option (List ℕ)) → (before_first (λ b. b == 47) text ≡ base) × (after 47 text ≡ step) → (before_first (λ b. b == 45) base ≡ first) × (after 45 base ≡ last) → 48 ≤ get_or base 0 0 → item_of f text ≡ range_of f first last step
 parts_give f text base first step last outer inner high =
     (λ j. stepped f (outer.0 j) (outer.1 j))
-    ∙ ap (λ b. cond b (item_between (Some (least f)) (Some (greatest f)) (step_of step)) (range_of f (before_first (λ b. b == 45) base) (after 45 base) step)) (not_star base high)
+    ∙ ap (λ b. cond b (item_between (Some (least_of f)) (Some (greatest_of f)) (step_of step)) (range_of f (before_first (λ b. b == 45) base) (after 45 base) step)) (not_star base high)
     ∙ (λ j. range_of f (inner.0 j) (inner.1 j) step)
 
 between_gives : (x y n : ℕ) (a b s : Option ℕ) → a ≡ Some x → b ≡ Some y → s ≡ Some n → x ≤ y → item_between a b s ≡ Some (record { low = x; high = y; step = n })
@@ -131,7 +131,7 @@ between_gives x y n a b s e h k l =
     let test : nat_le x y ≡ true = grind (arith, nat_tests) in
     (λ j. item_between (e j) (h j) (k j)) ∙ ap (λ b. cond b (Some (record { low = x; high = y; step = n })) None) test
 
-star_gives : (f : Field) (n : ℕ) → item_between (Some (least f)) (Some (greatest f)) (Some n) ≡ Some (record { low = least f; high = greatest f; step = n })
+star_gives : (f : Field) (n : ℕ) → item_between (Some (least_of f)) (Some (greatest_of f)) (Some n) ≡ Some (record { low = least_of f; high = greatest_of f; step = n })
 star_gives Minute n = refl
 star_gives Hour n = refl
 star_gives Day n = refl
@@ -153,7 +153,7 @@ written_is_read f text i every =
 written_is_read f text i (every_nth t n is_step) =
     let step = step_read t n is_step in
     let cut = cut_at 47 (42 ∷ []) t lacks_star in
-    (λ j. stepped f (cut.0 j) (cut.1 j)) ∙ ap (item_between (Some (least f)) (Some (greatest f))) step ∙ star_gives f n
+    (λ j. stepped f (cut.0 j) (cut.1 j)) ∙ ap (item_between (Some (least_of f)) (Some (greatest_of f))) step ∙ star_gives f n
 written_is_read f text i (one t a is_a) =
     let na = number_read f t a is_a in
     let high = number_high f t a is_a in

@@ -19,20 +19,20 @@ abbrev pub is_blank : ℕ → Bool
 is_blank c = (c == 32) || (c == 9)
 
 -- the least number of a field
-abbrev pub least : Field → ℕ
-least Minute = 0
-least Hour = 0
-least Day = 1
-least Month = 1
-least Weekday = 0
+abbrev pub least_of : Field → ℕ
+least_of Minute = 0
+least_of Hour = 0
+least_of Day = 1
+least_of Month = 1
+least_of Weekday = 0
 
 -- the greatest
-abbrev pub greatest : Field → ℕ
-greatest Minute = 59
-greatest Hour = 23
-greatest Day = 31
-greatest Month = 12
-greatest Weekday = 7
+abbrev pub greatest_of : Field → ℕ
+greatest_of Minute = 59
+greatest_of Hour = 23
+greatest_of Day = 31
+greatest_of Month = 12
+greatest_of Weekday = 7
 
 -- a decimal digit's value
 abbrev pub digit : ℕ → Option ℕ
@@ -63,12 +63,12 @@ names Weekday = codes "sun" ∷ codes "mon" ∷ codes "tue" ∷ codes "wed" ∷ 
 
 -- the number that a name stands for, in any letter case
 abbrev pub named : Field → List ℕ → Option ℕ
-named f text = option_map (λ i. i + least f) (position (λ name. bytes_eq name (map to_ascii_lowercase text)) (names f))
+named f text = option_map (λ i. i + least_of f) (position (λ name. bytes_eq name (map to_ascii_lowercase text)) (names f))
 
 -- the number, if the field has it
 abbrev pub within : Field → Option ℕ → Option ℕ
 within f None = None
-within f (Some n) = if nat_le (least f) n && nat_le n (greatest f) then Some n else None
+within f (Some n) = if nat_le (least_of f) n && nat_le n (greatest_of f) then Some n else None
 
 -- what a number or a name stands for
 abbrev pub number_of : Field → List ℕ → Option ℕ
@@ -105,7 +105,7 @@ range_of f first (Some last) step = item_between (number_of f first) (number_of 
 -- `*`, `a` or `a-b`, with what stands behind a `/`
 abbrev pub stepped : Field → List ℕ → Option (List ℕ) → Option Item
 stepped f base step =
-    if bytes_eq base (42 ∷ []) then item_between (Some (least f)) (Some (greatest f)) (step_of step)
+    if bytes_eq base (42 ∷ []) then item_between (Some (least_of f)) (Some (greatest_of f)) (step_of step)
     else range_of f (before_first (λ b. b == 45) base) (after 45 base) step
 
 -- one item of a field

@@ -3,7 +3,7 @@ use Rattle.std.specs.Prelude.{◌≡◌, ℕ, ◌+◌, ◌*◌, ◌≤◌, ◌==
 use Rattle.bf_cron.specs.declared.field.Field.{Field}
 use Rattle.bf_cron.specs.declared.field.Field.TheVariants.{Minute, Hour, Day, Month, Weekday}
 use Rattle.bf_cron.specs.declared.item.Item.{Item}
-use Rattle.bf_cron.specs.Cron.{Schedule, least, greatest, named, is_blank, is_star, has_bytes}
+use Rattle.bf_cron.specs.Cron.{Schedule, least_of, greatest_of, named, is_blank, is_star, has_bytes}
 
 -- a number of one or two digits
 pub data IsDecimal : List ℕ → ℕ → Type 0 where
@@ -12,7 +12,7 @@ pub data IsDecimal : List ℕ → ℕ → Type 0 where
 
 -- a number or a name of the field
 pub data IsNumber (f : Field) (text : List ℕ) (n : ℕ) : Type 0 where
-  number : IsDecimal text n → least f ≤ n → n ≤ greatest f → IsNumber f text n
+  number : IsDecimal text n → least_of f ≤ n → n ≤ greatest_of f → IsNumber f text n
   name : named f text ≡ Some n → IsNumber f text n
 
 -- a step
@@ -21,8 +21,8 @@ IsStep text n = IsDecimal text n × (1 ≤ n) × (n ≤ 59)
 
 -- `*`, `*/n`, `a`, `a-b` and `a-b/n`
 pub data IsItemText (f : Field) : List ℕ → Item → Type 0 where
-  every : IsItemText f (42 ∷ []) (record { low = least f; high = greatest f; step = 1 })
-  every_nth : (t : List ℕ) (n : ℕ) → IsStep t n → IsItemText f (42 ∷ 47 ∷ t) (record { low = least f; high = greatest f; step = n })
+  every : IsItemText f (42 ∷ []) (record { low = least_of f; high = greatest_of f; step = 1 })
+  every_nth : (t : List ℕ) (n : ℕ) → IsStep t n → IsItemText f (42 ∷ 47 ∷ t) (record { low = least_of f; high = greatest_of f; step = n })
   one : (t : List ℕ) (a : ℕ) → IsNumber f t a → IsItemText f t (record { low = a; high = a; step = 1 })
   span : (s t : List ℕ) (a b : ℕ) → IsNumber f s a → IsNumber f t b → a ≤ b → IsItemText f (s ++ 45 ∷ t) (record { low = a; high = b; step = 1 })
   span_nth : (s t u : List ℕ) (a b n : ℕ) → IsNumber f s a → IsNumber f t b → a ≤ b → IsStep u n → IsItemText f (s ++ 45 ∷ t ++ 47 ∷ u) (record { low = a; high = b; step = n })

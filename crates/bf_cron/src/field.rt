@@ -1,6 +1,6 @@
 //! The five fields.
 ghost use Rattle.std.specs.Prelude.{◌≡◌};
-ghost use Rattle.bf_cron.specs.Cron.{least as least_of, greatest as greatest_of};
+ghost use Rattle.bf_cron.specs.Cron.{least_of, greatest_of};
 
 /// One of the five fields of a schedule (crontab(5)).
 #[derive(Clone, Copy, Debug, PartialEq, Eq)]

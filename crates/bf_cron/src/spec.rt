@@ -1,6 +1,6 @@
 //! Schedules, and why a text is none.
 ghost use Rattle.std.specs.Prelude.{◌≡◌};
-ghost use Rattle.bf_cron.specs.declared.spec.CronFault.TheVariants.{OutOfMemory as NoMemory};
+ghost use Rattle.bf_cron.specs.declared.spec.CronFault.TheVariants.{OutOfMemory};
 
 use std::alloc::AllocError;
 use thiserror::Error;
@@ -28,7 +28,7 @@ pub enum CronFault {
 }
 
 impl From<AllocError> for CronFault {
-    ghost from_gives = { λ _ e. e ≡ NoMemory };
+    ghost from_gives = { λ _ e. e ≡ OutOfMemory };
 
     fn from(_e: AllocError) -> CronFault {
         CronFault::OutOfMemory

@@ -14,7 +14,7 @@ use Rattle.bf_interval.specs.declared.interval.Interval.{Interval}
 use Rattle.bf_interval.specs.declared.fault.IntervalFault.{IntervalFault}
 use Rattle.bf_interval.specs.declared.fault.IntervalFault.TheVariants.{OutsideYears, RangeReversed, TooManyRuns, OutOfMemory}
 use Rattle.bf_days.specs.declared.days.Days.{Days}
-use Rattle.bf_days.specs.Days.{is_on}
+use Rattle.bf_days.specs.Days.{is_on_day}
 use Rattle.bf_days.specs.Listing.{StartsOn, AreIntervalsBetween, HasIntervalsOn, are_on, IsKeptFault, IsAddFault}
 
 -- ---- lists
@@ -83,7 +83,7 @@ kept spec zone days low from to old xs lower up small are listed = record {
   all = λ v on above below. rw map-append (elim (cases_lt (unsigned_abs v.0) from) as (λ _. Contains (map ends old ++ map ends (filter (are_on zone days) xs)) v) [
     | inl l ↦ Contains-append_left (map ends old) (map ends (filter (are_on zone days) xs)) v (are.all v on above (omega (arith, ints, on.1.0, l)))
     | inr g ↦ Contains-append_right (map ends old) (map ends (filter (are_on zone days) xs)) v
-        (ends_kept (are_on zone days) xs v (λ x e. ap (λ (w : ℤ × ℤ). is_on zone days w.0) e ∙ on.2)
+        (ends_kept (are_on zone days) xs v (λ x e. ap (λ (w : ℤ × ℤ). is_on_day zone days w.0) e ∙ on.2)
         (listed.all v (on.0, omega (arith, ints, on.1.0, g), omega (arith, ints, below, up))))
   ]);
 }

@@ -11,7 +11,7 @@ use Rattle.bf_interval.specs.declared.fault.IntervalFault.{IntervalFault}
 use Rattle.bf_interval.specs.declared.fault.IntervalFault.TheVariants.{OutsideYears, RangeReversed, TooManyRuns, OutOfMemory}
 use Rattle.bf_moment.specs.Moment.{day_of}
 use Rattle.bf_days.specs.declared.days.Days.{Days}
-use Rattle.bf_days.specs.Days.{day_shown, is_on}
+use Rattle.bf_days.specs.Days.{day_shown_of, is_on_day}
 use Rattle.bf_days.specs.Listing.{AreDays, AreIntervalsBetween, AreIntervalsOn, IsAddFault, IsAnswerOn}
 
 -- no clock is further from UTC
@@ -42,14 +42,14 @@ near_by : (offset day first last n : ℤ) → IsWithin 93_599 offset
 near_by offset day first last n within bounds low high = (omega (arith, ints, within.0, within.1, bounds.0, bounds.1, low, high), omega (arith, ints, within.0, within.1, bounds.0, bounds.1, low, high))
 
 -- where a clock shows one of the days it isn't further from them in UTC
-near : (zone : TimeZone) (days : Days) (n : ℤ) → is_on zone days n ≡ true
+near : (zone : TimeZone) (days : Days) (n : ℤ) → is_on_day zone days n ≡ true
     → ((days.first *ℤ pos 86_400_000_000_000) ≤ℤ (n +ℤ pos 93_599_000_000_000)) × (n <ℤ ((days.last *ℤ pos 86_400_000_000_000) +ℤ pos 179_999_000_000_000))
 near zone days n on =
-    let parts = both (not (int_lt (day_shown zone n) days.first)) (not (int_lt days.last (day_shown zone n))) on in
-    let low : days.first ≤ℤ day_shown zone n = not_before (day_shown zone n) days.first parts.0 in
-    let high : day_shown zone n ≤ℤ days.last = not_before days.last (day_shown zone n) parts.1 in
+    let parts = both (not (int_lt (day_shown_of zone n) days.first)) (not (int_lt days.last (day_shown_of zone n))) on in
+    let low : days.first ≤ℤ day_shown_of zone n = not_before (day_shown_of zone n) days.first parts.0 in
+    let high : day_shown_of zone n ≤ℤ days.last = not_before days.last (day_shown_of zone n) parts.1 in
     let offset = offset_within zone n in
-    near_by (offset_at zone n) (day_shown zone n) days.first days.last n offset (day_bounds (n +ℤ nanos_of_seconds (offset_at zone n)) (day_shown zone n) refl) low high
+    near_by (offset_at zone n) (day_shown_of zone n) days.first days.last n offset (day_bounds (n +ℤ nanos_of_seconds (offset_at zone n)) (day_shown_of zone n) refl) low high
 
 pub on_days : (spec : CronSpec) (zone : TimeZone) (days : Days) (from to first last : ℕ) (found : List Interval) → days.first ≡ pos first → days.last ≡ pos last
     → from ≡ first * 86_400_000_000_000 - 93_599_000_000_000 → to ≡ min ((last + 1) * 86_400_000_000_000 + 93_599_000_000_000) 7_258_118_399_000_000_001

@@ -25,12 +25,12 @@ abbrev pub SpellDays : List ℕ → Days → Type 0
 SpellDays text days = (SpellsDay text days.first × (days.last ≡ days.first)) ⊎ SpellsRange text days
 
 -- the day that a clock of the zone shows at an instant, counted from 1970-01-01
-abbrev pub day_shown : TimeZone → ℤ → ℤ
-day_shown zone n = day_of (n +ℤ nanos_of_seconds (offset_at zone n))
+abbrev pub day_shown_of : TimeZone → ℤ → ℤ
+day_shown_of zone n = day_of (n +ℤ nanos_of_seconds (offset_at zone n))
 
 -- a clock of the zone shows one of the days
-abbrev pub is_on : TimeZone → Days → ℤ → Bool
-is_on zone days n = not (int_lt (day_shown zone n) days.first) && not (int_lt days.last (day_shown zone n))
+abbrev pub is_on_day : TimeZone → Days → ℤ → Bool
+is_on_day zone days n = not (int_lt (day_shown_of zone n) days.first) && not (int_lt days.last (day_shown_of zone n))
 
 -- a day from 1970-01-01 to 2199-12-31
 abbrev pub IsDayInYears : ℤ → Type 0

@@ -9,11 +9,11 @@ use Rattle.bf_interval.specs.declared.interval.Interval.{Interval}
 use Rattle.bf_interval.specs.declared.fault.IntervalFault.{IntervalFault}
 use Rattle.bf_interval.specs.declared.fault.IntervalFault.TheVariants.{OutsideYears, RangeReversed, TooManyRuns, OutOfMemory}
 use Rattle.bf_days.specs.declared.days.Days.{Days}
-use Rattle.bf_days.specs.Days.{is_on, IsDayInYears}
+use Rattle.bf_days.specs.Days.{is_on_day, IsDayInYears}
 
 -- a data interval of the years at whose start a clock of the zone shows one of the days
 abbrev pub StartsOn : CronSpec → TimeZone → Days → ℤ × ℤ → Type 0
-StartsOn spec zone days (start, end) = IsInterval spec zone start end × IsInYears start × (is_on zone days start ≡ true)
+StartsOn spec zone days (start, end) = IsInterval spec zone start end × IsInYears start × (is_on_day zone days start ≡ true)
 
 -- the data intervals that start on the days: all of them, in order
 pub record AreIntervalsOn (spec : CronSpec) (zone : TimeZone) (days : Days) (found : List Interval) : Type 0 where
@@ -50,7 +50,7 @@ pub record AreIntervalsBetween (spec : CronSpec) (zone : TimeZone) (days : Days)
 
 -- the interval starts on one of the days
 abbrev pub are_on : TimeZone → Days → Interval → Bool
-are_on zone days i = is_on zone days i.start.nanosecond
+are_on zone days i = is_on_day zone days i.start.nanosecond
 
 -- of the first intervals so many pass the test that they are too many behind those before
 pub record Overflows (test : Interval → Bool) (before listed : List Interval) : Type 0 where

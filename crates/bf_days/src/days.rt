@@ -1,7 +1,7 @@
 //! Days.
 ghost use Rattle.std.specs.Prelude.{◌≡◌, ℤ, IfSome, IfNone};
 ghost use Rattle.bf_days.specs.Days.{SpellsDay, SpellDays};
-ghost use Rattle.bf_days.specs.declared.days.Days.{Days as DaysTerm};
+ghost use Rattle.bf_days.specs.declared.days.Days.{Days};
 
 use bf_moment::moment_in;
 
@@ -31,7 +31,7 @@ impl Days {
     /// The days that a text spells: one, as `2024-03-04`, or those from one to another, as `2024-03-04..2024-03-10`.
     pub fn read(text: &str) -> Option<Days>
         ensures found { IfSome result (SpellDays text.now) }
-        ensures none { IfNone result ((days : DaysTerm) → SpellDays text.now days → ⊥) }
+        ensures none { IfNone result ((days : Days) → SpellDays text.now days → ⊥) }
     {
         match text.split_once("..") {
             Some((first, last)) => {

@@ -1,7 +1,7 @@
 //! What a clock of a zone shows.
 ghost use Rattle.std.specs.Prelude.{◌≡◌};
 ghost use Rattle.jiff.specs.Words.{plain_zone};
-ghost use Rattle.bf_days.specs.Days.{day_shown as shown, is_on as on};
+ghost use Rattle.bf_days.specs.Days.{day_shown_of, is_on_day};
 
 use crate::days::{DAY, Days};
 use jiff::Timestamp;
@@ -12,7 +12,7 @@ const SECOND: i128 = 1_000_000_000;
 
 /// The day that a clock of the zone shows, counted from 1970-01-01.
 fn day_shown(zone: &TimeZone<'_>, at: Timestamp) -> i128
-    ensures { result ≡ shown (plain_zone zone.now) at.nanosecond }
+    ensures { result ≡ day_shown_of (plain_zone zone.now) at.nanosecond }
 {
     let offset = i128::from(zone.to_offset(at).seconds()) * SECOND;
     (at.as_nanosecond() + offset).div_euclid(DAY)
@@ -20,7 +20,7 @@ fn day_shown(zone: &TimeZone<'_>, at: Timestamp) -> i128
 
 /// Whether a clock of the zone shows one of the days.
 pub(crate) fn is_on(zone: &TimeZone<'_>, days: Days, at: Timestamp) -> bool
-    ensures { result ≡ on (plain_zone zone.now) days at.nanosecond }
+    ensures { result ≡ is_on_day (plain_zone zone.now) days at.nanosecond }
 {
     let day = day_shown(zone, at);
     i128::from(days.first) <= day && day <= i128::from(days.last)

@@ -5,12 +5,12 @@ use Rattle.std.proofs.lemmas.Bool.{and_parts, and_from, or_cases, or_left, or_ri
 use Rattle.std.proofs.lemmas.Cmp.{eq_by_cmp_equiv}
 use Rattle.std.proofs.lemmas.List.Elements.{All-contains, All-contains_itself, All-filter, filter_passes, Contains-append_cases, Contains-append_left, Contains-append_right}
 use Rattle.std.proofs.lemmas.Map.Views.{Contains-from_any, list_any-from_Contains, tells_apart}
-use Rattle.bf_graph.specs.Reach.{is_marked, row_at}
+use Rattle.bf_graph.specs.Reach.{is_marked_in, row_at}
 use Rattle.bf_plan.specs.declared.plan.Dag.{Dag}
 use Rattle.bf_dependents.specs.declared.place.Place.{Place}
-use Rattle.bf_dependents.specs.Dependents.{has, has_seed, AreDependents, Following, IsDependent}
-use Rattle.bf_dependents.specs.Listing.{is_whole, places_at, places_in, places_of_run, up_to, IsListed}
-use Rattle.bf_dependents.specs.Marks.{follows, is_of, marks_before}
+use Rattle.bf_dependents.specs.Dependents.{has_in, has_seed_in, AreDependents, Following, IsDependent}
+use Rattle.bf_dependents.specs.Listing.{is_whole_in, places_of_task, places_in, places_of_run, up_to, IsListed}
+use Rattle.bf_dependents.specs.Marks.{follows_in, is_of, marks_before_in}
 use Rattle.bf_dependents.specs.Places.{place_cmp_total, place_cmp-IsAntisymmetric}
 use Rattle.bf_dependents.proofs.RightMarks.{of-itself, of-parts}
 
@@ -57,16 +57,16 @@ abbrev whole : ℕ → ℕ → Place
 whole k t = record { run = k; task = t; index = None }
 
 module _ (dag : Dag) (all : Following) where
-  held : (p : Place) → Contains all.seeds p → has_seed all.seeds p.run p.task p.index ≡ true
+  held : (p : Place) → Contains all.seeds p → has_seed_in all.seeds p.run p.task p.index ≡ true
   held p c = list_any-from_Contains (eq_by_cmp_equiv place_cmp_total) p all.seeds c
 
   -- a place that is listed of a task
-  in-places : (k t : ℕ) (p : Place) → Contains (places_at dag all k t) p →
-      (is_marked (row_at all.touched k) t ≡ true) × (((p ≡ whole k t) × (is_whole dag all k t ≡ true)) ⊎ ((is_whole dag all k t ≡ false) × Contains all.seeds p × (k ≡ p.run) × (t ≡ p.task)))
-  in-places k t p c = go (is_marked (row_at all.touched k) t) (is_whole dag all k t) refl refl c
+  in-places : (k t : ℕ) (p : Place) → Contains (places_of_task dag all k t) p →
+      (is_marked_in (row_at all.touched k) t ≡ true) × (((p ≡ whole k t) × (is_whole_in dag all k t ≡ true)) ⊎ ((is_whole_in dag all k t ≡ false) × Contains all.seeds p × (k ≡ p.run) × (t ≡ p.task)))
+  in-places k t p c = go (is_marked_in (row_at all.touched k) t) (is_whole_in dag all k t) refl refl c
     where
-      go : (m w : Bool) → is_marked (row_at all.touched k) t ≡ m → is_whole dag all k t ≡ w → Contains (if m then (if w then whole k t ∷ [] else filter (is_of k t) all.seeds) else []) p →
-          (is_marked (row_at all.touched k) t ≡ true) × (((p ≡ whole k t) × (is_whole dag all k t ≡ true)) ⊎ ((is_whole dag all k t ≡ false) × Contains all.seeds p × (k ≡ p.run) × (t ≡ p.task)))
+      go : (m w : Bool) → is_marked_in (row_at all.touched k) t ≡ m → is_whole_in dag all k t ≡ w → Contains (if m then (if w then whole k t ∷ [] else filter (is_of k t) all.seeds) else []) p →
+          (is_marked_in (row_at all.touched k) t ≡ true) × (((p ≡ whole k t) × (is_whole_in dag all k t ≡ true)) ⊎ ((is_whole_in dag all k t ≡ false) × Contains all.seeds p × (k ≡ p.run) × (t ≡ p.task)))
       go true true e f (zero, l, same) = (e, inl (sym same, f))
       go true true e f (suc j, l, same) = absurd (omega (arith, l))
       go true false e f d =
@@ -75,66 +75,66 @@ module _ (dag : Dag) (all : Following) where
           (e, inr (f, one.0, parts.0, parts.1))
       go false w e f (j, l, same) = absurd (omega (arith, l))
 
-  whole-has : (k t : ℕ) (i : ℤ) → is_marked (row_at all.touched k) t ≡ true → is_whole dag all k t ≡ true → has dag all k t i ≡ true
-  whole-has k t i m w = and_from _ _ m (elim (or_cases (has_seed all.seeds k t None) _ w) [
+  whole-has : (k t : ℕ) (i : ℤ) → is_marked_in (row_at all.touched k) t ≡ true → is_whole_in dag all k t ≡ true → has_in dag all k t i ≡ true
+  whole-has k t i m w = and_from _ _ m (elim (or_cases (has_seed_in all.seeds k t None) _ w) [
     | inl h ↦ or_left _ _ h
-    | inr h ↦ or_right (has_seed all.seeds k t None) _ (or_right (has_seed all.seeds k t (Some i)) _ h)
+    | inr h ↦ or_right (has_seed_in all.seeds k t None) _ (or_right (has_seed_in all.seeds k t (Some i)) _ h)
   ])
 
-  single-has : (k t : ℕ) (i : ℤ) → is_marked (row_at all.touched k) t ≡ true → has_seed all.seeds k t (Some i) ≡ true → has dag all k t i ≡ true
-  single-has k t i m h = and_from _ _ m (or_right (has_seed all.seeds k t None) _ (or_left _ _ h))
+  single-has : (k t : ℕ) (i : ℤ) → is_marked_in (row_at all.touched k) t ≡ true → has_seed_in all.seeds k t (Some i) ≡ true → has_in dag all k t i ≡ true
+  single-has k t i m h = and_from _ _ m (or_right (has_seed_in all.seeds k t None) _ (or_left _ _ h))
 
   -- what is listed follows
-  listed-has : (k t : ℕ) (i : ℤ) → (runs : ℕ) → IsListed (places_in dag all runs) k t i → has dag all k t i ≡ true
+  listed-has : (k t : ℕ) (i : ℤ) → (runs : ℕ) → IsListed (places_in dag all runs) k t i → has_in dag all k t i ≡ true
   listed-has k t i runs (inl c) =
       let run : _ = in-up_to (places_of_run dag all (length dag.tasks)) runs (whole k t) c in
-      let task : _ = in-up_to (places_at dag all run.0) (length dag.tasks) (whole k t) run.2 in
+      let task : _ = in-up_to (places_of_task dag all run.0) (length dag.tasks) (whole k t) run.2 in
       let is : _ = in-places run.0 task.0 (whole k t) task.2 in
       elim is.1 [
         | inl e ↦
             let same_run : run.0 ≡ k = sym (ap (λ (p : Place). p.run) e.0) in
             let same_task : task.0 ≡ t = sym (ap (λ (p : Place). p.task) e.0) in
-            subst (λ (n : ℕ). has dag all n t i ≡ true) same_run (subst (λ (s : ℕ). has dag all run.0 s i ≡ true) same_task (whole-has run.0 task.0 i is.0 e.1))
+            subst (λ (n : ℕ). has_in dag all n t i ≡ true) same_run (subst (λ (s : ℕ). has_in dag all run.0 s i ≡ true) same_task (whole-has run.0 task.0 i is.0 e.1))
         | inr e ↦
-            let marked : is_marked (row_at all.touched k) t ≡ true = subst (λ (n : ℕ). is_marked (row_at all.touched n) t ≡ true) e.2 (subst (λ (s : ℕ). is_marked (row_at all.touched run.0) s ≡ true) e.3 is.0) in
+            let marked : is_marked_in (row_at all.touched k) t ≡ true = subst (λ (n : ℕ). is_marked_in (row_at all.touched n) t ≡ true) e.2 (subst (λ (s : ℕ). is_marked_in (row_at all.touched run.0) s ≡ true) e.3 is.0) in
             whole-has k t i marked (or_left _ _ (held (whole k t) e.1))
       ]
   listed-has k t i runs (inr c) =
       let run : _ = in-up_to (places_of_run dag all (length dag.tasks)) runs (at k t i) c in
-      let task : _ = in-up_to (places_at dag all run.0) (length dag.tasks) (at k t i) run.2 in
+      let task : _ = in-up_to (places_of_task dag all run.0) (length dag.tasks) (at k t i) run.2 in
       let is : _ = in-places run.0 task.0 (at k t i) task.2 in
       elim is.1 [
         | inl e ↦ let no : Some i ≡ None = ap (λ (p : Place). p.index) e.0 in cc
         | inr e ↦
-            let marked : is_marked (row_at all.touched k) t ≡ true = subst (λ (n : ℕ). is_marked (row_at all.touched n) t ≡ true) e.2 (subst (λ (s : ℕ). is_marked (row_at all.touched run.0) s ≡ true) e.3 is.0) in
+            let marked : is_marked_in (row_at all.touched k) t ≡ true = subst (λ (n : ℕ). is_marked_in (row_at all.touched n) t ≡ true) e.2 (subst (λ (s : ℕ). is_marked_in (row_at all.touched run.0) s ≡ true) e.3 is.0) in
             single-has k t i marked (held (at k t i) e.1)
       ]
 
   -- what follows is listed
-  has-listed : (k t : ℕ) (i : ℤ) (runs : ℕ) → k < runs → t < length dag.tasks → has dag all k t i ≡ true → IsListed (places_in dag all runs) k t i
-  has-listed k t i runs l m e = go (is_whole dag all k t) refl
+  has-listed : (k t : ℕ) (i : ℤ) (runs : ℕ) → k < runs → t < length dag.tasks → has_in dag all k t i ≡ true → IsListed (places_in dag all runs) k t i
+  has-listed k t i runs l m e = go (is_whole_in dag all k t) refl
     where
-      both : (is_marked (row_at all.touched k) t ≡ true) × ((has_seed all.seeds k t None || (has_seed all.seeds k t (Some i) || follows dag t [] (marks_before all.touched k) (row_at all.touched k))) ≡ true)
-      both = and_parts (is_marked (row_at all.touched k) t) _ e
+      both : (is_marked_in (row_at all.touched k) t ≡ true) × ((has_seed_in all.seeds k t None || (has_seed_in all.seeds k t (Some i) || follows_in dag t [] (marks_before_in all.touched k) (row_at all.touched k))) ≡ true)
+      both = and_parts (is_marked_in (row_at all.touched k) t) _ e
 
-      put : (p : Place) → Contains (places_at dag all k t) p → Contains (places_in dag all runs) p
-      put p c = up_to-has (places_of_run dag all (length dag.tasks)) runs k p l (up_to-has (places_at dag all k) (length dag.tasks) t p m c)
+      put : (p : Place) → Contains (places_of_task dag all k t) p → Contains (places_in dag all runs) p
+      put p c = up_to-has (places_of_run dag all (length dag.tasks)) runs k p l (up_to-has (places_of_task dag all k) (length dag.tasks) t p m c)
 
-      shown : (w : Bool) → is_whole dag all k t ≡ w → places_at dag all k t ≡ (if w then whole k t ∷ [] else filter (is_of k t) all.seeds)
+      shown : (w : Bool) → is_whole_in dag all k t ≡ w → places_of_task dag all k t ≡ (if w then whole k t ∷ [] else filter (is_of k t) all.seeds)
       shown w f =
-          ap (λ b. if b then (if is_whole dag all k t then whole k t ∷ [] else filter (is_of k t) all.seeds) else []) both.0
+          ap (λ b. if b then (if is_whole_in dag all k t then whole k t ∷ [] else filter (is_of k t) all.seeds) else []) both.0
           ∙ ap (λ b. if b then whole k t ∷ [] else filter (is_of k t) all.seeds) f
 
-      single : is_whole dag all k t ≡ false → has_seed all.seeds k t (Some i) ≡ true
-      single f = elim (or_cases (has_seed all.seeds k t None) _ both.1) [
-        | inl h ↦ absurd (true≢false (sym (or_left (has_seed all.seeds k t None) _ h) ∙ f))
-        | inr h ↦ elim (or_cases (has_seed all.seeds k t (Some i)) _ h) [
+      single : is_whole_in dag all k t ≡ false → has_seed_in all.seeds k t (Some i) ≡ true
+      single f = elim (or_cases (has_seed_in all.seeds k t None) _ both.1) [
+        | inl h ↦ absurd (true≢false (sym (or_left (has_seed_in all.seeds k t None) _ h) ∙ f))
+        | inr h ↦ elim (or_cases (has_seed_in all.seeds k t (Some i)) _ h) [
           | inl g ↦ g
-          | inr g ↦ absurd (true≢false (sym (or_right (has_seed all.seeds k t None) _ g) ∙ f))
+          | inr g ↦ absurd (true≢false (sym (or_right (has_seed_in all.seeds k t None) _ g) ∙ f))
         ]
       ]
 
-      go : (w : Bool) → is_whole dag all k t ≡ w → IsListed (places_in dag all runs) k t i
+      go : (w : Bool) → is_whole_in dag all k t ≡ w → IsListed (places_in dag all runs) k t i
       go true f = inl (put (whole k t) (subst (λ (ps : List Place). Contains ps (whole k t)) (sym (shown true f)) (0, omega arith, refl)))
       go false f =
           let there : Contains all.seeds (at k t i) = Contains-from_any (tells_apart place_cmp-IsAntisymmetric) (at k t i) all.seeds (single f) in

@@ -6,13 +6,13 @@ use Rattle.std.proofs.lemmas.Bool.{and_parts, and_from, or_cases, or_left, or_ri
 use Rattle.std.proofs.lemmas.Cmp.{eq_by_cmp_equiv}
 use Rattle.std.proofs.lemmas.List.Folds.{list_any_at, list_any_more}
 use Rattle.std.proofs.lemmas.Map.Views.{Contains-from_any, list_any-from_Contains, tells_apart}
-use Rattle.bf_graph.specs.Reach.{is_marked, row_at}
+use Rattle.bf_graph.specs.Reach.{is_marked_in, row_at}
 use Rattle.bf_plan.specs.declared.plan.Dag.{Dag}
 use Rattle.bf_plan.specs.Plans.{task_of}
 use Rattle.bf_plan.specs.Sound.{IsSound}
 use Rattle.bf_dependents.specs.declared.place.Place.{Place}
-use Rattle.bf_dependents.specs.Dependents.{has_seed, is_led_to, AreDependents, Following, IsDependent}
-use Rattle.bf_dependents.specs.Marks.{is_of, marks_before, AreTouched, IsTouched}
+use Rattle.bf_dependents.specs.Dependents.{has_seed_in, is_led_to_in, AreDependents, Following, IsDependent}
+use Rattle.bf_dependents.specs.Marks.{is_of, marks_before_in, AreTouched, IsTouched}
 use Rattle.bf_dependents.specs.Places.{place_cmp, place_cmp_total, place_cmp-IsAntisymmetric}
 use Rattle.bf_dependents.specs.Seeded.{HoldSeeds}
 use Rattle.bf_dependents.proofs.RightMarks.{marked-one, of-itself, of-parts, one-marked}
@@ -81,22 +81,22 @@ module _ (dag : Dag) (seeds : List Place) where
 
 -- ---- as it is looked up
 
-none-marked : (t : ℕ) → is_marked [] t ≡ true → ⊥
+none-marked : (t : ℕ) → is_marked_in [] t ≡ true → ⊥
 none-marked t e = cc
 
 module _ (dag : Dag) (sound : IsSound dag) (seeds : List Place) (runs : ℕ) (all : Following) (are : AreTouched dag seeds runs all.touched) (held : HoldSeeds seeds all.seeds) where
-  marked : (k t : ℕ) → k < runs → t < length dag.tasks → (is_marked (row_at all.touched k) t ≡ true) ↔ IsTouched dag seeds k t
+  marked : (k t : ℕ) → k < runs → t < length dag.tasks → (is_marked_in (row_at all.touched k) t ≡ true) ↔ IsTouched dag seeds k t
   marked k t l m = (are.each k l).right t m
 
-  led-forth : (k t : ℕ) (i : ℤ) → k < runs → t < length dag.tasks → is_led_to dag all k t i ≡ true → IsDependent dag seeds k t i
-  led-forth k t i l m e = elim (or_cases (has_seed all.seeds k t None) _ e) [
+  led-forth : (k t : ℕ) (i : ℤ) → k < runs → t < length dag.tasks → is_led_to_in dag all k t i ≡ true → IsDependent dag seeds k t i
+  led-forth k t i l m e = elim (or_cases (has_seed_in all.seeds k t None) _ e) [
     | inl h ↦ IsDependent.Seed ((held (record { run = k; task = t; index = None })).0 h)
-    | inr h ↦ elim (or_cases (has_seed all.seeds k t (Some i)) _ h) [
+    | inr h ↦ elim (or_cases (has_seed_in all.seeds k t (Some i)) _ h) [
       | inl g ↦ IsDependent.SeedAt ((held (record { run = k; task = t; index = Some i })).0 g)
-      | inr g ↦ elim (or_cases (is_marked [] t) _ g) [
+      | inr g ↦ elim (or_cases (is_marked_in [] t) _ g) [
         | inl f ↦ absurd (none-marked t f)
-        | inr f ↦ elim (or_cases ((task_of dag t).depends_on_past && is_marked (marks_before all.touched k) t) _ f) [
-          | inl b ↦ let both : _ = and_parts (task_of dag t).depends_on_past (is_marked (marks_before all.touched k) t) b in past k l both.0 both.1
+        | inr f ↦ elim (or_cases ((task_of dag t).depends_on_past && is_marked_in (marks_before_in all.touched k) t) _ f) [
+          | inl b ↦ let both : _ = and_parts (task_of dag t).depends_on_past (is_marked_in (marks_before_in all.touched k) t) b in past k l both.0 both.1
           | inr b ↦ let one : _ = one-marked (row_at all.touched k) (task_of dag t).upstreams b in
               IsDependent.Downstream one.1 (some-instance dag seeds k one.0 ((marked k one.0 l (sound.in_range t one.0 one.1)).0 one.2)).1
         ]
@@ -104,27 +104,27 @@ module _ (dag : Dag) (sound : IsSound dag) (seeds : List Place) (runs : ℕ) (al
     ]
   ]
     where
-      past : (n : ℕ) → n < runs → (task_of dag t).depends_on_past ≡ true → is_marked (marks_before all.touched n) t ≡ true → IsDependent dag seeds n t i
+      past : (n : ℕ) → n < runs → (task_of dag t).depends_on_past ≡ true → is_marked_in (marks_before_in all.touched n) t ≡ true → IsDependent dag seeds n t i
       past zero low d b = absurd (none-marked t b)
       past (suc n) low d b = IsDependent.NextRun d (some-instance dag seeds n t ((marked n t (omega (arith, low)) m).0 b)).1
 
-  led-back : (k t : ℕ) (i : ℤ) → k < runs → t < length dag.tasks → IsDependent dag seeds k t i → is_led_to dag all k t i ≡ true
+  led-back : (k t : ℕ) (i : ℤ) → k < runs → t < length dag.tasks → IsDependent dag seeds k t i → is_led_to_in dag all k t i ≡ true
   led-back k t i l m (IsDependent.Seed c) = or_left _ _ ((held (record { run = k; task = t; index = None })).1 c)
   led-back k t i l m (IsDependent.SeedAt c) =
-      or_right (has_seed all.seeds k t None) _ (or_left _ _ ((held (record { run = k; task = t; index = Some i })).1 c))
+      or_right (has_seed_in all.seeds k t None) _ (or_left _ _ ((held (record { run = k; task = t; index = Some i })).1 c))
   led-back k t i l m (IsDependent.Downstream {u = u} {j = j} h d) =
-      or_right (has_seed all.seeds k t None) _ (or_right (has_seed all.seeds k t (Some i)) _ (or_right (is_marked [] t) _
-      (or_right ((task_of dag t).depends_on_past && is_marked (marks_before all.touched k) t) _
+      or_right (has_seed_in all.seeds k t None) _ (or_right (has_seed_in all.seeds k t (Some i)) _ (or_right (is_marked_in [] t) _
+      (or_right ((task_of dag t).depends_on_past && is_marked_in (marks_before_in all.touched k) t) _
       (marked-one (row_at all.touched k) (task_of dag t).upstreams u h ((marked k u l (sound.in_range t u h)).1 (touched dag seeds k u j d))))))
   led-back (suc k) t i l m (IsDependent.NextRun {j = j} h d) =
-      or_right (has_seed all.seeds (suc k) t None) _ (or_right (has_seed all.seeds (suc k) t (Some i)) _ (or_right (is_marked [] t) _
+      or_right (has_seed_in all.seeds (suc k) t None) _ (or_right (has_seed_in all.seeds (suc k) t (Some i)) _ (or_right (is_marked_in [] t) _
       (or_left _ _ (and_from _ _ h ((marked k t (omega (arith, l)) m).1 (touched dag seeds k t j d))))))
 
   pub found-right : AreDependents dag seeds runs all
   found-right = record {
     len = are.len;
     right = λ k t i l m. (
-      λ e. led-forth k t i l m (and_parts (is_marked (row_at all.touched k) t) (is_led_to dag all k t i) e).1,
+      λ e. led-forth k t i l m (and_parts (is_marked_in (row_at all.touched k) t) (is_led_to_in dag all k t i) e).1,
       λ d. and_from _ _ ((marked k t l m).1 (touched dag seeds k t i d)) (led-back k t i l m d),
     );
   }

@@ -9,19 +9,19 @@ use Rattle.std.proofs.lemmas.List.{length-append, get_or-set_same, get_or-set_ot
 use Rattle.std.proofs.lemmas.List.Folds.{list_any_more}
 use Rattle.std.proofs.lemmas.Option.{slice_get-get_or, slice_get_within}
 use Rattle.bf_graph.specs.Order.{IsByRank, StandBehind}
-use Rattle.bf_graph.specs.Reach.{is_marked, row_at}
+use Rattle.bf_graph.specs.Reach.{is_marked_in, row_at}
 use Rattle.bf_plan.specs.declared.plan.Dag.{Dag}
 use Rattle.bf_plan.specs.declared.plan.Task.{Task}
 use Rattle.bf_plan.specs.Plans.{shape_of, task_of}
 use Rattle.bf_plan.specs.Sound.{IsOneOf}
 use Rattle.bf_plan.proofs.PlanLemmas.{is_upstream}
 use Rattle.bf_dependents.specs.declared.place.Place.{Place}
-use Rattle.bf_dependents.specs.Marks.{is_of, with_mark, follows, marks_before, AreMarks, AreMarksFor, ArePast, AreSeeded, AreTouched, IsSeedRow, IsTouched, WasTouched}
+use Rattle.bf_dependents.specs.Marks.{is_of, with_mark, follows_in, marks_before_in, AreMarks, AreMarksFor, ArePast, AreSeeded, AreTouched, IsSeedRow, IsTouched, WasTouched}
 
 -- so far the marks are right of the tasks before place i of the order
 pub record AreMarksTo (dag : Dag) (seeds : List Place) (k : ℕ) (order : List ℕ) (i : ℕ) (marks : List Bool) : Type 0 where
   pub len : length marks ≡ length dag.tasks
-  pub right : (j t : ℕ) → j < i → slice_get order j ≡ Some t → (is_marked marks t ≡ true) ↔ IsTouched dag seeds k t
+  pub right : (j t : ℕ) → j < i → slice_get order j ≡ Some t → (is_marked_in marks t ≡ true) ↔ IsTouched dag seeds k t
 
 -- whatever seeds these rows are of, so far the marks are right
 abbrev pub AreMarksForTo : Dag → List Bool → List Bool → List ℕ → ℕ → List Bool → Type 0
@@ -109,13 +109,13 @@ module _ (seeds : List Place) (i runs tasks : ℕ) (rows : List (List Bool)) (p 
       go-each k h (inl r) = ap (λ n. length (row_at (slice_set rows p.run row) n)) r ∙ ap length now ∙ length-set (row_at rows p.run) p.task true ∙ are.each p.run (rw (← r) h)
       go-each k h (inr differs) = ap length (kept k differs) ∙ are.each k h
 
-      go-right : (k : ℕ) → k < runs → (t : ℕ) → t < tasks → (k ≡ p.run) ⊎ (k ≡ p.run → ⊥) → is_marked (row_at (slice_set rows p.run row) k) t ≡ list_any (is_of k t) (take (i + 1) seeds)
-      go-right k h t low (inr differs) = other k t _ (ap (λ r. is_marked r t) (kept k differs) ∙ are.right k h t low) (apart k t (λ r s. differs r))
-      go-right k h t low (inl r) = ap (λ n. is_marked (row_at (slice_set rows p.run row) n) t) r ∙ ap (λ m. is_marked m t) now ∙ in_row (cases_eq t p.task)
+      go-right : (k : ℕ) → k < runs → (t : ℕ) → t < tasks → (k ≡ p.run) ⊎ (k ≡ p.run → ⊥) → is_marked_in (row_at (slice_set rows p.run row) k) t ≡ list_any (is_of k t) (take (i + 1) seeds)
+      go-right k h t low (inr differs) = other k t _ (ap (λ r. is_marked_in r t) (kept k differs) ∙ are.right k h t low) (apart k t (λ r s. differs r))
+      go-right k h t low (inl r) = ap (λ n. is_marked_in (row_at (slice_set rows p.run row) n) t) r ∙ ap (λ m. is_marked_in m t) now ∙ in_row (cases_eq t p.task)
         where
-          in_row : (t ≡ p.task) ⊎ (t ≡ p.task → ⊥) → is_marked row t ≡ list_any (is_of k t) (take (i + 1) seeds)
-          in_row (inl s) = ap (is_marked row) s ∙ get_or-set_same (row_at rows p.run) p.task true false (ltb-true p.task (length (row_at rows p.run)) both.1) ∙ sym (found k t r s)
-          in_row (inr differs) = other k t _ (get_or-set_other (row_at rows p.run) p.task t true false differs ∙ ap (λ n. is_marked (row_at rows n) t) (sym r) ∙ are.right k h t low) (apart k t (λ r s. differs s))
+          in_row : (t ≡ p.task) ⊎ (t ≡ p.task → ⊥) → is_marked_in row t ≡ list_any (is_of k t) (take (i + 1) seeds)
+          in_row (inl s) = ap (is_marked_in row) s ∙ get_or-set_same (row_at rows p.run) p.task true false (ltb-true p.task (length (row_at rows p.run)) both.1) ∙ sym (found k t r s)
+          in_row (inr differs) = other k t _ (get_or-set_other (row_at rows p.run) p.task t true false differs ∙ ap (λ n. is_marked_in (row_at rows n) t) (sym r) ∙ are.right k h t low) (apart k t (λ r s. differs s))
 
   pub seeded-more : AreSeeded (take (i + 1) seeds) runs tasks (with_mark rows p)
   seeded-more = go is_there refl
@@ -124,25 +124,25 @@ module _ (seeds : List Place) (i runs tasks : ℕ) (rows : List (List Bool)) (p 
       go true e = marked-more e
       go false e = unmarked-still e
 
-pub one-marked : (marks : List Bool) (us : List ℕ) → list_any (is_marked marks) us ≡ true → (u : ℕ) × IsOneOf us u × (is_marked marks u ≡ true)
+pub one-marked : (marks : List Bool) (us : List ℕ) → list_any (is_marked_in marks) us ≡ true → (u : ℕ) × IsOneOf us u × (is_marked_in marks u ≡ true)
 one-marked marks [] e = cc
-one-marked marks (u ∷ us) e = elim (or_cases (is_marked marks u) (list_any (is_marked marks) us) e) [
+one-marked marks (u ∷ us) e = elim (or_cases (is_marked_in marks u) (list_any (is_marked_in marks) us) e) [
   | inl h ↦ (u, inl refl, h)
   | inr h ↦ let rest : _ = one-marked marks us h in (rest.0, inr rest.1, rest.2)
 ]
 
-pub marked-one : (marks : List Bool) (us : List ℕ) (u : ℕ) → IsOneOf us u → is_marked marks u ≡ true → list_any (is_marked marks) us ≡ true
+pub marked-one : (marks : List Bool) (us : List ℕ) (u : ℕ) → IsOneOf us u → is_marked_in marks u ≡ true → list_any (is_marked_in marks) us ≡ true
 marked-one marks [] u one h = absurd one
-marked-one marks (v ∷ us) u (inl e) h = or_left (is_marked marks v) _ (ap (is_marked marks) (sym e) ∙ h)
-marked-one marks (v ∷ us) u (inr one) h = or_right (is_marked marks v) _ (marked-one marks us u one h)
+marked-one marks (v ∷ us) u (inl e) h = or_left (is_marked_in marks v) _ (ap (is_marked_in marks) (sym e) ∙ h)
+marked-one marks (v ∷ us) u (inr one) h = or_right (is_marked_in marks v) _ (marked-one marks us u one h)
 
 module _ (dag : Dag) (seeds : List Place) (k : ℕ) (seeded before : List Bool) (row : IsSeedRow seeds (length dag.tasks) k seeded) (past : ArePast dag seeds k before) (t : ℕ) (there : t < length dag.tasks) (marks : List Bool)
-    (ups : (u : ℕ) → IsOneOf (task_of dag t).upstreams u → (is_marked marks u ≡ true) ↔ IsTouched dag seeds k u) where
-  followed : follows dag t seeded before marks ≡ true → IsTouched dag seeds k t
-  followed e = elim (or_cases (is_marked seeded t) _ e) [
+    (ups : (u : ℕ) → IsOneOf (task_of dag t).upstreams u → (is_marked_in marks u ≡ true) ↔ IsTouched dag seeds k u) where
+  followed : follows_in dag t seeded before marks ≡ true → IsTouched dag seeds k t
+  followed e = elim (or_cases (is_marked_in seeded t) _ e) [
     | inl h ↦ IsTouched.Seed (sym (row t there) ∙ h)
-    | inr h ↦ elim (or_cases ((task_of dag t).depends_on_past && is_marked before t) _ h) [
-      | inl g ↦ let both : _ = and_parts (task_of dag t).depends_on_past (is_marked before t) g in next k ((past t there).0 both.1) both.0
+    | inr h ↦ elim (or_cases ((task_of dag t).depends_on_past && is_marked_in before t) _ h) [
+      | inl g ↦ let both : _ = and_parts (task_of dag t).depends_on_past (is_marked_in before t) g in next k ((past t there).0 both.1) both.0
       | inr g ↦ let one : _ = one-marked marks (task_of dag t).upstreams g in IsTouched.Downstream one.1 ((ups one.0 one.1).0 one.2)
     ]
   ]
@@ -155,18 +155,18 @@ module _ (dag : Dag) (seeds : List Place) (k : ℕ) (seeded before : List Bool) 
   past-of j e d = subst (λ (n : ℕ). WasTouched dag seeds n t) (sym e) d
 
   -- why a task follows from the seeds
-  following : (n s : ℕ) → n ≡ k → s ≡ t → IsTouched dag seeds n s → follows dag t seeded before marks ≡ true
+  following : (n s : ℕ) → n ≡ k → s ≡ t → IsTouched dag seeds n s → follows_in dag t seeded before marks ≡ true
   following n s e f (IsTouched.Seed c) =
       or_left _ _ (row t there ∙ (ap (λ (m : ℕ). list_any (is_of m t) seeds) (sym e) ∙ (ap (λ (s : ℕ). list_any (is_of n s) seeds) (sym f) ∙ c)))
   following n s e f (IsTouched.Downstream {u = u} h d) =
       let one : IsOneOf (task_of dag t).upstreams u = subst (λ (s : ℕ). IsOneOf (task_of dag s).upstreams u) f h in
-      or_right (is_marked seeded t) _ (or_right ((task_of dag t).depends_on_past && is_marked before t) _
+      or_right (is_marked_in seeded t) _ (or_right ((task_of dag t).depends_on_past && is_marked_in before t) _
       (marked-one marks (task_of dag t).upstreams u one ((ups u one).1 (subst (λ (n : ℕ). IsTouched dag seeds n u) e d))))
   following (suc n) s e f (IsTouched.NextRun h d) =
-      or_right (is_marked seeded t) _ (or_left ((task_of dag t).depends_on_past && is_marked before t) _
+      or_right (is_marked_in seeded t) _ (or_left ((task_of dag t).depends_on_past && is_marked_in before t) _
       (and_from _ _ (ap (λ s. (task_of dag s).depends_on_past) (sym f) ∙ h) ((past t there).1 (past-of n (sym e) (subst (IsTouched dag seeds n) f d)))))
 
-  pub follows-right : (follows dag t seeded before marks ≡ true) ↔ IsTouched dag seeds k t
+  pub follows-right : (follows_in dag t seeded before marks ≡ true) ↔ IsTouched dag seeds k t
   follows-right = (followed, following k t refl refl)
 
 -- ---- in order
@@ -179,7 +179,7 @@ module _ (dag : Dag) (order : List ℕ) (ranked : IsByRank (shape_of dag).upstre
 
   module _ (seeded before : List Bool) where
     pub marks-more : (i : ℕ) → i < length order → (marks : List Bool) → AreMarksForTo dag seeded before order i marks → (mark : Bool) →
-        mark ≡ follows dag (slice_index_or order i 0) seeded before marks →
+        mark ≡ follows_in dag (slice_index_or order i 0) seeded before marks →
         AreMarksForTo dag seeded before order (i + 1) (slice_set marks (slice_index_or order i 0) mark)
     marks-more i l marks far mark is seeds k row past = record {
       len = length-set marks t mark ∙ at.len;
@@ -195,23 +195,23 @@ module _ (dag : Dag) (order : List ℕ) (ranked : IsByRank (shape_of dag).upstre
         here : slice_get order i ≡ Some t
         here = slice_get-get_or order i 0 l
 
-        ups : (u : ℕ) → IsOneOf (task_of dag t).upstreams u → (is_marked marks u ≡ true) ↔ IsTouched dag seeds k u
+        ups : (u : ℕ) → IsOneOf (task_of dag t).upstreams u → (is_marked_in marks u ≡ true) ↔ IsTouched dag seeds k u
         ups u one = let place : _ = behind i t u here (is_upstream dag t u one) in at.right place.0 u place.1 place.2
 
-        marked : (is_marked (slice_set marks t mark) t ≡ true) ↔ IsTouched dag seeds k t
+        marked : (is_marked_in (slice_set marks t mark) t ≡ true) ↔ IsTouched dag seeds k t
         marked =
-            let now : is_marked (slice_set marks t mark) t ≡ follows dag t seeded before marks = get_or-set_same marks t mark false (rw at.len (task-within i l)) ∙ is in
+            let now : is_marked_in (slice_set marks t mark) t ≡ follows_in dag t seeded before marks = get_or-set_same marks t mark false (rw at.len (task-within i l)) ∙ is in
             let right : _ = follows-right dag seeds k seeded before row past t (task-within i l) marks ups in
             (λ e. right.0 (sym now ∙ e), λ d. now ∙ right.1 d)
 
-        go : (j s : ℕ) → slice_get order j ≡ Some s → (j ≡ i) ⊎ (j < i) → (is_marked (slice_set marks t mark) s ≡ true) ↔ IsTouched dag seeds k s
+        go : (j s : ℕ) → slice_get order j ≡ Some s → (j ≡ i) ⊎ (j < i) → (is_marked_in (slice_set marks t mark) s ≡ true) ↔ IsTouched dag seeds k s
         go j s e (inl same) =
             let both : Some s ≡ Some t = sym e ∙ (ap (slice_get order) same ∙ here) in
             let task : s ≡ t = cc in
-            subst (λ (s : ℕ). (is_marked (slice_set marks t mark) s ≡ true) ↔ IsTouched dag seeds k s) (sym task) marked
+            subst (λ (s : ℕ). (is_marked_in (slice_set marks t mark) s ≡ true) ↔ IsTouched dag seeds k s) (sym task) marked
         go j s e (inr low) =
             let apart : s ≡ t → ⊥ = λ same. let at_one : j ≡ i = ranked.once j i t (e ∙ ap Some same) here in omega (arith, at_one, low) in
-            let kept : is_marked (slice_set marks t mark) s ≡ is_marked marks s = get_or-set_other marks t s mark false apart in
+            let kept : is_marked_in (slice_set marks t mark) s ≡ is_marked_in marks s = get_or-set_other marks t s mark false apart in
             (λ h. (at.right j s low e).0 (sym kept ∙ h), λ d. kept ∙ (at.right j s low e).1 d)
 
     pub marks-end : (marks : List Bool) (i : ℕ) → i ≡ length order → AreMarksForTo dag seeded before order i marks → AreMarksFor dag seeded before marks
@@ -226,7 +226,7 @@ module _ (dag : Dag) (order : List ℕ) (ranked : IsByRank (shape_of dag).upstre
 
 -- ---- run by run
 
-pub past-of-runs : (dag : Dag) (seeds : List Place) (k : ℕ) (rows : List (List Bool)) → AreTouched dag seeds k rows → ArePast dag seeds k (marks_before rows k)
+pub past-of-runs : (dag : Dag) (seeds : List Place) (k : ℕ) (rows : List (List Bool)) → AreTouched dag seeds k rows → ArePast dag seeds k (marks_before_in rows k)
 past-of-runs dag seeds zero rows are t l = (λ e. cc, λ d. absurd d)
 past-of-runs dag seeds (suc k) rows are t l = (are.each k (omega arith)).right t l
 
@@ -249,7 +249,7 @@ one-run-more dag seeds k rows marks are is = record {
 
 -- one run more, by the row of its seeds
 pub one-row-more : (dag : Dag) (seeds : List Place) (runs k : ℕ) (seeded rows : List (List Bool)) (marks : List Bool) → AreSeeded seeds runs (length dag.tasks) seeded → k < runs →
-    AreTouched dag seeds k rows → AreMarksFor dag (row_at seeded k) (marks_before rows k) marks → AreTouched dag seeds (k + 1) (rows ++ marks ∷ [])
+    AreTouched dag seeds k rows → AreMarksFor dag (row_at seeded k) (marks_before_in rows k) marks → AreTouched dag seeds (k + 1) (rows ++ marks ∷ [])
 one-row-more dag seeds runs k seeded rows marks are l so_far made =
     one-run-more dag seeds k rows marks so_far (made seeds k (are.right k l) (past-of-runs dag seeds k rows so_far))
 

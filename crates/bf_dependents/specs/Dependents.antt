@@ -3,12 +3,12 @@ use Rattle.std.specs.Prelude.{◌≡◌, ◌<◌, ◌↔◌, ◌&&◌, ◌||◌,
 use Rattle.std.specs.BTreeMap.{is_at}
 use Rattle.std.specs.List.{list_any}
 use Rattle.bf_value.specs.declared.name.JobName.{JobName}
-use Rattle.bf_graph.specs.Reach.{is_marked, row_at}
+use Rattle.bf_graph.specs.Reach.{is_marked_in, row_at}
 use Rattle.bf_plan.specs.declared.plan.Dag.{Dag}
 use Rattle.bf_plan.specs.Plans.{task_of}
 use Rattle.bf_plan.specs.Sound.{IsOneOf}
 use Rattle.bf_dependents.specs.declared.place.Place.{Place}
-use Rattle.bf_dependents.specs.Marks.{follows, marks_before}
+use Rattle.bf_dependents.specs.Marks.{follows_in, marks_before_in}
 use Rattle.bf_dependents.specs.Places.{place_cmp}
 
 -- the instance i of the task t in the run k follows: the least set of instances that has each of a seed without an index, the one of a seed with an index, and behind each member all of its task's direct downstreams, and, where its task depends on its past, all of that task in the next run
@@ -29,19 +29,19 @@ pub record Following : Type 0 where
   pub touched : List (List Bool)
   pub seeds : List Place
 
-abbrev pub has_seed : List Place → ℕ → ℕ → Option ℤ → Bool
-has_seed seeds k t index = list_any (is_at (place_cmp (record { run = k; task = t; index = index }))) seeds
+abbrev pub has_seed_in : List Place → ℕ → ℕ → Option ℤ → Bool
+has_seed_in seeds k t index = list_any (is_at (place_cmp (record { run = k; task = t; index = index }))) seeds
 
 -- the instance is one of a seed, or a direct upstream is marked, or the past of a task that depends on it
-abbrev pub is_led_to : Dag → Following → ℕ → ℕ → ℤ → Bool
-is_led_to dag all k t i =
-    has_seed all.seeds k t None || (has_seed all.seeds k t (Some i) || follows dag t [] (marks_before all.touched k) (row_at all.touched k))
+abbrev pub is_led_to_in : Dag → Following → ℕ → ℕ → ℤ → Bool
+is_led_to_in dag all k t i =
+    has_seed_in all.seeds k t None || (has_seed_in all.seeds k t (Some i) || follows_in dag t [] (marks_before_in all.touched k) (row_at all.touched k))
 
 -- the instance i of the task t in the run k follows
-abbrev pub has : Dag → Following → ℕ → ℕ → ℤ → Bool
-has dag all k t i = is_marked (row_at all.touched k) t && is_led_to dag all k t i
+abbrev pub has_in : Dag → Following → ℕ → ℕ → ℤ → Bool
+has_in dag all k t i = is_marked_in (row_at all.touched k) t && is_led_to_in dag all k t i
 
 -- of so many runs it is known which instances follow
 pub record AreDependents (dag : Dag) (seeds : List Place) (runs : ℕ) (all : Following) : Type 0 where
   pub len : length all.touched ≡ runs
-  pub right : (k t : ℕ) (i : ℤ) → k < runs → t < length dag.tasks → (has dag all k t i ≡ true) ↔ IsDependent dag seeds k t i
+  pub right : (k t : ℕ) (i : ℤ) → k < runs → t < length dag.tasks → (has_in dag all k t i ≡ true) ↔ IsDependent dag seeds k t i

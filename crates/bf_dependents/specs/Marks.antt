@@ -1,7 +1,7 @@
 -- Marks while they are made. For private clauses.
 use Rattle.std.specs.Prelude.{◌≡◌, ◌<◌, ◌==◌, ◌&&◌, ◌||◌, ◌↔◌, nat_lt, if◌then◌else◌, ℕ, zero, suc, Bool, true, false, List, [], length, slice_set}
 use Rattle.std.specs.List.{list_any}
-use Rattle.bf_graph.specs.Reach.{is_marked, row_at}
+use Rattle.bf_graph.specs.Reach.{is_marked_in, row_at}
 use Rattle.bf_plan.specs.declared.plan.Dag.{Dag}
 use Rattle.bf_plan.specs.Plans.{task_of}
 use Rattle.bf_plan.specs.Sound.{IsOneOf}
@@ -17,7 +17,7 @@ is_of k t p = (p.run == k) && (p.task == t)
 pub record AreUnmarked (runs tasks : ℕ) (rows : List (List Bool)) : Type 0 where
   pub len : length rows ≡ runs
   pub each : (k : ℕ) → k < runs → length (row_at rows k) ≡ tasks
-  pub clear : (k t : ℕ) → k < runs → t < tasks → is_marked (row_at rows k) t ≡ false
+  pub clear : (k t : ℕ) → k < runs → t < tasks → is_marked_in (row_at rows k) t ≡ false
 
 -- one more is marked, if it is there
 abbrev pub with_mark : List (List Bool) → Place → List (List Bool)
@@ -28,7 +28,7 @@ with_mark rows p =
 
 -- of the tasks just the seeds in the run k are marked
 abbrev pub IsSeedRow : List Place → ℕ → ℕ → List Bool → Type 0
-IsSeedRow seeds tasks k row = (t : ℕ) → t < tasks → is_marked row t ≡ list_any (is_of k t) seeds
+IsSeedRow seeds tasks k row = (t : ℕ) → t < tasks → is_marked_in row t ≡ list_any (is_of k t) seeds
 
 -- so many rows for so many tasks, in which just the seeds are marked
 pub record AreSeeded (seeds : List Place) (runs tasks : ℕ) (rows : List (List Bool)) : Type 0 where
@@ -39,14 +39,14 @@ pub record AreSeeded (seeds : List Place) (runs tasks : ℕ) (rows : List (List 
 -- ---- what follows
 
 -- a seed, or one whose past is marked, or one with a marked upstream
-abbrev pub follows : Dag → ℕ → List Bool → List Bool → List Bool → Bool
-follows dag t seeded before marks =
-    is_marked seeded t || (((task_of dag t).depends_on_past && is_marked before t) || list_any (is_marked marks) (task_of dag t).upstreams)
+abbrev pub follows_in : Dag → ℕ → List Bool → List Bool → List Bool → Bool
+follows_in dag t seeded before marks =
+    is_marked_in seeded t || (((task_of dag t).depends_on_past && is_marked_in before t) || list_any (is_marked_in marks) (task_of dag t).upstreams)
 
 -- the marks of the run before k; of none before the first
-abbrev pub marks_before : List (List Bool) → ℕ → List Bool
-marks_before rows zero = []
-marks_before rows (suc k) = row_at rows k
+abbrev pub marks_before_in : List (List Bool) → ℕ → List Bool
+marks_before_in rows zero = []
+marks_before_in rows (suc k) = row_at rows k
 
 -- an instance of the task t in the run k follows from the seeds
 pub data IsTouched (dag : Dag) (seeds : List Place) : ℕ → ℕ → Type 0 where
@@ -57,7 +57,7 @@ pub data IsTouched (dag : Dag) (seeds : List Place) : ℕ → ℕ → Type 0 whe
 -- the marks say of which tasks of the run k an instance follows
 pub record AreMarks (dag : Dag) (seeds : List Place) (k : ℕ) (marks : List Bool) : Type 0 where
   pub len : length marks ≡ length dag.tasks
-  pub right : (t : ℕ) → t < length dag.tasks → (is_marked marks t ≡ true) ↔ IsTouched dag seeds k t
+  pub right : (t : ℕ) → t < length dag.tasks → (is_marked_in marks t ≡ true) ↔ IsTouched dag seeds k t
 
 -- so many runs have their marks
 pub record AreTouched (dag : Dag) (seeds : List Place) (runs : ℕ) (rows : List (List Bool)) : Type 0 where
@@ -70,7 +70,7 @@ WasTouched dag seeds zero t = ⊥
 WasTouched dag seeds (suc k) t = IsTouched dag seeds k t
 
 abbrev pub ArePast : Dag → List Place → ℕ → List Bool → Type 0
-ArePast dag seeds k before = (t : ℕ) → t < length dag.tasks → (is_marked before t ≡ true) ↔ WasTouched dag seeds k t
+ArePast dag seeds k before = (t : ℕ) → t < length dag.tasks → (is_marked_in before t ≡ true) ↔ WasTouched dag seeds k t
 
 -- whatever seeds these rows are of, the marks are right
 abbrev pub AreMarksFor : Dag → List Bool → List Bool → List Bool → Type 0

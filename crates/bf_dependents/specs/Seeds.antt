@@ -18,22 +18,22 @@ task_number dag seed = position (bytes_eq seed.task) (shape_of dag).ids
 abbrev pub run_number : List Interval → Seed → Option ℕ
 run_number intervals seed = position (λ i. int_eq i.start.nanosecond seed.run.nanosecond) intervals
 
-abbrev pub is_unknown_task : Dag → Seed → Bool
-is_unknown_task dag seed = is_none (task_number dag seed)
+abbrev pub is_unknown_task_in : Dag → Seed → Bool
+is_unknown_task_in dag seed = is_none (task_number dag seed)
 
-abbrev pub is_unknown_run : List Interval → Seed → Bool
-is_unknown_run intervals seed = is_none (run_number intervals seed)
+abbrev pub is_unknown_run_in : List Interval → Seed → Bool
+is_unknown_run_in intervals seed = is_none (run_number intervals seed)
 
-abbrev pub place_of : Dag → List Interval → Seed → Option Place
-place_of dag intervals seed = option_and_then (λ t. option_map (λ k. record { run = k; task = t; index = seed.index }) (run_number intervals seed)) (task_number dag seed)
+abbrev pub place_in : Dag → List Interval → Seed → Option Place
+place_in dag intervals seed = option_and_then (λ t. option_map (λ k. record { run = k; task = t; index = seed.index }) (run_number intervals seed)) (task_number dag seed)
 
 -- the tasks in runs, or instances of them, that the seeds name
-abbrev pub places_of : Dag → List Interval → List Seed → List Place
-places_of dag intervals seeds = filter_map (place_of dag intervals) seeds
+abbrev pub places_in : Dag → List Interval → List Seed → List Place
+places_in dag intervals seeds = filter_map (place_in dag intervals) seeds
 
 -- the first fault of the seeds: a task that isn't known, else a run
 abbrev pub seed_fault : Dag → List Interval → List Seed → Option ClearFault
 seed_fault dag intervals seeds =
-    if list_any (is_unknown_task dag) seeds then Some ClearFault.UnknownTask
-    else (if list_any (is_unknown_run intervals) seeds then Some ClearFault.UnknownRun
+    if list_any (is_unknown_task_in dag) seeds then Some ClearFault.UnknownTask
+    else (if list_any (is_unknown_run_in intervals) seeds then Some ClearFault.UnknownRun
     else None)

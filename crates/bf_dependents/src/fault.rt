@@ -51,9 +51,9 @@ impl fmt::Display for ClearFault {
 impl Error for ClearFault {}
 
 impl From<OutOfMemory> for ClearFault {
-    ghost use Rattle.bf_dependents.specs.declared.fault.ClearFault.TheVariants.{OutOfMemory as NoMemory};
+    ghost use Rattle.bf_dependents.specs.declared.fault.ClearFault.TheVariants.{OutOfMemory};
 
-    ghost from_gives = { λ _ e. e ≡ NoMemory };
+    ghost from_gives = { λ _ e. e ≡ OutOfMemory };
 
     fn from(_e: OutOfMemory) -> ClearFault {
         ClearFault::OutOfMemory

@@ -2,9 +2,9 @@
 ghost use Rattle.std.specs.Prelude.{◌≡◌, ◌<◌, length, IfOk};
 ghost use Rattle.std.specs.List.{list_any};
 ghost use Rattle.bf_graph.specs.Order.{IsByRank, StandBehind};
-ghost use Rattle.bf_graph.specs.Reach.{is_marked as marked};
+ghost use Rattle.bf_graph.specs.Reach.{is_marked_in};
 ghost use Rattle.bf_plan.specs.Plans.{shape_of};
-ghost use Rattle.bf_dependents.specs.Marks.{follows as follows_by, AreMarksFor, AreTouched};
+ghost use Rattle.bf_dependents.specs.Marks.{follows_in, AreMarksFor, AreTouched};
 
 use crate::marks::{is_marked, marks_before, seed_rows};
 use crate::place::Place;
@@ -13,7 +13,7 @@ use bf_value::{OutOfMemory, Sequence};
 use std::alloc::Global;
 
 fn some_is_marked(marks: &[bool], tasks: &[u32]) -> bool
-    ensures { result ≡ list_any (marked marks.now) tasks.now }
+    ensures { result ≡ list_any (is_marked_in marks.now) tasks.now }
 {
     tasks.iter().any(|task| is_marked(marks, *task))
 }
@@ -27,7 +27,7 @@ pub(crate) fn follows(
     marks: &[bool],
 ) -> bool
     requires { task < length dag.now.tasks }
-    ensures { result ≡ follows_by dag.now task seeded.now before.now marks.now }
+    ensures { result ≡ follows_in dag.now task seeded.now before.now marks.now }
 {
     let of = dag.task(task);
     is_marked(seeded, task)

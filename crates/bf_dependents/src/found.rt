@@ -1,8 +1,8 @@
 //! Which instances follow from seeds, once it is worked out.
 ghost use Rattle.std.specs.Prelude.{◌≡◌, ◌<◌, length, None, IfOk};
-ghost use Rattle.bf_graph.specs.Reach.{is_marked as marked, row_at};
-ghost use Rattle.bf_dependents.specs.Dependents.{has as has_in, has_seed as seed_in, is_led_to as led_to, AreDependents};
-ghost use Rattle.bf_dependents.specs.Listing.{is_whole as whole_in};
+ghost use Rattle.bf_graph.specs.Reach.{is_marked_in, row_at};
+ghost use Rattle.bf_dependents.specs.Dependents.{has_in, has_seed_in, is_led_to_in, AreDependents};
+ghost use Rattle.bf_dependents.specs.Listing.{is_whole_in};
 ghost use Rattle.bf_dependents.specs.Seeded.{HoldSeeds};
 
 use crate::following::{follows, touched_in};
@@ -33,12 +33,12 @@ pub struct Followers {
 
 impl Model for Followers {
     ghost use Rattle.std.specs.Coded.{codes};
-    ghost use Rattle.bf_dependents.specs.contracts.place.Place as p;
+    ghost use Rattle.bf_dependents.specs.contracts.place.Place;
     ghost use Rattle.bf_dependents.specs.Dependents.{Following};
 
     ghost Value = { Following };
 
-    ghost coded = { Prim.hlevel (codes, p.the_row.coded) };
+    ghost coded = { Prim.hlevel (codes, Place.the_row.coded) };
 
     ghost view = { λ d. record { touched = d.touched; seeds = d.seeds.keys } };
 }
@@ -63,13 +63,13 @@ impl Followers {
     }
 
     pub(crate) fn is_touched(&self, run: u32, task: u32) -> bool
-        ensures { result ≡ marked (row_at self.now.touched run) task }
+        ensures { result ≡ is_marked_in (row_at self.now.touched run) task }
     {
         is_marked(marks_at(self.touched.as_slice(), run), task)
     }
 
     fn has_seed(&self, run: u32, task: u32, index: Option<i32>) -> bool
-        ensures { result ≡ seed_in self.now.seeds run task index }
+        ensures { result ≡ has_seed_in self.now.seeds run task index }
     {
         self.seeds.contains(&Place { run, task, index })
     }
@@ -77,7 +77,7 @@ impl Followers {
     /// Whether each instance of a task follows, where some does.
     pub(crate) fn is_whole(&self, dag: &Dag, run: u32, task: u32) -> bool
         requires { task < length dag.now.tasks }
-        ensures { result ≡ whole_in dag.now self.now run task }
+        ensures { result ≡ is_whole_in dag.now self.now run task }
     {
         let rows = self.touched.as_slice();
         self.has_seed(run, task, None)
@@ -86,7 +86,7 @@ impl Followers {
 
     fn is_led_to(&self, dag: &Dag, run: u32, task: u32, index: i32) -> bool
         requires { task < length dag.now.tasks }
-        ensures { result ≡ led_to dag.now self.now run task index }
+        ensures { result ≡ is_led_to_in dag.now self.now run task index }
     {
         let rows = self.touched.as_slice();
         self.has_seed(run, task, None)

@@ -1,6 +1,6 @@
 //! What holds of all that is cleared. These functions do nothing: their contracts are the laws, over the definitions alone.
 ghost use Rattle.std.specs.Prelude.{◌≡◌, ◌<◌, ◌↔◌, ◌∷◌, [], length, ℕ, suc, ℤ, Bool, true, List, Contains, None, Some};
-ghost use Rattle.bf_plan.specs.declared.plan.Dag.{Dag as DagTerm};
+ghost use Rattle.bf_plan.specs.declared.plan.Dag.{Dag};
 ghost use Rattle.bf_plan.specs.Plans.{task_of};
 ghost use Rattle.bf_plan.specs.Sound.{IsOneOf, IsSound};
 ghost use Rattle.bf_dependents.specs.declared.place.Place.{Place};
@@ -11,7 +11,7 @@ ghost use Rattle.bf_dependents.specs.Listing.{places_in, IsListed};
 /// and, behind each member, all instances of its task's direct downstreams, and, where its task depends on its past, all of that
 /// task in the next run.
 pub fn dependents_are_least()
-    ensures { (dag : DagTerm) (seeds : List Place) (has : ℕ → ℕ → ℤ → Bool) →
+    ensures { (dag : Dag) (seeds : List Place) (has : ℕ → ℕ → ℤ → Bool) →
         ((k t : ℕ) (i : ℤ) → Contains seeds (record { run = k; task = t; index = None }) → has k t i ≡ true) →
         ((k t : ℕ) (i : ℤ) → Contains seeds (record { run = k; task = t; index = Some i }) → has k t i ≡ true) →
         ((k t u : ℕ) (i j : ℤ) → IsOneOf (task_of dag t).upstreams u → has k u j ≡ true → has k t i ≡ true) →
@@ -21,20 +21,20 @@ pub fn dependents_are_least()
 
 /// From seeds without an index whole tasks follow: each instance of a task in a run, or none.
 pub fn seeds_without_indexes_take_tasks()
-    ensures { (dag : DagTerm) (seeds : List Place) → ((p : Place) → Contains seeds p → p.index ≡ None) →
+    ensures { (dag : Dag) (seeds : List Place) → ((p : Place) → Contains seeds p → p.index ≡ None) →
         (k t : ℕ) (i j : ℤ) → IsDependent dag seeds k t i → IsDependent dag seeds k t j }
 {}
 
 /// From a seed with an index follows what follows from its task in that run, less the other instances of the task.
 pub fn a_seed_with_an_index_leaves_its_neighbours()
-    ensures { (dag : DagTerm) → IsSound dag → (k t : ℕ) (n : ℤ) (m s : ℕ) (i : ℤ) →
+    ensures { (dag : Dag) → IsSound dag → (k t : ℕ) (n : ℤ) (m s : ℕ) (i : ℤ) →
         IsDependent dag (record { run = k; task = t; index = Some n } ∷ []) m s i
         ↔ (IsDependent dag (record { run = k; task = t; index = None } ∷ []) m s i × (m ≡ k → s ≡ t → i ≡ n)) }
 {}
 
 /// What is listed of what follows is just that: each instance of a task that is listed without an index, and each that is listed.
 pub fn places_are_what_follows()
-    ensures { (dag : DagTerm) (seeds : List Place) (runs : ℕ) (all : Following) → AreDependents dag seeds runs all →
+    ensures { (dag : Dag) (seeds : List Place) (runs : ℕ) (all : Following) → AreDependents dag seeds runs all →
         (k t : ℕ) (i : ℤ) → k < runs → t < length dag.tasks →
         IsListed (places_in dag all runs) k t i ↔ IsDependent dag seeds k t i }
 {}

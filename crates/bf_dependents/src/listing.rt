@@ -1,6 +1,6 @@
 //! What follows, task by task.
 ghost use Rattle.std.specs.Prelude.{◌≡◌, ◌<◌, ◌≤◌, ◌++◌, length, filter, IfOk, OnOk};
-ghost use Rattle.bf_dependents.specs.Listing.{is_whole as whole_in, places_at as at, places_in, places_of_run};
+ghost use Rattle.bf_dependents.specs.Listing.{is_whole_in, places_of_task, places_in, places_of_run};
 ghost use Rattle.bf_dependents.specs.Marks.{is_of};
 
 use crate::found::Followers;
@@ -28,7 +28,7 @@ impl Followers {
         task: u32,
     ) -> Result<Vec<Place>, OutOfMemory>
         requires { task < length dag.now.tasks }
-        ensures { IfOk result (λ found. found.items ≡ at dag.now self.now run task) }
+        ensures { IfOk result (λ found. found.items ≡ places_of_task dag.now self.now run task) }
     {
         if !self.is_touched(run, task) {
             return Ok(Vec::new(alloc));

@@ -1,7 +1,7 @@
 //! Marks of tasks, a row for each run.
 ghost use Rattle.std.specs.Prelude.{◌≡◌, IfOk};
-ghost use Rattle.bf_graph.specs.Reach.{is_marked as marked, row_at};
-ghost use Rattle.bf_dependents.specs.Marks.{marks_before as before_in, with_mark, AreSeeded, AreUnmarked};
+ghost use Rattle.bf_graph.specs.Reach.{is_marked_in, row_at};
+ghost use Rattle.bf_dependents.specs.Marks.{marks_before_in, with_mark, AreSeeded, AreUnmarked};
 
 use crate::place::Place;
 use bf_value::{OutOfMemory, Sequence};
@@ -9,7 +9,7 @@ use std::alloc::Global;
 
 /// Whether a task is marked in a row.
 pub(crate) fn is_marked(marks: &[bool], task: u32) -> bool
-    ensures { result ≡ marked marks.now task }
+    ensures { result ≡ is_marked_in marks.now task }
 {
     match marks.get(task as usize) {
         Some(mark) => *mark,
@@ -19,7 +19,7 @@ pub(crate) fn is_marked(marks: &[bool], task: u32) -> bool
 
 /// The marks of the run before a run.
 pub(crate) fn marks_before(rows: &[Sequence<bool>], run: u32) -> &[bool]
-    ensures { result.now ≡ before_in rows.now run }
+    ensures { result.now ≡ marks_before_in rows.now run }
 {
     if run == 0 {
         return &[];

@@ -1,7 +1,7 @@
 //! Seeds: what is to be cleared.
 ghost use Rattle.std.specs.Prelude.{◌≡◌, ◌≤◌, length, IfOk, IfErr, Some, None};
 ghost use Rattle.std.specs.List.{list_any};
-ghost use Rattle.bf_dependents.specs.Seeds.{is_unknown_run as unknown_run, is_unknown_task as unknown_task, place_of as place_in, places_of as places_in, run_number, seed_fault, task_number};
+ghost use Rattle.bf_dependents.specs.Seeds.{is_unknown_run_in, is_unknown_task_in, place_in, places_in, run_number, seed_fault, task_number};
 
 use crate::fault::ClearFault;
 use crate::place::Place;
@@ -34,25 +34,25 @@ fn run_of(intervals: &[Interval], seed: &Seed) -> Option<usize>
 }
 
 fn is_unknown_task(plan: &Plan, seed: &Seed) -> bool
-    ensures { result ≡ unknown_task plan.now.dag seed.now }
+    ensures { result ≡ is_unknown_task_in plan.now.dag seed.now }
 {
     task_of(plan, seed).is_none()
 }
 
 fn is_unknown_run(intervals: &[Interval], seed: &Seed) -> bool
-    ensures { result ≡ unknown_run intervals.now seed.now }
+    ensures { result ≡ is_unknown_run_in intervals.now seed.now }
 {
     run_of(intervals, seed).is_none()
 }
 
 fn has_unknown_task(plan: &Plan, seeds: &[Seed]) -> bool
-    ensures { result ≡ list_any (unknown_task plan.now.dag) seeds.now }
+    ensures { result ≡ list_any (is_unknown_task_in plan.now.dag) seeds.now }
 {
     seeds.iter().any(|seed| is_unknown_task(plan, seed))
 }
 
 fn has_unknown_run(intervals: &[Interval], seeds: &[Seed]) -> bool
-    ensures { result ≡ list_any (unknown_run intervals.now) seeds.now }
+    ensures { result ≡ list_any (is_unknown_run_in intervals.now) seeds.now }
 {
     seeds.iter().any(|seed| is_unknown_run(intervals, seed))
 }

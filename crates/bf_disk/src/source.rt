@@ -14,9 +14,9 @@ pub enum SourceFault {
 }
 
 impl From<AllocError> for SourceFault {
-    ghost use Rattle.bf_disk.specs.declared.source.SourceFault.TheVariants.{OutOfMemory as NoMemory};
+    ghost use Rattle.bf_disk.specs.declared.source.SourceFault.TheVariants.{OutOfMemory};
 
-    ghost from_gives = { λ _ e. e ≡ NoMemory };
+    ghost from_gives = { λ _ e. e ≡ OutOfMemory };
 
     fn from(_e: AllocError) -> SourceFault {
         SourceFault::OutOfMemory

@@ -11,8 +11,8 @@ use Rattle.bf_core.specs.declared.state.Phase.{Phase}
 use Rattle.bf_core.specs.declared.state.RunPhase.{RunPhase}
 use Rattle.bf_core.specs.declared.event.Event.{Event}
 use Rattle.bf_core.specs.declared.decision.Decision.{Decision}
-use Rattle.bf_core.specs.Deciding.{Seen, lets_decide, ruling, gate, pulled, instances, mapped, after_verdict, decision}
-use Rattle.bf_core.specs.Events.{cell_at, phase_of, results, cons_result, counts_of_instance, counts_of_instances, seen_in, before_in, decision_in, goes_on, is_run, instance_of, change_at, change_instance, begun, place_in, next_run, put, after, IsDecidable, IsEnabled}
+use Rattle.bf_core.specs.Deciding.{Seen, lets_decide_in, ruling_of, gate_of, pulled, instances_of, mapped, after_verdict, decision}
+use Rattle.bf_core.specs.Events.{cell_at, phase_of, results, cons_result, counts_of_instance, counts_of_instances, seen_in, before_in, decision_in, goes_on_in, is_run, instance_of, change_at, change_instance, begun, place_in, next_run, put, after, IsDecidable, IsEnabled}
 use Rattle.bf_core.proofs.Depth.{ruling-cong}
 use Rattle.bf_core.proofs.Reading.{put-cases, with_phase-cell}
 use Rattle.bf_core.proofs.Instances.{IsUnfinished, not_yet}
@@ -22,8 +22,8 @@ use Rattle.bf_core.proofs.Shape.{put-phase, phase-cases}
 
 -- ---- what a decision looks at
 
-gate-alike : (dag : Dag) (k : ℕ) (a b : ℕ → Seen) (p q : Option TaskValue) (t : ℕ) → ruling dag a t ≡ ruling dag b t → p ≡ q → gate dag k a p t ≡ gate dag k b q t
-unfolding gate
+gate-alike : (dag : Dag) (k : ℕ) (a b : ℕ → Seen) (p q : Option TaskValue) (t : ℕ) → ruling_of dag a t ≡ ruling_of dag b t → p ≡ q → gate_of dag k a p t ≡ gate_of dag k b q t
+unfolding gate_of
 gate-alike dag k a b p q t h e = rw (e, h)
 
 -- what comes of a task that goes on, by its source's value
@@ -45,21 +45,21 @@ waits-alike dag a b t Verdict.Skip same n = λ e. cc
 waits-alike dag a b t Verdict.UpstreamFailed same n = λ e. cc
 waits-alike dag a b t Verdict.Run same n = go (task_of dag t).expand same n
   where
-    go : (x : Option ℕ) → ((s : ℕ) → x ≡ Some s → a s ≡ b s) → instances dag a (pulled dag a t) x ≢ Decision.Wait → instances dag b (pulled dag b t) x ≢ Decision.Wait
+    go : (x : Option ℕ) → ((s : ℕ) → x ≡ Some s → a s ≡ b s) → instances_of dag a (pulled dag a t) x ≢ Decision.Wait → instances_of dag b (pulled dag b t) x ≢ Decision.Wait
     go None same n = λ e. cc
     go (Some s) same n = from-alike dag (pulled dag a t) (pulled dag b t) s (a s).value (b s).value (ap (λ (x : Seen). x.value) (same s refl)) n
 
 -- a decision that does not wait doesn't, wherever the ruling is the same, and the same is known of the source and of the past
-pub decision-alike : (dag : Dag) (k : ℕ) (a b : ℕ → Seen) (p q : Option TaskValue) (t : ℕ) → ruling dag a t ≡ ruling dag b t → ((s : ℕ) → (task_of dag t).expand ≡ Some s → a s ≡ b s) → p ≡ q →
+pub decision-alike : (dag : Dag) (k : ℕ) (a b : ℕ → Seen) (p q : Option TaskValue) (t : ℕ) → ruling_of dag a t ≡ ruling_of dag b t → ((s : ℕ) → (task_of dag t).expand ≡ Some s → a s ≡ b s) → p ≡ q →
     decision dag k a p t ≢ Decision.Wait → decision dag k b q t ≢ Decision.Wait
 unfolding decision
 decision-alike dag k a b p q t h source e n =
     subst (λ (v : Verdict). after_verdict dag b t v ≢ Decision.Wait) (gate-alike dag k a b p q t h e)
-    (waits-alike dag a b t (gate dag k a p t) source n)
+    (waits-alike dag a b t (gate_of dag k a p t) source n)
 
 -- the ruling on the task t in the run k is the same in both states, and so is what is seen of its source
 pub record RulesAlike (dag : Dag) (r s : State) (k t : ℕ) : Type 0 where
-  pub ruling : ruling dag (λ u. seen_in (cell_at r k u)) t ≡ ruling dag (λ u. seen_in (cell_at s k u)) t
+  pub ruling_of : ruling_of dag (λ u. seen_in (cell_at r k u)) t ≡ ruling_of dag (λ u. seen_in (cell_at s k u)) t
   pub source : (u : ℕ) → (task_of dag t).expand ≡ Some u → seen_in (cell_at r k u) ≡ seen_in (cell_at s k u)
 
 -- what is looked at when the task is decided comes to the same in both states
@@ -79,8 +79,8 @@ decidable-alike dag r s k t alike able = record {
 }
 
 -- where it does, the task goes on to its expansion or doesn't as before
-pub goes_on-alike : (dag : Dag) (r s : State) (k t : ℕ) → LooksAlike dag r s k t → goes_on dag r k t ≡ goes_on dag s k t
-unfolding goes_on
+pub goes_on-alike : (dag : Dag) (r s : State) (k t : ℕ) → LooksAlike dag r s k t → goes_on_in dag r k t ≡ goes_on_in dag s k t
+unfolding goes_on_in
 goes_on-alike dag r s k t alike =
     ap (λ v. is_some (task_of dag t).expand && is_run v) (gate-alike dag k (λ u. seen_in (cell_at r k u)) (λ u. seen_in (cell_at s k u)) (before_in r k t) (before_in s k t) t alike.rules.ruling alike.past)
 
@@ -224,7 +224,7 @@ pub rules-alike : (dag : Dag) → IsSound dag → (limits : Limits) (s : State) 
 rules-alike dag sound limits s e able j u = elim (any-touched e j (task_of dag u).upstreams) [
   | inl w ↦ inr w
   | inr none ↦ inl (record {
-    ruling = ruling-cong dag (λ v. seen_in (cell_at (after dag s e) j v)) (λ v. seen_in (cell_at s j v)) u (λ v h. seen-kept dag limits s e able j v (none v h));
+    ruling_of = ruling-cong dag (λ v. seen_in (cell_at (after dag s e) j v)) (λ v. seen_in (cell_at s j v)) u (λ v h. seen-kept dag limits s e able j v (none v h));
     source = λ v is. seen-kept dag limits s e able j v (none v (sound.source_is_upstream u v is));
   })
 ]
@@ -239,8 +239,8 @@ not-all p (v ∷ us) u h e all = elim h [
 ]
 
 -- a task isn't due while one of its upstreams doesn't let it be decided
-pub awaits-upstream : (dag : Dag) (s : State) (k t u : ℕ) → IsOneOf (task_of dag t).upstreams u → lets_decide dag (task_of dag t) (λ v. seen_in (cell_at s k v)) u ≡ false → IsDecidable dag s k t → ⊥
+pub awaits-upstream : (dag : Dag) (s : State) (k t u : ℕ) → IsOneOf (task_of dag t).upstreams u → lets_decide_in dag (task_of dag t) (λ v. seen_in (cell_at s k v)) u ≡ false → IsDecidable dag s k t → ⊥
 unfolding decision_in decision
 awaits-upstream dag s k t u is_upstream waits able =
-    not-all (lets_decide dag (task_of dag t) (λ v. seen_in (cell_at s k v))) (task_of dag t).upstreams u is_upstream waits
+    not-all (lets_decide_in dag (task_of dag t) (λ v. seen_in (cell_at s k v))) (task_of dag t).upstreams u is_upstream waits
     (lets dag k (λ v. seen_in (cell_at s k v)) (before_in s k t) t (λ e. able.decides (rw e)))

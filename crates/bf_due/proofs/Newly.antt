@@ -8,7 +8,7 @@ use Rattle.bf_core.specs.declared.state.RunPhase.{RunPhase}
 use Rattle.bf_core.specs.declared.state.Cell.{Cell}
 use Rattle.bf_core.specs.declared.event.Event.{Event}
 use Rattle.bf_core.specs.Deciding.{Seen}
-use Rattle.bf_core.specs.Events.{after, before_in, cell_at, goes_on, value_in, next_run, phase_of, put, with_phase, IsDecidable, IsEnabled}
+use Rattle.bf_core.specs.Events.{after, before_in, cell_at, goes_on_in, value_in, next_run, phase_of, put, with_phase, IsDecidable, IsEnabled}
 use Rattle.bf_core.specs.Cores.{Backfill, IsReplay, MayCome, moved}
 use Rattle.bf_core.proofs.Shape.{IsShaped, open-run, phase-there, length-put}
 use Rattle.bf_core.proofs.Kept.{replay-shaped}
@@ -18,7 +18,7 @@ use Rattle.bf_due.specs.declared.agenda.Step.{Step}
 use Rattle.bf_due.specs.declared.agenda.Turn.{Turn}
 use Rattle.bf_due.specs.Agendas.{event_of}
 use Rattle.bf_due.specs.declared.news.News.{News}
-use Rattle.bf_due.specs.Stirring.{decided_at, ended_at, is_settled, matters}
+use Rattle.bf_due.specs.Stirring.{decided_at, ended_at, is_settled, matters_in}
 use Rattle.bf_due.specs.Dues.{Concerns, Hears, IsBehindNews, IsBelowNews, newest}
 use Rattle.bf_due.proofs.Locality.{LooksAlike, PastTouched, RulesAlike, Touches, Turns, decidable-alike, goes_on-alike, past-kept, phase-kept, rules-alike, seen-kept, touches?, turns?, undecided-back}
 use Rattle.bf_due.proofs.Reached.{settled-stays}
@@ -51,7 +51,7 @@ module _ (dag : Dag) (sound : IsSound dag) (limits : Limits) (s : State) (e : Ev
     rules-or : (k t : ℕ) → IsDecidable dag (after dag s e) k t → RulesAlike dag (after dag s e) s k t ⊎ IsBelowNews dag (after dag s e) n k t
     rules-or k t due = elim (rules-alike dag sound limits s e able k t) [
       | inl alike ↦ inl alike
-      | inr w ↦ elim (cases_Bool (matters dag (after dag s e) n t)) [
+      | inr w ↦ elim (cases_Bool (matters_in dag (after dag s e) n t)) [
         | inl holds ↦ inr ((told.only k w.0 w.2).0, subst₂ (λ (us : List ℕ) (v : ℕ). Contains us v) (upstreams_of_task dag t) (told.only k w.0 w.2).1 (contains_one (task_of dag t).upstreams w.0 w.1), holds)
         | inr fails ↦ inl (subst (λ (j : ℕ). RulesAlike dag (after dag s e) s j t) (sym (told.only k w.0 w.2).0) (unmoved-rules dag limits s e able n told t fails (subst (λ (j : ℕ). IsDecidable dag (after dag s e) j t) (told.only k w.0 w.2).0 due)))
       ]
@@ -67,10 +67,10 @@ module _ (dag : Dag) (sound : IsSound dag) (limits : Limits) (s : State) (e : Ev
       ]
     ]
 
-  module _ (k t : ℕ) (goes : Bool) (due : IsDecidable dag (after dag s e) k t × (goes_on dag (after dag s e) k t ≡ goes)) where
+  module _ (k t : ℕ) (goes : Bool) (due : IsDecidable dag (after dag s e) k t × (goes_on_in dag (after dag s e) k t ≡ goes)) where
     -- it could be decided before, and in the same way
     abbrev Could : Type 0
-    Could = IsDecidable dag s k t × (goes_on dag s k t ≡ goes)
+    Could = IsDecidable dag s k t × (goes_on_in dag s k t ≡ goes)
 
     could : (Turns s e k → ⊥) → RulesAlike dag (after dag s e) s k t → before_in (after dag s e) k t ≡ before_in s k t → Could
     could turns rules past = (decidable-alike dag (after dag s e) s k t alike due.0, sym (goes_on-alike dag (after dag s e) s k t alike) ∙ due.1)
@@ -194,7 +194,7 @@ reached-expand dag s (Event.Tick m) x h = h
 
 -- a task that may be decided could be so before the event, and in the same way, or the event reaches it
 newly-decidable : (dag : Dag) → IsSound dag → (runs : ℕ) (limits : Limits) (s : State) → IsShaped dag runs s → (e : Event) → IsEnabled dag limits s e → (k t : ℕ) → (goes : Bool) →
-    IsDecidable dag (after dag s e) k t × (goes_on dag (after dag s e) k t ≡ goes) → (IsDecidable dag s k t × (goes_on dag s k t ≡ goes)) ⊎ Reaches dag (after dag s e) e k t
+    IsDecidable dag (after dag s e) k t × (goes_on_in dag (after dag s e) k t ≡ goes) → (IsDecidable dag s k t × (goes_on_in dag s k t ≡ goes)) ⊎ Reaches dag (after dag s e) e k t
 newly-decidable dag sound runs limits s shaped Event.Open able k t goes due = elim (same? k (next_run s)) [
   | inl x ↦ inr (opened-last dag runs limits s shaped able k x)
   | inr n ↦ inl (untouched dag sound limits s Event.Open able k t goes due (λ a b x. x) n)

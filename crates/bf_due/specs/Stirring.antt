@@ -4,9 +4,9 @@ use Rattle.std.specs.List.{list_all}
 use Rattle.bf_value.specs.declared.name.JobName.{JobName}
 use Rattle.bf_rule.specs.declared.rule.Rule.{Rule}
 use Rattle.bf_rule.specs.declared.rule.Counts.{Counts}
-use Rattle.bf_rule.specs.Verdicts.{fires, is_waiting, none_counted}
+use Rattle.bf_rule.specs.Verdicts.{fires_in, is_waiting, none_counted}
 use Rattle.bf_plan.specs.declared.plan.Dag.{Dag}
-use Rattle.bf_plan.specs.Plans.{is_branch}
+use Rattle.bf_plan.specs.Plans.{is_branch_in}
 use Rattle.bf_core.specs.Terms.{task_of}
 use Rattle.bf_core.specs.Deciding.{one_blocked, one_of, one_skipped, one_upstream_failed}
 use Rattle.bf_core.specs.declared.state.Cell.{Cell}
@@ -48,8 +48,8 @@ ended_at dag state name = record { run = name.run; task = name.task; counts = he
 -- ---- to whom they matter
 
 -- the rule looks for what is among these, and not for nothing
-abbrev pub stirs : Rule → Counts → Bool
-stirs rule counts = fires rule counts && not (fires rule none_counted)
+abbrev pub stirs_in : Rule → Counts → Bool
+stirs_in rule counts = fires_in rule counts && not (fires_in rule none_counted)
 
 abbrev pub is_settled : State → ℕ → ℕ → Bool
 is_settled state run task = is_some (value_in (cell_at state run task))
@@ -59,13 +59,13 @@ abbrev pub all_settled : Dag → State → ℕ → ℕ → Bool
 all_settled dag state run task = list_all (is_settled state run) (task_of dag task).upstreams
 
 -- the task, below this upstream, looks at more of it than at counts: it waits for it, or is expanded, or follows a branch
-abbrev pub looks_beyond : Dag → ℕ → ℕ → Bool
-looks_beyond dag upstream task = is_waiting (task_of dag task).rule || (is_some (task_of dag task).expand || is_branch (task_of dag upstream))
+abbrev pub looks_beyond_in : Dag → ℕ → ℕ → Bool
+looks_beyond_in dag upstream task = is_waiting (task_of dag task).rule || (is_some (task_of dag task).expand || is_branch_in (task_of dag upstream))
 
 -- the task doesn't wait for its previous run: it does not depend on it, or there is none, or it is settled there
-abbrev pub knows_past : Dag → State → ℕ → ℕ → Bool
-knows_past dag state run task = not (task_of dag task).depends_on_past || ((run == 0) || is_some (before_in state run task))
+abbrev pub knows_past_in : Dag → State → ℕ → ℕ → Bool
+knows_past_in dag state run task = not (task_of dag task).depends_on_past || ((run == 0) || is_some (before_in state run task))
 
 -- the news may let the task be decided, which is below theirs: nothing else came of the run
-abbrev pub matters : Dag → State → News → ℕ → Bool
-matters dag state news task = looks_beyond dag news.task task || ((stirs (task_of dag task).rule news.counts && knows_past dag state news.run task) || all_settled dag state news.run task)
+abbrev pub matters_in : Dag → State → News → ℕ → Bool
+matters_in dag state news task = looks_beyond_in dag news.task task || ((stirs_in (task_of dag task).rule news.counts && knows_past_in dag state news.run task) || all_settled dag state news.run task)

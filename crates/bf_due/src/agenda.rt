@@ -1,7 +1,7 @@
 //! Steps, of which the first is at hand.
 ghost use Rattle.std.specs.Prelude.{◌≡◌, ◌⊎◌, ◌≤◌, ◌+◌, [], length, slice_get, Contains, IfSome, IfNone, OnOk, OnSome};
 ghost use Rattle.bf_due.specs.Agendas.{Comes, event_of};
-ghost use Rattle.bf_due.specs.declared.agenda.Step.{Step as StepTerm};
+ghost use Rattle.bf_due.specs.declared.agenda.Step.{Step};
 
 use bf_core::Event;
 use bf_value::OutOfMemory;
@@ -57,12 +57,12 @@ impl Model for Agenda {
     ghost use Rattle.std.specs.Prelude.{map};
     ghost use Rattle.std.specs.BinaryHeap.{heap_items, heap_capacity, IsHeap};
     ghost use Rattle.bf_due.specs.Agendas.{Steps, reverse_cmp};
-    ghost use Rattle.bf_due.specs.contracts.agenda.Step as t;
+    ghost use Rattle.bf_due.specs.contracts.agenda.Step;
     ghost use Rattle.std.specs.Coded.{codes};
 
     ghost Value = { Steps };
 
-    ghost coded = { Prim.hlevel (codes, t.the_row.coded) };
+    ghost coded = { Prim.hlevel (codes, Step.the_row.coded) };
 
     ghost view = { λ a. record { items = map (λ r. r.0) (heap_items a.heap); room = heap_capacity a.heap } };
 
@@ -92,7 +92,7 @@ impl Agenda {
     pub fn first(&self) -> Option<Step>
         ensures top { result ≡ slice_get self.now.items 0 }
         ensures some { IfSome result (λ x. Contains self.now.items x) }
-        ensures first { IfSome result (λ x. (y : StepTerm) → Contains self.now.items y
+        ensures first { IfSome result (λ x. (y : Step) → Contains self.now.items y
             → Comes x y) }
     {
         match self.heap.peek() {
@@ -105,8 +105,8 @@ impl Agenda {
     pub fn add(&mut self, step: Step)
         requires { length self.old.items + 1 ≤ self.old.room }
         ensures added { Contains self.new.items step }
-        ensures kept { (y : StepTerm) → Contains self.old.items y → Contains self.new.items y }
-        ensures only { (y : StepTerm) → Contains self.new.items y → (y ≡ step)
+        ensures kept { (y : Step) → Contains self.old.items y → Contains self.new.items y }
+        ensures only { (y : Step) → Contains self.new.items y → (y ≡ step)
             ⊎ Contains self.old.items y }
         ensures len { length self.new.items ≡ length self.old.items + 1 }
         ensures room { self.old.room ≤ self.new.room }
@@ -120,9 +120,9 @@ impl Agenda {
     /// Takes the first step out.
     pub fn take_first(&mut self) -> Option<Step>
         ensures top { result ≡ slice_get self.old.items 0 }
-        ensures kept { IfSome result (λ x. (y : StepTerm) → Contains self.old.items y → (y ≡ x)
+        ensures kept { IfSome result (λ x. (y : Step) → Contains self.old.items y → (y ≡ x)
             ⊎ Contains self.new.items y) }
-        ensures fewer { (y : StepTerm) → Contains self.new.items y → Contains self.old.items y }
+        ensures fewer { (y : Step) → Contains self.new.items y → Contains self.old.items y }
         ensures len { OnSome result (length self.new.items + 1 ≡ length self.old.items) }
         ensures none { IfNone result (self.new.items ≡ self.old.items) }
     {

@@ -5,11 +5,11 @@ ghost use Rattle.bf_graph.specs.Lookups.{IsRisingListOf};
 ghost use Rattle.bf_plan.specs.Plans.{shape_of};
 ghost use Rattle.bf_core.specs.Events.{IsDecidable};
 ghost use Rattle.bf_core.specs.Cores.{IsThere, MayCome, deciding};
-ghost use Rattle.bf_due.specs.declared.agenda.Step.{Step as StepTerm};
+ghost use Rattle.bf_due.specs.declared.agenda.Step.{Step};
 ghost use Rattle.bf_due.specs.Agendas.{event_of};
 ghost use Rattle.bf_due.specs.Dues.{Asks, AsksAll, Concerns, HasAdded, HasRoom, IsAround, IsBelow, IsPruned, IsCloseOf, IsDueStep, IsOfFirst, IsOfRun, IsOfTask, IsOpening, IsStirred, IsUnder, SpeaksOfTask, newest};
 ghost use Rattle.bf_due.specs.Cursors.{IsNoted};
-ghost use Rattle.bf_due.specs.Stirring.{knows_past as knows_past_of, looks_beyond as looks_beyond_of, matters as matters_to};
+ghost use Rattle.bf_due.specs.Stirring.{knows_past_in, looks_beyond_in, matters_in};
 
 use crate::agenda::{Agenda, Step, Turn};
 use crate::cursors::Cursors;
@@ -58,7 +58,7 @@ fn may_come(core: &Core<'_>, step: Step) -> bool
 fn decision(core: &Core<'_>, run: u32, task: u32) -> Option<Step>
     requires { task < length core.now.dag.tasks }
     ensures due { IfSome result (IsDueStep core.now) }
-    ensures each { (x : StepTerm) → IsOfTask run task x → IsDueStep core.now x → result ≡ Some x }
+    ensures each { (x : Step) → IsOfTask run task x → IsDueStep core.now x → result ≡ Some x }
 {
     let rank = core.plan().graph().rank(task);
     let turn = Turn { run, rank, task };
@@ -121,7 +121,7 @@ fn ask(agenda: &mut Agenda, row: &mut Cursors, core: &Core<'_>, run: u32, task: 
 /// Whether a task below another looks at more of it than at how its instances finish.
 fn looks_beyond(core: &Core<'_>, upstream: u32, task: u32) -> bool
     requires { task < length core.now.dag.tasks }
-    ensures { result ≡ looks_beyond_of core.now.dag upstream task }
+    ensures { result ≡ looks_beyond_in core.now.dag upstream task }
 {
     let dag = core.plan().dag();
     let task = dag.task(task);
@@ -131,7 +131,7 @@ fn looks_beyond(core: &Core<'_>, upstream: u32, task: u32) -> bool
 /// Whether a task doesn't wait for its previous run.
 fn knows_past(core: &Core<'_>, run: u32, task: u32) -> bool
     requires { task < length core.now.dag.tasks }
-    ensures { result ≡ knows_past_of core.now.dag core.now.state run task }
+    ensures { result ≡ knows_past_in core.now.dag core.now.state run task }
 {
     if !core.plan().dag().task(task).depends_on_past || run == 0 {
         return true;
@@ -143,7 +143,7 @@ fn knows_past(core: &Core<'_>, run: u32, task: u32) -> bool
 fn matters(row: &mut Cursors, core: &Core<'_>, news: News, task: u32) -> bool
     requires { task < length core.now.dag.tasks }
     ensures matters { IsNoted core.now news.run row.old → result ≡ false
-        → matters_to core.now.dag core.now.state news task ≡ false }
+        → matters_in core.now.dag core.now.state news task ≡ false }
     ensures reached { IsNoted core.now news.run row.old → IsNoted core.now news.run row.new }
 {
     if looks_beyond(core, news.task, task) {

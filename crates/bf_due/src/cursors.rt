@@ -3,9 +3,9 @@ ghost use Rattle.std.specs.Prelude.{◌≡◌, ◌<◌, ◌≤◌, ◌↔◌, �
 ghost use Rattle.bf_core.specs.Terms.{task_of};
 ghost use Rattle.bf_core.specs.Events.{IsDecidable, cell_at, value_in};
 ghost use Rattle.bf_core.specs.Cores.{Backfill, MayCome};
-ghost use Rattle.bf_core.specs.declared.event.Event.{Event as EventTerm};
-ghost use Rattle.bf_core.specs.declared.state.Cell.{Cell as CellTerm};
-ghost use Rattle.bf_due.specs.Cursors.{AreFinished, ArePassed, Awaits, IsFinished, IsNoted, is_early as early, lets};
+ghost use Rattle.bf_core.specs.declared.event.Event.{Event};
+ghost use Rattle.bf_core.specs.declared.state.Cell.{Cell};
+ghost use Rattle.bf_due.specs.Cursors.{AreFinished, ArePassed, Awaits, IsFinished, IsNoted, is_early_in, lets};
 ghost use Rattle.bf_due.specs.Stirring.{all_settled};
 
 use bf_core::{Cell, Core, Instance, Phase};
@@ -42,10 +42,10 @@ fn is_finished(phase: &Phase) -> bool
 
 /// The place of the first instance from a place on that hasn't finished, or how many there are.
 fn first_unfinished(instances: &[Instance], from: usize) -> usize
-    ensures finished { AreFinished (CellTerm.Ran instances.now) from
-        → AreFinished (CellTerm.Ran instances.now) result }
+    ensures finished { AreFinished (Cell.Ran instances.now) from
+        → AreFinished (Cell.Ran instances.now) result }
     ensures unfinished { result < length instances.now
-        → is_some (value_in (CellTerm.Ran instances.now)) ≡ false }
+        → is_some (value_in (Cell.Ran instances.now)) ≡ false }
     ensures within { result ≤ length instances.now }
 {
     for place in from..instances.len() {
@@ -58,7 +58,7 @@ fn first_unfinished(instances: &[Instance], from: usize) -> usize
 
 /// The instances of a task in a run, once it has some.
 fn instances_of<'c>(core: &'c Core<'_>, run: u32, task: u32) -> Option<&'c [Instance]>
-    ensures some { IfSome result (λ xs. cell_at core.now.state run task ≡ CellTerm.Ran xs.now) }
+    ensures some { IfSome result (λ xs. cell_at core.now.state run task ≡ Cell.Ran xs.now) }
     ensures few { IfSome result (λ xs. length xs.now ≤ 1_024) }
 {
     match core.cell(run, task) {
@@ -79,7 +79,7 @@ fn upstreams_of<'a>(core: &Core<'a>, task: u32) -> &'a [u32]
 /// Whether a task need not wait for all of its upstreams.
 fn is_early(core: &Core<'_>, task: u32) -> bool
     requires { task < length core.now.dag.tasks }
-    ensures { result ≡ early core.now.dag task }
+    ensures { result ≡ is_early_in core.now.dag task }
 {
     !core.plan().dag().task(task).rule.waits()
 }
@@ -123,7 +123,7 @@ impl Cursors {
     /// Notes that so many upstreams of a task let it be decided.
     fn note_passed(&mut self, task: u32, passed: u32)
         ensures { (b : Backfill) (k : ℕ) → IsNoted b k self.old
-            → ArePassed (early b.dag task) b.dag b.state k task passed → IsNoted b k self.new }
+            → ArePassed (is_early_in b.dag task) b.dag b.state k task passed → IsNoted b k self.new }
     {
         if (task as usize) < self.passed.len() {
             self.passed[task as usize] = passed;
@@ -144,10 +144,10 @@ impl Cursors {
     fn have_finished(&mut self, instances: &[Instance], task: u32) -> bool
         requires { length instances.now ≤ 1_024 }
         ensures finished { (b : Backfill) (k : ℕ) → IsNoted b k self.old → cell_at b.state k task
-            ≡ CellTerm.Ran instances.now → result
-            ≡ is_some (value_in (CellTerm.Ran instances.now)) }
+            ≡ Cell.Ran instances.now → result
+            ≡ is_some (value_in (Cell.Ran instances.now)) }
         ensures reached { (b : Backfill) (k : ℕ) → IsNoted b k self.old → cell_at b.state k task
-            ≡ CellTerm.Ran instances.now → IsNoted b k self.new }
+            ≡ Cell.Ran instances.now → IsNoted b k self.new }
         ensures settled { self.new.settled ≡ self.old.settled }
     {
         let from = number_at(self.finished.as_slice(), task);
@@ -172,7 +172,7 @@ impl Cursors {
     /// Whether nothing more of an upstream is waited for: it is settled, or need not be for who looks early.
     fn lets_decide(&mut self, core: &Core<'_>, run: u32, upstream: u32, early: bool) -> bool
         ensures lets { IsNoted core.now run self.old → result
-            ≡ lets early core.now.dag core.now.state run upstream }
+            ≡ lets is_early_in core.now.dag core.now.state run upstream }
         ensures reached { IsNoted core.now run self.old → IsNoted core.now run self.new }
     {
         self.is_settled(core, run, upstream) || (early && !core.plan().dag().is_branch(upstream))
@@ -189,11 +189,11 @@ impl Cursors {
     ) -> usize
         requires { task < length core.now.dag.tasks }
         ensures passed { IsNoted core.now run self.old
-            → ArePassed early core.now.dag core.now.state run task from
-            → ArePassed early core.now.dag core.now.state run task result }
+            → ArePassed is_early_in core.now.dag core.now.state run task from
+            → ArePassed is_early_in core.now.dag core.now.state run task result }
         ensures awaits { IsNoted core.now run self.old
             → result < length (task_of core.now.dag task).upstreams
-            → Awaits early core.now.dag core.now.state run task result }
+            → Awaits is_early_in core.now.dag core.now.state run task result }
         ensures reached { IsNoted core.now run self.old → IsNoted core.now run self.new }
         ensures within { result ≤ length (task_of core.now.dag task).upstreams }
     {
@@ -238,7 +238,7 @@ impl Cursors {
     /// Whether each task is settled.
     pub fn is_over(&mut self, core: &Core<'_>, run: u32) -> bool
         ensures unsettled { IsNoted core.now run self.old → result ≡ false
-            → ¬ (MayCome core.now (EventTerm.Close run)) }
+            → ¬ (MayCome core.now (Event.Close run)) }
         ensures reached { IsNoted core.now run self.old → IsNoted core.now run self.new }
     {
         let _replayed = core.journal();

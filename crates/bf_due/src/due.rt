@@ -28,13 +28,13 @@ pub struct Due {
 
 impl Model for Due {
     ghost use Rattle.bf_due.specs.Dues.{Kept};
-    ghost use Rattle.bf_due.specs.contracts.agenda.Step as t;
-    ghost use Rattle.bf_due.specs.contracts.cursors.Cursors as p;
+    ghost use Rattle.bf_due.specs.contracts.agenda.Step;
+    ghost use Rattle.bf_due.specs.contracts.cursors.Cursors;
     ghost use Rattle.std.specs.Coded.{codes};
 
     ghost Value = { Kept };
 
-    ghost coded = { Prim.hlevel (codes, t.the_row.coded, p.the_row.coded) };
+    ghost coded = { Prim.hlevel (codes, Step.the_row.coded, Cursors.the_row.coded) };
 
     ghost view = { λ d. record { steps = d.agenda.items; room = d.agenda.room; progress = d.progress.items } };
 }

@@ -1,7 +1,7 @@
 //! What has come of a task by an event, and which rules look for it.
 ghost use Rattle.std.specs.Prelude.{◌≡◌};
 ghost use Rattle.bf_core.specs.Cores.{IsThere};
-ghost use Rattle.bf_due.specs.Stirring.{decided_at, ended_at, finished_in, heard_of_cell, stirs as stirs_by};
+ghost use Rattle.bf_due.specs.Stirring.{decided_at, ended_at, finished_in, heard_of_cell, stirs_in};
 
 use bf_core::{Cell, Core, Phase};
 use bf_rule::{Counts, Rule, fires};
@@ -75,7 +75,7 @@ impl News {
 
 /// Whether a rule looks for what these have, and not for nothing.
 pub fn stirs(rule: Rule, counts: Counts) -> bool
-    ensures { result ≡ stirs_by rule counts }
+    ensures { result ≡ stirs_in rule counts }
 {
     fires(rule, &counts) && !fires(rule, &Counts::NONE)
 }

@@ -30,13 +30,13 @@ pub struct Executor<'s, K: Service> {
 impl<'s, K: Service> Model for Executor<'s, K> {
     ghost use Rattle.std.specs.Prelude.{List};
     ghost use Rattle.std.specs.Coded.{codes};
-    ghost use Rattle.bf_lane.specs.contracts.messages.Answer as a;
-    ghost use Rattle.bf_lane.specs.contracts.messages.Job as j;
+    ghost use Rattle.bf_lane.specs.contracts.messages.Answer;
+    ghost use Rattle.bf_lane.specs.contracts.messages.Job;
     ghost use Rattle.bf_lane.specs.Open.{Scheduled};
 
     ghost Value = { List Scheduled };
 
-    ghost coded = { Prim.hlevel (codes, j.the_row.coded, a.the_row.coded) };
+    ghost coded = { Prim.hlevel (codes, Job.the_row.coded, Answer.the_row.coded) };
 
     ghost view = { λ e. e.lanes };
 }

@@ -11,7 +11,7 @@ ghost use Rattle.bf_exec.specs.Shown.{HasShown, WasShown};
 ghost use Rattle.bf_exec.specs.Starting.{AreFresh};
 ghost use Rattle.bf_sched.specs.Driving.{StaysDriven};
 ghost use Rattle.bf_exec.specs.Turns.{AreAmong, AreInStep, IsLeftBy};
-ghost use Rattle.bf_exec.specs.declared.turn_fault.TurnFault.{TurnFault as HaltTerm};
+ghost use Rattle.bf_exec.specs.declared.turn_fault.TurnFault.{TurnFault};
 
 use crate::at_once::{AnswerAtOnce, ByWorkers};
 use crate::executor::Executor;
@@ -104,7 +104,7 @@ where
 
 /// The fault that a halt is, which is none by a stranger.
 fn fault_of(halt: TurnFault) -> BackfillFault
-    requires { halt ≢ HaltTerm.Stranger }
+    requires { halt ≢ TurnFault.Stranger }
     ensures { IsFaultOf halt result }
 {
     match halt {

@@ -15,9 +15,9 @@ pub enum TurnFault {
 }
 
 impl From<OutOfMemory> for TurnFault {
-    ghost use Rattle.bf_exec.specs.declared.turn_fault.TurnFault.TheVariants.{OutOfMemory as NoMemory};
+    ghost use Rattle.bf_exec.specs.declared.turn_fault.TurnFault.TheVariants.{OutOfMemory};
 
-    ghost from_gives = { λ _ e. e ≡ NoMemory };
+    ghost from_gives = { λ _ e. e ≡ OutOfMemory };
 
     fn from(_e: OutOfMemory) -> TurnFault {
         TurnFault::OutOfMemory

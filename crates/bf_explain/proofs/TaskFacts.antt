@@ -4,8 +4,8 @@ use Rattle.std.specs.Prelude.{All, slice_get, slice_index_or}
 use Rattle.std.specs.List.{AllByRecursion}
 use Rattle.std.proofs.lemmas.List.Elements.{recursion_from_All}
 use Rattle.bf_report.specs.declared.report.Report.{Report}
-use Rattle.bf_reason.specs.Runs.{tasks_before, tasks_of}
-use Rattle.bf_explain.specs.Tasks.{run_before}
+use Rattle.bf_reason.specs.Runs.{tasks_before, tasks_in_run}
+use Rattle.bf_explain.specs.Tasks.{run_before_of}
 
 holds_by_recursion : {X : Type 0} (P : X → Type 0) (xs : List X) (place : ℕ) (x : X) → AllByRecursion P xs → slice_get xs place ≡ Some x → P x
 holds_by_recursion P [] place x all is = cc
@@ -28,6 +28,6 @@ told_there {X = X} (first ∷ rest) zero x y is same = some_first first x is ∙
 told_there (first ∷ rest) (suc place) x y is same = told_there rest place x y is same
 
 -- the tasks of the run before
-pub tasks_of_before : (report : Report) (run : ℕ) → tasks_of (run_before report run) ≡ tasks_before report run
+pub tasks_of_before : (report : Report) (run : ℕ) → tasks_in_run (run_before_of report run) ≡ tasks_before report run
 tasks_of_before report zero = refl
 tasks_of_before report (suc run) = refl

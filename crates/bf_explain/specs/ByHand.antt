@@ -15,20 +15,20 @@ use Rattle.bf_words.specs.declared.context.JobContext.{JobContext}
 use Rattle.bf_quoted.specs.Lines.{line_of}
 
 -- the report tells the word: version 1 doesn't tell what an instance was given
-abbrev pub tells_word : Version → InstanceReport → Word → Bool
-tells_word Version.One instance (Word.Pull place) = false
-tells_word Version.One instance Word.Item = false
-tells_word Version.Two instance Word.Item = is_some instance.item
-tells_word version instance word = true
+abbrev pub tells_word_in : Version → InstanceReport → Word → Bool
+tells_word_in Version.One instance (Word.Pull place) = false
+tells_word_in Version.One instance Word.Item = false
+tells_word_in Version.Two instance Word.Item = is_some instance.item
+tells_word_in version instance word = true
 
 -- there is a command, and it tells each word
-abbrev pub tells_words : Version → InstanceReport → List Word → Bool
-tells_words version instance command = not (length command == 0) && list_all (tells_word version instance) command
+abbrev pub tells_words_in : Version → InstanceReport → List Word → Bool
+tells_words_in version instance command = not (length command == 0) && list_all (tells_word_in version instance) command
 
 -- the map index of the instance that is told of alone
-abbrev pub index_of : TaskReport → Option ℤ → ℤ
-index_of (TaskReport.Mapped instances) (Some index) = index
-index_of told index = negsuc zero
+abbrev pub index_in : TaskReport → Option ℤ → ℤ
+index_in (TaskReport.Mapped instances) (Some index) = index
+index_in told index = negsuc zero
 
 abbrev pub last_try : ℕ → ℕ → ℤ → InstanceReport → JobName
 last_try run task index instance = record { run = run; task = task; index = index; attempt = instance.result.tries }
@@ -47,4 +47,4 @@ IsLineIf false IsLine lines = lines ≡ []
 abbrev pub AreHandLines : Dag → Interval → Version → ℕ → ℕ → ℤ → Option InstanceReport → List (List ℕ) → Type 0
 AreHandLines dag interval version run task index None lines = lines ≡ []
 AreHandLines dag interval version run task index (Some instance) lines =
-    IsLineIf (tells_words version instance (task_of dag task).command) (IsHandLine dag interval run task index instance) lines
+    IsLineIf (tells_words_in version instance (task_of dag task).command) (IsHandLine dag interval run task index instance) lines

@@ -11,22 +11,22 @@ use Rattle.bf_quoted.specs.Lines.{line_of}
 use Rattle.bf_quoted.specs.Words.{quoted}
 use Rattle.bf_roots.specs.declared.step.Root.{Root}
 use Rattle.bf_why.specs.Decided.{id_of}
-use Rattle.bf_wording.specs.Numbers.{plural}
+use Rattle.bf_wording.specs.Numbers.{plural_of}
 use Rattle.bf_explain.specs.declared.clearing.ClearedCount.{ClearedCount}
 use Rattle.bf_explain.specs.declared.paths.Paths.{Paths}
-use Rattle.bf_explain.specs.Began.{in_the_run}
-use Rattle.bf_explain.specs.Moments.{short_moment}
+use Rattle.bf_explain.specs.Began.{in_the_run_of}
+use Rattle.bf_explain.specs.Moments.{short_moment_of}
 use Rattle.bf_explain.specs.Sections.{section}
 
 -- ---- the words of the line
 
-abbrev pub begins_with_hyphen : List ℕ → Bool
-begins_with_hyphen [] = false
-begins_with_hyphen (first ∷ rest) = first == 45
+abbrev pub begins_with_hyphen_in : List ℕ → Bool
+begins_with_hyphen_in [] = false
+begins_with_hyphen_in (first ∷ rest) = first == 45
 
 -- an option and its word, in one where the word begins as an option does
 abbrev pub option_words : List ℕ → List ℕ → List (List ℕ)
-option_words name word = if begins_with_hyphen word then (name ++ (codes "=" ++ word)) ∷ [] else name ∷ word ∷ []
+option_words name word = if begins_with_hyphen_in word then (name ++ (codes "=" ++ word)) ∷ [] else name ∷ word ∷ []
 
 abbrev pub zone_words : Option (List ℕ) → List (List ℕ)
 zone_words None = []
@@ -35,63 +35,63 @@ zone_words (Some path) = option_words (codes "--zone-file") path
 -- the paths, behind `--` where one begins as an option does
 abbrev pub path_words : Paths → List (List ℕ)
 path_words paths =
-    (if begins_with_hyphen paths.graph || begins_with_hyphen paths.report then codes "--" ∷ [] else []) ++ paths.graph ∷ paths.report ∷ []
+    (if begins_with_hyphen_in paths.graph || begins_with_hyphen_in paths.report then codes "--" ∷ [] else []) ++ paths.graph ∷ paths.report ∷ []
 
 -- the start of a run that is there, as short as it is written on a line
-abbrev pub short_start : Option RunReport → List ℕ
-short_start None = []
-short_start (Some run) = short_moment run.interval.start.nanosecond
+abbrev pub short_start_of : Option RunReport → List ℕ
+short_start_of None = []
+short_start_of (Some run) = short_moment_of run.interval.start.nanosecond
 
-abbrev pub short_start_at : Report → ℕ → List ℕ
-short_start_at report run = short_start (slice_get report.runs run)
+abbrev pub short_start_in : Report → ℕ → List ℕ
+short_start_in report run = short_start_of (slice_get report.runs run)
 
 abbrev pub range_words : Report → List (List ℕ)
-range_words report = codes "--from" ∷ short_start_at report 0 ∷ codes "--to" ∷ short_start_at report (length report.runs - 1) ∷ []
+range_words report = codes "--from" ∷ short_start_in report 0 ∷ codes "--to" ∷ short_start_in report (length report.runs - 1) ∷ []
 
 abbrev pub seed_words : Dag → Report → Place → List (List ℕ)
-seed_words dag report place = option_words (codes "--task") (id_of dag place.task) ++ codes "--run" ∷ short_start_at report place.run ∷ []
+seed_words dag report place = option_words (codes "--task") (id_of dag place.task) ++ codes "--run" ∷ short_start_in report place.run ∷ []
 
-abbrev pub clear_words : Paths → Dag → Report → Place → List (List ℕ)
-clear_words paths dag report place =
+abbrev pub clear_words_of : Paths → Dag → Report → Place → List (List ℕ)
+clear_words_of paths dag report place =
     (((codes "backfill" ∷ codes "clear" ∷ [] ++ zone_words paths.zone_file) ++ range_words report) ++ seed_words dag report place) ++ path_words paths
 
 -- the report that it prints goes into a file beside the report
-abbrev pub clear_line : Paths → Dag → Report → Place → List ℕ
-clear_line paths dag report place = line_of (clear_words paths dag report place) ++ (codes " > " ++ quoted (paths.report ++ codes ".new"))
+abbrev pub clear_line_of : Paths → Dag → Report → Place → List ℕ
+clear_line_of paths dag report place = line_of (clear_words_of paths dag report place) ++ (codes " > " ++ quoted (paths.report ++ codes ".new"))
 
 -- ---- what is cleared
 
 -- the run of the last of these places
-abbrev pub last_run : ℕ → List Place → ℕ
-last_run run places = fold (λ last place. place.run) run places
+abbrev pub last_run_of : ℕ → List Place → ℕ
+last_run_of run places = fold (λ last place. place.run) run places
 
 -- how many tasks follow from the place, in how many runs, from its own to the last
 abbrev pub IsCleared : Dag → ℕ → Place → ClearedCount → Type 0
 IsCleared dag runs place cleared =
     (all : Following) × AreDependents dag (place ∷ []) runs all
     × (cleared.tasks ≡ length (places_in dag all runs))
-    × (cleared.runs ≡ last_run place.run (places_in dag all runs) + 1 - place.run)
+    × (cleared.runs ≡ last_run_of place.run (places_in dag all runs) + 1 - place.run)
 
 -- ---- the sections
 
 -- another place than the one that is told of
-abbrev pub place_text : Dag → Report → ℕ → ℕ → Place → List ℕ
-place_text dag report run task place =
-    if place.run == run && place.task == task then [] else codes " " ++ (id_of dag place.task ++ in_the_run report run place.run)
+abbrev pub place_text_of : Dag → Report → ℕ → ℕ → Place → List ℕ
+place_text_of dag report run task place =
+    if place.run == run && place.task == task then [] else codes " " ++ (id_of dag place.task ++ in_the_run_of report run place.run)
 
-abbrev pub clear_heading : List ℕ → ClearedCount → List ℕ
-clear_heading place cleared =
+abbrev pub clear_heading_of : List ℕ → ClearedCount → List ℕ
+clear_heading_of place cleared =
     codes "clear" ++ (place ++ (codes ", with what follows from it: "
-    ++ (plural cleared.tasks (codes "task") ++ (codes " in " ++ plural cleared.runs (codes "run")))))
+    ++ (plural_of cleared.tasks (codes "task") ++ (codes " in " ++ plural_of cleared.runs (codes "run")))))
 
 abbrev pub clear_section : Paths → Dag → Report → ℕ → ℕ → Place → ClearedCount → List (List ℕ)
 clear_section paths dag report run task place cleared =
-    section (clear_heading (place_text dag report run task place) cleared) (clear_line paths dag report place ∷ [])
+    section (clear_heading_of (place_text_of dag report run task place) cleared) (clear_line_of paths dag report place ∷ [])
 
 -- a run of `single` is of no range
-abbrev pub is_of_single : Option RunReport → Bool
-is_of_single None = true
-is_of_single (Some run) = int_eq run.interval.start.nanosecond run.interval.end.nanosecond
+abbrev pub is_of_single_in : Option RunReport → Bool
+is_of_single_in None = true
+is_of_single_in (Some run) = int_eq run.interval.start.nanosecond run.interval.end.nanosecond
 
 abbrev pub IsClearSectionIf : Bool → Paths → Dag → Report → ℕ → ℕ → Place → List (List ℕ) → Type 0
 IsClearSectionIf true paths dag report run task place lines = lines ≡ []
@@ -100,7 +100,7 @@ IsClearSectionIf false paths dag report run task place lines =
 
 abbrev pub IsClearSection : Paths → Dag → Report → ℕ → ℕ → Place → List (List ℕ) → Type 0
 IsClearSection paths dag report run task place lines =
-    IsClearSectionIf (is_of_single (slice_get report.runs place.run)) paths dag report run task place lines
+    IsClearSectionIf (is_of_single_in (slice_get report.runs place.run)) paths dag report run task place lines
 
 -- a section for each place, in order
 abbrev pub AreClearSections : Paths → Dag → Report → ℕ → ℕ → List Place → List (List ℕ) → Type 0
@@ -111,13 +111,13 @@ AreClearSections paths dag report run task (place ∷ places) lines =
 
 -- ---- the places
 
-abbrev pub place_at : ℕ → ℕ → Place
-place_at run task = record { run = run; task = task; index = None }
+abbrev pub place_in : ℕ → ℕ → Place
+place_in run task = record { run = run; task = task; index = None }
 
-abbrev pub root_places : List Root → List Place
-root_places roots = map (λ root. place_at root.run root.task) (take 3 roots)
+abbrev pub root_places_of : List Root → List Place
+root_places_of roots = map (λ root. place_in root.run root.task) (take 3 roots)
 
 -- the first three places where it began, or else the task itself
-abbrev pub places_to_clear : ℕ → ℕ → List Root → List Place
-places_to_clear run task [] = place_at run task ∷ []
-places_to_clear run task (root ∷ roots) = root_places (root ∷ roots)
+abbrev pub places_to_clear_in : ℕ → ℕ → List Root → List Place
+places_to_clear_in run task [] = place_in run task ∷ []
+places_to_clear_in run task (root ∷ roots) = root_places_of (root ∷ roots)

@@ -1,9 +1,9 @@
 //! Where it began, in a sentence.
 ghost use Rattle.std.specs.Prelude.{◌≡◌, ◌<◌, ◌==◌, ◌++◌, IfOk, OnOk, length, option_copied};
 ghost use Rattle.std.specs.List.{flat_map, list_any};
-ghost use Rattle.bf_explain.specs.Began.{began_lines as began_among, began_sentence as began_words, began_text as began_as, far_text, in_the_run as in_the_run_of, is_far as is_far_from, pushed_first, root_text as root_words, start_text as start_words};
-ghost use Rattle.bf_reason.specs.Runs.{tasks_at as tasks_in};
-ghost use Rattle.bf_wording.specs.Values.{value_text as value_words};
+ghost use Rattle.bf_explain.specs.Began.{began_lines_of, began_sentence_of, began_text_of, far_text, in_the_run_of, is_far_in, pushed_first, root_text_of, start_text_of};
+ghost use Rattle.bf_reason.specs.Runs.{tasks_in};
+ghost use Rattle.bf_wording.specs.Values.{value_text_of};
 ghost use Rattle.bf_xcom.specs.Pulls.{pushed_by};
 
 use bf_moment::Moment;
@@ -19,7 +19,7 @@ use std::alloc::Global;
 const MOST_CHARACTERS: usize = 200;
 
 fn pushed_text(alloc: Global, instance: &InstanceReport) -> Result<Text, OutOfMemory>
-    ensures { IfOk result (λ text. text ≡ value_words 200 (pushed_by instance.now.result.outcome)) }
+    ensures { IfOk result (λ text. text ≡ value_text_of 200 (pushed_by instance.now.result.outcome)) }
 {
     let ended = instance.result(alloc)?;
     value_text(alloc, ended.outcome.pushed(), MOST_CHARACTERS)
@@ -28,7 +28,7 @@ fn pushed_text(alloc: Global, instance: &InstanceReport) -> Result<Text, OutOfMe
 /// What the first instance of a task pushed.
 fn first_pushed_text(alloc: Global, told: Option<&TaskReport>) -> Result<Text, OutOfMemory>
     ensures { IfOk result (λ text. text
-        ≡ value_words 200 (pushed_first (option_copied told.entry))) }
+        ≡ value_text_of 200 (pushed_first (option_copied told.entry))) }
 {
     match told {
         Some(TaskReport::Ran(instance)) => pushed_text(alloc, instance),
@@ -41,7 +41,7 @@ fn first_pushed_text(alloc: Global, told: Option<&TaskReport>) -> Result<Text, O
 }
 
 fn began_text(alloc: Global, began: Began, told: Option<&TaskReport>) -> Result<Text, OutOfMemory>
-    ensures { IfOk result (λ text. text ≡ began_as began (option_copied told.entry)) }
+    ensures { IfOk result (λ text. text ≡ began_text_of began (option_copied told.entry)) }
 {
     match began {
         Began::Failed => Text::copied(alloc, "failed"),
@@ -55,7 +55,7 @@ fn began_text(alloc: Global, began: Began, told: Option<&TaskReport>) -> Result<
 }
 
 fn start_text(alloc: Global, run: Option<&RunReport>) -> Result<Text, OutOfMemory>
-    ensures { IfOk result (λ text. text ≡ start_words (option_copied run.entry)) }
+    ensures { IfOk result (λ text. text ≡ start_text_of (option_copied run.entry)) }
 {
     match run {
         Some(run) => {
@@ -98,7 +98,7 @@ fn root_text(
     run: u32,
     root: &Root,
 ) -> Result<Text, OutOfMemory>
-    ensures { IfOk result (λ text. text ≡ root_words plan.now.dag report.now run root.now) }
+    ensures { IfOk result (λ text. text ≡ root_text_of plan.now.dag report.now run root.now) }
 {
     let id = id_at(plan.dag(), root.task);
     let told = tasks_at(report, root.run).get(root.task as usize);
@@ -115,7 +115,7 @@ fn is_among(tasks: &[u32], task: u32) -> bool
 
 fn is_far(plan: &Plan, run: u32, task: u32, root: &Root) -> bool
     requires { task < length plan.now.dag.tasks }
-    ensures { result ≡ is_far_from plan.now.dag run task root.now }
+    ensures { result ≡ is_far_in plan.now.dag run task root.now }
 {
     let upstreams = plan.dag().task(task).upstreams.as_slice();
     root.run != run || !is_among(upstreams, root.task)
@@ -160,7 +160,7 @@ fn far_names(
 }
 
 fn began_sentence(alloc: Global, names: &[Text]) -> Result<Vec<Text>, OutOfMemory>
-    ensures { IfOk result (λ lines. lines.items ≡ began_words names.now) }
+    ensures { IfOk result (λ lines. lines.items ≡ began_sentence_of names.now) }
 {
     if names.is_empty() {
         return Ok(Vec::new(alloc));
@@ -183,7 +183,7 @@ pub(crate) fn began_lines(
 ) -> Result<Vec<Text>, OutOfMemory>
     requires { task < length plan.now.dag.tasks }
     ensures { IfOk result (λ lines. lines.items
-        ≡ began_among plan.now.dag report.now run task roots.now) }
+        ≡ began_lines_of plan.now.dag report.now run task roots.now) }
 {
     let names = far_names(alloc, plan, report, run, task, roots)?;
     began_sentence(alloc, names.as_slice())

@@ -1,9 +1,9 @@
 //! The tasks beside a task, with their states.
 ghost use Rattle.std.specs.Prelude.{◌≡◌, ◌∷◌, ◌++◌, [], IfOk, OnOk, Some, option_map, string_bytes};
-ghost use Rattle.bf_explain.specs.Beside.{instances_text as instances_words, padded as padded_to, state_text as state_words, task_line as line_of, task_lines as lines_of, widest as widest_of};
+ghost use Rattle.bf_explain.specs.Beside.{instances_text_of, padded_of, state_text_of, task_line_of, task_lines_of, widest_of};
 ghost use Rattle.bf_why.specs.Decided.{id_of};
 ghost use Rattle.std.specs.List.{repeat};
-ghost use Rattle.bf_report.specs.declared.report.InstanceReport.{InstanceReport as InstanceTerm};
+ghost use Rattle.bf_report.specs.declared.report.InstanceReport.{InstanceReport};
 ghost use Rattle.bf_report.specs.Report.{state_word};
 
 use bf_plan::Plan;
@@ -28,7 +28,7 @@ pub(crate) fn outcome_word(outcome: &Outcome) -> &'static str
 
 /// Of an unmapped task, by its one result.
 fn result_word(results: &[TaskResult]) -> &'static str
-    ensures { (instance : InstanceTerm) → results.now ≡ instance.result ∷ [] → result.now
+    ensures { (instance : InstanceReport) → results.now ≡ instance.result ∷ [] → result.now
         ≡ state_word instance.result.outcome }
 {
     match results {
@@ -38,7 +38,7 @@ fn result_word(results: &[TaskResult]) -> &'static str
 }
 
 fn instances_text(alloc: Global, instances: usize, counts: &Counts) -> Result<Text, OutOfMemory>
-    ensures { IfOk result (λ text. text ≡ instances_words instances counts.now) }
+    ensures { IfOk result (λ text. text ≡ instances_text_of instances counts.now) }
 {
     let instances = plural(alloc, instances as u64, "instance")?;
     let counts = counts_text(alloc, counts)?;
@@ -46,7 +46,7 @@ fn instances_text(alloc: Global, instances: usize, counts: &Counts) -> Result<Te
 }
 
 fn state_of(alloc: Global, task: &Settled<'_>) -> Result<Text, OutOfMemory>
-    ensures { IfOk result (λ text. text ≡ state_words (Some task.now)) }
+    ensures { IfOk result (λ text. text ≡ state_text_of (Some task.now)) }
 {
     match task.told() {
         TaskReport::NoStatus => Text::copied(alloc, "no_status"),
@@ -59,7 +59,7 @@ fn state_of(alloc: Global, task: &Settled<'_>) -> Result<Text, OutOfMemory>
 
 /// The state of a task, and of an expanded one that ran how many instances are in each.
 pub(crate) fn state_text(alloc: Global, task: Option<&Settled<'_>>) -> Result<Text, OutOfMemory>
-    ensures { IfOk result (λ text. text ≡ state_words (option_map (λ t. t.now) task.entry)) }
+    ensures { IfOk result (λ text. text ≡ state_text_of (option_map (λ t. t.now) task.entry)) }
 {
     match task {
         Some(task) => state_of(alloc, task),
@@ -78,7 +78,7 @@ fn push_spaces(text: &mut String, count: usize) -> Result<(), OutOfMemory>
 }
 
 pub(crate) fn padded(alloc: Global, id: &str, width: usize) -> Result<Text, OutOfMemory>
-    ensures { IfOk result (λ text. text ≡ padded_to width id.now) }
+    ensures { IfOk result (λ text. text ≡ padded_of width id.now) }
 {
     let mut text = String::from_str(alloc, id)?;
     push_spaces(&mut text, width.saturating_sub(id.len()))?;
@@ -109,7 +109,7 @@ fn task_line(
     width: usize,
     task: u32,
 ) -> Result<Text, OutOfMemory>
-    ensures { IfOk result (λ text. text ≡ line_of plan.now.dag settled.now width task) }
+    ensures { IfOk result (λ text. text ≡ task_line_of plan.now.dag settled.now width task) }
 {
     let id = padded(alloc, id_in(plan, task), width)?;
     let state = state_text(alloc, settled.get(task as usize))?;
@@ -123,7 +123,7 @@ pub(crate) fn task_lines(
     settled: &[Settled<'_>],
     tasks: &[u32],
 ) -> Result<Vec<Text>, OutOfMemory>
-    ensures { IfOk result (λ lines. lines.items ≡ lines_of plan.now.dag settled.now tasks.now) }
+    ensures { IfOk result (λ lines. lines.items ≡ task_lines_of plan.now.dag settled.now tasks.now) }
 {
     let width = widest(plan, tasks);
     let mut lines = Vec::with_capacity(alloc, tasks.len())?;

@@ -3,7 +3,7 @@ ghost use Rattle.std.specs.Prelude.{◌≡◌, ◌<◌, IfOk, length, map, optio
 ghost use Rattle.std.specs.List.{list_all};
 ghost use Rattle.bf_core.specs.Terms.{task_of};
 ghost use Rattle.bf_clear.specs.Entries.{given_in};
-ghost use Rattle.bf_explain.specs.ByHand.{AreHandLines, IsHandLine, index_of as index_in, tells_word as tells_word_in, tells_words as tells_words_in};
+ghost use Rattle.bf_explain.specs.ByHand.{AreHandLines, IsHandLine, index_in, tells_word_in, tells_words_in};
 ghost use Rattle.bf_graph.specs.Shape.{texts};
 ghost use Rattle.bf_quoted.specs.Lines.{line_of};
 

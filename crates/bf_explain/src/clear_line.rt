@@ -1,6 +1,6 @@
 //! The line that clears a task in a run.
 ghost use Rattle.std.specs.Prelude.{◌≡◌, ◌++◌, ◌∷◌, [], IfOk, OnOk, codes, option_copied};
-ghost use Rattle.bf_explain.specs.Clearing.{begins_with_hyphen as with_hyphen, clear_line as clear_line_in, clear_words as clear_words_in, option_words, path_words, range_words, seed_words, short_start as short_start_of, short_start_at as short_start_in, zone_words};
+ghost use Rattle.bf_explain.specs.Clearing.{begins_with_hyphen_in, clear_line_of, clear_words_of, option_words, path_words, range_words, seed_words, short_start_of, short_start_in, zone_words};
 
 use crate::moments::short_moment;
 use crate::paths::Paths;
@@ -14,7 +14,7 @@ use bf_wording::{add, add_if};
 use std::alloc::Global;
 
 fn begins_with_hyphen(word: &str) -> bool
-    ensures { result ≡ with_hyphen word.now }
+    ensures { result ≡ begins_with_hyphen_in word.now }
 {
     match word.as_bytes() {
         [first, ..] => *first == b'-',
@@ -122,7 +122,7 @@ fn clear_words(
     place: Place,
 ) -> Result<Vec<Text>, OutOfMemory>
     ensures { IfOk result (λ words. words.items
-        ≡ clear_words_in paths.now plan.now.dag report.now place) }
+        ≡ clear_words_of paths.now plan.now.dag report.now place) }
 {
     let mut words = first_words(alloc)?;
     add_zone(alloc, &mut words, &paths.zone_file)?;
@@ -147,7 +147,7 @@ pub(crate) fn clear_line(
     report: &Report,
     place: Place,
 ) -> Result<Text, OutOfMemory>
-    ensures { IfOk result (λ line. line ≡ clear_line_in paths.now plan.now.dag report.now place) }
+    ensures { IfOk result (λ line. line ≡ clear_line_of paths.now plan.now.dag report.now place) }
 {
     let words = clear_words(alloc, paths, plan, report, place)?;
     let path = new_path(alloc, paths)?;

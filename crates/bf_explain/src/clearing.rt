@@ -1,6 +1,6 @@
 //! What is cleared with a task in a run, in a heading above the line that does it.
 ghost use Rattle.std.specs.Prelude.{◌≡◌, ◌<◌, ◌≤◌, ◌++◌, IfOk, OnOk, length, option_copied};
-ghost use Rattle.bf_explain.specs.Clearing.{AreClearSections, IsClearSection, IsCleared, clear_heading as heading_words, is_of_single as of_single, last_run as last_run_of, place_at as place_in, place_text as place_words, places_to_clear as places_of, root_places as places_of_roots};
+ghost use Rattle.bf_explain.specs.Clearing.{AreClearSections, IsClearSection, IsCleared, clear_heading_of, is_of_single_in, last_run_of, place_in, place_text_of, places_to_clear_in, root_places_of};
 ghost use Rattle.bf_explain.specs.Sections.{section};
 
 use crate::began::in_the_run;
@@ -70,7 +70,7 @@ fn place_text(
     task: u32,
     place: Place,
 ) -> Result<Text, OutOfMemory>
-    ensures { IfOk result (λ text. text ≡ place_words plan.now.dag report.now run task place) }
+    ensures { IfOk result (λ text. text ≡ place_text_of plan.now.dag report.now run task place) }
 {
     if place.run == run && place.task == task {
         return Text::copied(alloc, "");
@@ -81,7 +81,7 @@ fn place_text(
 }
 
 fn clear_heading(alloc: Global, place: &Text, cleared: ClearedCount) -> Result<Text, OutOfMemory>
-    ensures { IfOk result (λ text. text ≡ heading_words place.now cleared) }
+    ensures { IfOk result (λ text. text ≡ clear_heading_of place.now cleared) }
 {
     let tasks = plural(alloc, cleared.tasks, "task")?;
     let runs = plural(alloc, cleared.runs, "run")?;
@@ -90,7 +90,7 @@ fn clear_heading(alloc: Global, place: &Text, cleared: ClearedCount) -> Result<T
 }
 
 fn is_of_single(run: Option<&RunReport>) -> bool
-    ensures { result ≡ of_single (option_copied run.entry) }
+    ensures { result ≡ is_of_single_in (option_copied run.entry) }
 {
     match run {
         Some(run) => run.interval.start == run.interval.end,
@@ -146,7 +146,7 @@ fn clear_sections(
 }
 
 fn root_places(alloc: Global, roots: &[Root]) -> Result<Vec<Place>, OutOfMemory>
-    ensures { IfOk result (λ places. places.items ≡ places_of_roots roots.now) }
+    ensures { IfOk result (λ places. places.items ≡ root_places_of roots.now) }
 {
     let mut places = Vec::new(alloc);
     for root in &roots[..roots.len().min(MOST_PLACES)] {
@@ -162,7 +162,7 @@ fn places_to_clear(
     task: u32,
     roots: &[Root],
 ) -> Result<Vec<Place>, OutOfMemory>
-    ensures { IfOk result (λ places. places.items ≡ places_of run task roots.now) }
+    ensures { IfOk result (λ places. places.items ≡ places_to_clear_in run task roots.now) }
 {
     match roots {
         [] => Ok(vec![in alloc; place_at(run, task)]?),
@@ -182,7 +182,7 @@ pub(crate) fn clear_lines(
 ) -> Result<Vec<Text>, OutOfMemory>
     requires { length report.now.runs ≤ 4_096 }
     ensures { IfOk result (λ lines. AreClearSections paths.now plan.now.dag report.now run task
-        (places_of run task roots.now) lines.items) }
+        (places_to_clear_in run task roots.now) lines.items) }
 {
     let places = places_to_clear(alloc, run, task, roots)?;
     clear_sections(alloc, paths, plan, report, run, task, places.as_slice())

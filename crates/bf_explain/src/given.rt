@@ -1,6 +1,6 @@
 //! What an instance was given, and what it pushed.
 ghost use Rattle.std.specs.Prelude.{◌≡◌, ◌++◌, IfOk, OnOk, map, option_copied};
-ghost use Rattle.bf_explain.specs.Beside.{given_lines as given_in, item_lines, pull_line as pull_words, pushed_lines as pushed_in};
+ghost use Rattle.bf_explain.specs.Beside.{given_lines_of, item_lines, pull_line_of, pushed_lines_of};
 
 use bf_report::{InstanceReport, Pull};
 use bf_value::{OutOfMemory, Text, Xval};
@@ -22,7 +22,7 @@ fn add_item(alloc: Global, lines: &mut Vec<Text>, item: Option<&Xval>) -> Result
 }
 
 fn pull_line(alloc: Global, pull: &Pull) -> Result<Text, OutOfMemory>
-    ensures { IfOk result (λ text. text ≡ pull_words pull.now) }
+    ensures { IfOk result (λ text. text ≡ pull_line_of pull.now) }
 {
     let task = pull.task.as_str();
     let value = value_text(alloc, pull.value.get(), MOST_CHARACTERS)?;
@@ -30,7 +30,7 @@ fn pull_line(alloc: Global, pull: &Pull) -> Result<Text, OutOfMemory>
 }
 
 fn add_pulls(alloc: Global, lines: &mut Vec<Text>, pulls: &[Pull]) -> Result<(), OutOfMemory>
-    ensures { OnOk result (lines.new.items ≡ lines.old.items ++ map pull_words pulls.now) }
+    ensures { OnOk result (lines.new.items ≡ lines.old.items ++ map pull_line_of pulls.now) }
 {
     for pull in pulls {
         lines.push(pull_line(alloc, pull)?)?;
@@ -43,7 +43,7 @@ pub(crate) fn given_lines(
     alloc: Global,
     instance: &InstanceReport,
 ) -> Result<Vec<Text>, OutOfMemory>
-    ensures { IfOk result (λ lines. lines.items ≡ given_in instance.now) }
+    ensures { IfOk result (λ lines. lines.items ≡ given_lines_of instance.now) }
 {
     let mut lines = Vec::new(alloc);
     add_item(alloc, &mut lines, instance.item())?;
@@ -56,7 +56,7 @@ pub(crate) fn pushed_lines(
     alloc: Global,
     instance: &InstanceReport,
 ) -> Result<Vec<Text>, OutOfMemory>
-    ensures { IfOk result (λ lines. lines.items ≡ pushed_in instance.now) }
+    ensures { IfOk result (λ lines. lines.items ≡ pushed_lines_of instance.now) }
 {
     let ended = instance.result(alloc)?;
     let mut lines = Vec::new(alloc);

@@ -1,6 +1,6 @@
 //! What a task in a run, or one of its instances, is called, and its state.
 ghost use Rattle.std.specs.Prelude.{◌≡◌, IfOk, Some, option_copied};
-ghost use Rattle.bf_explain.specs.Headings.{has_index as has_index_in, heading as heading_words, heading_of as heading_with, instance_heading as instance_words, instance_name as name_words, instance_of as instance_in, place_of as place_by};
+ghost use Rattle.bf_explain.specs.Headings.{has_index_in, heading_of_state, heading_at, instance_heading_of, instance_name_of, instance_in, place_in};
 ghost use Rattle.bf_moment.specs.Moment.{IsShown};
 
 use crate::beside::{outcome_word, state_text};
@@ -27,7 +27,7 @@ pub fn has_index(told: &TaskReport, index: Option<i32>) -> bool
 
 /// The place of an instance among those of an expanded task.
 pub(crate) fn place_of(index: Option<i32>) -> Option<usize>
-    ensures { result ≡ place_by index }
+    ensures { result ≡ place_in index }
 {
     match index {
         Some(index) if index >= 0 => Some(index as usize),
@@ -37,14 +37,14 @@ pub(crate) fn place_of(index: Option<i32>) -> Option<usize>
 
 fn heading_of(alloc: Global, name: &str, start: Timestamp, state: &str) -> Result<Text, OutOfMemory>
     requires { IsShown start.nanosecond }
-    ensures { IfOk result (λ text. text ≡ heading_with name.now start.nanosecond state.now) }
+    ensures { IfOk result (λ text. text ≡ heading_at name.now start.nanosecond state.now) }
 {
     let start = Moment::new(start);
     Ok(Text::new(format!(in alloc; "{name} in the run of {start}: {state}")?))
 }
 
 fn instance_name(alloc: Global, id: &str, place: usize) -> Result<Text, OutOfMemory>
-    ensures { IfOk result (λ text. text ≡ name_words id.now place) }
+    ensures { IfOk result (λ text. text ≡ instance_name_of id.now place) }
 {
     Ok(Text::new(format!(in alloc; "{id} [{place}]")?))
 }
@@ -58,7 +58,7 @@ fn instance_heading(
 ) -> Result<Text, OutOfMemory>
     requires { IsShown start.nanosecond }
     ensures { IfOk result (λ text. text
-        ≡ instance_words id.now start.nanosecond place (option_copied instance.entry)) }
+        ≡ instance_heading_of id.now start.nanosecond place (option_copied instance.entry)) }
 {
     let Some(instance) = instance else {
         return heading_of(alloc, id, start, "no_status");
@@ -77,7 +77,7 @@ pub(crate) fn heading(
     place: Option<usize>,
 ) -> Result<Text, OutOfMemory>
     requires { IsShown start.nanosecond }
-    ensures { IfOk result (λ text. text ≡ heading_words id.now start.nanosecond task.now place) }
+    ensures { IfOk result (λ text. text ≡ heading_of_state id.now start.nanosecond task.now place) }
 {
     match (task.told(), place) {
         (TaskReport::Mapped(instances), Some(place)) => {

@@ -1,8 +1,8 @@
 //! Which instances of an expanded task are in which state.
 ghost use Rattle.std.specs.Prelude.{◌≡◌, ◌<◌, ◌++◌, IfOk, OnOk, codes, length, option_copied, string_bytes};
-ghost use Rattle.bf_explain.specs.Beside.{padded as padded_to};
-ghost use Rattle.bf_core.specs.Deciding.{counts_of_results};
-ghost use Rattle.bf_explain.specs.Indexes.{index_text, indexes_text as indexes_words, is_at as at_index, is_before as before_index, is_in as in_state, range_end, state_line, state_lines as state_lines_in, states_width as width_of_states, width_if as width_where};
+ghost use Rattle.bf_explain.specs.Beside.{padded_of};
+ghost use Rattle.bf_core.specs.Deciding.{counts_of_results_of};
+ghost use Rattle.bf_explain.specs.Indexes.{index_text, indexes_text_of, is_at_index, is_before_index, is_in_state, range_end, state_line, state_lines_of, states_width_of, width_if_of};
 
 use crate::beside::{outcome_word, padded};
 use bf_rule::Counts;
@@ -11,7 +11,7 @@ use bf_xcom::TaskResult;
 use std::alloc::Global;
 
 fn is_in(state: &str, ended: Option<&TaskResult>) -> bool
-    ensures { result ≡ in_state state.now (option_copied ended.entry) }
+    ensures { result ≡ is_in_state state.now (option_copied ended.entry) }
 {
     match ended {
         Some(ended) => outcome_word(&ended.outcome) == state,
@@ -20,13 +20,13 @@ fn is_in(state: &str, ended: Option<&TaskResult>) -> bool
 }
 
 fn is_at(state: &str, results: &[TaskResult], index: usize) -> bool
-    ensures { result ≡ at_index state.now results.now index }
+    ensures { result ≡ is_at_index state.now results.now index }
 {
     is_in(state, results.get(index))
 }
 
 fn is_before(state: &str, results: &[TaskResult], index: usize) -> bool
-    ensures { result ≡ before_index state.now results.now index }
+    ensures { result ≡ is_before_index state.now results.now index }
 {
     index > 0 && is_at(state, results, index - 1)
 }
@@ -64,7 +64,7 @@ fn push_index(
 
 fn push_indexes(text: &mut String, state: &str, results: &[TaskResult]) -> Result<(), OutOfMemory>
     ensures { OnOk result (string_bytes text.new ≡ string_bytes text.old
-        ++ indexes_words state.now results.now) }
+        ++ indexes_text_of state.now results.now) }
 {
     for index in 0..results.len() {
         push_index(text, state, results, index)?;
@@ -73,13 +73,13 @@ fn push_indexes(text: &mut String, state: &str, results: &[TaskResult]) -> Resul
 }
 
 fn width_if(count: u32, state: &str) -> usize
-    ensures { result ≡ width_where count state.now }
+    ensures { result ≡ width_if_of count state.now }
 {
     if count == 0 { 0 } else { state.len() }
 }
 
 fn states_width(counts: &Counts) -> usize
-    ensures { result ≡ width_of_states counts.now }
+    ensures { result ≡ states_width_of counts.now }
 {
     let success = width_if(counts.success, "success");
     let failed = width_if(counts.failed, "failed");
@@ -93,7 +93,7 @@ fn indexes_line(
     results: &[TaskResult],
     state: &str,
 ) -> Result<Text, OutOfMemory>
-    ensures { IfOk result (λ text. text ≡ padded_to width state.now ++ (codes " " ++ indexes_words state.now results.now)) }
+    ensures { IfOk result (λ text. text ≡ padded_of width state.now ++ (codes " " ++ indexes_text_of state.now results.now)) }
 {
     let name = padded(alloc, state, width)?;
     let mut text = format!(in alloc; "{name} ")?;
@@ -124,8 +124,8 @@ pub(crate) fn state_lines(
     results: &[TaskResult],
     counts: &Counts,
 ) -> Result<Vec<Text>, OutOfMemory>
-    requires { counts.now ≡ counts_of_results results.now }
-    ensures { IfOk result (λ lines. lines.items ≡ state_lines_in results.now) }
+    requires { counts.now ≡ counts_of_results_of results.now }
+    ensures { IfOk result (λ lines. lines.items ≡ state_lines_of results.now) }
 {
     let width = states_width(counts);
     let mut lines = Vec::new(alloc);

@@ -1,7 +1,7 @@
 //! Moments as short as a line takes them.
 ghost use Rattle.std.specs.Prelude.{◌≡◌, ◌≤◌, IfOk, length};
 ghost use Rattle.std.specs.Str.{IsAscii};
-ghost use Rattle.bf_explain.specs.Moments.{short_moment as short_text, without_midnight as shortened};
+ghost use Rattle.bf_explain.specs.Moments.{short_moment_of, without_midnight_of};
 ghost use Rattle.bf_moment.specs.Moment.{IsShown};
 
 use bf_moment::moment_bytes;
@@ -12,7 +12,7 @@ use std::alloc::Global;
 fn without_midnight(moment: &[u8]) -> &[u8]
     requires long { 10 ≤ length moment.now }
     requires ascii { IsAscii moment.now }
-    ensures short { result.now ≡ shortened moment.now }
+    ensures short { result.now ≡ without_midnight_of moment.now }
     ensures ascii { IsAscii result.now }
 {
     if &moment[10..] == b"T00:00:00Z".as_slice() {
@@ -24,7 +24,7 @@ fn without_midnight(moment: &[u8]) -> &[u8]
 /// The text of a moment, of which midnight in UTC is left out.
 pub(crate) fn short_moment(alloc: Global, moment: Timestamp) -> Result<Text, OutOfMemory>
     requires { IsShown moment.nanosecond }
-    ensures { IfOk result (λ text. text ≡ short_text moment.nanosecond) }
+    ensures { IfOk result (λ text. text ≡ short_moment_of moment.nanosecond) }
 {
     let bytes = moment_bytes(moment);
     let Ok(text) = std::str::from_utf8(without_midnight(&bytes)) else {

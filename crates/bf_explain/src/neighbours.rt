@@ -1,6 +1,6 @@
 //! The tasks directly upstream and downstream of a task.
 ghost use Rattle.std.specs.Prelude.{◌≡◌, ◌<◌, ◌++◌, IfOk, OnOk, length};
-ghost use Rattle.bf_explain.specs.Tasks.{beside_sections, downstreams as downstreams_of, is_downstream as downstream_of};
+ghost use Rattle.bf_explain.specs.Tasks.{beside_sections, downstreams_of, is_downstream_in};
 
 use crate::beside::task_lines;
 use crate::run_why::is_upstream_of;
@@ -12,7 +12,7 @@ use std::alloc::Global;
 
 fn is_downstream(plan: &Plan, task: u32, other: u32) -> bool
     requires { other < length plan.now.dag.tasks }
-    ensures { result ≡ downstream_of plan.now.dag task other }
+    ensures { result ≡ is_downstream_in plan.now.dag task other }
 {
     is_upstream_of(task, plan.dag().task(other))
 }

@@ -1,7 +1,7 @@
 //! What is told of a task in a run, or of one of its instances, alone.
 ghost use Rattle.std.specs.Prelude.{◌≡◌, ◌++◌, IfOk, OnOk, option_copied};
-ghost use Rattle.bf_explain.specs.Beside.{given_lines as given_in, pushed_lines as pushed_in};
-ghost use Rattle.bf_explain.specs.Tasks.{instances_lines as instances_in, lines_if, own_sections};
+ghost use Rattle.bf_explain.specs.Beside.{given_lines_of, pushed_lines_of};
+ghost use Rattle.bf_explain.specs.Tasks.{instances_lines_of, lines_if, own_sections};
 
 use crate::given::{given_lines, pushed_lines};
 use crate::headings::instance_of;
@@ -18,7 +18,7 @@ fn instances_lines(
     told: &Settled<'_>,
     place: Option<usize>,
 ) -> Result<Vec<Text>, OutOfMemory>
-    ensures { IfOk result (λ lines. lines.items ≡ instances_in told.now place) }
+    ensures { IfOk result (λ lines. lines.items ≡ instances_lines_of told.now place) }
 {
     match (told.told(), place) {
         (TaskReport::Mapped(_), None) => state_lines(alloc, told.results(), &told.counts()),
@@ -28,7 +28,7 @@ fn instances_lines(
 
 fn pushed_if(alloc: Global, instance: Option<&InstanceReport>) -> Result<Vec<Text>, OutOfMemory>
     ensures { IfOk result (λ lines. lines.items
-        ≡ lines_if pushed_in (option_copied instance.entry)) }
+        ≡ lines_if pushed_lines_of (option_copied instance.entry)) }
 {
     match instance {
         Some(instance) => pushed_lines(alloc, instance),
@@ -38,7 +38,7 @@ fn pushed_if(alloc: Global, instance: Option<&InstanceReport>) -> Result<Vec<Tex
 
 fn given_if(alloc: Global, instance: Option<&InstanceReport>) -> Result<Vec<Text>, OutOfMemory>
     ensures { IfOk result (λ lines. lines.items
-        ≡ lines_if given_in (option_copied instance.entry)) }
+        ≡ lines_if given_lines_of (option_copied instance.entry)) }
 {
     match instance {
         Some(instance) => given_lines(alloc, instance),

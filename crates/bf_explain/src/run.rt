@@ -1,10 +1,10 @@
 //! A run: why it has its state, and what came of its tasks.
 ghost use Rattle.std.specs.Prelude.{◌≡◌, ◌≤◌, ◌++◌, All, IfOk, OnOk, codes, length, string_bytes};
-ghost use Rattle.bf_explain.specs.Beside.{task_lines as task_lines_of};
-ghost use Rattle.bf_explain.specs.Runs.{counts_lines as counts_in, failed_tasks as failed_in, is_not_tried as not_tried_by, run_heading as heading_of, run_lines as run_lines_in, run_text, tasks_not_tried as not_tried_in};
+ghost use Rattle.bf_explain.specs.Beside.{task_lines_of};
+ghost use Rattle.bf_explain.specs.Runs.{counts_lines_of, failed_tasks_of, is_not_tried_in, run_heading_of, run_lines_of, run_text, tasks_not_tried_of};
 ghost use Rattle.bf_explain.specs.Sections.{section};
 ghost use Rattle.bf_reason.specs.Settled.{IsFewTask, value_among};
-ghost use Rattle.bf_report.specs.Report.{run_state_word};
+ghost use Rattle.bf_report.specs.Report.{run_state_word_of};
 
 use crate::beside::task_lines;
 use crate::run_why::run_why_lines;
@@ -20,7 +20,7 @@ use bf_xcom::{RunState, TaskValue};
 use std::alloc::{AllocError, Global};
 
 fn state_word(state: RunState) -> &'static str
-    ensures { result.now ≡ run_state_word state }
+    ensures { result.now ≡ run_state_word_of state }
 {
     match state {
         RunState::Success => "success",
@@ -29,7 +29,7 @@ fn state_word(state: RunState) -> &'static str
 }
 
 fn run_heading(alloc: Global, run: &RunReport) -> Result<Text, OutOfMemory>
-    ensures { IfOk result (λ text. text ≡ heading_of run.now) }
+    ensures { IfOk result (λ text. text ≡ run_heading_of run.now) }
 {
     let start = Moment::new(run.interval.start);
     let end = Moment::new(run.interval.end);
@@ -43,7 +43,7 @@ fn counts_lines(
     order: &[u32],
 ) -> Result<Vec<Text>, OutOfMemory>
     requires { length order.now ≤ 20_000 }
-    ensures { IfOk result (λ lines. lines.items ≡ counts_in settled.now order.now) }
+    ensures { IfOk result (λ lines. lines.items ≡ counts_lines_of settled.now order.now) }
 {
     if order.is_empty() {
         return Ok(Vec::new(alloc));
@@ -57,7 +57,7 @@ fn failed_tasks(
     settled: &[Settled<'_>],
     order: &[u32],
 ) -> Result<Vec<u32>, AllocError>
-    ensures { IfOk result (λ found. found.items ≡ failed_in settled.now order.now) }
+    ensures { IfOk result (λ found. found.items ≡ failed_tasks_of settled.now order.now) }
 {
     let failed = States {
         upstream_failed: false,
@@ -71,7 +71,7 @@ fn failed_tasks(
 }
 
 fn is_not_tried(settled: &[Settled<'_>], task: u32) -> bool
-    ensures { result ≡ not_tried_by (value_among settled.now task) }
+    ensures { result ≡ is_not_tried_in (value_among settled.now task) }
 {
     match settled.get(task as usize) {
         Some(task) => matches!(task.value(), TaskValue::UpstreamFailed | TaskValue::Blocked),
@@ -84,7 +84,7 @@ fn tasks_not_tried(
     settled: &[Settled<'_>],
     order: &[u32],
 ) -> Result<Vec<u32>, AllocError>
-    ensures { IfOk result (λ found. found.items ≡ not_tried_in settled.now order.now) }
+    ensures { IfOk result (λ found. found.items ≡ tasks_not_tried_of settled.now order.now) }
 {
     order
         .iter()
@@ -101,7 +101,7 @@ fn add_failed(
     order: &[u32],
 ) -> Result<(), OutOfMemory>
     ensures { OnOk result (lines.new.items ≡ lines.old.items
-        ++ section (codes "failed") (task_lines_of plan.now.dag settled.now (failed_in settled.now order.now))) }
+        ++ section (codes "failed") (task_lines_of plan.now.dag settled.now (failed_tasks_of settled.now order.now))) }
 {
     let failed = failed_tasks(alloc, settled, order)?;
     let failed = task_lines(alloc, plan, settled, failed.as_slice())?;
@@ -116,7 +116,7 @@ fn add_not_tried(
     order: &[u32],
 ) -> Result<(), OutOfMemory>
     ensures { OnOk result (lines.new.items ≡ lines.old.items
-        ++ section (codes "not tried") (task_lines_of plan.now.dag settled.now (not_tried_in settled.now order.now))) }
+        ++ section (codes "not tried") (task_lines_of plan.now.dag settled.now (tasks_not_tried_of settled.now order.now))) }
 {
     let left = tasks_not_tried(alloc, settled, order)?;
     let left = task_lines(alloc, plan, settled, left.as_slice())?;
@@ -132,7 +132,7 @@ fn run_lines(
 ) -> Result<Vec<Text>, OutOfMemory>
     requires tasks { settled.now ≡ run.now.tasks }
     requires few { length order.now ≤ 20_000 }
-    ensures { IfOk result (λ lines. lines.items ≡ run_lines_in plan.now.dag run.now order.now) }
+    ensures { IfOk result (λ lines. lines.items ≡ run_lines_of plan.now.dag run.now order.now) }
 {
     let mut lines = one_line(alloc, run_heading(alloc, run)?)?;
     let why = run_why_lines(alloc, plan, settled, order)?;

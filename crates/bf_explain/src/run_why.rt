@@ -1,11 +1,11 @@
 //! Why a run has its state.
 ghost use Rattle.std.specs.Prelude.{◌≡◌, ◌==◌, ◌&&◌, ◌++◌, ◌∷◌, [], IfOk, OnOk, if◌then◌else◌, length};
 ghost use Rattle.std.specs.List.{list_any};
-ghost use Rattle.bf_core.specs.Deciding.{is_blocked as blocked};
-ghost use Rattle.bf_explain.specs.Runs.{are as are_word, blocked_sentence as blocked_words, ids_of, is_last as last_in, is_upstream_of as upstream_of, last_sentence as last_words, run_why as run_why_by, run_why_lines as run_why_in};
+ghost use Rattle.bf_core.specs.Deciding.{is_blocked_in};
+ghost use Rattle.bf_explain.specs.Runs.{are_of, blocked_sentence_of, ids_of, is_last_in, is_upstream_in, last_sentence_of, run_why_of, run_why_lines_of};
 ghost use Rattle.bf_reason.specs.Settled.{value_among};
 ghost use Rattle.bf_why.specs.Decided.{id_of};
-ghost use Rattle.bf_why.specs.Since.{failures, has_in as has_within};
+ghost use Rattle.bf_why.specs.Since.{failures, has_of};
 
 use bf_plan::{Dag, Plan, Task};
 use bf_reason::{Settled, is_blocked};
@@ -15,7 +15,7 @@ use bf_wording::{add_all, add_if, listed, one_line};
 use std::alloc::Global;
 
 pub(crate) fn is_upstream_of(task: u32, other: &Task) -> bool
-    ensures { result ≡ upstream_of task other.now }
+    ensures { result ≡ is_upstream_in task other.now }
 {
     other
         .upstreams
@@ -25,7 +25,7 @@ pub(crate) fn is_upstream_of(task: u32, other: &Task) -> bool
 }
 
 fn has_downstream(dag: &Dag, task: u32) -> bool
-    ensures { result ≡ list_any (upstream_of task) dag.now.tasks }
+    ensures { result ≡ list_any (is_upstream_in task) dag.now.tasks }
 {
     dag.tasks
         .as_slice()
@@ -35,7 +35,7 @@ fn has_downstream(dag: &Dag, task: u32) -> bool
 
 /// Whether a task that no task follows is failed or upstream_failed.
 fn is_last_failed(plan: &Plan, settled: &[Settled<'_>], task: u32) -> bool
-    ensures { result ≡ (last_in plan.now.dag task && has_within settled.now failures task) }
+    ensures { result ≡ (is_last_in plan.now.dag task && has_of settled.now failures task) }
 {
     has_in(settled, States::FAILURES, task) && !has_downstream(plan.dag(), task)
 }
@@ -60,7 +60,7 @@ fn last_failed(
     order: &[u32],
 ) -> Result<Vec<Text>, OutOfMemory>
     ensures { IfOk result (λ ids. ids.items ≡ ids_of plan.now.dag
-        (λ task. last_in plan.now.dag task && has_within settled.now failures task) order.now) }
+        (λ task. is_last_in plan.now.dag task && has_of settled.now failures task) order.now) }
 {
     let mut ids = Vec::new(alloc);
     for task in order {
@@ -77,7 +77,7 @@ fn without_status(
     order: &[u32],
 ) -> Result<Vec<Text>, OutOfMemory>
     ensures { IfOk result (λ ids. ids.items ≡ ids_of plan.now.dag
-        (λ task. blocked (value_among settled.now task)) order.now) }
+        (λ task. is_blocked_in (value_among settled.now task)) order.now) }
 {
     let mut ids = Vec::new(alloc);
     for task in order {
@@ -88,13 +88,13 @@ fn without_status(
 }
 
 fn are(count: usize) -> &'static str
-    ensures { result.now ≡ are_word count }
+    ensures { result.now ≡ are_of count }
 {
     if count == 1 { "is" } else { "are" }
 }
 
 fn last_sentence(alloc: Global, names: &[Text]) -> Result<Vec<Text>, OutOfMemory>
-    ensures { IfOk result (λ lines. lines.items ≡ last_words names.now) }
+    ensures { IfOk result (λ lines. lines.items ≡ last_sentence_of names.now) }
 {
     if names.is_empty() {
         return Ok(Vec::new(alloc));
@@ -108,7 +108,7 @@ fn last_sentence(alloc: Global, names: &[Text]) -> Result<Vec<Text>, OutOfMemory
 }
 
 fn blocked_sentence(alloc: Global, names: &[Text]) -> Result<Vec<Text>, OutOfMemory>
-    ensures { IfOk result (λ lines. lines.items ≡ blocked_words names.now) }
+    ensures { IfOk result (λ lines. lines.items ≡ blocked_sentence_of names.now) }
 {
     if names.is_empty() {
         return Ok(Vec::new(alloc));
@@ -117,7 +117,7 @@ fn blocked_sentence(alloc: Global, names: &[Text]) -> Result<Vec<Text>, OutOfMem
 }
 
 fn run_why(alloc: Global, last: &[Text], blocked: &[Text]) -> Result<Vec<Text>, OutOfMemory>
-    ensures { IfOk result (λ lines. lines.items ≡ run_why_by last.now blocked.now) }
+    ensures { IfOk result (λ lines. lines.items ≡ run_why_of last.now blocked.now) }
 {
     if last.is_empty() && blocked.is_empty() {
         let text = Text::copied(
@@ -138,7 +138,7 @@ pub(crate) fn run_why_lines(
     settled: &[Settled<'_>],
     order: &[u32],
 ) -> Result<Vec<Text>, OutOfMemory>
-    ensures { IfOk result (λ lines. lines.items ≡ run_why_in plan.now.dag settled.now order.now) }
+    ensures { IfOk result (λ lines. lines.items ≡ run_why_lines_of plan.now.dag settled.now order.now) }
 {
     let last = last_failed(alloc, plan, settled, order)?;
     let blocked = without_status(alloc, plan, settled, order)?;

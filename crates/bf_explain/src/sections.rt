@@ -1,19 +1,19 @@
 //! Headings, and what belongs to them.
 ghost use Rattle.std.specs.Prelude.{◌≡◌, ◌++◌, ◌∷◌, IfOk, OnOk, codes, map, string_bytes};
-ghost use Rattle.bf_explain.specs.Sections.{indented as indented_line, lines_text as lines_words, section};
+ghost use Rattle.bf_explain.specs.Sections.{indented_of, lines_text_of, section};
 
 use bf_value::{OutOfMemory, Text};
 use bf_wording::add;
 use std::alloc::Global;
 
 fn indented(alloc: Global, line: &Text) -> Result<Text, OutOfMemory>
-    ensures { IfOk result (λ text. text ≡ indented_line line.now) }
+    ensures { IfOk result (λ text. text ≡ indented_of line.now) }
 {
     Ok(Text::new(format!(in alloc; "  {line}")?))
 }
 
 fn add_indented(alloc: Global, lines: &mut Vec<Text>, more: &[Text]) -> Result<(), OutOfMemory>
-    ensures { OnOk result (lines.new.items ≡ lines.old.items ++ map indented_line more.now) }
+    ensures { OnOk result (lines.new.items ≡ lines.old.items ++ map indented_of more.now) }
 {
     for line in more {
         lines.push(indented(alloc, line)?)?;
@@ -39,7 +39,7 @@ pub(crate) fn add_section(
 
 /// The lines, each of which ends with a line feed.
 pub(crate) fn lines_text(alloc: Global, lines: &[Text]) -> Result<String, OutOfMemory>
-    ensures { IfOk result (λ text. string_bytes text ≡ lines_words lines.now) }
+    ensures { IfOk result (λ text. string_bytes text ≡ lines_text_of lines.now) }
 {
     let mut text = String::new(alloc);
     for line in lines {

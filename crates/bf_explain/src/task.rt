@@ -1,11 +1,11 @@
 //! A task in a run, or one of its instances: why it has its state, what it was given, and how it is cleared.
 ghost use Rattle.std.specs.Prelude.{◌≡◌, ◌≤◌, ◌<◌, ◌++◌, ◌∷◌, [], All, IfOk, OnOk, Some, codes, length, slice_get, string_bytes};
-ghost use Rattle.bf_explain.specs.ByHand.{AreHandLines, index_of as index_in};
-ghost use Rattle.bf_explain.specs.Headings.{heading as heading_words, instance_of as instance_in, place_of as place_by};
+ghost use Rattle.bf_explain.specs.ByHand.{AreHandLines, index_in};
+ghost use Rattle.bf_explain.specs.Headings.{heading_of_state, instance_in, place_in};
 ghost use Rattle.bf_explain.specs.Sections.{section};
 ghost use Rattle.bf_explain.specs.Tasks.{AreTaskLines, IsTaskText, beside_sections, own_sections, why_section};
 ghost use Rattle.bf_reason.specs.Settled.{IsFewTask};
-ghost use Rattle.bf_report.specs.declared.report.TaskReport.{TaskReport as TaskTerm};
+ghost use Rattle.bf_report.specs.declared.report.TaskReport.{TaskReport};
 ghost use Rattle.bf_why.specs.Decided.{id_of};
 
 use crate::by_hand::{hand_lines, index_of};
@@ -42,7 +42,7 @@ fn first_lines(
     requires few { All (λ run. All IsFewTask run.tasks) report.now.runs }
     requires tasks { settled.now ≡ told_run.now.tasks }
     ensures { IfOk result (λ lines. lines.items
-        ≡ heading_words (id_of plan.now.dag task) told_run.now.interval.start.nanosecond told.now
+        ≡ heading_of_state (id_of plan.now.dag task) told_run.now.interval.start.nanosecond told.now
         place ∷ []
         ++ why_section plan.now.dag report.now run told_run.now task told.now place roots.now) }
 {
@@ -120,7 +120,7 @@ pub fn explain_task(
     requires few { All (λ run. All IsFewTask run.tasks) report.now.runs }
     requires runs { length report.now.runs ≤ 4_096 }
     requires told_run { slice_get report.now.runs run ≡ Some told_run.now }
-    ensures { IfOk result (λ text. (told : TaskTerm) → slice_get told_run.now.tasks task ≡ Some told
+    ensures { IfOk result (λ text. (told : TaskReport) → slice_get told_run.now.tasks task ≡ Some told
         →
         IsTaskText paths.now plan.now.dag report.now run told_run.now task told index
         (string_bytes text)) }

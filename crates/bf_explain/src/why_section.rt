@@ -1,11 +1,11 @@
 //! Why a task in a run has its state, with where it began.
 ghost use Rattle.std.specs.Prelude.{◌≡◌, ◌<◌, ◌++◌, All, IfOk, length, option_copied};
-ghost use Rattle.bf_explain.specs.Began.{began_lines as began_among};
-ghost use Rattle.bf_explain.specs.Tasks.{AreRootsIf, run_before as run_before_in};
-ghost use Rattle.bf_reason.specs.Runs.{tasks_before, tasks_of as tasks_in};
+ghost use Rattle.bf_explain.specs.Began.{began_lines_of};
+ghost use Rattle.bf_explain.specs.Tasks.{AreRootsIf, run_before_of};
+ghost use Rattle.bf_reason.specs.Runs.{tasks_before, tasks_in_run};
 ghost use Rattle.bf_reason.specs.Settled.{IsFewTask};
-ghost use Rattle.bf_roots.specs.Onward.{cause_among, is_tried as tried};
-ghost use Rattle.bf_why.specs.Why.{why as why_in};
+ghost use Rattle.bf_roots.specs.Onward.{cause_among, is_tried_in};
+ghost use Rattle.bf_why.specs.Why.{why_of};
 
 use crate::began::began_lines;
 use bf_plan::Plan;
@@ -18,7 +18,7 @@ use bf_wording::add_all;
 use std::alloc::Global;
 
 fn run_before(report: &Report, run: u32) -> Option<&RunReport>
-    ensures { option_copied result ≡ run_before_in report.now run }
+    ensures { option_copied result ≡ run_before_of report.now run }
 {
     if run == 0 {
         None
@@ -28,7 +28,7 @@ fn run_before(report: &Report, run: u32) -> Option<&RunReport>
 }
 
 fn tasks_of(run: Option<&RunReport>) -> &[TaskReport]
-    ensures { result.now ≡ tasks_in (option_copied run.entry) }
+    ensures { result.now ≡ tasks_in_run (option_copied run.entry) }
 {
     match run {
         Some(run) => run.tasks.as_slice(),
@@ -47,7 +47,7 @@ pub(crate) fn roots_if_untried(
 ) -> Result<Vec<Root>, OutOfMemory>
     requires tasks { All (λ run. length run.tasks ≡ length plan.now.dag.tasks) report.now.runs }
     requires few { All (λ run. All IsFewTask run.tasks) report.now.runs }
-    ensures { IfOk result (λ roots. AreRootsIf (tried told.now) plan.now.dag report.now run task
+    ensures { IfOk result (λ roots. AreRootsIf (is_tried_in told.now) plan.now.dag report.now run task
         roots.items) }
 {
     if is_tried(told) {
@@ -73,9 +73,9 @@ pub(crate) fn why_and_where(
     requires task { task < length plan.now.dag.tasks }
     requires few { All (λ run. All IsFewTask run.tasks) report.now.runs }
     ensures { IfOk result (λ lines. lines.items
-        ≡ why_in plan.now.dag settled.now (run_before_in report.now run) task
+        ≡ why_of plan.now.dag settled.now (run_before_of report.now run) task
         (cause_among plan.now.dag settled.now (tasks_before report.now run) run task) told.now place
-        ++ began_among plan.now.dag report.now run task roots.now) }
+        ++ began_lines_of plan.now.dag report.now run task roots.now) }
 {
     let before = run_before(report, run);
     let earlier = settled_tasks(alloc, tasks_of(before))?;

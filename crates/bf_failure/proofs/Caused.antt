@@ -4,16 +4,16 @@ use Rattle.std.specs.List.{list_any}
 use Rattle.std.specs.Str.{is_utf8}
 use Rattle.std.proofs.lemmas.Bool.{and_parts, leb-false, eqb-true}
 use Rattle.std.proofs.lemmas.Str.{IsUtf8-from_is_utf8, is_utf8-from_IsUtf8}
-use Rattle.bf_value.specs.Json.{text_of, value_of_line}
+use Rattle.bf_value.specs.Json.{json_of, value_of_line}
 use Rattle.bf_value.specs.declared.xval.Xval.{Xval}
-use Rattle.bf_rule.specs.Branches.{names_downstreams}
-use Rattle.bf_plan.specs.Plans.{task_of, shape_of, is_branch}
+use Rattle.bf_rule.specs.Branches.{names_downstreams_in}
+use Rattle.bf_plan.specs.Plans.{task_of, shape_of, is_branch_in}
 use Rattle.bf_plan.specs.declared.plan.Task.{Task}
 use Rattle.bf_plan.specs.declared.plan.Dag.{Dag}
 use Rattle.bf_try.specs.declared.answers.Exit.{Exit}
 use Rattle.bf_try.specs.declared.answers.Line.{Line}
 use Rattle.bf_try.specs.declared.answers.Raw.{Raw}
-use Rattle.bf_try.specs.Grades.{gives_items, is_list_of_items, is_short, is_source, is_status}
+use Rattle.bf_try.specs.Grades.{gives_items_in, is_list_of_items_in, is_short_in, is_source, is_status}
 use Rattle.bf_failure.specs.declared.failure.Failure.{Failure}
 use Rattle.bf_failure.specs.declared.failure.Failure.TheVariants.{Status, Signal, NotStarted, TooMuchOutput, UnreadOutput, NotUtf8, LongValue, NoDownstream, NoItems}
 use Rattle.bf_failure.specs.Causes.{ended, IsCause, Pushes}
@@ -31,29 +31,29 @@ found_first {X = X} p (x ∷ xs) e = by (p x) e (found_first p xs)
 the_cause : (dag : Dag) (task : ℕ) (raw : Raw) (this failure : Failure) → Some this ≡ Some failure → IsCause dag task raw this → IsCause dag task raw failure
 the_cause dag task raw this failure e cause = let same : this ≡ failure = cc in subst (λ (f : Failure). IsCause dag task raw f) same cause
 
-long_cause : (dag : Dag) (task : ℕ) (raw : Raw) (value : Option Xval) → Pushes raw value → is_short value ≡ false → IsCause dag task raw LongValue
+long_cause : (dag : Dag) (task : ℕ) (raw : Raw) (value : Option Xval) → Pushes raw value → is_short_in value ≡ false → IsCause dag task raw LongValue
 long_cause dag task raw None pushes e = absurd (true≢false e)
 long_cause dag task raw (Some value) pushes e = (value, pushes, leb-false _ _ e)
 
-branch_cause : (dag : Dag) (task : ℕ) (raw : Raw) (value : Option Xval) → Pushes raw value → is_branch (task_of dag task) ≡ true → names_downstreams (shape_of dag) task value ≡ false → IsCause dag task raw (NoDownstream (text_in value))
+branch_cause : (dag : Dag) (task : ℕ) (raw : Raw) (value : Option Xval) → Pushes raw value → is_branch_in (task_of dag task) ≡ true → names_downstreams_in (shape_of dag) task value ≡ false → IsCause dag task raw (NoDownstream (text_in value))
 branch_cause dag task raw None pushes branch e = absurd (true≢false e)
 branch_cause dag task raw (Some value) pushes branch e = (value, pushes, refl, branch, e)
 
-items_cause : (dag : Dag) (task : ℕ) (raw : Raw) (value : Option Xval) → Pushes raw value → gives_items dag task ≡ true → is_list_of_items value ≡ false → IsCause dag task raw (NoItems (id_in (first_expanded dag task)))
+items_cause : (dag : Dag) (task : ℕ) (raw : Raw) (value : Option Xval) → Pushes raw value → gives_items_in dag task ≡ true → is_list_of_items_in value ≡ false → IsCause dag task raw (NoItems (id_in (first_expanded dag task)))
 items_cause dag task raw value pushes gives e =
     let found = found_first (λ (other : Task). is_source other.expand task) dag.tasks (and_parts _ _ gives).1 in
     (value, found.0, pushes, e, found.1, ap id_in (sym found.1))
 
 value_cause : (dag : Dag) (task : ℕ) (raw : Raw) (value : Option Xval) → Pushes raw value → (failure : Failure) → value_failure dag task value ≡ Some failure → IsCause dag task raw failure
 value_cause dag task raw value pushes failure =
-    by (is_short value) (is_branch (task_of dag task)) (names_downstreams (shape_of dag) task value) (gives_items dag task) (is_list_of_items value) refl refl refl refl refl
+    by (is_short_in value) (is_branch_in (task_of dag task)) (names_downstreams_in (shape_of dag) task value) (gives_items_in dag task) (is_list_of_items_in value) refl refl refl refl refl
   where
-    no_items : (gives items : Bool) → gives_items dag task ≡ gives → is_list_of_items value ≡ items → (if gives && not items then Some (NoItems (id_in (first_expanded dag task))) else None) ≡ Some failure → IsCause dag task raw failure
+    no_items : (gives items : Bool) → gives_items_in dag task ≡ gives → is_list_of_items_in value ≡ items → (if gives && not items then Some (NoItems (id_in (first_expanded dag task))) else None) ≡ Some failure → IsCause dag task raw failure
     no_items true false g i e = the_cause dag task raw _ failure e (items_cause dag task raw value pushes g i)
     no_items true true g i e = cc
     no_items false items g i e = cc
 
-    by : (short branch names gives items : Bool) → is_short value ≡ short → is_branch (task_of dag task) ≡ branch → names_downstreams (shape_of dag) task value ≡ names → gives_items dag task ≡ gives → is_list_of_items value ≡ items
+    by : (short branch names gives items : Bool) → is_short_in value ≡ short → is_branch_in (task_of dag task) ≡ branch → names_downstreams_in (shape_of dag) task value ≡ names → gives_items_in dag task ≡ gives → is_list_of_items_in value ≡ items
         → (if not short then Some LongValue else (if branch && not names then Some (NoDownstream (text_in value)) else (if gives && not items then Some (NoItems (id_in (first_expanded dag task))) else None))) ≡ Some failure
         → IsCause dag task raw failure
     by false branch names gives items s b n g i e = the_cause dag task raw LongValue failure e (long_cause dag task raw value pushes s)

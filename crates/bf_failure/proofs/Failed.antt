@@ -3,14 +3,14 @@ use Rattle.std.proofs.Common.{◌≡◌, ◌↔◌, ℕ, ℤ, Bool, true, false,
 use Rattle.std.specs.Str.{is_utf8}
 use Rattle.bf_value.specs.Json.{value_of_line}
 use Rattle.bf_value.specs.declared.xval.Xval.{Xval}
-use Rattle.bf_rule.specs.Branches.{names_downstreams}
-use Rattle.bf_plan.specs.Plans.{task_of, shape_of, is_branch}
+use Rattle.bf_rule.specs.Branches.{names_downstreams_in}
+use Rattle.bf_plan.specs.Plans.{task_of, shape_of, is_branch_in}
 use Rattle.bf_plan.specs.declared.plan.Dag.{Dag}
 use Rattle.bf_xcom.specs.declared.values.Outcome.{Outcome}
 use Rattle.bf_try.specs.declared.answers.Exit.{Exit}
 use Rattle.bf_try.specs.declared.answers.Line.{Line}
 use Rattle.bf_try.specs.declared.answers.Raw.{Raw}
-use Rattle.bf_try.specs.Grades.{gives_items, grade_answer, grade_line, grade_of, grade_status, grade_value, is_list_of_items, is_short, is_status}
+use Rattle.bf_try.specs.Grades.{gives_items_in, grade_answer, grade_line_of, grade_of, grade_status, grade_value, is_list_of_items_in, is_short_in, is_status}
 use Rattle.bf_failure.specs.declared.failure.Failure.{Failure}
 use Rattle.bf_failure.specs.declared.failure.Failure.TheVariants.{Status, Signal, NotStarted, TooMuchOutput, UnreadOutput, NotUtf8, LongValue, NoDownstream, NoItems}
 use Rattle.bf_failure.specs.Failures.{answer_failure, failure_of, first_expanded, id_in, line_failure, status_failure, text_in, value_failure}
@@ -28,7 +28,7 @@ skipped : Agree None Outcome.Skipped
 skipped = (λ is. cc, λ is. cc)
 
 value_agrees : (dag : Dag) (task : ℕ) (value : Option Xval) → Agree (value_failure dag task value) (grade_value dag task value)
-value_agrees dag task value = by (is_short value) (is_branch (task_of dag task)) (names_downstreams (shape_of dag) task value) (gives_items dag task) (is_list_of_items value)
+value_agrees dag task value = by (is_short_in value) (is_branch_in (task_of dag task)) (names_downstreams_in (shape_of dag) task value) (gives_items_in dag task) (is_list_of_items_in value)
   where
     by : (short branch names gives items : Bool) → Agree
         (if not short then Some LongValue else (if branch && not names then Some (NoDownstream (text_in value)) else (if gives && not items then Some (NoItems (id_in (first_expanded dag task))) else None)))
@@ -42,7 +42,7 @@ value_agrees dag task value = by (is_short value) (is_branch (task_of dag task))
     by true false names true true = succeeded value
     by true false names false items = succeeded value
 
-line_agrees : (dag : Dag) (task : ℕ) (line : List ℕ) → Agree (line_failure dag task line) (grade_line dag task line)
+line_agrees : (dag : Dag) (task : ℕ) (line : List ℕ) → Agree (line_failure dag task line) (grade_line_of dag task line)
 line_agrees dag task line = by (is_utf8 line)
   where
     by : (text : Bool) → Agree (if text then value_failure dag task (value_of_line line) else Some NotUtf8) (if text then grade_value dag task (value_of_line line) else Outcome.Failed)
@@ -53,7 +53,7 @@ status_agrees : (dag : Dag) (task : ℕ) (status : ℤ) (line : List ℕ) → Ag
 status_agrees dag task status line = by (is_status 99 status) (is_status 0 status)
   where
     by : (skips succeeds : Bool) → Agree (if skips then None else (if succeeds then line_failure dag task line else Some (Status status)))
-        (if skips then Outcome.Skipped else (if succeeds then grade_line dag task line else Outcome.Failed))
+        (if skips then Outcome.Skipped else (if succeeds then grade_line_of dag task line else Outcome.Failed))
     by true succeeds = skipped
     by false true = line_agrees dag task line
     by false false = failed (Status status)

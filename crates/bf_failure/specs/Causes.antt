@@ -1,15 +1,15 @@
 -- What holds of an answer that failed so.
 use Rattle.std.specs.Prelude.{◌≡◌, ◌≢◌, ◌<◌, ℕ, ℤ, pos, true, false, List, length, Option, Some, IsUtf8}
-use Rattle.bf_value.specs.Json.{text_of, value_of_line}
+use Rattle.bf_value.specs.Json.{json_of, value_of_line}
 use Rattle.bf_value.specs.declared.xval.Xval.{Xval}
-use Rattle.bf_rule.specs.Branches.{names_downstreams}
-use Rattle.bf_plan.specs.Plans.{task_of, shape_of, is_branch}
+use Rattle.bf_rule.specs.Branches.{names_downstreams_in}
+use Rattle.bf_plan.specs.Plans.{task_of, shape_of, is_branch_in}
 use Rattle.bf_plan.specs.declared.plan.Task.{Task}
 use Rattle.bf_plan.specs.declared.plan.Dag.{Dag}
 use Rattle.bf_try.specs.declared.answers.Exit.{Exit}
 use Rattle.bf_try.specs.declared.answers.Line.{Line}
 use Rattle.bf_try.specs.declared.answers.Raw.{Raw}
-use Rattle.bf_try.specs.Grades.{is_list_of_items}
+use Rattle.bf_try.specs.Grades.{is_list_of_items_in}
 use Rattle.bf_failure.specs.declared.failure.Failure.{Failure}
 use Rattle.bf_failure.specs.declared.failure.Failure.TheVariants.{Status, Signal, NotStarted, TooMuchOutput, UnreadOutput, NotUtf8, LongValue, NoDownstream, NoItems}
 use Rattle.bf_failure.specs.Failures.{first_expanded}
@@ -32,10 +32,10 @@ IsCause dag task raw (NotStarted words) = raw.exit ≡ Exit.NotStarted
 IsCause dag task raw TooMuchOutput = raw.line ≡ Line.TooMuch
 IsCause dag task raw UnreadOutput = raw.line ≡ Line.ReadFault
 IsCause dag task raw NotUtf8 = (line : List ℕ) × (raw ≡ ended (pos 0) line) × ¬ (IsUtf8 line)
-IsCause dag task raw LongValue = (value : Xval) × Pushes raw (Some value) × (65_536 < length (text_of value))
+IsCause dag task raw LongValue = (value : Xval) × Pushes raw (Some value) × (65_536 < length (json_of value))
 IsCause dag task raw (NoDownstream text) =
-    (value : Xval) × Pushes raw (Some value) × (text ≡ text_of value)
-    × (is_branch (task_of dag task) ≡ true) × (names_downstreams (shape_of dag) task (Some value) ≡ false)
+    (value : Xval) × Pushes raw (Some value) × (text ≡ json_of value)
+    × (is_branch_in (task_of dag task) ≡ true) × (names_downstreams_in (shape_of dag) task (Some value) ≡ false)
 IsCause dag task raw (NoItems id) =
-    (value : Option Xval) × (first : Task) × Pushes raw value × (is_list_of_items value ≡ false)
+    (value : Option Xval) × (first : Task) × Pushes raw value × (is_list_of_items_in value ≡ false)
     × (first_expanded dag task ≡ Some first) × (first.id ≡ id)

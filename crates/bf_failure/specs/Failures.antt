@@ -2,16 +2,16 @@
 use Rattle.std.specs.Prelude.{ℕ, ℤ, not, ◌&&◌, if◌then◌else◌, List, [], ◌++◌, codes, Option, None, Some, find}
 use Rattle.std.specs.Fmt.{signed_decimal}
 use Rattle.std.specs.Str.{is_utf8}
-use Rattle.bf_value.specs.Json.{text_of, value_of_line}
+use Rattle.bf_value.specs.Json.{json_of, value_of_line}
 use Rattle.bf_value.specs.declared.xval.Xval.{Xval}
-use Rattle.bf_rule.specs.Branches.{names_downstreams}
-use Rattle.bf_plan.specs.Plans.{task_of, shape_of, is_branch}
+use Rattle.bf_rule.specs.Branches.{names_downstreams_in}
+use Rattle.bf_plan.specs.Plans.{task_of, shape_of, is_branch_in}
 use Rattle.bf_plan.specs.declared.plan.Task.{Task}
 use Rattle.bf_plan.specs.declared.plan.Dag.{Dag}
 use Rattle.bf_try.specs.declared.answers.Exit.{Exit}
 use Rattle.bf_try.specs.declared.answers.Line.{Line}
 use Rattle.bf_try.specs.declared.answers.Raw.{Raw}
-use Rattle.bf_try.specs.Grades.{gives_items, is_list_of_items, is_short, is_source, is_status}
+use Rattle.bf_try.specs.Grades.{gives_items_in, is_list_of_items_in, is_short_in, is_source, is_status}
 use Rattle.bf_failure.specs.declared.failure.Failure.{Failure}
 use Rattle.bf_failure.specs.declared.failure.Failure.TheVariants.{Status, Signal, NotStarted, TooMuchOutput, UnreadOutput, NotUtf8, LongValue, NoDownstream, NoItems}
 use Rattle.bf_failure.specs.declared.detail.Detail.{Detail}
@@ -29,14 +29,14 @@ id_in (Some task) = task.id
 
 abbrev pub text_in : Option Xval → List ℕ
 text_in None = []
-text_in (Some value) = text_of value
+text_in (Some value) = json_of value
 
 -- why a task may not push this; none where it may
 abbrev pub value_failure : Dag → ℕ → Option Xval → Option Failure
 value_failure dag task value =
-    if not (is_short value) then Some LongValue
-    else (if is_branch (task_of dag task) && not (names_downstreams (shape_of dag) task value) then Some (NoDownstream (text_in value))
-    else (if gives_items dag task && not (is_list_of_items value) then Some (NoItems (id_in (first_expanded dag task)))
+    if not (is_short_in value) then Some LongValue
+    else (if is_branch_in (task_of dag task) && not (names_downstreams_in (shape_of dag) task value) then Some (NoDownstream (text_in value))
+    else (if gives_items_in dag task && not (is_list_of_items_in value) then Some (NoItems (id_in (first_expanded dag task)))
     else None))
 
 abbrev pub line_failure : Dag → ℕ → List ℕ → Option Failure

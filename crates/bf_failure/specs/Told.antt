@@ -11,7 +11,7 @@ use Rattle.bf_failure.specs.declared.detail.Detail.{Detail}
 use Rattle.bf_failure.specs.declared.failure.Failure.{Failure}
 use Rattle.bf_failure.specs.declared.failure.Failure.TheVariants.{Status, Signal, NotStarted}
 use Rattle.bf_failure.specs.Failures.{detailed, failure_of, failure_text}
-use Rattle.bf_failure.specs.Tried.{IsContextOf, log_of, try_text}
+use Rattle.bf_failure.specs.Tried.{IsContextOf, log_of, try_text_of}
 
 -- the log that tells more: standard error of how a program ended, standard output of what it printed
 abbrev pub ending_of : Failure → List ℕ
@@ -20,14 +20,14 @@ ending_of (Signal number) = codes ".err"
 ending_of (NotStarted words) = codes ".err"
 ending_of _ = codes ".out"
 
-abbrev pub see_text : Option (List ℕ) → JobContext → Failure → List ℕ
-see_text None try failure = []
-see_text (Some folder) try failure = codes ", see " ++ log_of folder try (ending_of failure)
+abbrev pub see_text_of : Option (List ℕ) → JobContext → Failure → List ℕ
+see_text_of None try failure = []
+see_text_of (Some folder) try failure = codes ", see " ++ log_of folder try (ending_of failure)
 
 -- as `failed: load 2024-02-14T00:00:00Z index 2 try 1: exit status 3, see PATH`, and a line feed
-abbrev pub failed_line : Option (List ℕ) → JobContext → Failure → List ℕ
-failed_line logs try failure =
-    codes "failed: " ++ (try_text try ++ (codes ": " ++ (failure_text failure ++ (see_text logs try failure ++ codes "\n"))))
+abbrev pub failed_line_of : Option (List ℕ) → JobContext → Failure → List ℕ
+failed_line_of logs try failure =
+    codes "failed: " ++ (try_text_of try ++ (codes ": " ++ (failure_text failure ++ (see_text_of logs try failure ++ codes "\n"))))
 
 -- the line of a failed try, as it may be answered
 pub record IsToldLine (may_answer : JobName → Given → Raw → Type 0) (dag : Dag) (intervals : List Interval) (logs : Option (List ℕ)) (line : List ℕ) : Type 0 where
@@ -38,7 +38,7 @@ pub record IsToldLine (may_answer : JobName → Given → Raw → Type 0) (dag :
   pub may : may_answer done.name done.given done.raw
   pub failed : failure_of dag done.name.task done.raw ≡ Some failure
   pub is_context : IsContextOf dag intervals done.name context
-  pub is_line : line ≡ failed_line logs context (detailed failure detail)
+  pub is_line : line ≡ failed_line_of logs context (detailed failure detail)
 
 -- the lines of tries that the runner may answer may be told
 abbrev pub MayTellOf : (List ℕ → Type 0) → (JobName → Given → Raw → Type 0) → Dag → List Interval → Option (List ℕ) → Type 0

@@ -29,17 +29,17 @@ abbrev pub run_text : JobContext → List ℕ
 run_text try = moment_text try.data_interval_start.at.nanosecond
 
 -- of an instance of an expanded task its index, in these words
-abbrev pub index_text : List ℕ → ℤ → List ℕ → List ℕ
-index_text before (pos index) behind = before ++ (decimal index ++ behind)
-index_text before (negsuc n) behind = []
+abbrev pub index_text_of : List ℕ → ℤ → List ℕ → List ℕ
+index_text_of before (pos index) behind = before ++ (decimal index ++ behind)
+index_text_of before (negsuc n) behind = []
 
 -- the name of the try, as `load 2024-02-14T00:00:00Z index 2 try 1`
-abbrev pub try_text : JobContext → List ℕ
-try_text try =
-    try.task_id.now ++ (codes " " ++ (run_text try ++ (index_text (codes " index ") try.map_index [] ++ (codes " try " ++ decimal try.try_number))))
+abbrev pub try_text_of : JobContext → List ℕ
+try_text_of try =
+    try.task_id.now ++ (codes " " ++ (run_text try ++ (index_text_of (codes " index ") try.map_index [] ++ (codes " try " ++ decimal try.try_number))))
 
 -- FOLDER/dag=ID/run=MOMENT/task=ID/try=N with this ending, or index=I,try=N of an instance of an expanded task
 abbrev pub log_of : List ℕ → JobContext → List ℕ → List ℕ
 log_of folder try ending =
     folder ++ (codes "/dag=" ++ (try.dag_id.now ++ (codes "/run=" ++ (run_text try ++ (codes "/task=" ++ (try.task_id.now ++ (codes "/"
-    ++ (index_text (codes "index=") try.map_index (codes ",") ++ (codes "try=" ++ (decimal try.try_number ++ ending))))))))))
+    ++ (index_text_of (codes "index=") try.map_index (codes ",") ++ (codes "try=" ++ (decimal try.try_number ++ ending))))))))))

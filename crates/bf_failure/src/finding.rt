@@ -1,10 +1,10 @@
 //! Which line of grading a raw answer came to.
 ghost use Rattle.std.specs.Prelude.{◌≡◌, ◌<◌, ◌&&◌, not, length, IfOk, option_copied};
 ghost use Rattle.std.specs.List.{list_any};
-ghost use Rattle.bf_rule.specs.Branches.{names_downstreams as downstreams};
-ghost use Rattle.bf_plan.specs.Plans.{task_of, shape_of, is_branch as branch};
-ghost use Rattle.bf_try.specs.declared.answers.Line.{Line as LineTerm};
-ghost use Rattle.bf_try.specs.Grades.{gives_items as items_given, is_list_of_items as list_of_items, is_short as short, is_source};
+ghost use Rattle.bf_rule.specs.Branches.{names_downstreams_in};
+ghost use Rattle.bf_plan.specs.Plans.{task_of, shape_of, is_branch_in};
+ghost use Rattle.bf_try.specs.declared.answers.Line.{Line};
+ghost use Rattle.bf_try.specs.Grades.{gives_items_in, is_list_of_items_in, is_short_in, is_source};
 ghost use Rattle.bf_failure.specs.Failures.{answer_failure, failure_of, first_expanded, id_in, line_failure, text_in, value_failure};
 
 use crate::failure::Failure;
@@ -18,7 +18,7 @@ use std::alloc::Global;
 const SKIP_STATUS: i32 = 99;
 
 fn is_short(value: &Option<Xval>) -> bool
-    ensures { result ≡ short value.now }
+    ensures { result ≡ is_short_in value.now }
 {
     match value {
         Some(value) => value.has_text_within(LONGEST_VALUE),
@@ -27,7 +27,7 @@ fn is_short(value: &Option<Xval>) -> bool
 }
 
 fn is_list_of_items(value: &Option<Xval>) -> bool
-    ensures { result ≡ list_of_items value.now }
+    ensures { result ≡ is_list_of_items_in value.now }
 {
     match value {
         Some(Xval::List(values)) => values.as_slice().len() <= MOST_ITEMS,
@@ -72,21 +72,21 @@ fn has_expanded(dag: &Dag, source: u32) -> bool
 
 fn gives_items(dag: &Dag, task: u32) -> bool
     requires { task < length dag.now.tasks }
-    ensures { result ≡ items_given dag.now task }
+    ensures { result ≡ gives_items_in dag.now task }
 {
     dag.task(task).expand.is_none() && has_expanded(dag, task)
 }
 
 fn names_no_downstream(plan: &Plan, task: u32, value: &Option<Xval>) -> bool
-    ensures { result ≡ (branch (task_of plan.now.dag task)
-        && not (downstreams (shape_of plan.now.dag) task value.now)) }
+    ensures { result ≡ (is_branch_in (task_of plan.now.dag task)
+        && not (names_downstreams_in (shape_of plan.now.dag) task value.now)) }
 {
     plan.dag().is_branch(task) && !names_downstreams(plan.graph(), task, value.as_ref())
 }
 
 fn is_no_list_of_items(plan: &Plan, task: u32, value: &Option<Xval>) -> bool
     requires { task < length plan.now.dag.tasks }
-    ensures { result ≡ (items_given plan.now.dag task && not (list_of_items value.now)) }
+    ensures { result ≡ (gives_items_in plan.now.dag task && not (is_list_of_items_in value.now)) }
 {
     gives_items(plan.dag(), task) && !is_list_of_items(value)
 }
@@ -147,7 +147,7 @@ fn find_in_exit(
     line: &[u8],
 ) -> Result<Option<Failure>, OutOfMemory>
     requires { task < length plan.now.dag.tasks }
-    ensures { IfOk result (λ failure. failure ≡ answer_failure plan.now.dag task exit (LineTerm.Bytes line.now)) }
+    ensures { IfOk result (λ failure. failure ≡ answer_failure plan.now.dag task exit (Line.Bytes line.now)) }
 {
     match exit {
         Exit::Code(SKIP_STATUS) => Ok(None),

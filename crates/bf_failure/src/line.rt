@@ -1,7 +1,7 @@
 //! The line of a failed try.
 ghost use Rattle.std.specs.Prelude.{◌≡◌, IfOk, option_map, string_bytes};
-ghost use Rattle.bf_failure.specs.Told.{ending_of, failed_line as line_of, see_text as text_of_see};
-ghost use Rattle.bf_failure.specs.Tried.{try_text as text_of_try};
+ghost use Rattle.bf_failure.specs.Told.{ending_of, failed_line_of, see_text_of};
+ghost use Rattle.bf_failure.specs.Tried.{try_text_of};
 
 use crate::failure::Failure;
 use crate::log::{index_text, log_path};
@@ -26,7 +26,7 @@ fn see_text(
     failure: &Failure,
 ) -> Result<String, OutOfMemory>
     ensures { IfOk result (λ text.
-        string_bytes text ≡ text_of_see (option_map (λ l. l.now) logs.entry) context.now failure.now) }
+        string_bytes text ≡ see_text_of (option_map (λ l. l.now) logs.entry) context.now failure.now) }
 {
     let Some(folder) = logs else {
         return Ok(String::new(alloc));
@@ -37,7 +37,7 @@ fn see_text(
 
 /// The name of a try, as `load 2024-02-14T00:00:00Z index 2 try 1`: the index of an instance of an expanded task.
 pub fn try_text(alloc: Global, context: &JobContext<'_>) -> Result<String, OutOfMemory>
-    ensures { IfOk result (λ text. string_bytes text ≡ text_of_try context.now) }
+    ensures { IfOk result (λ text. string_bytes text ≡ try_text_of context.now) }
 {
     let (task, run, attempt) = (
         context.task_id,
@@ -57,7 +57,7 @@ pub fn failed_line(
     failure: &Failure,
 ) -> Result<String, OutOfMemory>
     ensures { IfOk result (λ line.
-        string_bytes line ≡ line_of (option_map (λ l. l.now) logs.entry) context.now failure.now) }
+        string_bytes line ≡ failed_line_of (option_map (λ l. l.now) logs.entry) context.now failure.now) }
 {
     let name = try_text(alloc, context)?;
     let see = see_text(alloc, logs, context, failure)?;

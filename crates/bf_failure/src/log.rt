@@ -1,6 +1,6 @@
 //! Where the logs of a try stand.
 ghost use Rattle.std.specs.Prelude.{◌≡◌, IfOk, string_bytes};
-ghost use Rattle.bf_failure.specs.Tried.{index_text as text_of_index, log_of};
+ghost use Rattle.bf_failure.specs.Tried.{index_text_of, log_of};
 
 use bf_value::OutOfMemory;
 use bf_words::JobContext;
@@ -13,7 +13,7 @@ pub(crate) fn index_text(
     index: i32,
     behind: &str,
 ) -> Result<String, OutOfMemory>
-    ensures { IfOk result (λ text. string_bytes text ≡ text_of_index before.now index behind.now) }
+    ensures { IfOk result (λ text. string_bytes text ≡ index_text_of before.now index behind.now) }
 {
     if index < 0 {
         return Ok(String::new(alloc));

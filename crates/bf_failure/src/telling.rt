@@ -29,13 +29,13 @@ pub struct Telling<'a, R: DetailedRunner + Drop, T: Teller + Drop> {
 impl<'a, R: DetailedRunner + Drop, T: Teller + Drop> Model for Telling<'a, R, T> {
     ghost use Rattle.std.specs.Prelude.{option_map};
     ghost use Rattle.std.specs.Coded.{codes};
-    ghost use Rattle.bf_plan.specs.contracts.plan.Dag as d;
-    ghost use Rattle.bf_interval.specs.contracts.interval.Interval as i;
+    ghost use Rattle.bf_plan.specs.contracts.plan.Dag;
+    ghost use Rattle.bf_interval.specs.contracts.interval.Interval;
     ghost use Rattle.bf_failure.specs.Told.{MayTellOf, TellingOf, may_tell_to};
 
     ghost Value = { TellingOf R T };
 
-    ghost coded = { Prim.hlevel (codes, d.the_row.coded, i.the_row.coded) };
+    ghost coded = { Prim.hlevel (codes, Dag.the_row.coded, Interval.the_row.coded) };
 
     ghost view = { λ s. record {
       runner = s.runner;

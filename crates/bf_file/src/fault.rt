@@ -14,9 +14,9 @@ pub enum ReplaceFault {
 }
 
 impl From<AllocError> for ReplaceFault {
-    ghost use Rattle.bf_file.specs.declared.fault.ReplaceFault.TheVariants.{OutOfMemory as NoMemory};
+    ghost use Rattle.bf_file.specs.declared.fault.ReplaceFault.TheVariants.{OutOfMemory};
 
-    ghost from_gives = { λ _ e. e ≡ NoMemory };
+    ghost from_gives = { λ _ e. e ≡ OutOfMemory };
 
     fn from(_e: AllocError) -> ReplaceFault {
         ReplaceFault::OutOfMemory
@@ -29,8 +29,8 @@ impl From<io::Error> for ReplaceFault {
     ghost use Rattle.std.specs.declared.io.ErrorKind.TheVariants.{OutOfMemory as NoMemory};
     ghost use Rattle.bf_file.specs.declared.fault.ReplaceFault.TheVariants.{CannotReplace, OutOfMemory};
 
-    ghost from_gives = { λ error fault. (error_kind error ≡ NoMemory → fault ≡ OutOfMemory)
-        × (error_kind error ≢ NoMemory → fault ≡ CannotReplace) };
+    ghost from_gives = { λ error fault. (error_kind error ≡ OutOfMemory → fault ≡ OutOfMemory)
+        × (error_kind error ≢ OutOfMemory → fault ≡ CannotReplace) };
 
     fn from(error: io::Error) -> ReplaceFault {
         match error.kind() {

@@ -13,14 +13,14 @@ use Rattle.bf_read.specs.declared.keys.GraphKey.{GraphKey}
 use Rattle.bf_read.specs.declared.keys.GraphKey.TheVariants as graph
 use Rattle.bf_read.specs.declared.keys.TaskKey.{TaskKey}
 use Rattle.bf_read.specs.declared.keys.TaskKey.TheVariants as key
-use Rattle.bf_read.specs.Keys.{graph_keys, task_keys, is_graph_key, is_task_key, task_key_name}
+use Rattle.bf_read.specs.Keys.{graph_keys, task_keys, is_graph_key_in, is_task_key_in, task_key_name}
 use Rattle.bf_findings.specs.declared.place.DocumentPlace.{DocumentPlace}
 use Rattle.bf_findings.specs.declared.place.DocumentPlace.TheVariants as place
 use Rattle.bf_findings.specs.declared.place.WordKey.{WordKey}
 use Rattle.bf_findings.specs.declared.place.WordKey.TheVariants as word
-use Rattle.bf_findings.specs.Places.{value_at, task_value, item_value, word_key_name, word_keys}
-use Rattle.bf_findings.specs.Fitting.{items_or_none, list_of, pools_in, tasks_in}
-use Rattle.bf_findings.specs.Listed.{graph_key_places, task_key_places, other_keys, pools, pools_if_any, other_task_keys, items_under, upstreams, word_key, word_keys_of, words, members_of_task, task_places, tasks, members_of_graph, places_of}
+use Rattle.bf_findings.specs.Places.{value_in, task_value, item_value, word_key_name, word_keys}
+use Rattle.bf_findings.specs.Fitting.{items_or_none, list_of, pools_at, tasks_at}
+use Rattle.bf_findings.specs.Listed.{graph_key_places, task_key_places, other_keys, pools_of, pools_if_any, other_task_keys, items_in, upstreams, word_key, word_keys_of, words, members_of_task, task_places, tasks, members_of_graph, places_in}
 use Rattle.bf_findings.specs.EachPlace.{IsPlace}
 use Rattle.bf_findings.proofs.PlaceLemmas.{cons_cases}
 
@@ -108,17 +108,17 @@ member_step known under name l e rest ps Equal is other more there =
     subst P (sym same) (here_if (known l) (under l) ps (ap known (sym same) ∙ other))
 member_step known under name l e rest ps Greater is other more there = later_if (known l) (under l) ps (under name) (more there)
 
-other_listed : (name : List ℕ) (ms : Members) → is_graph_key name ≡ false → IsSome (get_member name ms) → Contains (other_keys ms) (place.OtherKey name)
+other_listed : (name : List ℕ) (ms : Members) → is_graph_key_in name ≡ false → IsSome (get_member name ms) → Contains (other_keys ms) (place.OtherKey name)
 other_listed name no_members other there = absurd (cc)
-other_listed name (member l e ms) other there = member_step is_graph_key place.OtherKey name l e (get_member name ms) (other_keys ms) (slice_cmp nat_cmp name l) refl other (other_listed name ms other) there
+other_listed name (member l e ms) other there = member_step is_graph_key_in place.OtherKey name l e (get_member name ms) (other_keys ms) (slice_cmp nat_cmp name l) refl other (other_listed name ms other) there
 
-other_task_listed : (n : ℕ) (name : List ℕ) (ms : Members) → is_task_key name ≡ false → IsSome (get_member name ms) → Contains (other_task_keys n ms) (place.OtherTaskKey n name)
+other_task_listed : (n : ℕ) (name : List ℕ) (ms : Members) → is_task_key_in name ≡ false → IsSome (get_member name ms) → Contains (other_task_keys n ms) (place.OtherTaskKey n name)
 other_task_listed n name no_members other there = absurd (cc)
-other_task_listed n name (member l e ms) other there = member_step is_task_key (place.OtherTaskKey n) name l e (get_member name ms) (other_task_keys n ms) (slice_cmp nat_cmp name l) refl other (other_task_listed n name ms other) there
+other_task_listed n name (member l e ms) other there = member_step is_task_key_in (place.OtherTaskKey n) name l e (get_member name ms) (other_task_keys n ms) (slice_cmp nat_cmp name l) refl other (other_task_listed n name ms other) there
 
-pool_listed : (name : List ℕ) (ms : Members) → IsSome (get_member name ms) → Contains (pools ms) (place.Pool name)
+pool_listed : (name : List ℕ) (ms : Members) → IsSome (get_member name ms) → Contains (pools_of ms) (place.Pool name)
 pool_listed name no_members there = absurd (cc)
-pool_listed name (member l e ms) there = member_step (λ _. false) place.Pool name l e (get_member name ms) (pools ms) (slice_cmp nat_cmp name l) refl refl (pool_listed name ms) there
+pool_listed name (member l e ms) there = member_step (λ _. false) place.Pool name l e (get_member name ms) (pools_of ms) (slice_cmp nat_cmp name l) refl refl (pool_listed name ms) there
 
 -- an object that has a key
 object_of : (d : Data) (name : List ℕ) (v : Data) → get name d ≡ Some v → (ms : Members) × (as_object d ≡ Some ms) × (get_member name ms ≡ Some v)
@@ -168,28 +168,28 @@ word_listed n (suc i) m k (item d ds) w x there e h = Contains-append_right (pla
 
 -- ---- the whole
 
-in_graph : (d : Data) (ms : Members) (x : DocumentPlace) → as_object d ≡ Some ms → Contains (graph_key_places ++ (other_keys ms ++ (pools_if_any (pools_in d) ++ tasks 0 (tasks_in d)))) x → Contains (places_of d) x
+in_graph : (d : Data) (ms : Members) (x : DocumentPlace) → as_object d ≡ Some ms → Contains (graph_key_places ++ (other_keys ms ++ (pools_if_any (pools_at d) ++ tasks 0 (tasks_at d)))) x → Contains (places_in d) x
 in_graph d ms x e h =
     let P : Option Members → Type 0 = λ o. Contains (place.Top ∷ members_of_graph d o) x in
-    subst P (sym e) (Contains-append_right (place.Top ∷ []) (graph_key_places ++ (other_keys ms ++ (pools_if_any (pools_in d) ++ tasks 0 (tasks_in d)))) x h)
+    subst P (sym e) (Contains-append_right (place.Top ∷ []) (graph_key_places ++ (other_keys ms ++ (pools_if_any (pools_at d) ++ tasks 0 (tasks_at d)))) x h)
 
 -- the places of a task
-in_tasks : (d : Data) (n : ℕ) (t : Data) (x : DocumentPlace) → task_value d n ≡ Some t → Contains (task_places n t) x → Contains (places_of d) x
+in_tasks : (d : Data) (n : ℕ) (t : Data) (x : DocumentPlace) → task_value d n ≡ Some t → Contains (task_places n t) x → Contains (places_in d) x
 in_tasks d n t x e h =
     let listed = then_some (at n) (get (codes "tasks") d) t e in
     let graph = object_of d (codes "tasks") listed.0 listed.1 in
     let items = array_of listed.0 n t listed.2 in
-    let all : tasks_in d ≡ list_of items.0 = ap (λ (o : Option Data). items_or_none (option_and_then as_array o)) listed.1 ∙ ap items_or_none items.1 in
+    let all : tasks_at d ≡ list_of items.0 = ap (λ (o : Option Data). items_or_none (option_and_then as_array o)) listed.1 ∙ ap items_or_none items.1 in
     let P : List Data → Type 0 = λ ts. Contains (tasks 0 ts) x in
     let there = subst P (sym all) (task_listed n 0 n items.0 t x items.2 (omega arith) h) in
-    in_graph d graph.0 x graph.1 (Contains-append_right graph_key_places (other_keys graph.0 ++ (pools_if_any (pools_in d) ++ tasks 0 (tasks_in d))) x
-    (Contains-append_right (other_keys graph.0) (pools_if_any (pools_in d) ++ tasks 0 (tasks_in d)) x (Contains-append_right (pools_if_any (pools_in d)) (tasks 0 (tasks_in d)) x there)))
+    in_graph d graph.0 x graph.1 (Contains-append_right graph_key_places (other_keys graph.0 ++ (pools_if_any (pools_at d) ++ tasks 0 (tasks_at d))) x
+    (Contains-append_right (other_keys graph.0) (pools_if_any (pools_at d) ++ tasks 0 (tasks_at d)) x (Contains-append_right (pools_if_any (pools_at d)) (tasks 0 (tasks_at d)) x there)))
 
 in_task : (n : ℕ) (t : Data) (ms : Members) (x : DocumentPlace) → as_object t ≡ Some ms
-    → Contains (task_key_places n ++ (other_task_keys n ms ++ (upstreams n 0 (items_under t key.Upstream) ++ words n 0 (items_under t key.Command)))) x → Contains (task_places n t) x
+    → Contains (task_key_places n ++ (other_task_keys n ms ++ (upstreams n 0 (items_in t key.Upstream) ++ words n 0 (items_in t key.Command)))) x → Contains (task_places n t) x
 in_task n t ms x e h =
     let P : Option Members → Type 0 = λ o. Contains (place.Task n ∷ members_of_task n t o) x in
-    subst P (sym e) (Contains-append_right (place.Task n ∷ []) (task_key_places n ++ (other_task_keys n ms ++ (upstreams n 0 (items_under t key.Upstream) ++ words n 0 (items_under t key.Command)))) x h)
+    subst P (sym e) (Contains-append_right (place.Task n ∷ []) (task_key_places n ++ (other_task_keys n ms ++ (upstreams n 0 (items_in t key.Upstream) ++ words n 0 (items_in t key.Command)))) x h)
 
 -- the items of a task's list
 record HasItem (d : Data) (n : ℕ) (named : TaskKey) (i : ℕ) (x : Data) : Type 0 where
@@ -198,7 +198,7 @@ record HasItem (d : Data) (n : ℕ) (named : TaskKey) (i : ℕ) (x : Data) : Typ
   items : Items
   is_task : task_value d n ≡ Some task
   is_object : as_object task ≡ Some members
-  are : items_under task named ≡ list_of items
+  are : items_in task named ≡ list_of items
   there : get_item i items ≡ Some x
 
 item_there : (d : Data) (n : ℕ) (named : TaskKey) (i : ℕ) (x : Data) → item_value d n named i ≡ Some x → HasItem d n named i x
@@ -217,55 +217,55 @@ item_there d n named i x e =
       there = items.2;
     }
 
-in_words : (d : Data) (n i : ℕ) (w : Data) (x : DocumentPlace) → item_value d n key.Command i ≡ Some w → Contains (place.Word n i ∷ word_keys_of n i w) x → Contains (places_of d) x
+in_words : (d : Data) (n i : ℕ) (w : Data) (x : DocumentPlace) → item_value d n key.Command i ≡ Some w → Contains (place.Word n i ∷ word_keys_of n i w) x → Contains (places_in d) x
 in_words d n i w x e h =
     let has = item_there d n key.Command i w e in
     let t = has.task in
     let P : List Data → Type 0 = λ ds. Contains (words n 0 ds) x in
     let there = subst P (sym has.are) (word_listed n i 0 i has.items w x has.there (omega arith) h) in
     in_tasks d n t x has.is_task (in_task n t has.members x has.is_object
-    (Contains-append_right (task_key_places n) (other_task_keys n has.members ++ (upstreams n 0 (items_under t key.Upstream) ++ words n 0 (items_under t key.Command))) x
-    (Contains-append_right (other_task_keys n has.members) (upstreams n 0 (items_under t key.Upstream) ++ words n 0 (items_under t key.Command)) x
-    (Contains-append_right (upstreams n 0 (items_under t key.Upstream)) (words n 0 (items_under t key.Command)) x there))))
+    (Contains-append_right (task_key_places n) (other_task_keys n has.members ++ (upstreams n 0 (items_in t key.Upstream) ++ words n 0 (items_in t key.Command))) x
+    (Contains-append_right (other_task_keys n has.members) (upstreams n 0 (items_in t key.Upstream) ++ words n 0 (items_in t key.Command)) x
+    (Contains-append_right (upstreams n 0 (items_in t key.Upstream)) (words n 0 (items_in t key.Command)) x there))))
 
 word_key_is : (n i : ℕ) (w : Data) (k : WordKey) → is_some (get (word_key_name k) w) ≡ true → word_key n i w k ≡ Some (place.WordKey n i k)
 word_key_is n i w k e = ap (λ (b : Bool). if b then Some (place.WordKey n i k) else None) e
 
-pub each_place : (d : Data) (p : DocumentPlace) → IsPlace d p → Contains (places_of d) p
+pub each_place : (d : Data) (p : DocumentPlace) → IsPlace d p → Contains (places_in d) p
 each_place d place.Top h = (0, omega arith, refl)
 each_place d (place.Key k) h =
     let ms = some_of (as_object d) h in
-    in_graph d ms.0 (place.Key k) ms.1 (Contains-append_left graph_key_places (other_keys ms.0 ++ (pools_if_any (pools_in d) ++ tasks 0 (tasks_in d))) (place.Key k) (contains_mapped place.Key graph_keys k (graph_key_there k)))
+    in_graph d ms.0 (place.Key k) ms.1 (Contains-append_left graph_key_places (other_keys ms.0 ++ (pools_if_any (pools_at d) ++ tasks 0 (tasks_at d))) (place.Key k) (contains_mapped place.Key graph_keys k (graph_key_there k)))
 each_place d (place.OtherKey name) h =
     let v = some_of (get name d) h.1 in
     let ms = object_of d name v.0 v.1 in
-    in_graph d ms.0 (place.OtherKey name) ms.1 (Contains-append_right graph_key_places (other_keys ms.0 ++ (pools_if_any (pools_in d) ++ tasks 0 (tasks_in d))) (place.OtherKey name)
-    (Contains-append_left (other_keys ms.0) (pools_if_any (pools_in d) ++ tasks 0 (tasks_in d)) (place.OtherKey name) (other_listed name ms.0 h.0 (ap is_some ms.2))))
+    in_graph d ms.0 (place.OtherKey name) ms.1 (Contains-append_right graph_key_places (other_keys ms.0 ++ (pools_if_any (pools_at d) ++ tasks 0 (tasks_at d))) (place.OtherKey name)
+    (Contains-append_left (other_keys ms.0) (pools_if_any (pools_at d) ++ tasks 0 (tasks_at d)) (place.OtherKey name) (other_listed name ms.0 h.0 (ap is_some ms.2))))
 each_place d (place.Pool name) h =
-    let v = some_of (value_at d (place.Pool name)) h in
+    let v = some_of (value_in d (place.Pool name)) h in
     let named = then_some (get name) (get (codes "pools") d) v.0 v.1 in
     let graph = object_of d (codes "pools") named.0 named.1 in
     let ms = object_of named.0 name v.0 named.2 in
-    let all : pools_in d ≡ Some ms.0 = ap (λ (o : Option Data). option_and_then as_object o) named.1 ∙ ms.1 in
+    let all : pools_at d ≡ Some ms.0 = ap (λ (o : Option Data). option_and_then as_object o) named.1 ∙ ms.1 in
     let P : Option Members → Type 0 = λ o. Contains (pools_if_any o) (place.Pool name) in
     let there = subst P (sym all) (pool_listed name ms.0 (ap is_some ms.2)) in
-    in_graph d graph.0 (place.Pool name) graph.1 (Contains-append_right graph_key_places (other_keys graph.0 ++ (pools_if_any (pools_in d) ++ tasks 0 (tasks_in d))) (place.Pool name)
-    (Contains-append_right (other_keys graph.0) (pools_if_any (pools_in d) ++ tasks 0 (tasks_in d)) (place.Pool name)
-    (Contains-append_left (pools_if_any (pools_in d)) (tasks 0 (tasks_in d)) (place.Pool name) there)))
+    in_graph d graph.0 (place.Pool name) graph.1 (Contains-append_right graph_key_places (other_keys graph.0 ++ (pools_if_any (pools_at d) ++ tasks 0 (tasks_at d))) (place.Pool name)
+    (Contains-append_right (other_keys graph.0) (pools_if_any (pools_at d) ++ tasks 0 (tasks_at d)) (place.Pool name)
+    (Contains-append_left (pools_if_any (pools_at d)) (tasks 0 (tasks_at d)) (place.Pool name) there)))
 each_place d (place.Task n) h = let t = some_of (task_value d n) h in in_tasks d n t.0 (place.Task n) t.1 (0, omega arith, refl)
 each_place d (place.TaskKey n k) h =
     let object = some_of (option_and_then as_object (task_value d n)) h in
     let t = then_some as_object (task_value d n) object.0 object.1 in
     in_tasks d n t.0 (place.TaskKey n k) t.1 (in_task n t.0 object.0 (place.TaskKey n k) t.2
-    (Contains-append_left (task_key_places n) (other_task_keys n object.0 ++ (upstreams n 0 (items_under t.0 key.Upstream) ++ words n 0 (items_under t.0 key.Command))) (place.TaskKey n k)
+    (Contains-append_left (task_key_places n) (other_task_keys n object.0 ++ (upstreams n 0 (items_in t.0 key.Upstream) ++ words n 0 (items_in t.0 key.Command))) (place.TaskKey n k)
     (contains_mapped (place.TaskKey n) task_keys k (task_key_there k))))
 each_place d (place.OtherTaskKey n name) h =
     let v = some_of (option_and_then (get name) (task_value d n)) h.1 in
     let t = then_some (get name) (task_value d n) v.0 v.1 in
     let ms = object_of t.0 name v.0 t.2 in
     in_tasks d n t.0 (place.OtherTaskKey n name) t.1 (in_task n t.0 ms.0 (place.OtherTaskKey n name) ms.1
-    (Contains-append_right (task_key_places n) (other_task_keys n ms.0 ++ (upstreams n 0 (items_under t.0 key.Upstream) ++ words n 0 (items_under t.0 key.Command))) (place.OtherTaskKey n name)
-    (Contains-append_left (other_task_keys n ms.0) (upstreams n 0 (items_under t.0 key.Upstream) ++ words n 0 (items_under t.0 key.Command)) (place.OtherTaskKey n name) (other_task_listed n name ms.0 h.0 (ap is_some ms.2)))))
+    (Contains-append_right (task_key_places n) (other_task_keys n ms.0 ++ (upstreams n 0 (items_in t.0 key.Upstream) ++ words n 0 (items_in t.0 key.Command))) (place.OtherTaskKey n name)
+    (Contains-append_left (other_task_keys n ms.0) (upstreams n 0 (items_in t.0 key.Upstream) ++ words n 0 (items_in t.0 key.Command)) (place.OtherTaskKey n name) (other_task_listed n name ms.0 h.0 (ap is_some ms.2)))))
 each_place d (place.Upstream n i) h =
     let u = some_of (item_value d n key.Upstream i) h in
     let has = item_there d n key.Upstream i u.0 u.1 in
@@ -274,9 +274,9 @@ each_place d (place.Upstream n i) h =
     let P : List Data → Type 0 = λ ds. Contains (upstreams n 0 ds) x in
     let there = subst P (sym has.are) (upstream_listed n i 0 i has.items u.0 has.there (omega arith)) in
     in_tasks d n t x has.is_task (in_task n t has.members x has.is_object
-    (Contains-append_right (task_key_places n) (other_task_keys n has.members ++ (upstreams n 0 (items_under t key.Upstream) ++ words n 0 (items_under t key.Command))) x
-    (Contains-append_right (other_task_keys n has.members) (upstreams n 0 (items_under t key.Upstream) ++ words n 0 (items_under t key.Command)) x
-    (Contains-append_left (upstreams n 0 (items_under t key.Upstream)) (words n 0 (items_under t key.Command)) x there))))
+    (Contains-append_right (task_key_places n) (other_task_keys n has.members ++ (upstreams n 0 (items_in t key.Upstream) ++ words n 0 (items_in t key.Command))) x
+    (Contains-append_right (other_task_keys n has.members) (upstreams n 0 (items_in t key.Upstream) ++ words n 0 (items_in t key.Command)) x
+    (Contains-append_left (upstreams n 0 (items_in t key.Upstream)) (words n 0 (items_in t key.Command)) x there))))
 each_place d (place.Word n i) h = let w = some_of (item_value d n key.Command i) h in in_words d n i w.0 (place.Word n i) w.1 (0, omega arith, refl)
 each_place d (place.WordKey n i k) h =
     let v = some_of (option_and_then (get (word_key_name k)) (item_value d n key.Command i)) h in

@@ -9,9 +9,9 @@ use Rattle.bf_findings.specs.declared.place.DocumentPlace.{DocumentPlace}
 use Rattle.bf_findings.specs.declared.finding.Fault.{Fault}
 use Rattle.bf_findings.specs.declared.finding.Finding.{Finding}
 use Rattle.bf_findings.specs.declared.finding.Finding.TheVariants as finding
-use Rattle.bf_findings.specs.Places.{value_at}
-use Rattle.bf_findings.specs.Forms.{form_of}
-use Rattle.bf_findings.specs.Listed.{places_of}
+use Rattle.bf_findings.specs.Places.{value_in}
+use Rattle.bf_findings.specs.Forms.{form_in}
+use Rattle.bf_findings.specs.Listed.{places_in}
 use Rattle.bf_findings.specs.Judging.{IsWrong}
 use Rattle.bf_findings.specs.Faults.{AreFaults, IsFault}
 use Rattle.bf_findings.specs.Findings.{IsFinding, IsTold, TellsAll}
@@ -81,8 +81,8 @@ file_told graph file d faults found says are e =
     let P : List Finding → Type 0 = λ fs. TellsAll graph file fs in
     subst P (sym e) (λ other place fewer short is among wrong.
     let same : other ≡ d = some_one (sym is ∙ says) in
-    let Q : Data → Type 0 = λ x. Contains (places_of x) place in
-    let R : Data → Type 0 = λ x. IsWrong file x place (form_of x place) (value_at x place) in
+    let Q : Data → Type 0 = λ x. Contains (places_in x) place in
+    let R : Data → Type 0 = λ x. IsWrong file x place (form_in x place) (value_in x place) in
     told_among faults place (are.all (omega (arith, fewer, length-map faults finding.Fault)) place (subst Q same among) (subst R same wrong)))
 
 -- a hundred faults at most are as many findings

@@ -13,9 +13,9 @@ use Rattle.bf_findings.specs.declared.refusal.Refusal.TheVariants.{Read, Check}
 use Rattle.bf_findings.specs.declared.finding.Fault.{Fault as PlaceFault}
 use Rattle.bf_findings.specs.declared.place.DocumentPlace.{DocumentPlace}
 use Rattle.bf_read.specs.Limits.{most_bytes}
-use Rattle.bf_findings.specs.Places.{value_at}
-use Rattle.bf_findings.specs.Forms.{form_of}
-use Rattle.bf_findings.specs.Listed.{places_of}
+use Rattle.bf_findings.specs.Places.{value_in}
+use Rattle.bf_findings.specs.Forms.{form_in}
+use Rattle.bf_findings.specs.Listed.{places_in}
 use Rattle.bf_findings.specs.Judging.{IsWrong}
 use Rattle.bf_findings.specs.Faults.{IsFault}
 
@@ -48,7 +48,7 @@ IsTold found place = (fault : PlaceFault) × Contains found (Fault fault) × (fa
 -- each place at which something is wrong is told, where the file isn't too long, and less than a hundred are told
 abbrev pub TellsAll : List ℕ → Option (List ℕ) → List Finding → Type 0
 TellsAll graph file found = (d : Data) (place : DocumentPlace) → length found < 100 → length graph ≤ most_bytes → data_in graph ≡ Some d
-    → Contains (places_of d) place → IsWrong file d place (form_of d place) (value_at d place) → IsTold found place
+    → Contains (places_in d) place → IsWrong file d place (form_in d place) (value_in d place) → IsTold found place
 
 -- what is told of a file that is refused: something, at most a hundred findings, all of them so, and where they are fewer all that
 -- is wrong at its places

@@ -5,7 +5,7 @@ use Rattle.std.specs.Str.{bytes_eq}
 use Rattle.serde_json.specs.Data.{Data, Items, no_items, item, Members}
 use Rattle.serde_json.specs.Find.{get, as_bool, as_number, as_i64, as_str, as_array, as_object}
 use Rattle.serde_json.specs.Events.{members_len}
-use Rattle.bf_plan.specs.Ids.{is_id}
+use Rattle.bf_plan.specs.Ids.{is_id_in}
 use Rattle.bf_plan.specs.Kinds.{kind_named, weight_rule_named, context_named}
 use Rattle.bf_rule.specs.Names.{rule_named}
 use Rattle.bf_read.specs.Limits.{most_tasks, most_words, longest_word}
@@ -25,8 +25,8 @@ items_or_none None = []
 items_or_none (Some ds) = list_of ds
 
 -- the tasks, of which there are none where no list of them is there
-abbrev pub tasks_in : Data → List Data
-tasks_in d = items_or_none (option_and_then as_array (get (codes "tasks") d))
+abbrev pub tasks_at : Data → List Data
+tasks_at d = items_or_none (option_and_then as_array (get (codes "tasks") d))
 
 abbrev pub is_text : List ℕ → Option (List ℕ) → Bool
 is_text id None = false
@@ -36,81 +36,81 @@ is_text id (Some text) = bytes_eq text id
 abbrev pub id_in : Data → Option (List ℕ)
 id_in task = option_and_then as_str (get (codes "id") task)
 
-abbrev pub has_id : List ℕ → Data → Bool
-has_id id task = is_text id (id_in task)
+abbrev pub has_id_in : List ℕ → Data → Bool
+has_id_in id task = is_text id (id_in task)
 
 -- a task has the id
-abbrev pub is_task : Data → List ℕ → Bool
-is_task d id = list_any (has_id id) (tasks_in d)
+abbrev pub is_task_in : Data → List ℕ → Bool
+is_task_in d id = list_any (has_id_in id) (tasks_at d)
 
 -- one of the first n tasks has the id
-abbrev pub is_task_before : Data → ℕ → List ℕ → Bool
-is_task_before d n id = list_any (has_id id) (take n (tasks_in d))
+abbrev pub is_task_before_in : Data → ℕ → List ℕ → Bool
+is_task_before_in d n id = list_any (has_id_in id) (take n (tasks_at d))
 
 -- the pools, where an object of them is there
-abbrev pub pools_in : Data → Option Members
-pools_in d = option_and_then as_object (get (codes "pools") d)
+abbrev pub pools_at : Data → Option Members
+pools_at d = option_and_then as_object (get (codes "pools") d)
 
 -- the default pool, or one that is named
-abbrev pub is_pool : Data → List ℕ → Bool
-is_pool d name = bytes_eq name (codes "default_pool") || is_some (option_and_then (get name) (get (codes "pools") d))
+abbrev pub is_pool_in : Data → List ℕ → Bool
+is_pool_in d name = bytes_eq name (codes "default_pool") || is_some (option_and_then (get name) (get (codes "pools") d))
 
 -- ---- texts
 
 -- a text may stand where this form may; what a schedule and a zone say isn't looked at
-abbrev pub text_fits : Data → Form → List ℕ → Bool
-text_fits d Schedule text = true
-text_fits d Zone text = true
-text_fits d Id text = is_id text
-text_fits d (NewId n) text = is_id text && not (is_task_before d n text)
-text_fits d Rule text = is_some (rule_named text)
-text_fits d Kind text = is_some (kind_named text)
-text_fits d WeightRule text = is_some (weight_rule_named text)
-text_fits d Context text = is_some (context_named text)
-text_fits d TaskId text = is_task d text
-text_fits d PoolName text = is_pool d text
-text_fits d Word text = nat_le (length text) longest_word
-text_fits d _ text = false
+abbrev pub text_fits_in : Data → Form → List ℕ → Bool
+text_fits_in d Schedule text = true
+text_fits_in d Zone text = true
+text_fits_in d Id text = is_id_in text
+text_fits_in d (NewId n) text = is_id_in text && not (is_task_before_in d n text)
+text_fits_in d Rule text = is_some (rule_named text)
+text_fits_in d Kind text = is_some (kind_named text)
+text_fits_in d WeightRule text = is_some (weight_rule_named text)
+text_fits_in d Context text = is_some (context_named text)
+text_fits_in d TaskId text = is_task_in d text
+text_fits_in d PoolName text = is_pool_in d text
+text_fits_in d Word text = nat_le (length text) longest_word
+text_fits_in d _ text = false
 
 -- ---- other values
 
-abbrev pub is_between : ℕ → ℕ → ℤ → Bool
-is_between least most (pos n) = nat_le least n && nat_le n most
-is_between least most (negsuc n) = false
+abbrev pub is_between_in : ℕ → ℕ → ℤ → Bool
+is_between_in least most (pos n) = nat_le least n && nat_le n most
+is_between_in least most (negsuc n) = false
 
 abbrev pub is_between_if : ℕ → ℕ → Option ℤ → Bool
 is_between_if least most None = false
-is_between_if least most (Some n) = is_between least most n
+is_between_if least most (Some n) = is_between_in least most n
 
 -- a whole number from one to another
-abbrev pub is_whole : ℕ → ℕ → Data → Bool
-is_whole least most d = is_between_if least most (option_and_then as_i64 (as_number d))
+abbrev pub is_whole_in : ℕ → ℕ → Data → Bool
+is_whole_in least most d = is_between_if least most (option_and_then as_i64 (as_number d))
 
 abbrev pub are_at_most : ℕ → Option Items → Bool
 are_at_most most None = false
 are_at_most most (Some ds) = nat_le (length (list_of ds)) most
 
 -- a list of at most so many items
-abbrev pub has_at_most : ℕ → Data → Bool
-has_at_most most d = are_at_most most (as_array d)
+abbrev pub has_at_most_in : ℕ → Data → Bool
+has_at_most_in most d = are_at_most most (as_array d)
 
 abbrev pub are_one : Option Members → Bool
 are_one None = false
 are_one (Some ms) = members_len ms == 1
 
 -- an object with one key, which is one of a word
-abbrev pub is_word_object : Data → Bool
-is_word_object d = are_one (as_object d) && list_any (λ key. is_some (get (word_key_name key) d)) word_keys
+abbrev pub is_word_object_in : Data → Bool
+is_word_object_in d = are_one (as_object d) && list_any (λ key. is_some (get (word_key_name key) d)) word_keys
 
 -- a value that is no text may stand where this form may
-abbrev pub other_fits : Form → Data → Bool
-other_fits Object d = is_some (as_object d)
-other_fits Pools d = is_some (as_object d)
-other_fits (Whole least most) d = is_whole least most d
-other_fits Tasks d = has_at_most most_tasks d
-other_fits Words d = has_at_most most_words d
-other_fits Upstreams d = is_some (as_array d)
-other_fits Flag d = is_some (as_bool d)
-other_fits Word d = is_word_object d
-other_fits Item d = unwrap_or (as_bool d) false
-other_fits _ d = false
+abbrev pub other_fits_in : Form → Data → Bool
+other_fits_in Object d = is_some (as_object d)
+other_fits_in Pools d = is_some (as_object d)
+other_fits_in (Whole least most) d = is_whole_in least most d
+other_fits_in Tasks d = has_at_most_in most_tasks d
+other_fits_in Words d = has_at_most_in most_words d
+other_fits_in Upstreams d = is_some (as_array d)
+other_fits_in Flag d = is_some (as_bool d)
+other_fits_in Word d = is_word_object_in d
+other_fits_in Item d = unwrap_or (as_bool d) false
+other_fits_in _ d = false

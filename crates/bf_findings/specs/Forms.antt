@@ -2,7 +2,7 @@
 use Rattle.std.specs.Prelude.{ℕ, List, ◌++◌, codes, decimal, Bool, if◌then◌else◌, is_some, option_and_then}
 use Rattle.serde_json.specs.Data.{Data}
 use Rattle.serde_json.specs.Find.{get}
-use Rattle.bf_plan.specs.Ids.{is_id}
+use Rattle.bf_plan.specs.Ids.{is_id_in}
 use Rattle.bf_read.specs.declared.keys.GraphKey.{GraphKey}
 use Rattle.bf_read.specs.declared.keys.GraphKey.TheVariants as graph
 use Rattle.bf_read.specs.declared.keys.TaskKey.{TaskKey}
@@ -16,48 +16,48 @@ use Rattle.bf_findings.specs.declared.form.Form.TheVariants.{Object, NoGraphKey,
 use Rattle.bf_findings.specs.Places.{task_value}
 
 -- what may stand under a key of a graph file
-abbrev pub graph_form : GraphKey → Form
-graph_form graph.DagId = Id
-graph_form graph.Schedule = Schedule
-graph_form graph.Zone = Zone
-graph_form graph.MaxActiveRuns = Whole 1 most_active_runs
-graph_form graph.Pools = Pools
-graph_form graph.Tasks = Tasks
+abbrev pub graph_form_of : GraphKey → Form
+graph_form_of graph.DagId = Id
+graph_form_of graph.Schedule = Schedule
+graph_form_of graph.Zone = Zone
+graph_form_of graph.MaxActiveRuns = Whole 1 most_active_runs
+graph_form_of graph.Pools = Pools
+graph_form_of graph.Tasks = Tasks
 
 -- what may stand under a key of the task behind n others
-abbrev pub task_form : ℕ → TaskKey → Form
-task_form n key.Id = NewId n
-task_form n key.Upstream = Upstreams
-task_form n key.Rule = Rule
-task_form n key.Kind = Kind
-task_form n key.Command = Words
-task_form n key.Expand = TaskId
-task_form n key.DependsOnPast = Flag
-task_form n key.Retries = Whole 0 most_retries
-task_form n key.RetryDelay = Whole 0 longest_retry_delay
-task_form n key.Pool = PoolName
-task_form n key.PoolSlots = Whole 1 most_slots
-task_form n key.PriorityWeight = Whole 0 greatest_weight
-task_form n key.WeightRule = WeightRule
+abbrev pub task_form_of : ℕ → TaskKey → Form
+task_form_of n key.Id = NewId n
+task_form_of n key.Upstream = Upstreams
+task_form_of n key.Rule = Rule
+task_form_of n key.Kind = Kind
+task_form_of n key.Command = Words
+task_form_of n key.Expand = TaskId
+task_form_of n key.DependsOnPast = Flag
+task_form_of n key.Retries = Whole 0 most_retries
+task_form_of n key.RetryDelay = Whole 0 longest_retry_delay
+task_form_of n key.Pool = PoolName
+task_form_of n key.PoolSlots = Whole 1 most_slots
+task_form_of n key.PriorityWeight = Whole 0 greatest_weight
+task_form_of n key.WeightRule = WeightRule
 
 -- the task behind n others is to be expanded
-abbrev pub is_expanded : Data → ℕ → Bool
-is_expanded d n = is_some (option_and_then (get (codes "expand")) (task_value d n))
+abbrev pub is_expanded_in : Data → ℕ → Bool
+is_expanded_in d n = is_some (option_and_then (get (codes "expand")) (task_value d n))
 
 -- what may stand at a place of the document
-abbrev pub form_of : Data → DocumentPlace → Form
-form_of d place.Top = Object
-form_of d (place.Key key) = graph_form key
-form_of d (place.OtherKey key) = NoGraphKey
-form_of d (place.Pool name) = if is_id name then Whole 1 most_slots else NoPool
-form_of d (place.Task n) = Object
-form_of d (place.TaskKey n key) = task_form n key
-form_of d (place.OtherTaskKey n key) = NoTaskKey
-form_of d (place.Upstream n i) = TaskId
-form_of d (place.Word n i) = Word
-form_of d (place.WordKey n i word.Context) = Context
-form_of d (place.WordKey n i word.Pull) = TaskId
-form_of d (place.WordKey n i word.Item) = if is_expanded d n then Item else NoItem
+abbrev pub form_in : Data → DocumentPlace → Form
+form_in d place.Top = Object
+form_in d (place.Key key) = graph_form_of key
+form_in d (place.OtherKey key) = NoGraphKey
+form_in d (place.Pool name) = if is_id_in name then Whole 1 most_slots else NoPool
+form_in d (place.Task n) = Object
+form_in d (place.TaskKey n key) = task_form_of n key
+form_in d (place.OtherTaskKey n key) = NoTaskKey
+form_in d (place.Upstream n i) = TaskId
+form_in d (place.Word n i) = Word
+form_in d (place.WordKey n i word.Context) = Context
+form_in d (place.WordKey n i word.Pull) = TaskId
+form_in d (place.WordKey n i word.Item) = if is_expanded_in d n then Item else NoItem
 
 -- the words for what may stand there, but for the bounds of a number
 abbrev pub form_words : Form → List ℕ

@@ -12,7 +12,7 @@ use Rattle.bf_findings.specs.declared.place.DocumentPlace.{DocumentPlace}
 use Rattle.bf_findings.specs.declared.place.DocumentPlace.TheVariants as place
 use Rattle.bf_findings.specs.declared.form.Form.{Form}
 use Rattle.bf_findings.specs.declared.form.Form.TheVariants.{Schedule, Zone}
-use Rattle.bf_findings.specs.Fitting.{text_fits, other_fits}
+use Rattle.bf_findings.specs.Fitting.{text_fits_in, other_fits_in}
 
 -- the text says a schedule that some civil minute matches
 abbrev pub IsSchedule : List ℕ → Type 0
@@ -26,10 +26,10 @@ IsZoneText text file = (zone : TimeZone) × IsZone (asked text) file zone
 abbrev pub TextMayStand : Option (List ℕ) → Data → Form → List ℕ → Type 0
 TextMayStand file d Schedule text = IsSchedule text
 TextMayStand file d Zone text = IsZoneText text file
-TextMayStand file d form text = text_fits d form text ≡ true
+TextMayStand file d form text = text_fits_in d form text ≡ true
 
 abbrev pub MayStandAs : Option (List ℕ) → Data → Form → Data → Option (List ℕ) → Type 0
-MayStandAs file d form value None = other_fits form value ≡ true
+MayStandAs file d form value None = other_fits_in form value ≡ true
 MayStandAs file d form value (Some text) = TextMayStand file d form text
 
 -- a value may stand where this form may
@@ -37,14 +37,14 @@ abbrev pub MayStand : Option (List ℕ) → Data → Form → Data → Type 0
 MayStand file d form value = MayStandAs file d form value (as_str value)
 
 -- something has to stand at the place
-abbrev pub is_required : DocumentPlace → Bool
-is_required (place.Key graph.DagId) = true
-is_required (place.Key graph.Schedule) = true
-is_required (place.Key graph.Tasks) = true
-is_required (place.TaskKey n key.Id) = true
-is_required other = false
+abbrev pub is_required_in : DocumentPlace → Bool
+is_required_in (place.Key graph.DagId) = true
+is_required_in (place.Key graph.Schedule) = true
+is_required_in (place.Key graph.Tasks) = true
+is_required_in (place.TaskKey n key.Id) = true
+is_required_in other = false
 
 -- what stands at the place may not, or nothing stands where something has to
 abbrev pub IsWrong : Option (List ℕ) → Data → DocumentPlace → Form → Option Data → Type 0
-IsWrong file d place form None = is_required place ≡ true
+IsWrong file d place form None = is_required_in place ≡ true
 IsWrong file d place form (Some value) = ¬ (MayStand file d form value)

@@ -28,18 +28,18 @@ IsBest text names None = names ≡ []
 IsBest text names (Some found) = IsNearestTo text names found.name.now found.distance
 
 -- less than half of the longer text is edited
-abbrev pub is_near : List ℕ → List ℕ → ℕ → Bool
-is_near text name distance = nat_lt (2 * distance) (max (length text) (length name))
+abbrev pub is_near_in : List ℕ → List ℕ → ℕ → Bool
+is_near_in text name distance = nat_lt (2 * distance) (max (length text) (length name))
 
 -- no name is known, or a nearest one isn't near
 abbrev pub NoneIsNear : List ℕ → List (List ℕ) → Type 0
-NoneIsNear text names = (names ≡ []) ⊎ ((name : List ℕ) × (distance : ℕ) × IsNearestTo text names name distance × (is_near text name distance ≡ false))
+NoneIsNear text names = (names ≡ []) ⊎ ((name : List ℕ) × (distance : ℕ) × IsNearestTo text names name distance × (is_near_in text name distance ≡ false))
 
 -- a name that is near, and none of them is nearer
 pub record IsNearName (text : List ℕ) (names : List (List ℕ)) (name : List ℕ) : Type 0 where
   pub distance : ℕ
   pub nearest : IsNearestTo text names name distance
-  pub near : is_near text name distance ≡ true
+  pub near : is_near_in text name distance ≡ true
 
 -- which name is suggested for a text in lowercase
 abbrev pub IsSuggestedFor : List ℕ → List (List ℕ) → Option (List ℕ) → Type 0

@@ -26,17 +26,17 @@ abbrev pub item_value : Data → ℕ → TaskKey → ℕ → Option Data
 item_value d n key i = option_and_then (at i) (option_and_then (get (task_key_name key)) (task_value d n))
 
 -- what stands at a place
-abbrev pub value_at : Data → DocumentPlace → Option Data
-value_at d place.Top = Some d
-value_at d (place.Key key) = get (graph_key_name key) d
-value_at d (place.OtherKey key) = get key d
-value_at d (place.Pool name) = option_and_then (get name) (get (codes "pools") d)
-value_at d (place.Task n) = task_value d n
-value_at d (place.TaskKey n key) = option_and_then (get (task_key_name key)) (task_value d n)
-value_at d (place.OtherTaskKey n key) = option_and_then (get key) (task_value d n)
-value_at d (place.Upstream n i) = item_value d n TaskKey.Upstream i
-value_at d (place.Word n i) = item_value d n TaskKey.Command i
-value_at d (place.WordKey n i key) = option_and_then (get (word_key_name key)) (item_value d n TaskKey.Command i)
+abbrev pub value_in : Data → DocumentPlace → Option Data
+value_in d place.Top = Some d
+value_in d (place.Key key) = get (graph_key_name key) d
+value_in d (place.OtherKey key) = get key d
+value_in d (place.Pool name) = option_and_then (get name) (get (codes "pools") d)
+value_in d (place.Task n) = task_value d n
+value_in d (place.TaskKey n key) = option_and_then (get (task_key_name key)) (task_value d n)
+value_in d (place.OtherTaskKey n key) = option_and_then (get key) (task_value d n)
+value_in d (place.Upstream n i) = item_value d n TaskKey.Upstream i
+value_in d (place.Word n i) = item_value d n TaskKey.Command i
+value_in d (place.WordKey n i key) = option_and_then (get (word_key_name key)) (item_value d n TaskKey.Command i)
 
 -- the keys that lead there; what is told of an object that it stands in has the path of that object
 abbrev pub place_text : DocumentPlace → List ℕ

@@ -1,7 +1,7 @@
 //! The document of a graph file, and what stands at its places.
 ghost use Rattle.std.specs.Prelude.{◌≡◌, option_map};
 ghost use Rattle.serde_json.specs.View.{view};
-ghost use Rattle.bf_findings.specs.Places.{task_value, item_value, value_at as value};
+ghost use Rattle.bf_findings.specs.Places.{task_value, item_value, value_in};
 
 use crate::place::DocumentPlace;
 use bf_read::{GraphKey, TaskKey};
@@ -23,7 +23,7 @@ fn item_at<'a>(document: &'a Value, n: usize, key: TaskKey, i: usize) -> Option<
 
 /// What stands at a place.
 pub(crate) fn value_at<'a>(document: &'a Value, place: &DocumentPlace) -> Option<&'a Value>
-    ensures { option_map (λ v. view v.now) result ≡ value (view document.entry.now) place.now }
+    ensures { option_map (λ v. view v.now) result ≡ value_in (view document.entry.now) place.now }
 {
     match place {
         DocumentPlace::Top => Some(document),

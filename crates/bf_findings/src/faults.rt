@@ -1,10 +1,10 @@
 //! What is wrong at the places of a document.
 ghost use Rattle.std.specs.Prelude.{◌≡◌, option_map, IfSome, IfNone, IfOk};
 ghost use Rattle.serde_json.specs.View.{view};
-ghost use Rattle.bf_findings.specs.Faults.{asked_at as asked_for, told_at as told_as, AreFaults, IsFault, IsSuggestion, IsSuggestionFor};
-ghost use Rattle.bf_findings.specs.Forms.{form_of as form_at};
+ghost use Rattle.bf_findings.specs.Faults.{asked_in, told_in, AreFaults, IsFault, IsSuggestion, IsSuggestionFor};
+ghost use Rattle.bf_findings.specs.Forms.{form_in};
 ghost use Rattle.bf_findings.specs.Judging.{IsWrong};
-ghost use Rattle.bf_findings.specs.Places.{value_at as value};
+ghost use Rattle.bf_findings.specs.Places.{value_in};
 
 use crate::document::value_at;
 use crate::finding::Fault;
@@ -27,7 +27,7 @@ const LONGEST_NAME: usize = 250;
 
 /// What stands at a place, as it is told.
 fn told(alloc: Global, place: &DocumentPlace, value: Option<&Value>) -> Result<Text, OutOfMemory>
-    ensures { IfOk result (λ t. t ≡ told_as place.now (option_map (λ v. view v.now) value.entry)) }
+    ensures { IfOk result (λ t. t ≡ told_in place.now (option_map (λ v. view v.now) value.entry)) }
 {
     match value {
         Some(value) => shown_at(alloc, place, value),
@@ -38,7 +38,7 @@ fn told(alloc: Global, place: &DocumentPlace, value: Option<&Value>) -> Result<T
 /// The text at a place for which a name is sought: an unknown key, or what stands there.
 fn asked<'a>(place: &'a DocumentPlace, value: Option<&'a Value>) -> Option<&'a str>
     ensures { option_map (λ s. s.now) result
-        ≡ asked_for place.entry.now (option_map (λ v. view v.now) value.entry) }
+        ≡ asked_in place.entry.now (option_map (λ v. view v.now) value.entry) }
 {
     let text = match place {
         DocumentPlace::OtherKey(key) | DocumentPlace::OtherTaskKey(_, key) => key.as_str(),
@@ -96,8 +96,8 @@ impl Document<'_> {
         ensures none { IfOk result (λ found. IfNone found
             (¬ (IsWrong (option_map (λ s. s.now) self.entry.zone_file) (view self.entry.value.now)
             place
-            (form_at (view self.entry.value.now) place)
-            (value (view self.entry.value.now) place)))) }
+            (form_in (view self.entry.value.now) place)
+            (value_in (view self.entry.value.now) place)))) }
     {
         let form = form_of(self.value, &place);
         let value = value_at(self.value, &place);

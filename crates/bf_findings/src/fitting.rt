@@ -4,7 +4,7 @@ ghost use Rattle.std.specs.List.{list_any};
 ghost use Rattle.serde_json.specs.View.{view, members_view};
 ghost use Rattle.serde_json.specs.Find.{get};
 ghost use Rattle.bf_findings.specs.Places.{word_key_name, word_keys};
-ghost use Rattle.bf_findings.specs.Fitting.{tasks_in as tasks, has_id as id_is, is_task as task, is_task_before as task_before, pools_in as pools, is_pool as pool, text_fits as text_may, is_between as between, is_whole as whole, has_at_most as few, is_word_object as word_object, other_fits as other_may};
+ghost use Rattle.bf_findings.specs.Fitting.{tasks_at, has_id_in, is_task_in, is_task_before_in, pools_at, is_pool_in, text_fits_in, is_between_in, is_whole_in, has_at_most_in, is_word_object_in, other_fits_in};
 
 use crate::form::Form;
 use crate::keys::WORD_KEYS;
@@ -16,7 +16,7 @@ use serde_json::{Map, Value};
 /// The tasks of a document, of which there are none where no list of them is there.
 #[tactic(auto, using(crate::proofs::Lists::list_viewed))]
 pub(crate) fn tasks_in<'a>(document: &'a Value) -> &'a [Value]
-    ensures { map view result.now ≡ tasks (view document.entry.now) }
+    ensures { map view result.now ≡ tasks_at (view document.entry.now) }
 {
     match document
         .get(GraphKey::Tasks.name())
@@ -28,7 +28,7 @@ pub(crate) fn tasks_in<'a>(document: &'a Value) -> &'a [Value]
 }
 
 fn has_id(task: &Value, id: &str) -> bool
-    ensures { result ≡ id_is id.now (view task.now) }
+    ensures { result ≡ has_id_in id.now (view task.now) }
 {
     match task
         .get(TaskKey::Id.name())
@@ -40,20 +40,20 @@ fn has_id(task: &Value, id: &str) -> bool
 }
 
 fn any_has_id(tasks: &[Value], id: &str) -> bool
-    ensures { result ≡ list_any (λ task. id_is id.now (view task)) tasks.now }
+    ensures { result ≡ list_any (λ task. has_id_in id.now (view task)) tasks.now }
 {
     tasks.iter().any(|task| has_id(task, id))
 }
 
 fn is_task(document: &Value, id: &str) -> bool
-    ensures { result ≡ task (view document.now) id.now }
+    ensures { result ≡ is_task_in (view document.now) id.now }
 {
     any_has_id(tasks_in(document), id)
 }
 
 /// Whether one of the first n tasks has the id.
 fn is_task_before(document: &Value, n: usize, id: &str) -> bool
-    ensures { result ≡ task_before (view document.now) n id.now }
+    ensures { result ≡ is_task_before_in (view document.now) n id.now }
 {
     let tasks = tasks_in(document);
     any_has_id(&tasks[..n.min(tasks.len())], id)
@@ -62,13 +62,13 @@ fn is_task_before(document: &Value, n: usize, id: &str) -> bool
 /// The pools of a document, where an object of them is there.
 pub(crate) fn pools_in<'a>(document: &'a Value) -> Option<&'a Map<String, Value>>
     ensures { option_map (λ m. members_view m.now.entries) result
-        ≡ pools (view document.entry.now) }
+        ≡ pools_at (view document.entry.now) }
 {
     document.get(GraphKey::Pools.name())?.as_object()
 }
 
 fn is_pool(document: &Value, name: &str) -> bool
-    ensures { result ≡ pool (view document.now) name.now }
+    ensures { result ≡ is_pool_in (view document.now) name.now }
 {
     name == DEFAULT_POOL
         || document
@@ -79,7 +79,7 @@ fn is_pool(document: &Value, name: &str) -> bool
 
 /// Whether a text may stand where this form may. What a schedule and a zone say isn't looked at.
 pub(crate) fn text_fits(document: &Value, form: Form, text: &str) -> bool
-    ensures { result ≡ text_may (view document.now) form text.now }
+    ensures { result ≡ text_fits_in (view document.now) form text.now }
 {
     match form {
         Form::Schedule | Form::Zone => true,
@@ -97,13 +97,13 @@ pub(crate) fn text_fits(document: &Value, form: Form, text: &str) -> bool
 }
 
 fn is_between(least: u32, most: u32, number: i64) -> bool
-    ensures { result ≡ between least most number }
+    ensures { result ≡ is_between_in least most number }
 {
     i64::from(least) <= number && number <= i64::from(most)
 }
 
 fn is_whole(value: &Value, least: u32, most: u32) -> bool
-    ensures { result ≡ whole least most (view value.now) }
+    ensures { result ≡ is_whole_in least most (view value.now) }
 {
     match value.as_i64() {
         Some(number) => is_between(least, most, number),
@@ -113,7 +113,7 @@ fn is_whole(value: &Value, least: u32, most: u32) -> bool
 
 #[tactic(auto, using(crate::proofs::Lists::items_counted))]
 fn has_at_most(value: &Value, most: usize) -> bool
-    ensures { result ≡ few most (view value.now) }
+    ensures { result ≡ has_at_most_in most (view value.now) }
 {
     match value.as_array() {
         Some(items) => items.len() <= most,
@@ -131,7 +131,7 @@ fn has_word_key(value: &Value) -> bool
 /// Whether a value is an object with one key, which is one of a word.
 #[tactic(auto, using(crate::proofs::Lists::members_counted))]
 fn is_word_object(value: &Value) -> bool
-    ensures { result ≡ word_object (view value.now) }
+    ensures { result ≡ is_word_object_in (view value.now) }
 {
     match value.as_object() {
         Some(members) => members.len() == 1 && has_word_key(value),
@@ -141,7 +141,7 @@ fn is_word_object(value: &Value) -> bool
 
 /// Whether a value that is no text may stand where this form may.
 pub(crate) fn other_fits(form: Form, value: &Value) -> bool
-    ensures { result ≡ other_may form (view value.now) }
+    ensures { result ≡ other_fits_in form (view value.now) }
 {
     match form {
         Form::Object | Form::Pools => value.is_object(),

@@ -1,7 +1,7 @@
 //! What may stand at a place.
 ghost use Rattle.std.specs.Prelude.{◌≡◌};
 ghost use Rattle.serde_json.specs.View.{view};
-ghost use Rattle.bf_findings.specs.Forms.{graph_form as form_of_graph_key, task_form as form_of_task_key, is_expanded as expanded, form_of as form};
+ghost use Rattle.bf_findings.specs.Forms.{graph_form_of, task_form_of, is_expanded_in, form_in};
 
 use crate::document::task_at;
 use crate::place::{DocumentPlace, WordKey};
@@ -52,7 +52,7 @@ pub enum Form {
 
 /// What may stand under a key of a graph file.
 fn graph_form(key: GraphKey) -> Form
-    ensures { result ≡ form_of_graph_key key }
+    ensures { result ≡ graph_form_of key }
 {
     match key {
         GraphKey::DagId => Form::Id,
@@ -66,7 +66,7 @@ fn graph_form(key: GraphKey) -> Form
 
 /// What may stand under a key of the task behind n others.
 fn task_form(n: usize, key: TaskKey) -> Form
-    ensures { result ≡ form_of_task_key n key }
+    ensures { result ≡ task_form_of n key }
 {
     match key {
         TaskKey::Id => Form::NewId(n),
@@ -87,7 +87,7 @@ fn task_form(n: usize, key: TaskKey) -> Form
 
 /// Whether the task behind n others is to be expanded.
 fn is_expanded(document: &Value, n: usize) -> bool
-    ensures { result ≡ expanded (view document.now) n }
+    ensures { result ≡ is_expanded_in (view document.now) n }
 {
     task_at(document, n)
         .and_then(|task| task.get(TaskKey::Expand.name()))
@@ -96,7 +96,7 @@ fn is_expanded(document: &Value, n: usize) -> bool
 
 /// What may stand at a place of the document.
 pub(crate) fn form_of(document: &Value, place: &DocumentPlace) -> Form
-    ensures { result ≡ form (view document.now) place.now }
+    ensures { result ≡ form_in (view document.now) place.now }
 {
     match place {
         DocumentPlace::Top | DocumentPlace::Task(_) => Form::Object,

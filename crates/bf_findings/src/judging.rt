@@ -1,7 +1,7 @@
 //! Whether something is wrong at a place.
 ghost use Rattle.std.specs.Prelude.{◌≡◌, true, false, option_map, IfOk};
 ghost use Rattle.serde_json.specs.View.{view};
-ghost use Rattle.bf_findings.specs.Judging.{IsSchedule, IsZoneText, IsWrong, MayStand, TextMayStand, is_required as required};
+ghost use Rattle.bf_findings.specs.Judging.{IsSchedule, IsZoneText, IsWrong, MayStand, TextMayStand, is_required_in};
 
 use crate::fitting::{other_fits, text_fits};
 use crate::form::Form;
@@ -107,7 +107,7 @@ impl Document<'_> {
 
 /// Whether something has to stand at a place.
 fn is_required(place: &DocumentPlace) -> bool
-    ensures { result ≡ required place.now }
+    ensures { result ≡ is_required_in place.now }
 {
     matches!(
         place,

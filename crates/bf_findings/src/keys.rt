@@ -1,6 +1,6 @@
 //! The keys of graph files and of tasks.
 ghost use Rattle.std.specs.Prelude.{◌≡◌};
-ghost use Rattle.bf_read.specs.Keys.{is_graph_key as graph_key, is_task_key as task_key};
+ghost use Rattle.bf_read.specs.Keys.{is_graph_key_in, is_task_key_in};
 
 use crate::place::WordKey;
 use bf_read::{GraphKey, TaskKey};
@@ -33,13 +33,13 @@ pub(crate) const TASK_KEYS: [TaskKey; 13] = [
 pub(crate) const WORD_KEYS: [WordKey; 3] = [WordKey::Context, WordKey::Pull, WordKey::Item];
 
 pub(crate) fn is_graph_key(name: &str) -> bool
-    ensures { result ≡ graph_key name.now }
+    ensures { result ≡ is_graph_key_in name.now }
 {
     GRAPH_KEYS.iter().any(|key| name == key.name())
 }
 
 pub(crate) fn is_task_key(name: &str) -> bool
-    ensures { result ≡ task_key name.now }
+    ensures { result ≡ is_task_key_in name.now }
 {
     TASK_KEYS.iter().any(|key| name == key.name())
 }

@@ -2,7 +2,7 @@
 ghost use Rattle.std.specs.Prelude.{◌≡◌, ◌<◌, ◌≤◌, ℕ, List, length, map, Some, option_map, All, IfOk};
 ghost use Rattle.serde_json.specs.View.{view};
 ghost use Rattle.bf_read.specs.Reading.{data_in};
-ghost use Rattle.bf_findings.specs.declared.finding.Finding.TheVariants.{Fault as FaultFound};
+ghost use Rattle.bf_findings.specs.declared.finding.Finding.TheVariants.{Fault};
 ghost use Rattle.bf_findings.specs.Findings.{AreFindings, IsFinding, IsRefusedFor, TellsAll};
 
 use crate::finding::{Fault, Finding};
@@ -35,7 +35,7 @@ fn refusal(
 }
 
 fn as_findings(alloc: Global, faults: Vec<Fault>) -> Result<Vec<Finding>, OutOfMemory>
-    ensures { IfOk result (λ v. v.items ≡ map FaultFound faults.items) }
+    ensures { IfOk result (λ v. v.items ≡ map Fault faults.items) }
 {
     Ok(faults.into_iter().map(Finding::Fault).collect(alloc)?)
 }

@@ -1,7 +1,7 @@
 //! Known names, and what Airflow calls them.
 ghost use Rattle.std.specs.Prelude.{◌≡◌, map, option_map, IfOk};
 ghost use Rattle.serde_json.specs.View.{view, members_view};
-ghost use Rattle.bf_findings.specs.Names.{graph_key_meant as graph_meant, task_key_meant as task_meant, rule_meant as rule_meant_by, schedule_meant as schedule_meant_by, context_meant as context_meant_by, meant as meant_by, id_known, ids_in as ids, named_pools as named, pool_names as names_of_pools, fixed_names as fixed, names_for as names};
+ghost use Rattle.bf_findings.specs.Names.{graph_key_meant_of, task_key_meant_of, rule_meant_of, schedule_meant_of, context_meant_of, meant_of, id_known, ids_of, named_pools_of, pool_names_of, fixed_names_of, names_of};
 
 use crate::fitting::{pools_in, tasks_in};
 use crate::form::Form;
@@ -14,7 +14,7 @@ use std::alloc::Global;
 /// The key of a graph file that Airflow has under this name.
 #[tactic(auto, unfolding(crate::specs::Names::graph_key_meant))]
 fn graph_key_meant(name: &str) -> Option<&'static str>
-    ensures { option_map (λ s. s.now) result ≡ graph_meant name.now }
+    ensures { option_map (λ s. s.now) result ≡ graph_key_meant_of name.now }
 {
     match name {
         "schedule_interval" | "timetable" => Some("schedule"),
@@ -26,7 +26,7 @@ fn graph_key_meant(name: &str) -> Option<&'static str>
 /// The key of a task that Airflow's operators have under this name.
 #[tactic(auto, unfolding(crate::specs::Names::task_key_meant))]
 fn task_key_meant(name: &str) -> Option<&'static str>
-    ensures { option_map (λ s. s.now) result ≡ task_meant name.now }
+    ensures { option_map (λ s. s.now) result ≡ task_key_meant_of name.now }
 {
     match name {
         "task_id" => Some("id"),
@@ -40,7 +40,7 @@ fn task_key_meant(name: &str) -> Option<&'static str>
 /// The trigger rule of an older name in Airflow.
 #[tactic(auto, unfolding(crate::specs::Names::rule_meant))]
 fn rule_meant(name: &str) -> Option<&'static str>
-    ensures { option_map (λ s. s.now) result ≡ rule_meant_by name.now }
+    ensures { option_map (λ s. s.now) result ≡ rule_meant_of name.now }
 {
     match name {
         "none_failed_or_skipped" => Some("none_failed_min_one_success"),
@@ -52,7 +52,7 @@ fn rule_meant(name: &str) -> Option<&'static str>
 /// The preset that cron knows under this name.
 #[tactic(auto, unfolding(crate::specs::Names::schedule_meant))]
 fn schedule_meant(name: &str) -> Option<&'static str>
-    ensures { option_map (λ s. s.now) result ≡ schedule_meant_by name.now }
+    ensures { option_map (λ s. s.now) result ≡ schedule_meant_of name.now }
 {
     match name {
         "@midnight" => Some("@daily"),
@@ -64,7 +64,7 @@ fn schedule_meant(name: &str) -> Option<&'static str>
 /// The context variable of an older or shorter name in Airflow.
 #[tactic(auto, unfolding(crate::specs::Names::context_meant))]
 fn context_meant(name: &str) -> Option<&'static str>
-    ensures { option_map (λ s. s.now) result ≡ context_meant_by name.now }
+    ensures { option_map (λ s. s.now) result ≡ context_meant_of name.now }
 {
     match name {
         "execution_date" | "ts" => Some("logical_date"),
@@ -75,7 +75,7 @@ fn context_meant(name: &str) -> Option<&'static str>
 
 /// What is meant by a word of Airflow's or cron's that this format has under another name.
 pub(crate) fn meant(form: Form, name: &str) -> Option<&'static str>
-    ensures { option_map (λ s. s.now) result ≡ meant_by form name.now }
+    ensures { option_map (λ s. s.now) result ≡ meant_of form name.now }
 {
     match form {
         Form::NoGraphKey => graph_key_meant(name),
@@ -147,7 +147,7 @@ const CONTEXTS: [&str; 7] = [
 
 /// The names that the format itself has for a form.
 fn fixed_names(form: Form) -> &'static [&'static str]
-    ensures { map (λ s. s.now) result.now ≡ fixed form }
+    ensures { map (λ s. s.now) result.now ≡ fixed_names_of form }
 {
     match form {
         Form::NoGraphKey => &GRAPH_KEYS,
@@ -172,7 +172,7 @@ fn known_id<'a>(task: &'a Value) -> Option<&'a str>
 
 /// The ids of the tasks of a document.
 fn ids_in<'a>(alloc: Global, document: &'a Value) -> Result<Vec<&'a str>, OutOfMemory>
-    ensures { IfOk result (λ v. map (λ s. s.now) v.items ≡ ids (view document.entry.now)) }
+    ensures { IfOk result (λ v. map (λ s. s.now) v.items ≡ ids_of (view document.entry.now)) }
 {
     let mut found = Vec::new(alloc);
     for task in tasks_in(document) {
@@ -189,7 +189,7 @@ fn named_pools<'a>(
     pools: &'a Map<String, Value>,
 ) -> Result<Vec<&'a str>, OutOfMemory>
     ensures { IfOk result (λ v. map (λ s. s.now) v.items
-        ≡ named (members_view pools.entry.now.entries)) }
+        ≡ named_pools_of (members_view pools.entry.now.entries)) }
 {
     let mut names = Vec::new(alloc);
     for (name, _slots) in pools.iter() {
@@ -203,7 +203,7 @@ fn named_pools<'a>(
 /// The names of the pools that tasks may name.
 fn pool_names<'a>(alloc: Global, document: &'a Value) -> Result<Vec<&'a str>, OutOfMemory>
     ensures { IfOk result (λ v. map (λ s. s.now) v.items
-        ≡ names_of_pools (view document.entry.now)) }
+        ≡ pool_names_of (view document.entry.now)) }
 {
     let mut names = match pools_in(document) {
         Some(pools) => named_pools(alloc, pools)?,
@@ -219,7 +219,7 @@ pub(crate) fn names_for<'a>(
     document: &'a Value,
     form: Form,
 ) -> Result<Vec<&'a str>, OutOfMemory>
-    ensures { IfOk result (λ v. map (λ s. s.now) v.items ≡ names (view document.entry.now) form) }
+    ensures { IfOk result (λ v. map (λ s. s.now) v.items ≡ names_of (view document.entry.now) form) }
 {
     match form {
         Form::TaskId => return ids_in(alloc, document),

@@ -1,6 +1,6 @@
 //! The known name that is nearest to a text.
 ghost use Rattle.std.specs.Prelude.{◌≡◌, ℕ, List, [], ◌∷◌, ◌++◌, map, option_map, IfOk};
-ghost use Rattle.bf_findings.specs.Nearest.{distance_to, IsBest, IsNearestTo, is_near as near, IsSuggested};
+ghost use Rattle.bf_findings.specs.Nearest.{distance_to, IsBest, IsNearestTo, is_near_in, IsSuggested};
 
 use bf_value::OutOfMemory;
 use std::alloc::Global;
@@ -52,7 +52,7 @@ fn nearest<'a>(
 
 /// Whether so many edits leave more than half of the longer text.
 fn is_near(text: &str, name: &str, distance: usize) -> bool
-    ensures { result ≡ near text.now name.now distance }
+    ensures { result ≡ is_near_in text.now name.now distance }
 {
     distance < text.len().max(name.len()).div_ceil(2)
 }

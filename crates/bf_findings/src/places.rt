@@ -1,8 +1,8 @@
 //! The places of a document.
 ghost use Rattle.std.specs.Prelude.{◌≡◌, ◌++◌, map, OnOk, IfOk};
 ghost use Rattle.serde_json.specs.View.{view, members_view};
-ghost use Rattle.bf_findings.specs.Listed.{graph_key_places, task_key_places, other_keys, pools as pools_of, pools_if_any, other_task_keys, items_under as items_at, upstreams, word_keys_of, words, task_places, tasks, places_of as places_in};
-ghost use Rattle.bf_findings.specs.Fitting.{pools_in as pools_at};
+ghost use Rattle.bf_findings.specs.Listed.{graph_key_places, task_key_places, other_keys, pools_of, pools_if_any, other_task_keys, items_in, upstreams, word_keys_of, words, task_places, tasks, places_in};
+ghost use Rattle.bf_findings.specs.Fitting.{pools_at};
 
 use crate::fitting::{pools_in, tasks_in};
 use crate::keys::{GRAPH_KEYS, TASK_KEYS, WORD_KEYS, is_graph_key, is_task_key};
@@ -97,7 +97,7 @@ fn add_other_task_keys(
 /// The items of the list under a key of a task, of which there are none where no list is there.
 #[tactic(auto, using(crate::proofs::Lists::list_viewed))]
 fn items_under<'a>(task: &'a Value, key: TaskKey) -> &'a [Value]
-    ensures { map view result.now ≡ items_at (view task.entry.now) key }
+    ensures { map view result.now ≡ items_in (view task.entry.now) key }
 {
     match task.get(key.name()).and_then(|value| value.as_array()) {
         Some(items) => items.as_slice(),

@@ -3,7 +3,7 @@ ghost use Rattle.std.specs.Prelude.{◌≡◌, ◌++◌, codes, string_bytes, If
 ghost use Rattle.serde_json.specs.View.{view};
 ghost use Rattle.serde_json.specs.Data.{string};
 ghost use Rattle.serde_json.specs.Written.{compact_text};
-ghost use Rattle.bf_findings.specs.Shown.{shown as told, short as told_if_short, shown_at as told_at};
+ghost use Rattle.bf_findings.specs.Shown.{shown_of, short_of, shown_in};
 
 use crate::place::DocumentPlace;
 use bf_value::{OutOfMemory, Text};
@@ -23,7 +23,7 @@ pub(crate) fn quoted(alloc: Global, text: &str) -> Result<Text, OutOfMemory>
 
 /// The text, or what stands for a long one.
 fn short(alloc: Global, text: String) -> Result<Text, OutOfMemory>
-    ensures { IfOk result (λ t. t ≡ told_if_short (string_bytes text)) }
+    ensures { IfOk result (λ t. t ≡ short_of (string_bytes text)) }
 {
     if text.len() > MOST_SHOWN {
         return Text::copied(alloc, "a long text");
@@ -34,7 +34,7 @@ fn short(alloc: Global, text: String) -> Result<Text, OutOfMemory>
 /// A value as JSON, or what it is.
 #[tactic(auto, using(crate::proofs::Plain::no_float))]
 fn shown(alloc: Global, value: &Value) -> Result<Text, OutOfMemory>
-    ensures { IfOk result (λ t. t ≡ told (view value.now)) }
+    ensures { IfOk result (λ t. t ≡ shown_of (view value.now)) }
 {
     if value.is_array() {
         return Text::copied(alloc, "a list");
@@ -58,7 +58,7 @@ fn unknown_key(alloc: Global, key: &str) -> Result<Text, OutOfMemory>
 
 /// The name of a pool and its slots.
 fn pool_shown(alloc: Global, name: &str, value: &Value) -> Result<Text, OutOfMemory>
-    ensures { IfOk result (λ t. t ≡ compact_text (string name.now) ++ codes ": " ++ told (view value.now)) }
+    ensures { IfOk result (λ t. t ≡ compact_text (string name.now) ++ codes ": " ++ shown_of (view value.now)) }
 {
     let (name, slots) = (quoted(alloc, name)?, shown(alloc, value)?);
     Ok(Text::new(format!(in alloc; "{name}: {slots}")?))
@@ -70,7 +70,7 @@ pub(crate) fn shown_at(
     place: &DocumentPlace,
     value: &Value,
 ) -> Result<Text, OutOfMemory>
-    ensures { IfOk result (λ t. t ≡ told_at place.now (view value.now)) }
+    ensures { IfOk result (λ t. t ≡ shown_in place.now (view value.now)) }
 {
     match place {
         DocumentPlace::OtherKey(key) | DocumentPlace::OtherTaskKey(_, key) => unknown_key(

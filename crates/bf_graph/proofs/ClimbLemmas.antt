@@ -9,7 +9,7 @@ use Rattle.std.proofs.Math.Seq.{get_or-append_seam}
 use Rattle.bf_graph.specs.declared.climb.Climb.{Climb}
 use Rattle.bf_graph.specs.Edges.{lists, upstreams_of, IsUpstream, AreInRange}
 use Rattle.bf_graph.specs.Ranks.{rank_at, HasUnranked}
-use Rattle.bf_graph.specs.Reach.{IsPath, is_marked}
+use Rattle.bf_graph.specs.Reach.{IsPath, is_marked_in}
 use Rattle.bf_graph.specs.Cycles.{HasCycle}
 use Rattle.bf_graph.specs.Climbs.{AreRankedBetween, IsFirstUnranked, Climbs, IsOnPath, IsClimb, IsClimbing}
 use Rattle.bf_graph.proofs.PathLemmas.{edge_before}
@@ -21,9 +21,9 @@ keeps_rank rs t r u h some e = elim (eqb_tells u t) [
   | inr (_, other) ↦ some (sym (get_or-set_other rs t u (Some r) None other) ∙ e)
 ]
 
-pub still_marked : (seen : List Bool) (u s : ℕ) → u < length seen → is_marked seen s ≡ true → is_marked (set seen u true) s ≡ true
+pub still_marked : (seen : List Bool) (u s : ℕ) → u < length seen → is_marked_in seen s ≡ true → is_marked_in (set seen u true) s ≡ true
 still_marked seen u s h mark = elim (eqb_tells s u) [
-  | inl (_, same) ↦ ap (is_marked (set seen u true)) same ∙ get_or-set_same seen u true false h
+  | inl (_, same) ↦ ap (is_marked_in (set seen u true)) same ∙ get_or-set_same seen u true false h
   | inr (_, other) ↦ get_or-set_other seen u s true false other ∙ mark
 ]
 
@@ -81,7 +81,7 @@ module _ (ups : List (List ℕ)) (n : ℕ) (ranks : List (Option ℕ)) (rest : L
 
   module _ (i u : ℕ) (is : u ≡ get_or (upstreams_of ups t) i 0) (up : IsUpstream ups u t) (none : rank_at ranks u ≡ None) where
     -- an upstream without rank that was not seen comes on the path
-    pub up_one : u < n → is_marked seen u ≡ false → AreRankedBetween ranks (upstreams_of ups t) (get_or passed t 0) i → IsClimb ups n ranks ((rest ++ t ∷ []) ++ u ∷ []) (set seen u true) (set passed t i)
+    pub up_one : u < n → is_marked_in seen u ≡ false → AreRankedBetween ranks (upstreams_of ups t) (get_or passed t 0) i → IsClimb ups n ranks ((rest ++ t ∷ []) ++ u ∷ []) (set seen u true) (set passed t i)
     up_one h clear before = record {
       one_mark_each = length-set seen u true ∙ k.one_mark_each;
       one_number_each = length-set passed t i ∙ k.one_number_each;
@@ -101,7 +101,7 @@ module _ (ups : List (List ℕ)) (n : ℕ) (ranks : List (Option ℕ)) (rest : L
         new : Contains (rest ++ t ∷ []) u → ⊥
         new w = true≢false (sym (k.on_path u w).marked ∙ clear)
 
-        marked_here : is_marked (set seen u true) u ≡ true
+        marked_here : is_marked_in (set seen u true) u ≡ true
         marked_here = let len = k.one_mark_each in get_or-set_same seen u true false (omega (arith, h, len))
 
         passed_now : (s : ℕ) → AreRankedBetween ranks (upstreams_of ups s) 0 (get_or (set passed t i) s 0)
@@ -140,7 +140,7 @@ module _ (ups : List (List ℕ)) (n : ℕ) (ranks : List (Option ℕ)) (rest : L
         subst P same (edge_before ups (get_or (rest ++ t ∷ []) (j + m + 1) 0) (get_or (rest ++ t ∷ []) (j + m) 0) m (get_or (rest ++ t ∷ []) j 0) (k.climbs (j + m) (omega (arith, h))) (path_back j m (omega (arith, h))))
 
     -- an upstream without rank that was seen is on the path
-    pub closes : is_marked seen u ≡ true → HasCycle ups
+    pub closes : is_marked_in seen u ≡ true → HasCycle ups
     closes mark =
         let whole = rest ++ t ∷ [] in
         let w = k.still u mark none in

@@ -4,7 +4,7 @@ use Rattle.std.proofs.lemmas.Bool.{cases_lt}
 use Rattle.std.proofs.lemmas.Bool.Decides.{eqb_tells}
 use Rattle.std.proofs.lemmas.List.{get_or_default, length-map, map_push, get_or-set_same, get_or-set_other, get_or_append_left, get_or_push, length-set}
 use Rattle.bf_graph.specs.Edges.{upstreams_of, IsUpstream}
-use Rattle.bf_graph.specs.Reach.{IsPath, is_marked, row_at, rows_of}
+use Rattle.bf_graph.specs.Reach.{IsPath, is_marked_in, row_at, rows_of}
 use Rattle.bf_graph.specs.Cycles.{IsLevel, IsAbove, AreAbove, AreLevels}
 use Rattle.bf_graph.proofs.PathLemmas.{edge_before, first_edge, task_within}
 use Rattle.bf_graph.proofs.ReachLemmas.{row_read}
@@ -17,7 +17,7 @@ IsOneBelow ts i t = (k : ℕ) × (k < i) × (get_or ts k 0 ≡ t)
 
 pub record MarksBelow (old : List Bool) (ts : List ℕ) (i : ℕ) (new : List Bool) : Type 0 where
   pub len : length new ≡ length old
-  pub marks : (t : ℕ) → (is_marked new t ≡ true) ↔ ((is_marked old t ≡ true) ⊎ IsOneBelow ts i t)
+  pub marks : (t : ℕ) → (is_marked_in new t ≡ true) ↔ ((is_marked_in old t ≡ true) ⊎ IsOneBelow ts i t)
 
 pub one_more_marked : (old new : List Bool) (ts : List ℕ) (i : ℕ) → get_or ts i 0 < length new → MarksBelow old ts i new → MarksBelow old ts (i + 1) (set new (get_or ts i 0) true)
 one_more_marked old new ts i within so_far = record {
@@ -25,7 +25,7 @@ one_more_marked old new ts i within so_far = record {
   marks = λ t. (forth t, back t);
 }
   where
-    forth : (t : ℕ) → is_marked (set new (get_or ts i 0) true) t ≡ true → (is_marked old t ≡ true) ⊎ IsOneBelow ts (i + 1) t
+    forth : (t : ℕ) → is_marked_in (set new (get_or ts i 0) true) t ≡ true → (is_marked_in old t ≡ true) ⊎ IsOneBelow ts (i + 1) t
     forth t e = elim (eqb_tells t (get_or ts i 0)) [
       | inl (_, here) ↦ inr (i, omega arith, sym here)
       | inr (_, other) ↦ elim ((so_far.marks t).0 (sym (get_or-set_other new (get_or ts i 0) t true false other) ∙ e)) [
@@ -34,23 +34,23 @@ one_more_marked old new ts i within so_far = record {
       ]
     ]
 
-    here_marked : (t : ℕ) → t ≡ get_or ts i 0 → is_marked (set new (get_or ts i 0) true) t ≡ true
-    here_marked t here = ap (is_marked (set new (get_or ts i 0) true)) here ∙ get_or-set_same new (get_or ts i 0) true false within
+    here_marked : (t : ℕ) → t ≡ get_or ts i 0 → is_marked_in (set new (get_or ts i 0) true) t ≡ true
+    here_marked t here = ap (is_marked_in (set new (get_or ts i 0) true)) here ∙ get_or-set_same new (get_or ts i 0) true false within
 
-    kept : (t : ℕ) → is_marked new t ≡ true → is_marked (set new (get_or ts i 0) true) t ≡ true
+    kept : (t : ℕ) → is_marked_in new t ≡ true → is_marked_in (set new (get_or ts i 0) true) t ≡ true
     kept t e = elim (eqb_tells t (get_or ts i 0)) [
       | inl (_, here) ↦ here_marked t here
       | inr (_, other) ↦ get_or-set_other new (get_or ts i 0) t true false other ∙ e
     ]
 
-    back : (t : ℕ) → (is_marked old t ≡ true) ⊎ IsOneBelow ts (i + 1) t → is_marked (set new (get_or ts i 0) true) t ≡ true
+    back : (t : ℕ) → (is_marked_in old t ≡ true) ⊎ IsOneBelow ts (i + 1) t → is_marked_in (set new (get_or ts i 0) true) t ≡ true
     back t (inl e) = kept t ((so_far.marks t).1 (inl e))
     back t (inr (k, h, at)) = elim (cases_lt k i) [
       | inl early ↦ kept t ((so_far.marks t).1 (inr (k, early, at)))
       | inr late ↦ (let last : k ≡ i = omega (arith, h, late) in here_marked t (sym at ∙ ap (λ j. get_or ts j 0) last))
     ]
 
-pub all_more_marked : (old new : List Bool) (ts : List ℕ) (i : ℕ) → length ts ≤ i → i ≤ length ts → MarksBelow old ts i new → (t : ℕ) → (is_marked new t ≡ true) ↔ ((is_marked old t ≡ true) ⊎ Contains ts t)
+pub all_more_marked : (old new : List Bool) (ts : List ℕ) (i : ℕ) → length ts ≤ i → i ≤ length ts → MarksBelow old ts i new → (t : ℕ) → (is_marked_in new t ≡ true) ↔ ((is_marked_in old t ≡ true) ⊎ Contains ts t)
 all_more_marked old new ts i low high s t = (
   λ e. elim ((s.marks t).0 e) [ inl was ↦ inl was | inr (k, h, at) ↦ inr (k, omega (arith, h, high), get_or_default ts k t 0 (omega (arith, h, high)) ∙ at) ],
   λ w. (s.marks t).1 (elim w [ inl was ↦ inl was | inr (k, h, at) ↦ inr (k, omega (arith, h, low), get_or_default ts k 0 t h ∙ at) ]),
@@ -60,35 +60,35 @@ all_more_marked old new ts i low high s t = (
 
 pub record IsAboveBelow (ups : List (List ℕ)) (level : List Bool) (i : ℕ) (above : List Bool) : Type 0 where
   pub len : length above ≡ length ups
-  pub right : (a : ℕ) → (is_marked above a ≡ true) ↔ ((u : ℕ) × (u < i) × (is_marked level u ≡ true) × IsUpstream ups a u)
+  pub right : (a : ℕ) → (is_marked_in above a ≡ true) ↔ ((u : ℕ) × (u < i) × (is_marked_in level u ≡ true) × IsUpstream ups a u)
 
 module _ (ups : List (List ℕ)) (level above : List Bool) (i : ℕ) (s : IsAboveBelow ups level i above) where
-  earlier : (a : ℕ) → is_marked above a ≡ true → (u : ℕ) × (u < i + 1) × (is_marked level u ≡ true) × IsUpstream ups a u
+  earlier : (a : ℕ) → is_marked_in above a ≡ true → (u : ℕ) × (u < i + 1) × (is_marked_in level u ≡ true) × IsUpstream ups a u
   earlier a e = let w = (s.right a).0 e in (w.0, omega (arith, w.1), w.2, w.3)
 
-  pub one_above : (more : List Bool) (us : List ℕ) → is_marked level i ≡ true → us ≡ upstreams_of ups i → length more ≡ length above
-      → ((t : ℕ) → (is_marked more t ≡ true) ↔ ((is_marked above t ≡ true) ⊎ Contains us t)) → IsAboveBelow ups level (i + 1) more
+  pub one_above : (more : List Bool) (us : List ℕ) → is_marked_in level i ≡ true → us ≡ upstreams_of ups i → length more ≡ length above
+      → ((t : ℕ) → (is_marked_in more t ≡ true) ↔ ((is_marked_in above t ≡ true) ⊎ Contains us t)) → IsAboveBelow ups level (i + 1) more
   one_above more us mark is len marks = record { len = len ∙ s.len; right = λ a. (forth a, back a) }
     where
-      forth : (a : ℕ) → is_marked more a ≡ true → (u : ℕ) × (u < i + 1) × (is_marked level u ≡ true) × IsUpstream ups a u
+      forth : (a : ℕ) → is_marked_in more a ≡ true → (u : ℕ) × (u < i + 1) × (is_marked_in level u ≡ true) × IsUpstream ups a u
       forth a e = elim ((marks a).0 e) [
         | inl was ↦ earlier a was
         | inr new ↦ (let P : List ℕ → Type 0 = λ xs. Contains xs a in (i, omega arith, mark, subst P is new))
       ]
 
-      back : (a : ℕ) → (u : ℕ) × (u < i + 1) × (is_marked level u ≡ true) × IsUpstream ups a u → is_marked more a ≡ true
+      back : (a : ℕ) → (u : ℕ) × (u < i + 1) × (is_marked_in level u ≡ true) × IsUpstream ups a u → is_marked_in more a ≡ true
       back a (u, h, m, up) = elim (cases_lt u i) [
         | inl early ↦ (marks a).1 (inl ((s.right a).1 (u, early, m, up)))
         | inr late ↦ (let last : u ≡ i = omega (arith, h, late) in let P : ℕ → Type 0 = λ n. IsUpstream ups a n in let Q : List ℕ → Type 0 = λ xs. Contains xs a in (marks a).1 (inr (subst Q (sym is) (subst P last up))))
       ]
 
-  pub none_more_above : is_marked level i ≡ false → IsAboveBelow ups level (i + 1) above
+  pub none_more_above : is_marked_in level i ≡ false → IsAboveBelow ups level (i + 1) above
   none_more_above clear = record { len = s.len; right = λ a. (earlier a, back a) }
     where
-      back : (a : ℕ) → (u : ℕ) × (u < i + 1) × (is_marked level u ≡ true) × IsUpstream ups a u → is_marked above a ≡ true
+      back : (a : ℕ) → (u : ℕ) × (u < i + 1) × (is_marked_in level u ≡ true) × IsUpstream ups a u → is_marked_in above a ≡ true
       back a (u, h, m, up) = elim (cases_lt u i) [
         | inl early ↦ (s.right a).1 (u, early, m, up)
-        | inr late ↦ (let last : u ≡ i = omega (arith, h, late) in absurd (true≢false (sym m ∙ ap (is_marked level) last ∙ clear)))
+        | inr late ↦ (let last : u ≡ i = omega (arith, h, late) in absurd (true≢false (sym m ∙ ap (is_marked_in level) last ∙ clear)))
       ]
 
 pub next_level : (ups : List (List ℕ)) (t n : ℕ) (level above : List Bool) → IsLevel ups t n level → AreAbove ups level above → IsLevel ups t (suc n) above
@@ -125,7 +125,7 @@ module _ (ups : List (List ℕ)) (t n : ℕ) (levels : List (List Bool)) (above 
   long_more : length (levels ++ above ∷ []) ≡ suc (suc n)
   long_more = let len = k.len in omega (arith, len, length-append levels (above ∷ []))
 
-  pub levels_more : is_marked above t ≡ false → LevelsSoFar ups t (suc n) (levels ++ above ∷ [])
+  pub levels_more : is_marked_in above t ≡ false → LevelsSoFar ups t (suc n) (levels ++ above ∷ [])
   levels_more clear = record {
     len = long_more;
     right = right_more;
@@ -135,7 +135,7 @@ module _ (ups : List (List ℕ)) (t n : ℕ) (levels : List (List Bool)) (above 
     ];
   }
 
-  pub levels_found : is_marked above t ≡ true → AreLevels ups t (suc n) (levels ++ above ∷ [])
+  pub levels_found : is_marked_in above t ≡ true → AreLevels ups t (suc n) (levels ++ above ∷ [])
   levels_found mark = record {
     len = long_more;
     some = omega arith;
@@ -153,7 +153,7 @@ level_read ups t n levels v level k is e =
 
 pub one_level : (ups : List (List ℕ)) (t n : ℕ) (levels after : List (Vec Bool Global)) (v above : Vec Bool Global) (level : List Bool) (b : Bool)
     → t < length ups → LevelsSoFar ups t n (rows_of levels) → v ≡ get_or levels n v → level ≡ v.items → AreAbove ups level above.items → after ≡ levels ++ above ∷ [] → b ≡ get_or above.items t b
-    → IsLevel ups t (suc n) above.items × (is_marked above.items t ≡ b) × (rows_of after ≡ rows_of levels ++ above.items ∷ [])
+    → IsLevel ups t (suc n) above.items × (is_marked_in above.items t ≡ b) × (rows_of after ≡ rows_of levels ++ above.items ∷ [])
 one_level ups t n levels after v above level b within k is e up pushed mark =
     let wide = up.len in (
       next_level ups t n level above.items (level_read ups t n levels v level k is e) up,

@@ -7,7 +7,7 @@ use Rattle.std.proofs.lemmas.List.{get_or_default, get_or_past, get_or-map, get_
 use Rattle.std.proofs.lemmas.List.Elements.{All-from_get_or, All-map, Contains-get_or, Contains-append_left, Contains-push, Contains-push_cases}
 use Rattle.std.proofs.Math.Seq.{get_or-append_seam}
 use Rattle.bf_graph.specs.Edges.{lists, upstreams_of, IsUpstream, AreInRange}
-use Rattle.bf_graph.specs.Reach.{Reaches, is_marked, rows_of, row_at, HasRows}
+use Rattle.bf_graph.specs.Reach.{Reaches, is_marked_in, rows_of, row_at, HasRows}
 use Rattle.bf_graph.specs.Lookups.{IsRisingListOf, IsLeaf, AreDownstreams, AreDownstreamsBelow}
 use Rattle.bf_graph.proofs.PathLemmas.{none_in, task_within, first_edge}
 use Rattle.bf_graph.proofs.LevelLemmas.{IsOneBelow}
@@ -47,26 +47,26 @@ one_listed P Q xs t is below here f g = record {
 
 -- ---- the places that are marked
 
-marked_within : (marks : List Bool) (n t : ℕ) → length marks ≡ n → is_marked marks t ≡ true → t < n
+marked_within : (marks : List Bool) (n t : ℕ) → length marks ≡ n → is_marked_in marks t ≡ true → t < n
 marked_within marks n t len e = elim (cases_lt t (length marks)) [
   | inl early ↦ omega (arith, early, len)
   | inr late ↦ absurd (true≢false (sym e ∙ get_or_past marks t false late))
 ]
 
 abbrev pub IsMarkedBelow : List Bool → ℕ → ℕ → Type 0
-IsMarkedBelow marks n t = (t < n) × (is_marked marks t ≡ true)
+IsMarkedBelow marks n t = (t < n) × (is_marked_in marks t ≡ true)
 
 module _ (marks : List Bool) (n : ℕ) (xs : List ℕ) (is : IsRisingListOf (IsMarkedBelow marks n) xs) where
-  pub place_marked : is_marked marks n ≡ true → IsRisingListOf (IsMarkedBelow marks (n + 1)) (xs ++ n ∷ [])
+  pub place_marked : is_marked_in marks n ≡ true → IsRisingListOf (IsMarkedBelow marks (n + 1)) (xs ++ n ∷ [])
   place_marked mark = one_listed (IsMarkedBelow marks n) (IsMarkedBelow marks (n + 1)) xs n is (λ x p. p.0) (omega arith, mark) (λ x p. (omega (arith, p.0), p.1)) (λ x q. elim (cases_lt x n) [
     | inl early ↦ inl (early, q.1)
     | inr late ↦ inr (omega (arith, late, q.0))
   ])
 
-  pub place_unmarked : is_marked marks n ≡ false → IsRisingListOf (IsMarkedBelow marks (n + 1)) xs
+  pub place_unmarked : is_marked_in marks n ≡ false → IsRisingListOf (IsMarkedBelow marks (n + 1)) xs
   place_unmarked clear = same_list (IsMarkedBelow marks n) (IsMarkedBelow marks (n + 1)) xs (λ x p. (omega (arith, p.0), p.1)) (λ x q. elim (cases_lt x n) [
     | inl early ↦ (early, q.1)
-    | inr late ↦ (let last : x ≡ n = omega (arith, late, q.0) in absurd (true≢false (sym q.1 ∙ ap (is_marked marks) last ∙ clear)))
+    | inr late ↦ (let last : x ≡ n = omega (arith, late, q.0) in absurd (true≢false (sym q.1 ∙ ap (is_marked_in marks) last ∙ clear)))
   ]) is
 
 -- ---- downstreams
@@ -199,9 +199,9 @@ empty_lists_at [] = refl
 empty_lists_at (v ∷ vs) = ap (λ bs. is_empty_at v ∷ bs) (empty_lists_at vs)
 
 -- the marks on the empty lists are on the leaves
-pub leaves_listed : (downs : List (Vec ℕ Global)) (read marks : List Bool) (xs : List ℕ) → marks ≡ map is_empty_at downs → read ≡ marks → IsRisingListOf (λ t. is_marked read t ≡ true) xs
+pub leaves_listed : (downs : List (Vec ℕ Global)) (read marks : List Bool) (xs : List ℕ) → marks ≡ map is_empty_at downs → read ≡ marks → IsRisingListOf (λ t. is_marked_in read t ≡ true) xs
     → (ups : List (List ℕ)) → AreDownstreams ups (lists downs) → IsRisingListOf (λ t. IsLeaf ups t) xs
-leaves_listed downs read marks xs made again is ups below = same_list (λ t. is_marked read t ≡ true) (λ t. IsLeaf ups t) xs forth back is
+leaves_listed downs read marks xs made again is ups below = same_list (λ t. is_marked_in read t ≡ true) (λ t. IsLeaf ups t) xs forth back is
   where
     size : length downs ≡ length ups
     size = sym (length-map downs (λ (v : Vec ℕ Global). v.items)) ∙ below.len
@@ -209,20 +209,20 @@ leaves_listed downs read marks xs made again is ups below = same_list (λ t. is_
     long : length read ≡ length downs
     long = ap length (again ∙ made) ∙ length-map downs is_empty_at
 
-    mark : (t : ℕ) → t < length ups → is_marked read t ≡ eqb (length (upstreams_of (lists downs) t)) 0
+    mark : (t : ℕ) → t < length ups → is_marked_in read t ≡ eqb (length (upstreams_of (lists downs) t)) 0
     mark t h =
         let f : List ℕ → Bool = λ xs. eqb (length xs) 0 in
-        ap (λ ms. is_marked ms t) (again ∙ made ∙ empty_lists_at downs) ∙ get_or-map f (lists downs) t [] false (omega (arith, h, size, length-map downs (λ (v : Vec ℕ Global). v.items)))
+        ap (λ ms. is_marked_in ms t) (again ∙ made ∙ empty_lists_at downs) ∙ get_or-map f (lists downs) t [] false (omega (arith, h, size, length-map downs (λ (v : Vec ℕ Global). v.items)))
 
-    within : (t : ℕ) → is_marked read t ≡ true → t < length ups
+    within : (t : ℕ) → is_marked_in read t ≡ true → t < length ups
     within t e = marked_within read (length ups) t (long ∙ size) e
 
-    forth : (t : ℕ) → is_marked read t ≡ true → IsLeaf ups t
+    forth : (t : ℕ) → is_marked_in read t ≡ true → IsLeaf ups t
     forth t e =
         let h = within t e in
         (h, λ d up. empty_is (upstreams_of (lists downs) t) (sym (mark t h) ∙ e) d (((below.each t h).exact d).1 up))
 
-    back : (t : ℕ) → IsLeaf ups t → is_marked read t ≡ true
+    back : (t : ℕ) → IsLeaf ups t → is_marked_in read t ≡ true
     back t (h, none) = mark t h ∙ is_empty (upstreams_of (lists downs) t) (λ d w. none d (((below.each t h).exact d).0 w))
 
 -- ---- descendants and ancestors
@@ -235,44 +235,44 @@ reaching_within es a t inside (n, p) =
     let b = first_edge (lists es) a n t p in
     omega (arith, inside b.0 a b.1, length-map es (λ (v : Vec ℕ Global). v.items))
 
-column_rows : (rows : List (Vec Bool Global)) (t : ℕ) → map (λ (v : Vec Bool Global). is_marked v.items t) rows ≡ map (λ (bs : List Bool). is_marked bs t) (rows_of rows)
+column_rows : (rows : List (Vec Bool Global)) (t : ℕ) → map (λ (v : Vec Bool Global). is_marked_in v.items t) rows ≡ map (λ (bs : List Bool). is_marked_in bs t) (rows_of rows)
 column_rows [] t = refl
-column_rows (v ∷ vs) t = ap (λ bs. is_marked v.items t ∷ bs) (column_rows vs t)
+column_rows (v ∷ vs) t = ap (λ bs. is_marked_in v.items t ∷ bs) (column_rows vs t)
 
 -- the marks of what reaches a task, as they are read
 pub ancestors_listed : (es : List (Vec ℕ Global)) (rows : List (Vec Bool Global)) (t : ℕ) (v : Vec Bool Global) (row : List Bool) (xs : List ℕ) → AreInRange (lists es) → HasRows (lists es) (length es) (rows_of rows) → t < length es → v ≡ get_or rows t v → row ≡ v.items
-    → IsRisingListOf (λ a. is_marked row a ≡ true) xs → IsRisingListOf (λ a. Reaches (lists es) a t) xs
+    → IsRisingListOf (λ a. is_marked_in row a ≡ true) xs → IsRisingListOf (λ a. Reaches (lists es) a t) xs
 ancestors_listed es rows t v row xs inside kept h at e is =
     let size = kept.len in
     let read = row_read rows t v row (omega (arith, h, size, length-map rows (λ (w : Vec Bool Global). w.items))) at e in
     let right = kept.row t h in
     let long : length row ≡ length es = ap length read ∙ right.len in
-    let same : (a : ℕ) → is_marked row a ≡ is_marked (row_at (rows_of rows) t) a = λ a. ap (λ bs. is_marked bs a) read in
-    same_list (λ a. is_marked row a ≡ true) (λ a. Reaches (lists es) a t) xs (λ a m. (right.right a (marked_within row (length es) a long m)).0 (sym (same a) ∙ m)) (λ a w. same a ∙ (right.right a (reaching_within es a t inside w)).1 w) is
+    let same : (a : ℕ) → is_marked_in row a ≡ is_marked_in (row_at (rows_of rows) t) a = λ a. ap (λ bs. is_marked_in bs a) read in
+    same_list (λ a. is_marked_in row a ≡ true) (λ a. Reaches (lists es) a t) xs (λ a m. (right.right a (marked_within row (length es) a long m)).0 (sym (same a) ∙ m)) (λ a w. same a ∙ (right.right a (reaching_within es a t inside w)).1 w) is
 
 -- the column of marks of what a task reaches, as it is read
-pub descendants_listed : (es : List (Vec ℕ Global)) (rows read : List (Vec Bool Global)) (t : ℕ) (column marks : List Bool) (xs : List ℕ) → HasRows (lists es) (length es) (rows_of rows) → t < length es → read ≡ rows → column ≡ map (λ (v : Vec Bool Global). is_marked v.items t) read → marks ≡ column
-    → IsRisingListOf (λ d. is_marked marks d ≡ true) xs → IsRisingListOf (λ d. Reaches (lists es) t d) xs
-descendants_listed es rows read t column marks xs kept h again made e is = same_list (λ d. is_marked marks d ≡ true) (λ d. Reaches (lists es) t d) xs forth back is
+pub descendants_listed : (es : List (Vec ℕ Global)) (rows read : List (Vec Bool Global)) (t : ℕ) (column marks : List Bool) (xs : List ℕ) → HasRows (lists es) (length es) (rows_of rows) → t < length es → read ≡ rows → column ≡ map (λ (v : Vec Bool Global). is_marked_in v.items t) read → marks ≡ column
+    → IsRisingListOf (λ d. is_marked_in marks d ≡ true) xs → IsRisingListOf (λ d. Reaches (lists es) t d) xs
+descendants_listed es rows read t column marks xs kept h again made e is = same_list (λ d. is_marked_in marks d ≡ true) (λ d. Reaches (lists es) t d) xs forth back is
   where
-    whole : marks ≡ map (λ (bs : List Bool). is_marked bs t) (rows_of rows)
-    whole = e ∙ made ∙ ap (map (λ (v : Vec Bool Global). is_marked v.items t)) again ∙ column_rows rows t
+    whole : marks ≡ map (λ (bs : List Bool). is_marked_in bs t) (rows_of rows)
+    whole = e ∙ made ∙ ap (map (λ (v : Vec Bool Global). is_marked_in v.items t)) again ∙ column_rows rows t
 
     size : length (rows_of rows) ≡ length es
     size = kept.len
 
-    mark : (d : ℕ) → d < length es → is_marked marks d ≡ is_marked (row_at (rows_of rows) d) t
+    mark : (d : ℕ) → d < length es → is_marked_in marks d ≡ is_marked_in (row_at (rows_of rows) d) t
     mark d k =
-        let f : List Bool → Bool = λ bs. is_marked bs t in
-        ap (λ ms. is_marked ms d) whole ∙ get_or-map f (rows_of rows) d [] false (omega (arith, k, size))
+        let f : List Bool → Bool = λ bs. is_marked_in bs t in
+        ap (λ ms. is_marked_in ms d) whole ∙ get_or-map f (rows_of rows) d [] false (omega (arith, k, size))
 
-    within : (d : ℕ) → is_marked marks d ≡ true → d < length es
-    within d m = let f : List Bool → Bool = λ bs. is_marked bs t in marked_within marks (length es) d (ap length whole ∙ length-map (rows_of rows) f ∙ size) m
+    within : (d : ℕ) → is_marked_in marks d ≡ true → d < length es
+    within d m = let f : List Bool → Bool = λ bs. is_marked_in bs t in marked_within marks (length es) d (ap length whole ∙ length-map (rows_of rows) f ∙ size) m
 
-    forth : (d : ℕ) → is_marked marks d ≡ true → Reaches (lists es) t d
+    forth : (d : ℕ) → is_marked_in marks d ≡ true → Reaches (lists es) t d
     forth d m = let k = within d m in ((kept.row d k).right t h).0 (sym (mark d k) ∙ m)
 
-    back : (d : ℕ) → Reaches (lists es) t d → is_marked marks d ≡ true
+    back : (d : ℕ) → Reaches (lists es) t d → is_marked_in marks d ≡ true
     back d w = let k = reached_within es t d w in mark d k ∙ ((kept.row d k).right t h).1 w
 
 pub rows_wide : (es : List (Vec ℕ Global)) (rows : List (Vec Bool Global)) (t : ℕ) → HasRows (lists es) (length es) (rows_of rows) → t < length es → All (λ (v : Vec Bool Global). t < length v.items) rows

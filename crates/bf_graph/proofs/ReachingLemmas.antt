@@ -6,7 +6,7 @@ use Rattle.std.proofs.lemmas.List.{get_or_default, get_or_read, get_or-set_same,
 use Rattle.std.proofs.lemmas.List.Elements.{Contains-get_or, Contains-append_left, Contains-push, Contains-push_cases}
 use Rattle.std.proofs.Math.Seq.{get_or-append_seam}
 use Rattle.bf_graph.specs.Edges.{lists, upstreams_of, IsUpstream, AreInRange}
-use Rattle.bf_graph.specs.Reach.{IsPath, Reaches, is_marked, IsRow}
+use Rattle.bf_graph.specs.Reach.{IsPath, Reaches, is_marked_in, IsRow}
 use Rattle.bf_graph.specs.Cycles.{unmarked_in, AreMarked, AreAdded, AreReaching}
 use Rattle.bf_graph.proofs.PathLemmas.{edge_before, first_edge}
 
@@ -24,27 +24,27 @@ all_unmarked [] clear = refl
 all_unmarked (false ∷ marks) clear = ap suc (all_unmarked marks (λ t. clear (suc t)))
 all_unmarked (true ∷ marks) clear = absurd (true≢false (clear zero))
 
-pub none_marked : (marks : List Bool) → ((t : ℕ) → is_marked marks t ≡ false) → AreMarked [] marks
+pub none_marked : (marks : List Bool) → ((t : ℕ) → is_marked_in marks t ≡ false) → AreMarked [] marks
 none_marked marks clear = record {
   marked = λ t. (λ e. absurd (true≢false (sym e ∙ clear t)), λ w. absurd (omega (arith, w.1)));
   once = omega (arith, all_unmarked marks clear);
 }
 
-pub one_marked : (found : List ℕ) (marks : List Bool) (t : ℕ) → AreMarked found marks → t < length marks → is_marked marks t ≡ false → AreMarked (found ++ t ∷ []) (set marks t true)
+pub one_marked : (found : List ℕ) (marks : List Bool) (t : ℕ) → AreMarked found marks → t < length marks → is_marked_in marks t ≡ false → AreMarked (found ++ t ∷ []) (set marks t true)
 one_marked found marks t old h clear = record {
   marked = λ s. (forth s, back s);
   once = (let once = old.once in omega (arith, once, unmarked_in-set marks t h clear, length_push found t, length-set marks t true));
 }
   where
-    forth : (s : ℕ) → is_marked (set marks t true) s ≡ true → Contains (found ++ t ∷ []) s
+    forth : (s : ℕ) → is_marked_in (set marks t true) s ≡ true → Contains (found ++ t ∷ []) s
     forth s e = elim (eqb_tells s t) [
       | inl (_, same) ↦ subst (Contains (found ++ t ∷ [])) (sym same) (Contains-push found t)
       | inr (_, other) ↦ Contains-append_left found (t ∷ []) s ((old.marked s).0 (sym (get_or-set_other marks t s true false other) ∙ e))
     ]
 
-    back : (s : ℕ) → Contains (found ++ t ∷ []) s → is_marked (set marks t true) s ≡ true
+    back : (s : ℕ) → Contains (found ++ t ∷ []) s → is_marked_in (set marks t true) s ≡ true
     back s w = elim (eqb_tells s t) [
-      | inl (_, same) ↦ ap (is_marked (set marks t true)) same ∙ get_or-set_same marks t true false h
+      | inl (_, same) ↦ ap (is_marked_in (set marks t true)) same ∙ get_or-set_same marks t true false h
       | inr (_, other) ↦ elim (Contains-push_cases found t s w) [
         | inl was ↦ get_or-set_other marks t s true false other ∙ (old.marked s).1 was
         | inr same ↦ absurd (other (sym same))

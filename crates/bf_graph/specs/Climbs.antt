@@ -6,7 +6,7 @@ use Rattle.bf_graph.specs.declared.ranking.Found.{Found}
 use Rattle.bf_graph.specs.declared.climb.Climb.{Climb}
 use Rattle.bf_graph.specs.Edges.{lists, upstreams_of, IsUpstream}
 use Rattle.bf_graph.specs.Ranks.{rank_at, AreFound, AllRanked}
-use Rattle.bf_graph.specs.Reach.{is_marked, rows_of, AreRows}
+use Rattle.bf_graph.specs.Reach.{is_marked_in, rows_of, AreRows}
 
 -- the ranks and the rows that were found so far
 pub record AreFoundIn (edges : List (Vec ℕ Global)) (f : Found) : Type 0 where
@@ -43,7 +43,7 @@ Climbs ups path = (k : ℕ) → k + 1 < length path → IsUpstream ups (slice_in
 pub record IsOnPath (n : ℕ) (ranks : List (Option ℕ)) (seen : List Bool) (t : ℕ) : Type 0 where
   pub within : t < n
   pub unranked : rank_at ranks t ≡ None
-  pub marked : is_marked seen t ≡ true
+  pub marked : is_marked_in seen t ≡ true
 
 -- what is known of n tasks while a path climbs, where so many upstreams of each were passed
 pub record IsClimb (ups : List (List ℕ)) (n : ℕ) (ranks : List (Option ℕ)) (path : List ℕ) (seen : List Bool) (passed : List ℕ) : Type 0 where
@@ -53,7 +53,7 @@ pub record IsClimb (ups : List (List ℕ)) (n : ℕ) (ranks : List (Option ℕ))
   pub climbs : Climbs ups path
   pub once : AllPairs (λ t u. t ≢ u) path
   pub on_path : (t : ℕ) → Contains path t → IsOnPath n ranks seen t
-  pub still : (t : ℕ) → is_marked seen t ≡ true → rank_at ranks t ≡ None → Contains path t
+  pub still : (t : ℕ) → is_marked_in seen t ≡ true → rank_at ranks t ≡ None → Contains path t
 
 pub record IsClimbing (edges : List (Vec ℕ Global)) (c : Climb) : Type 0 where
   pub found : AreFoundIn edges c.found

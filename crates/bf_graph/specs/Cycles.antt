@@ -4,7 +4,7 @@ use Rattle.std.specs.Cmp.Lexicographic.{slice_cmp}
 use Rattle.std.specs.Ordering.{nat_cmp}
 use Rattle.std.specs.declared.cmp.Ordering.TheVariants.{Greater}
 use Rattle.bf_graph.specs.Edges.{IsUpstream, IsCycle}
-use Rattle.bf_graph.specs.Reach.{IsPath, Reaches, is_marked, row_at}
+use Rattle.bf_graph.specs.Reach.{IsPath, Reaches, is_marked_in, row_at}
 
 -- a cycle that begins with t
 abbrev pub IsCycleFrom : List (List ℕ) → ℕ → List ℕ → Type 0
@@ -33,7 +33,7 @@ unmarked_in (true ∷ marks) = unmarked_in marks
 
 -- the marks are on these tasks, and each of these was marked once
 pub record AreMarked (found : List ℕ) (marks : List Bool) : Type 0 where
-  pub marked : (t : ℕ) → (is_marked marks t ≡ true) ↔ Contains found t
+  pub marked : (t : ℕ) → (is_marked_in marks t ≡ true) ↔ Contains found t
   pub once : unmarked_in marks + length found ≡ length marks
 
 -- after the old ones only tasks of these were added, and now all of them are there
@@ -51,16 +51,16 @@ pub record AreReaching (ups : List (List ℕ)) (t : ℕ) (found : List ℕ) : Ty
 -- the marks say from which tasks n edges lead to t
 pub record IsLevel (ups : List (List ℕ)) (t n : ℕ) (level : List Bool) : Type 0 where
   pub len : length level ≡ length ups
-  pub right : (a : ℕ) → a < length ups → (is_marked level a ≡ true) ↔ IsPath ups a n t
+  pub right : (a : ℕ) → a < length ups → (is_marked_in level a ≡ true) ↔ IsPath ups a n t
 
 -- a is a direct upstream of a marked task
 abbrev pub IsAbove : List (List ℕ) → List Bool → ℕ → Type 0
-IsAbove ups level a = (u : ℕ) × (u < length ups) × (is_marked level u ≡ true) × IsUpstream ups a u
+IsAbove ups level a = (u : ℕ) × (u < length ups) × (is_marked_in level u ≡ true) × IsUpstream ups a u
 
 -- these marks are on the direct upstreams of the tasks with those marks
 pub record AreAbove (ups : List (List ℕ)) (level above : List Bool) : Type 0 where
   pub len : length above ≡ length ups
-  pub right : (a : ℕ) → a < length ups → (is_marked above a ≡ true) ↔ IsAbove ups level a
+  pub right : (a : ℕ) → a < length ups → (is_marked_in above a ≡ true) ↔ IsAbove ups level a
 
 -- the levels of t up to the first, past its own, that marks it
 pub record AreLevels (ups : List (List ℕ)) (t last : ℕ) (levels : List (List Bool)) : Type 0 where
@@ -73,9 +73,9 @@ pub record AreLevels (ups : List (List ℕ)) (t last : ℕ) (levels : List (List
 -- d is the earliest direct downstream of a that is marked
 pub record IsEarliestNext (ups : List (List ℕ)) (level : List Bool) (a d : ℕ) : Type 0 where
   pub within : d < length ups
-  pub marked : is_marked level d ≡ true
+  pub marked : is_marked_in level d ≡ true
   pub edge : IsUpstream ups a d
-  pub earliest : (x : ℕ) → x < d → is_marked level x ≡ true → IsUpstream ups a x → ⊥
+  pub earliest : (x : ℕ) → x < d → is_marked_in level x ≡ true → IsUpstream ups a x → ⊥
 
 -- of the cycles of `last` tasks that begin with t the first by the numbers of its tasks
 pub record IsFirstShortest (ups : List (List ℕ)) (t last : ℕ) (ts : List ℕ) : Type 0 where

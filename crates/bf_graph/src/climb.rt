@@ -1,6 +1,6 @@
 //! Ranks, found by climbing from each task to its upstreams.
 ghost use Rattle.std.specs.Prelude.{◌≡◌, ℕ, ◌+◌, ◌^◌, ◌<◌, List, None, Vec, length, Contains, MatchBool, MatchOption, IfOk};
-ghost use Rattle.std.specs.declared.alloc.Global.{Global as Heap};
+ghost use Rattle.std.specs.declared.alloc.Global.{Global};
 ghost use Rattle.bf_graph.specs.Edges.{lists, AreInRange};
 ghost use Rattle.bf_graph.specs.Ranks.{rank_at};
 ghost use Rattle.bf_graph.specs.Climbs.{AreAllFound, AreRankedBetween, IsFirstUnranked, IsDown, HasClimbed};
@@ -38,7 +38,7 @@ fn unranked_from(ranks: &[Option<u32>], upstreams: &[u32], from: usize) -> Optio
 
 impl Climb {
     fn new(alloc: Global, n: usize) -> Result<Climb, OutOfMemory>
-        ensures { IfOk result (λ c. (edges : List (Vec ℕ Heap)) → length edges ≡ n → IsDown edges c) }
+        ensures { IfOk result (λ c. (edges : List (Vec ℕ Global)) → length edges ≡ n → IsDown edges c) }
     {
         Ok(Climb {
             found: Found::new(alloc, n)?,

@@ -183,9 +183,9 @@ pub enum GraphFault {
 }
 
 impl From<OutOfMemory> for GraphFault {
-    ghost use Rattle.bf_graph.specs.declared.graph.GraphFault.TheVariants.{OutOfMemory as NoMemory};
+    ghost use Rattle.bf_graph.specs.declared.graph.GraphFault.TheVariants.{OutOfMemory};
 
-    ghost from_gives = { λ _ e. e ≡ NoMemory };
+    ghost from_gives = { λ _ e. e ≡ OutOfMemory };
 
     fn from(_e: OutOfMemory) -> GraphFault {
         GraphFault::OutOfMemory

@@ -2,7 +2,7 @@
 ghost use Rattle.std.specs.Prelude.{◌≡◌, ◌+◌, ◌^◌, ◌<◌, ◌≤◌, ◌==◌, ◌⊎◌, ℕ, true, List, All, Contains, length, map, [], IfOk, OnOk};
 ghost use Rattle.std.specs.List.Sorted.{IsStrictlyIncreasing};
 ghost use Rattle.bf_graph.specs.Edges.{lists, AreInRange};
-ghost use Rattle.bf_graph.specs.Reach.{is_marked};
+ghost use Rattle.bf_graph.specs.Reach.{is_marked_in};
 ghost use Rattle.bf_graph.specs.Lookups.{IsRisingListOf, IsLeaf, AreDownstreams, AreDownstreamsBelow};
 
 use bf_value::OutOfMemory;
@@ -78,7 +78,7 @@ fn empty_ones(alloc: Global, lists: &[Vec<u32>]) -> Result<Vec<bool>, OutOfMemor
 /// The places that are marked.
 pub(crate) fn marked_places(alloc: Global, marks: &[bool]) -> Result<Vec<u32>, OutOfMemory>
     requires { length marks.now < 2 ^ 32 }
-    ensures { IfOk result (λ places. IsRisingListOf (λ t. is_marked marks.now t ≡ true) places.items) }
+    ensures { IfOk result (λ places. IsRisingListOf (λ t. is_marked_in marks.now t ≡ true) places.items) }
 {
     let mut places = Vec::new(alloc);
     for t in 0..marks.len() {
@@ -101,7 +101,7 @@ pub(crate) fn leaves_of(alloc: Global, downstreams: &[Vec<u32>]) -> Result<Vec<u
 
 fn is_marked_at(marks: &[bool], place: usize) -> bool
     requires { place < length marks.now }
-    ensures { result ≡ is_marked marks.now place }
+    ensures { result ≡ is_marked_in marks.now place }
 {
     marks[place]
 }
@@ -113,7 +113,7 @@ pub(crate) fn column(
     place: usize,
 ) -> Result<Vec<bool>, OutOfMemory>
     requires { All (λ row. place < length row.items) rows.now }
-    ensures { IfOk result (λ marks. marks.items ≡ map (λ row. is_marked row.items place) rows.now) }
+    ensures { IfOk result (λ marks. marks.items ≡ map (λ row. is_marked_in row.items place) rows.now) }
 {
     Ok(
         rows.iter()

@@ -5,11 +5,11 @@ use Rattle.std.proofs.lemmas.List.{take_more, length_push, map_push, length-drop
 use Rattle.std.specs.List.{range_with_len}
 use Rattle.bf_report.specs.declared.report.RunReport.{RunReport}
 use Rattle.bf_marks.specs.declared.mark.Mark.{Mark}
-use Rattle.bf_grid.specs.GridRows.{by_column, column, trimmed}
+use Rattle.bf_grid.specs.GridRows.{by_column, column_of, trimmed_of}
 use Rattle.bf_grid.specs.Grid.{column_starts, start_or}
 use Rattle.bf_marks.proofs.OrderFacts.{range_more}
 
-space_off : (bs : List ℕ) → trimmed (bs ++ 32 ∷ []) ≡ trimmed bs
+space_off : (bs : List ℕ) → trimmed_of (bs ++ 32 ∷ []) ≡ trimmed_of bs
 space_off [] = refl
 space_off (b ∷ bs) = ap (λ t. if (b == 32) && (length t == 0) then [] else b ∷ t) (space_off bs)
 
@@ -20,7 +20,7 @@ and_false b n some = ap (λ e. (b == 32) && e) (ne_eqb n 0 some) ∙ none (b == 
     none true = refl
     none false = refl
 
-other_stays : (bs : List ℕ) (b : ℕ) → b ≢ 32 → trimmed (bs ++ b ∷ []) ≡ bs ++ b ∷ []
+other_stays : (bs : List ℕ) (b : ℕ) → b ≢ 32 → trimmed_of (bs ++ b ∷ []) ≡ bs ++ b ∷ []
 other_stays [] b other = cond-false _ _ _ (ap (λ e. e && (0 == 0)) (ne_eqb b 32 other))
 other_stays (x ∷ xs) b other =
     ap (λ t. if (x == 32) && (length t == 0) then [] else x ∷ t) (other_stays xs b other)
@@ -32,18 +32,18 @@ last_taken line end some inside =
     ap (λ n. take n line) more ∙ take_more line (end - 1) 0 (omega arith)
 
 -- a space at the end is left out
-pub end_off : (line : List ℕ) (end : ℕ) → 0 < end → end ≤ length line → get_or line (end - 1) 0 ≡ 32 → trimmed (take (end - 1) line) ≡ trimmed (take end line)
+pub end_off : (line : List ℕ) (end : ℕ) → 0 < end → end ≤ length line → get_or line (end - 1) 0 ≡ 32 → trimmed_of (take (end - 1) line) ≡ trimmed_of (take end line)
 end_off line end some inside space =
-    sym (ap trimmed (last_taken line end some inside ∙ ap (λ x. take (end - 1) line ++ x ∷ []) space) ∙ space_off (take (end - 1) line))
+    sym (ap trimmed_of (last_taken line end some inside ∙ ap (λ x. take (end - 1) line ++ x ∷ []) space) ∙ space_off (take (end - 1) line))
 
 -- and any other character stays
-pub end_stays : (line : List ℕ) (end : ℕ) → 0 < end → end ≤ length line → get_or line (end - 1) 0 ≢ 32 → take end line ≡ trimmed (take end line)
+pub end_stays : (line : List ℕ) (end : ℕ) → 0 < end → end ≤ length line → get_or line (end - 1) 0 ≢ 32 → take end line ≡ trimmed_of (take end line)
 end_stays line end some inside other =
     let all = last_taken line end some inside in
-    all ∙ sym (ap trimmed all ∙ other_stays (take (end - 1) line) (get_or line (end - 1) 0) other)
+    all ∙ sym (ap trimmed_of all ∙ other_stays (take (end - 1) line) (get_or line (end - 1) 0) other)
 
-pub nothing_stays : (line : List ℕ) (end : ℕ) → end ≡ 0 → take end line ≡ trimmed (take end line)
-nothing_stays line end none = let same : take end line ≡ [] = ap (λ n. take n line) none in same ∙ ap trimmed (sym same)
+pub nothing_stays : (line : List ℕ) (end : ℕ) → end ≡ 0 → take end line ≡ trimmed_of (take end line)
+nothing_stays line end none = let same : take end line ≡ [] = ap (λ n. take n line) none in same ∙ ap trimmed_of (sym same)
 
 -- ---- columns
 
@@ -56,11 +56,11 @@ column_cut f xs first each last is =
     ap (map f) (ap (λ n. take n ys) cut ∙ take_min each ys) ∙ sym (take-map f each ys) ∙ ap (take each) (sym (drop-map f first xs))
 
 -- one column more
-pub by_column_more : (count each : ℕ) (mark : List RunReport → Mark) (runs : List RunReport) → by_column (count + 1) each mark runs ≡ by_column count each mark runs ++ mark (column each runs count) ∷ []
+pub by_column_more : (count each : ℕ) (mark : List RunReport → Mark) (runs : List RunReport) → by_column (count + 1) each mark runs ≡ by_column count each mark runs ++ mark (column_of each runs count) ∷ []
 by_column_more count each mark runs =
     let same : 0 + count ≡ count = omega arith in
-    ap (map (λ place. mark (column each runs place))) (range_more 0 count ∙ ap (λ k. range_with_len 0 count ++ k ∷ []) same)
-    ∙ map_push (λ place. mark (column each runs place)) (range_with_len 0 count) count
+    ap (map (λ place. mark (column_of each runs place))) (range_more 0 count ∙ ap (λ k. range_with_len 0 count ++ k ∷ []) same)
+    ∙ map_push (λ place. mark (column_of each runs place)) (range_with_len 0 count) count
 
 -- the start of one column more
 pub starts_more : (count each : ℕ) (runs : List RunReport) → column_starts (count + 1) each runs ≡ column_starts count each runs ++ start_or (slice_get runs (count * each)) ∷ []

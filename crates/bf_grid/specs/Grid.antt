@@ -10,10 +10,10 @@ use Rattle.bf_marks.specs.declared.widths.Widths.{Widths}
 use Rattle.bf_marks.specs.declared.label.Scale.{Scale}
 use Rattle.bf_marks.specs.declared.tally.Tally.{Tally}
 use Rattle.bf_marks.specs.declared.view.View.{View}
-use Rattle.bf_grid.specs.FailedTasks.{failing, failing_text}
-use Rattle.bf_marks.specs.Widths.{heads_text, room_of, widths_of}
-use Rattle.bf_grid.specs.Selection.{name_width, names_of, shown_runs, shown_tasks}
-use Rattle.bf_marks.specs.Labels.{counted, digits_at, groups_of, groups_text, scale_of, unit_place}
+use Rattle.bf_grid.specs.FailedTasks.{failing_of, failing_text}
+use Rattle.bf_marks.specs.Widths.{heads_text, room_in, widths_of}
+use Rattle.bf_grid.specs.Selection.{name_width_of, names_of, shown_runs_of, shown_tasks_of}
+use Rattle.bf_marks.specs.Labels.{counted, digits_at, groups_of, groups_text, scale_of, unit_place_of}
 use Rattle.bf_marks.specs.CellMarks.{column_mark}
 use Rattle.bf_marks.specs.RowOrder.{order_of}
 use Rattle.bf_grid.specs.GridRows.{by_column, column_state, line, row}
@@ -38,8 +38,8 @@ margin names = replicate (names + 2) 32
 abbrev pub label_lines : ℕ → Widths → Scale → List ℤ → List ℕ
 label_lines names widths scale starts =
     line (margin names ++ groups_text scale (counted (groups_of scale starts)))
-    ++ (line (margin names ++ digits_at (unit_place scale) starts)
-    ++ line (margin names ++ (digits_at (unit_place scale + 1) starts ++ (32 ∷ 32 ∷ heads_text widths))))
+    ++ (line (margin names ++ digits_at (unit_place_of scale) starts)
+    ++ line (margin names ++ (digits_at (unit_place_of scale + 1) starts ++ (32 ∷ 32 ∷ heads_text widths))))
 
 abbrev pub total_of : List RunReport → List ℕ → Tally
 total_of runs tasks = sum (map (λ task. runs_tally task runs) tasks)
@@ -60,14 +60,14 @@ rows_text names widths colored dag count each runs tasks =
 -- where these runs and tasks are shown, with names so wide, sums so wide, and so many runs a column
 abbrev pub table_by : View → Dag → List RunReport → List ℕ → ℕ → Widths → ℕ → List ℕ
 table_by view dag runs tasks names widths each =
-    each_line each ++ 10 ∷ (rows_text names widths view.colored dag (div_ceil (length runs) each) each runs tasks ++ failing_text dag (failing runs tasks))
+    each_line each ++ 10 ∷ (rows_text names widths view.colored dag (div_ceil (length runs) each) each runs tasks ++ failing_text dag (failing_of runs tasks))
 
 abbrev pub table_with : View → Dag → List RunReport → List ℕ → ℕ → Widths → List ℕ
-table_with view dag runs tasks names widths = table_by view dag runs tasks names widths (div_ceil (length runs) (room_of view.width names widths))
+table_with view dag runs tasks names widths = table_by view dag runs tasks names widths (div_ceil (length runs) (room_in view.width names widths))
 
 abbrev pub table_text : View → Dag → List RunReport → List ℕ → List ℕ
 table_text view dag runs tasks =
-    table_with view dag runs tasks (name_width view.width (names_of dag tasks)) (widths_of (total_of runs tasks) (states_tally runs))
+    table_with view dag runs tasks (name_width_of view.width (names_of dag tasks)) (widths_of (total_of runs tasks) (states_tally runs))
 
 -- no table is there without runs
 abbrev pub table_if : View → Dag → List RunReport → List ℕ → List ℕ
@@ -78,7 +78,7 @@ below_head view dag all runs tasks =
     left_out_line (length runs) (length all) (length tasks) (length dag.tasks) ++ table_if view dag runs tasks
 
 abbrev pub body_text : View → Dag → List RunReport → List ℕ
-body_text view dag runs = below_head view dag runs (shown_runs view runs) (shown_tasks view (shown_runs view runs) (order_of dag))
+body_text view dag runs = below_head view dag runs (shown_runs_of view runs) (shown_tasks_of view (shown_runs_of view runs) (order_of dag))
 
 -- without runs the head is all
 abbrev pub body_if : View → Dag → List RunReport → List ℕ

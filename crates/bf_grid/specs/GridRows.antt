@@ -12,29 +12,29 @@ use Rattle.bf_marks.specs.Labels.{left}
 use Rattle.bf_marks.specs.CellMarks.{marks_text, worse}
 
 -- a line without the spaces at its end
-abbrev pub trimmed : List ℕ → List ℕ
-trimmed [] = []
-trimmed (b ∷ bs) = if (b == 32) && (length (trimmed bs) == 0) then [] else b ∷ trimmed bs
+abbrev pub trimmed_of : List ℕ → List ℕ
+trimmed_of [] = []
+trimmed_of (b ∷ bs) = if (b == 32) && (length (trimmed_of bs) == 0) then [] else b ∷ trimmed_of bs
 
 -- a line ends behind its last character that isn't a space
 abbrev pub line : List ℕ → List ℕ
-line text = trimmed text ++ 10 ∷ []
+line text = trimmed_of text ++ 10 ∷ []
 
 -- the runs of the column in this place
-abbrev pub column : ℕ → List RunReport → ℕ → List RunReport
-column each runs place = take each (drop (place * each) runs)
+abbrev pub column_of : ℕ → List RunReport → ℕ → List RunReport
+column_of each runs place = take each (drop (place * each) runs)
 
 -- of each of so many columns
 abbrev pub by_column : ℕ → ℕ → (List RunReport → Mark) → List RunReport → List Mark
-by_column count each mark runs = map (λ place. mark (column each runs place)) (range_with_len 0 count)
+by_column count each mark runs = map (λ place. mark (column_of each runs place)) (range_with_len 0 count)
 
 -- a run by its own state
-abbrev pub state_mark : RunState → Mark
-state_mark RunState.Success = Success
-state_mark RunState.Failed = Failed
+abbrev pub state_mark_of : RunState → Mark
+state_mark_of RunState.Success = Success
+state_mark_of RunState.Failed = Failed
 
 abbrev pub column_state : List RunReport → Mark
-column_state runs = fold worse Skipped (map (λ run. state_mark run.state) runs)
+column_state runs = fold worse Skipped (map (λ run. state_mark_of run.state) runs)
 
 -- a name, marks and sums
 abbrev pub row : ℕ → Widths → Bool → List ℕ → List Mark → Tally → List ℕ

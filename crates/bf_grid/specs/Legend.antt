@@ -6,7 +6,7 @@ use Rattle.bf_marks.specs.declared.mark.Mark.{Mark}
 use Rattle.bf_marks.specs.declared.mark.Mark.TheVariants.{Success, Retried, Failed, UpstreamFailed, Skipped, NoStatus}
 use Rattle.bf_marks.specs.CellMarks.{color_code, mark_letter, mark_of, painted, weight}
 use Rattle.bf_grid.specs.GridRows.{line}
-use Rattle.bf_marks.specs.Tallies.{tally_at}
+use Rattle.bf_marks.specs.Tallies.{tally_in}
 
 abbrev pub meaning : Mark → List ℕ
 meaning Success = codes "success"
@@ -20,11 +20,11 @@ abbrev pub all_marks : List Mark
 all_marks = Success ∷ Retried ∷ Failed ∷ UpstreamFailed ∷ Skipped ∷ NoStatus ∷ []
 
 -- a task in a run has this mark
-abbrev pub has_mark : List RunReport → Mark → ℕ → Bool
-has_mark runs mark task = list_any (λ run. weight (mark_of (tally_at task run)) == weight mark) runs
+abbrev pub has_mark_in : List RunReport → Mark → ℕ → Bool
+has_mark_in runs mark task = list_any (λ run. weight (mark_of (tally_in task run)) == weight mark) runs
 
-abbrev pub is_seen : List RunReport → List ℕ → Mark → Bool
-is_seen runs tasks mark = list_any (has_mark runs mark) tasks
+abbrev pub is_seen_in : List RunReport → List ℕ → Mark → Bool
+is_seen_in runs tasks mark = list_any (has_mark_in runs mark) tasks
 
 abbrev pub explained : Bool → Mark → List ℕ
 explained colored mark = painted colored (color_code mark) (mark_letter mark) ++ 32 ∷ meaning mark
@@ -35,4 +35,4 @@ legend colored [] = []
 legend colored (mark ∷ marks) = explained colored mark ++ ((if length marks == 0 then [] else codes "  ") ++ legend colored marks)
 
 abbrev pub legend_line : Bool → List RunReport → List ℕ → List ℕ
-legend_line colored runs tasks = line (legend colored (filter (is_seen runs tasks) all_marks))
+legend_line colored runs tasks = line (legend colored (filter (is_seen_in runs tasks) all_marks))

@@ -1,8 +1,8 @@
 //! The tasks that failed themselves.
 ghost use Rattle.std.specs.Prelude.{◌≡◌, ◌≤◌, ◌++◌, length, map, codes, IfOk, OnOk};
 ghost use Rattle.std.specs.List.{flat_map};
-ghost use Rattle.bf_grid.specs.FailedTasks.{failed_starts as starts_of, failing as failing_of, failing_line, failing_text, further_line, id_width as width_of_ids, placed};
-ghost use Rattle.bf_wording.specs.Numbers.{plural};
+ghost use Rattle.bf_grid.specs.FailedTasks.{failed_starts_of, failing_of, failing_line, failing_text, further_line, id_width_of, placed};
+ghost use Rattle.bf_wording.specs.Numbers.{plural_of};
 ghost use Rattle.bf_grid.specs.FoundTasks.{first_fewer, pair_of};
 
 use crate::selection::id_of;
@@ -25,7 +25,7 @@ pub(crate) struct Failing {
 
 fn failed_starts(alloc: Global, runs: &[&RunReport], task: u32) -> Result<Vec<Moment>, OutOfMemory>
     ensures { IfOk result (λ starts. map (λ start. start.at.nanosecond) starts.items
-        ≡ starts_of (map (λ run. run.now) runs.now) task) }
+        ≡ failed_starts_of (map (λ run. run.now) runs.now) task) }
 {
     let mut starts = Vec::new(alloc);
     for run in runs {
@@ -85,7 +85,7 @@ fn failing_among(
 }
 
 fn id_width(dag: &Dag, found: &[Failing]) -> usize
-    ensures { result ≡ width_of_ids dag.now (map pair_of found.now) }
+    ensures { result ≡ id_width_of dag.now (map pair_of found.now) }
 {
     let mut longest = 0;
     for failing in found {
@@ -96,7 +96,7 @@ fn id_width(dag: &Dag, found: &[Failing]) -> usize
 
 /// The length of `1 run` or `2 runs`, with this number.
 fn runs_width(alloc: Global, count: usize) -> Result<usize, OutOfMemory>
-    ensures { IfOk result (λ width. width ≡ length (plural count (codes "run"))) }
+    ensures { IfOk result (λ width. width ≡ length (plural_of count (codes "run"))) }
 {
     let mut text = Vec::new(alloc);
     push_plural(alloc, &mut text, count as u64, "run")?;
@@ -135,7 +135,7 @@ fn push_lines(
     found: &[Failing],
 ) -> Result<(), OutOfMemory>
     ensures { OnOk result (text.new.items ≡ text.old.items ++ flat_map
-        (failing_line dag.now (width_of_ids dag.now (map pair_of found.now)) widest)
+        (failing_line dag.now (id_width_of dag.now (map pair_of found.now)) widest)
         (map pair_of found.now)) }
 {
     let longest = id_width(dag, found);

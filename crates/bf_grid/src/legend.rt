@@ -1,6 +1,6 @@
 //! What the marks of a grid mean.
 ghost use Rattle.std.specs.Prelude.{◌≡◌, ◌++◌, filter, map, IfOk, OnOk};
-ghost use Rattle.bf_grid.specs.Legend.{explained, has_mark as has, is_seen as seen, legend, legend_line, meaning};
+ghost use Rattle.bf_grid.specs.Legend.{explained, has_mark_in, is_seen_in, legend, legend_line, meaning};
 
 use crate::row::push_line;
 use bf_marks::{Mark, push, push_painted, tally_at};
@@ -33,7 +33,7 @@ fn meaning_of(mark: Mark) -> &'static str
 
 /// Whether a task has this mark in one of the runs.
 fn has_mark(alloc: Global, runs: &[&RunReport], mark: Mark, task: u32) -> Result<bool, OutOfMemory>
-    ensures { IfOk result (λ has_it. has_it ≡ has (map (λ run. run.now) runs.now) mark task) }
+    ensures { IfOk result (λ has_it. has_it ≡ has_mark_in (map (λ run. run.now) runs.now) mark task) }
 {
     for run in runs {
         if Mark::of(tally_at(alloc, run, task)?).weight() == mark.weight() {
@@ -50,7 +50,7 @@ fn is_seen(
     mark: Mark,
 ) -> Result<bool, OutOfMemory>
     ensures { IfOk result (λ seen_it. seen_it
-        ≡ seen (map (λ run. run.now) runs.now) tasks.now mark) }
+        ≡ is_seen_in (map (λ run. run.now) runs.now) tasks.now mark) }
 {
     for task in tasks {
         if has_mark(alloc, runs, mark, *task)? {
@@ -68,7 +68,7 @@ fn seen_among(
     marks: &[Mark],
 ) -> Result<Vec<Mark>, OutOfMemory>
     ensures { IfOk result (λ found. found.items
-        ≡ filter (seen (map (λ run. run.now) runs.now) tasks.now) marks.now) }
+        ≡ filter (is_seen_in (map (λ run. run.now) runs.now) tasks.now) marks.now) }
 {
     let mut found = Vec::new(alloc);
     for mark in marks {

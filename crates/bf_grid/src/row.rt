@@ -1,7 +1,7 @@
 //! The rows of the grid.
 ghost use Rattle.std.specs.Prelude.{◌≡◌, ◌≤◌, ◌<◌, ◌+◌, ◌*◌, ◌^◌, ◌++◌, map, IfOk, OnOk, length};
 ghost use Rattle.bf_marks.specs.CellMarks.{column_mark};
-ghost use Rattle.bf_grid.specs.GridRows.{by_column, column as column_of, column_state, line, row, state_mark as mark_of_state, trimmed as trimmed_line};
+ghost use Rattle.bf_grid.specs.GridRows.{by_column, column_of, column_state, line, row, state_mark_of, trimmed_of};
 
 use bf_marks::{Mark, Tally, Widths, mark_in, push, push_cut_name, push_left, push_marks};
 use bf_report::RunReport;
@@ -11,7 +11,7 @@ use std::alloc::Global;
 
 /// A line without the spaces at its end.
 fn trimmed(line: &[u8]) -> &[u8]
-    ensures { result.now ≡ trimmed_line line.now }
+    ensures { result.now ≡ trimmed_of line.now }
 {
     let mut end = line.len();
     while end > 0 && line[end - 1] == b' ' {
@@ -29,7 +29,7 @@ pub(crate) fn push_line(text: &mut Vec<u8>, shown: &[u8]) -> Result<(), OutOfMem
 }
 
 fn state_mark(state: RunState) -> Mark
-    ensures { result ≡ mark_of_state state }
+    ensures { result ≡ state_mark_of state }
 {
     match state {
         RunState::Success => Mark::Success,

@@ -1,7 +1,7 @@
 //! Which runs and tasks a grid shows.
 ghost use Rattle.std.specs.Prelude.{◌≡◌, ◌≤◌, ◌<◌, ◌+◌, ◌^◌, map, IfOk};
 ghost use Rattle.bf_plan.specs.Plans.{task_of};
-ghost use Rattle.bf_grid.specs.Selection.{is_shown_run as shows_run, is_shown_task as shows_task, longest as longest_of, names_of, name_width as width_of_names, shown_runs as runs_shown, shown_tasks as tasks_shown};
+ghost use Rattle.bf_grid.specs.Selection.{is_shown_run_in, is_shown_task_in, longest_of, names_of, name_width_of, shown_runs_of, shown_tasks_of};
 ghost use Rattle.bf_grid.specs.Grid.{total_of};
 
 use bf_marks::{Tally, View, run_tally, tally_in};
@@ -11,7 +11,7 @@ use bf_value::OutOfMemory;
 use std::alloc::Global;
 
 fn is_shown_run(alloc: Global, view: &View, run: &RunReport) -> Result<bool, OutOfMemory>
-    ensures { IfOk result (λ shown. shown ≡ shows_run view.now run.now) }
+    ensures { IfOk result (λ shown. shown ≡ is_shown_run_in view.now run.now) }
 {
     if !view.has(run.interval.start) {
         return Ok(false);
@@ -29,7 +29,7 @@ pub(crate) fn shown_runs<'a>(
     runs: &'a [RunReport],
 ) -> Result<Vec<&'a RunReport>, OutOfMemory>
     ensures { IfOk result (λ found. map (λ run. run.now) found.items
-        ≡ runs_shown view.now runs.now) }
+        ≡ shown_runs_of view.now runs.now) }
 {
     let mut found = Vec::with_capacity(alloc, runs.len())?;
     for run in runs {
@@ -47,7 +47,7 @@ fn is_shown_task(
     task: u32,
 ) -> Result<bool, OutOfMemory>
     ensures { IfOk result (λ shown. shown
-        ≡ shows_task view.now (map (λ run. run.now) runs.now) task) }
+        ≡ is_shown_task_in view.now (map (λ run. run.now) runs.now) task) }
 {
     if !view.failed {
         return Ok(true);
@@ -63,7 +63,7 @@ pub(crate) fn shown_tasks(
     tasks: &[u32],
 ) -> Result<Vec<u32>, OutOfMemory>
     ensures { IfOk result (λ found. found.items
-        ≡ tasks_shown view.now (map (λ run. run.now) runs.now) tasks.now) }
+        ≡ shown_tasks_of view.now (map (λ run. run.now) runs.now) tasks.now) }
 {
     let mut found = Vec::with_capacity(alloc, tasks.len())?;
     for task in tasks {
@@ -113,7 +113,7 @@ fn longest(dag: &Dag, tasks: &[u32]) -> usize
 
 /// How wide names are.
 pub(crate) fn name_width(dag: &Dag, tasks: &[u32], width: usize) -> usize
-    ensures width { result ≡ width_of_names width (names_of dag.now tasks.now) }
+    ensures width { result ≡ name_width_of width (names_of dag.now tasks.now) }
     ensures some { 2 ≤ result }
     ensures few { result + 2 < 2 ^ 64 }
 {

@@ -1,7 +1,7 @@
 //! The files that a command line names, read.
 ghost use Rattle.std.specs.Prelude.{◌≡◌, ◌<◌, ◌^◌, ℕ, List, [], ◌∷◌, Option, IfOk, IfErr, IfSome, OnOk, option_map, string_bytes};
 ghost use Rattle.bf_read.specs.Reading.{graph_in};
-ghost use Rattle.bf_table.specs.Tables.{table_of};
+ghost use Rattle.bf_table.specs.Tables.{table_in};
 ghost use Rattle.bf_report_reader.specs.Reading.{IsReadAs};
 ghost use Rattle.bf_report_reader.specs.Rules.{IsShownReport};
 ghost use Rattle.bf_disk.specs.Files.{AreReadable, IsHeld, IsReadable, IsHeldIfNamed, named_paths};
@@ -75,7 +75,7 @@ fn table_bytes<S: Source>(
 ) -> Result<Vec<u8>, CommandFault>
     ensures says { IfOk result (λ bytes. (held : List ℕ)
         → IsHeld (S.file files.old (string_bytes path)) held
-        → table_of bytes.items ≡ table_of held) }
+        → table_in bytes.items ≡ table_in held) }
     ensures readable { OnOk result (IsReadable (S.file files.old (string_bytes path))) }
     ensures fault { IfErr result (IsReadingFault (S.file files.old) (string_bytes path ∷ [])) }
     ensures stays { (p : List ℕ) → S.file files.new p ≡ S.file files.old p }
@@ -114,7 +114,7 @@ pub fn named_table_bytes<S: Source>(
 ) -> Result<Option<Vec<u8>>, CommandFault>
     ensures says { IfOk result (λ bytes. (held : Option (List ℕ))
         → IsHeldIfNamed (S.file files.old) (option_map string_bytes path) held
-        → option_map table_of (bytes_of bytes) ≡ option_map table_of held) }
+        → option_map table_in (bytes_of bytes) ≡ option_map table_in held) }
     ensures readable { OnOk result
         (AreReadable (S.file files.old) (named_paths (option_map string_bytes path))) }
     ensures fault { IfErr result (IsReadingFault (S.file files.old)
@@ -263,7 +263,7 @@ pub fn files_with_table<S: Source>(
     ensures alike { IfOk result (λ f. OfFilesAndTable (S.file files.old) asked (string_bytes table)
         (λ graph zone held.
         AreAlike f.graph.graph.items graph (bytes_of f.graph.zone_file) zone
-        × (table_of f.table.items ≡ table_of held))) }
+        × (table_in f.table.items ≡ table_in held))) }
     ensures readable { OnOk result
         (AreReadable (S.file files.old) (table_paths asked (string_bytes table))) }
     ensures fault { IfErr result (IsReadingFault (S.file files.old)

@@ -1,7 +1,7 @@
 //! Why a range has no listing.
 ghost use Rattle.std.specs.Prelude.{◌≡◌};
 ghost use Rattle.bf_interval.specs.Intervals.{fault_number};
-ghost use Rattle.bf_interval.specs.declared.fault.IntervalFault.TheVariants.{OutOfMemory as NoMemory};
+ghost use Rattle.bf_interval.specs.declared.fault.IntervalFault.TheVariants.{OutOfMemory};
 
 use std::alloc::{AllocError, AllocFailed};
 use std::error::Error;
@@ -52,7 +52,7 @@ impl fmt::Display for IntervalFault {
 impl Error for IntervalFault {}
 
 impl From<AllocError> for IntervalFault {
-    ghost from_gives = { λ _ e. e ≡ NoMemory };
+    ghost from_gives = { λ _ e. e ≡ OutOfMemory };
 
     fn from(_e: AllocError) -> IntervalFault {
         IntervalFault::OutOfMemory
@@ -60,7 +60,7 @@ impl From<AllocError> for IntervalFault {
 }
 
 impl<T: Drop> From<AllocFailed<T>> for IntervalFault {
-    ghost from_gives = { λ _ e. e ≡ NoMemory };
+    ghost from_gives = { λ _ e. e ≡ OutOfMemory };
 
     fn from(_e: AllocFailed<T>) -> IntervalFault {
         IntervalFault::OutOfMemory

@@ -27,13 +27,13 @@ pub struct Runs {
 impl Model for Runs {
     ghost use Rattle.std.specs.Prelude.{List};
     ghost use Rattle.std.specs.Coded.{codes};
-    ghost use Rattle.bf_interval.specs.contracts.interval.Interval as i;
-    ghost use Rattle.bf_interval.specs.declared.interval.Interval.{Interval as IntervalTerm};
+    ghost use Rattle.bf_interval.specs.contracts.interval.Interval;
+    ghost use Rattle.bf_interval.specs.declared.interval.Interval.{Interval};
     ghost use Rattle.bf_interval.specs.Runs.{AreOfRuns};
 
-    ghost Value = { List IntervalTerm };
+    ghost Value = { List Interval };
 
-    ghost coded = { Prim.hlevel (codes, i.the_row.coded) };
+    ghost coded = { Prim.hlevel (codes, Interval.the_row.coded) };
 
     ghost view = { λ r. r.intervals.items };
 

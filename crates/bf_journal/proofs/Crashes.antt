@@ -9,7 +9,7 @@ use Rattle.std.proofs.lemmas.List.{length-take, take_all, take-take}
 use Rattle.std.proofs.lemmas.List.Elements.{All-nil, All-cons, All-head, All-tail, All-take, All-append}
 use Rattle.bf_value.specs.declared.name.JobName.{JobName}
 use Rattle.bf_value.specs.declared.xval.Xval.{Xval}
-use Rattle.bf_value.specs.Json.{text_of}
+use Rattle.bf_value.specs.Json.{json_of}
 use Rattle.bf_value.specs.Names.{name_cmp}
 use Rattle.bf_plan.specs.declared.plan.Dag.{Dag}
 use Rattle.bf_plan.proofs.ListLemmas.{some_same}
@@ -17,10 +17,10 @@ use Rattle.bf_interval.specs.declared.interval.Interval.{Interval}
 use Rattle.bf_xcom.specs.declared.values.Given.{Given}
 use Rattle.bf_try.specs.declared.answers.Raw.{Raw}
 use Rattle.bf_try.specs.declared.ledger.Entry.{Entry}
-use Rattle.bf_try.specs.Grades.{fits, grade_of}
+use Rattle.bf_try.specs.Grades.{fits_in, grade_of}
 use Rattle.bf_try.proofs.Maps.{same_name}
 use Rattle.bf_journal.specs.Lines.{text_of_lines, whole_lines}
-use Rattle.bf_journal.specs.Records.{IsTellable, record_of, stamp_value}
+use Rattle.bf_journal.specs.Records.{IsTellable, record_at, stamp_value}
 use Rattle.bf_journal.specs.Recording.{IsRecordBy, IsWritten, text_of_all}
 use Rattle.bf_journal.specs.Tells.{Tells, TellAll, records_in}
 use Rattle.bf_journal.specs.Found.{entry_for, last_for}
@@ -49,7 +49,7 @@ module _ (may_answer : JobName → Given → Raw → Type 0) (dag : Dag) (interv
 
   -- the entry for a name is that of its try
   graded_for : (try : JobName × Entry) (n : JobName) (e : Entry) → entry_for dag try n ≡ Some e → IsGradedTry may_answer dag try → IsGradedTry may_answer dag (n, e)
-  graded_for try n e is graded = go (fits dag try.0.task try.1.outcome) (eq_by_cmp name_cmp n try.0) refl is
+  graded_for try n e is graded = go (fits_in dag try.0.task try.1.outcome) (eq_by_cmp name_cmp n try.0) refl is
     where
       go : (f b : Bool) → eq_by_cmp name_cmp n try.0 ≡ b → (if f then (if b then Some try.1 else None) else None) ≡ Some e → IsGradedTry may_answer dag (n, e)
       go true true same is =
@@ -115,11 +115,11 @@ module _ (may_answer : JobName → Given → Raw → Type 0) (dag : Dag) (interv
     same : text_of_all lines ≡ text_of_records values
 
   -- the line is the text of a graded record
-  graded_line : (line : List ℕ) → IsRecordBy may_answer dag intervals line → (value : Xval) × IsTellable value × IsGradedRecord may_answer dag intervals value × (line ≡ text_of value ++ 10 ∷ [])
+  graded_line : (line : List ℕ) → IsRecordBy may_answer dag intervals line → (value : Xval) × IsTellable value × IsGradedRecord may_answer dag intervals value × (line ≡ json_of value ++ 10 ∷ [])
   graded_line line is =
       let outcome = grade_of dag is.done.name.task is.done.raw in
       let entry : Entry = record { given = is.done.given; outcome = outcome } in
-      let value = record_of dag is.is.run is.done outcome is.stamp in
+      let value = record_at dag is.is.run is.done outcome is.stamp in
       let tells : Tells dag intervals value is.done.name entry =
       record { run = is.is.run; is_run = is.is.is_run; is_task = is.is.is_task; is_name = is.is.is_name; stamp = stamp_value is.stamp is.done.raw.exit; is = refl } in
       (value, is.is.told.tellable, record { name = is.done.name; entry = entry; tells = tells; graded = (is.done.raw, is.may, refl) }, is.is.told.is)
@@ -133,17 +133,17 @@ module _ (may_answer : JobName → Given → Raw → Type 0) (dag : Dag) (interv
         values = value ∷ rest.values;
         tellable = All-cons IsTellable value rest.values tellable rest.tellable;
         graded = All-cons (IsGradedRecord may_answer dag intervals) value rest.values graded rest.graded;
-        same = ap (λ l. l ++ text_of_all lines) is ∙ ap (λ l. (text_of value ++ 10 ∷ []) ++ l) rest.same;
+        same = ap (λ l. l ++ text_of_all lines) is ∙ ap (λ l. (json_of value ++ 10 ∷ []) ++ l) rest.same;
       }
 
   texts_behind : (xs ys : List Xval) → text_of_records (xs ++ ys) ≡ text_of_records xs ++ text_of_records ys
   texts_behind [] ys = refl
-  texts_behind (x ∷ xs) ys = ap (λ l. (text_of x ++ 10 ∷ []) ++ l) (texts_behind xs ys) ∙ sym (append_assoc (text_of x ++ 10 ∷ []) (text_of_records xs) (text_of_records ys))
+  texts_behind (x ∷ xs) ys = ap (λ l. (json_of x ++ 10 ∷ []) ++ l) (texts_behind xs ys) ∙ sym (append_assoc (json_of x ++ 10 ∷ []) (text_of_records xs) (text_of_records ys))
 
   -- the whole lines at the front of a journal are the text of its first records
   whole_text : (bytes : List ℕ) (journal : IsCutJournal may_answer dag intervals bytes) → (count : ℕ) × (text_of_lines (whole_lines bytes) ≡ text_of_records (take count journal.records))
   whole_text bytes journal =
-      let lines = map text_of journal.records in
+      let lines = map json_of journal.records in
       let found : IsCutOf lines journal.cut (whole_lines (take journal.cut (text_of_lines lines))) = cut lines (all_in_line journal.records) journal.cut in
       (found.count, ap text_of_lines (ap whole_lines journal.is ∙ found.are ∙ take_map found.count journal.records))
 

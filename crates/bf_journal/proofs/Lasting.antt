@@ -8,7 +8,7 @@ use Rattle.bf_value.specs.Names.{name_cmp, name_cmp_total}
 use Rattle.bf_plan.specs.declared.plan.Dag.{Dag}
 use Rattle.bf_plan.proofs.ListLemmas.{some_same}
 use Rattle.bf_try.specs.declared.ledger.Entry.{Entry}
-use Rattle.bf_try.specs.Grades.{fits}
+use Rattle.bf_try.specs.Grades.{fits_in}
 use Rattle.bf_try.proofs.Maps.{same_name}
 use Rattle.bf_kept.specs.Kept.{AreFit}
 use Rattle.bf_journal.specs.Found.{AreOfTasks, entry_for, entry_named, last_for}
@@ -74,19 +74,19 @@ tasks_of_rest dag tries rest try is are = go rest (subst (AreOfTasks dag) is are
 
 -- ---- what is kept fits
 
-fit_one : (dag : Dag) (try : JobName × Entry) (n : JobName) (e : Entry) → entry_for dag try n ≡ Some e → fits dag n.task e.outcome ≡ true
-fit_one dag try n e is = go (fits dag try.0.task try.1.outcome) (eq_by_cmp name_cmp n try.0) refl refl is
+fit_one : (dag : Dag) (try : JobName × Entry) (n : JobName) (e : Entry) → entry_for dag try n ≡ Some e → fits_in dag n.task e.outcome ≡ true
+fit_one dag try n e is = go (fits_in dag try.0.task try.1.outcome) (eq_by_cmp name_cmp n try.0) refl refl is
   where
-    go : (f b : Bool) → fits dag try.0.task try.1.outcome ≡ f → eq_by_cmp name_cmp n try.0 ≡ b → cond f (cond b (Some try.1) None) None ≡ Some e → fits dag n.task e.outcome ≡ true
-    go true true fit same is = ap (λ (m : JobName). fits dag m.task e.outcome) (same_name n try.0 same) ∙ ap (λ (x : Entry). fits dag try.0.task x.outcome) (sym (some_same is)) ∙ fit
+    go : (f b : Bool) → fits_in dag try.0.task try.1.outcome ≡ f → eq_by_cmp name_cmp n try.0 ≡ b → cond f (cond b (Some try.1) None) None ≡ Some e → fits_in dag n.task e.outcome ≡ true
+    go true true fit same is = ap (λ (m : JobName). fits_in dag m.task e.outcome) (same_name n try.0 same) ∙ ap (λ (x : Entry). fits_in dag try.0.task x.outcome) (sym (some_same is)) ∙ fit
     go true false fit other is = absurd (cc)
     go false b unfit same is = absurd (cc)
 
-last_fits : (dag : Dag) (tries : List (JobName × Entry)) (n : JobName) (e : Entry) → last_for dag tries n ≡ Some e → fits dag n.task e.outcome ≡ true
+last_fits : (dag : Dag) (tries : List (JobName × Entry)) (n : JobName) (e : Entry) → last_for dag tries n ≡ Some e → fits_in dag n.task e.outcome ≡ true
 last_fits dag [] n e is = absurd (cc)
 last_fits dag (try ∷ tries) n e is = go (last_for dag tries n) refl (λ before. last_fits dag tries n e before) is
   where
-    go : (o : Option Entry) → last_for dag tries n ≡ o → (last_for dag tries n ≡ Some e → fits dag n.task e.outcome ≡ true) → option_or o (entry_for dag try n) ≡ Some e → fits dag n.task e.outcome ≡ true
+    go : (o : Option Entry) → last_for dag tries n ≡ o → (last_for dag tries n ≡ Some e → fits_in dag n.task e.outcome ≡ true) → option_or o (entry_for dag try n) ≡ Some e → fits_in dag n.task e.outcome ≡ true
     go None none rest is = fit_one dag try n e is
     go (Some x) some rest is = rest (some ∙ is)
 

@@ -3,11 +3,11 @@ use Rattle.std.proofs.Common.{◌≡◌, ◌&&◌, Bool, true, false, cond, not,
 use Rattle.bf_value.specs.declared.name.JobName.{JobName}
 use Rattle.bf_plan.specs.declared.plan.Dag.{Dag}
 use Rattle.bf_try.specs.declared.ledger.Entry.{Entry}
-use Rattle.bf_try.specs.Tries.{Look}
+use Rattle.bf_try.specs.Tries.{Ledger}
 use Rattle.bf_journal.specs.Retrying.{has_failed, some_passed, without_failed}
 
 -- what is left was kept
-pub left_is_kept : (dag : Dag) (kept : Look) (n : JobName) (e : Entry) → without_failed dag kept n ≡ Some e → kept n ≡ Some e
+pub left_is_kept : (dag : Dag) (kept : Ledger) (n : JobName) (e : Entry) → without_failed dag kept n ≡ Some e → kept n ≡ Some e
 unfolding without_failed
 left_is_kept dag kept n e is = go (has_failed (kept n) && not (some_passed dag kept n)) is
   where

@@ -8,7 +8,7 @@ use Rattle.bf_plan.specs.declared.plan.Dag.{Dag}
 use Rattle.bf_interval.specs.declared.interval.Interval.{Interval}
 use Rattle.bf_xcom.specs.declared.values.Given.{Given}
 use Rattle.bf_try.specs.declared.answers.Raw.{Raw}
-use Rattle.bf_try.specs.Tries.{Look}
+use Rattle.bf_try.specs.Tries.{Ledger}
 use Rattle.bf_journal.specs.Cuts.{IsCutJournal}
 use Rattle.bf_journal.specs.Left.{IsFoundIn, IsLeftByCrashes, IsPart, made_whole}
 use Rattle.bf_journal.specs.Lines.{text_of_lines, whole_lines}
@@ -76,7 +76,7 @@ module _ (may_answer : JobName → Given → Raw → Type 0) (dag : Dag) (interv
       subst (λ (o : Option (List ℕ)). IsWritten (IsRecordBy may_answer dag intervals) (Some (take (length head + m) (head ++ bytes))) o failed) stands is in
       (head ++ written, stands, inr (written, refl, gone_on may_answer dag intervals head bytes written failed journal done))
 
-  pub made_left : 0 < length head → (held : List ℕ) (whole : ℕ) (tries : Look) (new : Option (List ℕ)) (failed : Bool) → IsFoundIn dag intervals head held whole tries → IsLeft held
+  pub made_left : 0 < length head → (held : List ℕ) (whole : ℕ) (tries : Ledger) (new : Option (List ℕ)) (failed : Bool) → IsFoundIn dag intervals head held whole tries → IsLeft held
       → IsWritten (IsRecordBy may_answer dag intervals) (Some (made_whole head held whole)) new failed
       → (left : List ℕ) × (new ≡ Some left) × IsLeft left
   made_left some held whole tries new failed (inl cut) is done =

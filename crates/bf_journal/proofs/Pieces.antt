@@ -14,7 +14,7 @@ use Rattle.json.proofs.OnLiterals.{json_on_literals}
 use Rattle.json.proofs.Printed.Strings.{escape_byte_plain}
 use Rattle.serde_json.specs.Find.{of_integer}
 use Rattle.serde_json.specs.Written.{number_text}
-use Rattle.bf_value.specs.Json.{text_of, value_of_text}
+use Rattle.bf_value.specs.Json.{json_of, value_of_text}
 use Rattle.bf_value.specs.Plain.{IsSound}
 use Rattle.bf_value.specs.Views.{list_of, plain_of}
 use Rattle.bf_value.specs.declared.name.JobName.{JobName}
@@ -28,7 +28,7 @@ use Rattle.bf_xcom.specs.declared.values.Outcome.{Outcome}
 use Rattle.bf_xcom.specs.declared.values.Outcome.TheVariants.{Success, Failed, Skipped}
 use Rattle.bf_xcom.specs.Pulls.{pushed_by}
 use Rattle.bf_journal.specs.Bare.{BeginsRecord, IsStamp}
-use Rattle.bf_journal.specs.Records.{optional, outcome_word, record_value}
+use Rattle.bf_journal.specs.Records.{optional_of, outcome_word, record_value}
 use Rattle.bf_journal.specs.Tells.{TellsLine}
 use Rattle.bf_journal.proofs.Reading.{id_of, run_of}
 
@@ -75,17 +75,17 @@ stamp_of start end code = list_of (Int start ∷ Int end ∷ Int code ∷ [])
 regrouped : (s e c : List ℕ) → (s ++ 44 ∷ (e ++ 44 ∷ c)) ++ 93 ∷ 93 ∷ [] ≡ (s ++ 44 ∷ (e ++ 44 ∷ (c ++ 93 ∷ []))) ++ 93 ∷ []
 regrouped s e c = simp append_assoc
 
-stamp_said : (text : List ℕ) (start end code : ℤ) → IsStamp text start end code → text ≡ text_of (stamp_of start end code) ++ 93 ∷ []
+stamp_said : (text : List ℕ) (start end code : ℤ) → IsStamp text start end code → text ≡ json_of (stamp_of start end code) ++ 93 ∷ []
 stamp_said text start end code stamp =
     stamp.is ∙ ap (λ l. 91 ∷ l) (rw (number_said start, number_said end, number_said code) (regrouped (signed_decimal start) (signed_decimal end) (signed_decimal code)))
 
 record_said : (dag : Dag) (intervals : List Interval) (line rest stamp word : List ℕ) (n : JobName) (value : Xval) → (begun : BeginsRecord dag intervals line n rest)
-    → rest ≡ quoted word ++ (codes ",[],[],[]," ++ stamp) → stamp ≡ text_of value ++ 93 ∷ []
-    → line ≡ text_of (bare_value begun.run begun.task n word value)
+    → rest ≡ quoted word ++ (codes ",[],[],[]," ++ stamp) → stamp ≡ json_of value ++ 93 ∷ []
+    → line ≡ json_of (bare_value begun.run begun.task n word value)
 record_said dag intervals line rest stamp word n value begun behind ends =
     begun.is
     ∙ ap (λ l. 91 ∷ (quoted begun.run ++ 44 ∷ (quoted begun.task ++ 44 ∷ (signed_decimal n.index ++ 44 ∷ (signed_decimal (pos n.attempt) ++ 44 ∷ l))))) (behind ∙ ap (λ l. quoted word ++ (codes ",[],[],[]," ++ l)) ends)
-    ∙ ap (λ l. 91 ∷ (quoted begun.run ++ 44 ∷ (quoted begun.task ++ 44 ∷ (l ++ 44 ∷ (signed_decimal (pos n.attempt) ++ 44 ∷ (quoted word ++ (codes ",[],[],[]," ++ (text_of value ++ 93 ∷ []))))))))
+    ∙ ap (λ l. 91 ∷ (quoted begun.run ++ 44 ∷ (quoted begun.task ++ 44 ∷ (l ++ 44 ∷ (signed_decimal (pos n.attempt) ++ 44 ∷ (quoted word ++ (codes ",[],[],[]," ++ (json_of value ++ 93 ∷ []))))))))
     (sym (number_said n.index))
 
 word_utf8 : (o : Outcome) → IsUtf8 (outcome_word o)
@@ -96,7 +96,7 @@ word_utf8 Skipped = IsUtf8-are_ascii (codes "skipped") refl
 as_record : (run task : List ℕ) (n : JobName) (o : Outcome) (stamp : Xval) → pushed_by o ≡ None
     → bare_value run task n (outcome_word o) stamp ≡ record_value run task n (record { item = None; pulled = [] }) o stamp
 as_record run task n o stamp nothing =
-    ap (λ p. list_of (Text run ∷ Text task ∷ Int n.index ∷ Int (pos n.attempt) ∷ Text (outcome_word o) ∷ optional p ∷ list_of [] ∷ list_of [] ∷ stamp ∷ [])) (sym nothing)
+    ap (λ p. list_of (Text run ∷ Text task ∷ Int n.index ∷ Int (pos n.attempt) ∷ Text (outcome_word o) ∷ optional_of p ∷ list_of [] ∷ list_of [] ∷ stamp ∷ [])) (sym nothing)
 
 wide : (z : ℤ) → FitsSigned w32 z → FitsSigned w64 z
 wide z fits = fits_signed_from_abs w64 z (omega (arith, ints, fits.sfits))
@@ -110,7 +110,7 @@ bare_tells dag intervals line rest text n o start end code begun nothing behind 
     let (is_task, id) = id_of dag begun.task n.task begun.is_task in
     let last : Xval = stamp_of start end code in
     let value : Xval = bare_value begun.run begun.task n (outcome_word o) last in
-    let is : line ≡ text_of value = record_said dag intervals line rest text (outcome_word o) n last begun behind (stamp_said text start end code stamp) in
+    let is : line ≡ json_of value = record_said dag intervals line rest text (outcome_word o) n last begun behind (stamp_said text start end code stamp) in
     let sound : IsSound (plain_of value) = (
       begun.run_utf8,
       (

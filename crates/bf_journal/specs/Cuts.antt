@@ -2,7 +2,7 @@
 use Rattle.std.specs.Prelude.{◌≡◌, ℕ, suc, ◌≤◌, ◌<◌, List, length, take, map, All, Some}
 use Rattle.bf_value.specs.declared.name.JobName.{JobName}
 use Rattle.bf_value.specs.declared.xval.Xval.{Xval}
-use Rattle.bf_value.specs.Json.{text_of}
+use Rattle.bf_value.specs.Json.{json_of}
 use Rattle.bf_plan.specs.declared.plan.Dag.{Dag}
 use Rattle.bf_interval.specs.declared.interval.Interval.{Interval}
 use Rattle.bf_xcom.specs.declared.values.Given.{Given}
@@ -16,7 +16,7 @@ use Rattle.bf_journal.specs.Found.{last_for}
 
 -- records as text, a line each
 abbrev pub text_of_records : List Xval → List ℕ
-text_of_records records = text_of_lines (map text_of records)
+text_of_records records = text_of_lines (map json_of records)
 
 -- of the first n bytes of the text of records just those are read that stand there whole: each of them does, and the next doesn't
 pub record ReadsWholeOnes (records : List Xval) (n : ℕ) : Type 0 where

@@ -8,8 +8,8 @@ use Rattle.bf_value.specs.Names.{name_cmp}
 use Rattle.bf_plan.specs.declared.plan.Dag.{Dag}
 use Rattle.bf_interval.specs.declared.interval.Interval.{Interval}
 use Rattle.bf_try.specs.declared.ledger.Entry.{Entry}
-use Rattle.bf_try.specs.Grades.{fits}
-use Rattle.bf_try.specs.Tries.{Look}
+use Rattle.bf_try.specs.Grades.{fits_in}
+use Rattle.bf_try.specs.Tries.{Ledger}
 use Rattle.bf_journal.specs.declared.fault.JournalFault.{JournalFault}
 use Rattle.bf_journal.specs.declared.fault.JournalFault.TheVariants.{BadRecord, Mismatch, OutOfMemory}
 use Rattle.bf_journal.specs.Lines.{text_of_lines, whole_lines}
@@ -23,10 +23,10 @@ entry_named try n = if eq_by_cmp name_cmp n try.0 then Some try.1 else None
 
 -- the same, where its outcome fits
 abbrev pub entry_for : Dag → JobName × Entry → JobName → Option Entry
-entry_for dag try n = if fits dag try.0.task try.1.outcome then entry_named try n else None
+entry_for dag try n = if fits_in dag try.0.task try.1.outcome then entry_named try n else None
 
 -- the entry of the last of these tries that has the name and fits
-abbrev pub last_for : Dag → List (JobName × Entry) → Look
+abbrev pub last_for : Dag → List (JobName × Entry) → Ledger
 last_for dag [] n = None
 last_for dag (try ∷ tries) n = option_or (last_for dag tries n) (entry_for dag try n)
 
@@ -56,14 +56,14 @@ pub record IsFirstBad (dag : Dag) (intervals : List Interval) (bytes : List ℕ)
 -- ---- a journal
 
 -- of a head that was cut short nothing counts, and nothing is kept
-pub record IsCutHead (head bytes : List ℕ) (whole : ℕ) (kept : Look) : Type 0 where
+pub record IsCutHead (head bytes : List ℕ) (whole : ℕ) (kept : Ledger) : Type 0 where
   pub rest : List ℕ
   pub are : head ≡ bytes ++ rest
   pub nothing_whole : whole ≡ 0
   pub nothing_kept : (n : JobName) → kept n ≡ None
 
 -- behind the head the whole lines tell tries, of which the last of each name that fits is kept; so many bytes are whole
-pub record IsGoneOnWith (dag : Dag) (intervals : List Interval) (head bytes : List ℕ) (whole : ℕ) (kept : Look) : Type 0 where
+pub record IsGoneOnWith (dag : Dag) (intervals : List Interval) (head bytes : List ℕ) (whole : ℕ) (kept : Ledger) : Type 0 where
   pub records : List ℕ
   pub are : bytes ≡ head ++ records
   pub whole_is : whole ≡ length head + length (text_of_lines (whole_lines records))

@@ -3,7 +3,7 @@ use Rattle.std.specs.Prelude.{ℕ, ℤ, pos, List, [], ◌∷◌, ◌++◌, map,
 use Rattle.bf_value.specs.declared.xval.Xval.{Xval}
 use Rattle.bf_value.specs.declared.xval.Xval.TheVariants.{Int, Text}
 use Rattle.bf_value.specs.Views.{list_of}
-use Rattle.bf_value.specs.Json.{text_of}
+use Rattle.bf_value.specs.Json.{json_of}
 use Rattle.bf_plan.specs.declared.plan.Dag.{Dag}
 use Rattle.bf_plan.specs.declared.plan.Task.{Task}
 use Rattle.bf_plan.specs.Plans.{task_of}
@@ -44,4 +44,4 @@ head_value dag intervals seeds =
     ∷ list_of (map interval_value intervals) ∷ []) ++ seed_fields seeds)
 
 unfoldable pub head_text : Dag → List Interval → List ClearedTask → List ℕ
-head_text dag intervals seeds = text_of (head_value dag intervals seeds) ++ 10 ∷ []
+head_text dag intervals seeds = json_of (head_value dag intervals seeds) ++ 10 ∷ []

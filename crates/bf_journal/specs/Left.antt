@@ -5,7 +5,7 @@ use Rattle.bf_plan.specs.declared.plan.Dag.{Dag}
 use Rattle.bf_interval.specs.declared.interval.Interval.{Interval}
 use Rattle.bf_xcom.specs.declared.values.Given.{Given}
 use Rattle.bf_try.specs.declared.answers.Raw.{Raw}
-use Rattle.bf_try.specs.Tries.{Look}
+use Rattle.bf_try.specs.Tries.{Ledger}
 use Rattle.bf_journal.specs.Cuts.{IsCutJournal}
 use Rattle.bf_journal.specs.Found.{IsCutHead, IsGoneOnWith}
 
@@ -22,7 +22,7 @@ KeepsJournal may_answer dag intervals head held old new =
 -- ---- how a journal is gone on with
 
 -- the bytes are those of a journal with this head, which may be cut short; so many of them are whole lines, which tell these tries
-abbrev pub IsFoundIn : Dag → List Interval → List ℕ → List ℕ → ℕ → Look → Type 0
+abbrev pub IsFoundIn : Dag → List Interval → List ℕ → List ℕ → ℕ → Ledger → Type 0
 IsFoundIn dag intervals head held whole tries = IsCutHead head held whole tries ⊎ IsGoneOnWith dag intervals head held whole tries
 
 -- what a journal that held this holds when so many bytes of it are whole: these, or the head where none is
@@ -40,7 +40,7 @@ abbrev pub IsLeftPart : List ℕ → List ℕ → Option (List ℕ) → Option (
 IsLeftPart head held old new = old ≡ Some held → (left : List ℕ) × (new ≡ Some left) × IsPart head held left
 
 -- so many bytes were whole, which tell these tries, and the device tells that the others don't stand there any more
-pub record IsMadeWhole (dag : Dag) (intervals : List Interval) (head held : List ℕ) (tries : Look) (old new : Option (List ℕ)) : Type 0 where
+pub record IsMadeWhole (dag : Dag) (intervals : List Interval) (head held : List ℕ) (tries : Ledger) (old new : Option (List ℕ)) : Type 0 where
   pub whole : ℕ
   pub found : IsFoundIn dag intervals head held whole tries
   pub is : old ≡ Some held → new ≡ Some (made_whole head held whole)

@@ -6,7 +6,7 @@ use Rattle.bf_value.specs.declared.xval.Xval.{Xval}
 use Rattle.bf_value.specs.declared.xval.Xval.TheVariants.{Int, Text}
 use Rattle.bf_value.specs.Plain.{IsSound, plain_depth}
 use Rattle.bf_value.specs.Views.{list_of, plain_of}
-use Rattle.bf_value.specs.Json.{text_of}
+use Rattle.bf_value.specs.Json.{json_of}
 use Rattle.bf_plan.specs.declared.plan.Dag.{Dag}
 use Rattle.bf_plan.specs.Plans.{task_of}
 use Rattle.bf_interval.specs.declared.interval.Interval.{Interval}
@@ -26,9 +26,9 @@ pub record IsTellable (value : Xval) : Type 0 where
   pub shallow : plain_depth (plain_of value) ≤ 127
 
 -- a list of the value, or of none
-abbrev pub optional : Option Xval → Xval
-optional None = list_of []
-optional (Some value) = list_of (value ∷ [])
+abbrev pub optional_of : Option Xval → Xval
+optional_of None = list_of []
+optional_of (Some value) = list_of (value ∷ [])
 
 -- how a try ended
 abbrev pub outcome_word : Outcome → List ℕ
@@ -51,7 +51,7 @@ stamp_value stamp exit = list_of (Int stamp.start ∷ Int stamp.end ∷ Int (exi
 abbrev pub record_value : List ℕ → List ℕ → JobName → Given → Outcome → Xval → Xval
 record_value run task n given outcome stamp =
     list_of (Text run ∷ Text task ∷ Int n.index ∷ Int (pos n.attempt) ∷ Text (outcome_word outcome)
-    ∷ optional (pushed_by outcome) ∷ optional given.item ∷ list_of (map optional given.pulled) ∷ stamp ∷ [])
+    ∷ optional_of (pushed_by outcome) ∷ optional_of given.item ∷ list_of (map optional_of given.pulled) ∷ stamp ∷ [])
 
 -- the record of a try in the run of this data interval
 abbrev pub record_in : Dag → Interval → JobName → Given → Outcome → Xval → Xval
@@ -59,8 +59,8 @@ record_in dag run n given outcome stamp =
     record_value (moment_text run.start.nanosecond) (task_of dag n.task).id n given outcome stamp
 
 -- the record of an answered try that ended so
-abbrev pub record_of : Dag → Interval → Answered → Outcome → Stamp → Xval
-record_of dag run done outcome stamp =
+abbrev pub record_at : Dag → Interval → Answered → Outcome → Stamp → Xval
+record_at dag run done outcome stamp =
     record_in dag run done.name done.given outcome (stamp_value stamp done.raw.exit)
 
 -- a map index and a number of 32 bits
@@ -70,7 +70,7 @@ IsName n = FitsSigned w32 n.index × (n.attempt < 2 ^ 32)
 -- a value as a line, where it can be told
 pub record IsLineOf (value : Xval) (line : List ℕ) : Type 0 where
   pub tellable : IsTellable value
-  pub is : line ≡ text_of value ++ 10 ∷ []
+  pub is : line ≡ json_of value ++ 10 ∷ []
 
 -- the line is the record of an answered try that ended so, of a task and a run that are there
 pub record IsRecord (dag : Dag) (intervals : List Interval) (done : Answered) (outcome : Outcome) (stamp : Stamp) (line : List ℕ) : Type 0 where
@@ -78,10 +78,10 @@ pub record IsRecord (dag : Dag) (intervals : List Interval) (done : Answered) (o
   pub is_run : slice_get intervals done.name.run ≡ Some run
   pub is_task : done.name.task < length dag.tasks
   pub is_name : IsName done.name
-  pub told : IsLineOf (record_of dag run done outcome stamp) line
+  pub told : IsLineOf (record_at dag run done outcome stamp) line
 
 -- there is no such task or run, or lists nest too deep for a record to be read back
 abbrev pub HasNoRecord : Dag → List Interval → Answered → Outcome → Stamp → Type 0
 HasNoRecord dag intervals done outcome stamp =
     (run : Interval) → slice_get intervals done.name.run ≡ Some run → done.name.task < length dag.tasks
-    → ¬ (plain_depth (plain_of (record_of dag run done outcome stamp)) ≤ 127)
+    → ¬ (plain_depth (plain_of (record_at dag run done outcome stamp)) ≤ 127)

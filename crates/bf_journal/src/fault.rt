@@ -1,6 +1,6 @@
 //! Why a journal was not read.
 ghost use Rattle.std.specs.Prelude.{◌≡◌};
-ghost use Rattle.bf_journal.specs.declared.fault.JournalFault.TheVariants.{OutOfMemory as NoMemory};
+ghost use Rattle.bf_journal.specs.declared.fault.JournalFault.TheVariants.{OutOfMemory};
 
 use bf_value::OutOfMemory;
 use std::alloc::{AllocError, AllocFailed};
@@ -50,7 +50,7 @@ impl fmt::Display for JournalFault {
 impl Error for JournalFault {}
 
 impl From<OutOfMemory> for JournalFault {
-    ghost from_gives = { λ _ e. e ≡ NoMemory };
+    ghost from_gives = { λ _ e. e ≡ OutOfMemory };
 
     fn from(_e: OutOfMemory) -> JournalFault {
         JournalFault::OutOfMemory
@@ -58,7 +58,7 @@ impl From<OutOfMemory> for JournalFault {
 }
 
 impl From<AllocError> for JournalFault {
-    ghost from_gives = { λ _ e. e ≡ NoMemory };
+    ghost from_gives = { λ _ e. e ≡ OutOfMemory };
 
     fn from(_e: AllocError) -> JournalFault {
         JournalFault::OutOfMemory
@@ -66,7 +66,7 @@ impl From<AllocError> for JournalFault {
 }
 
 impl<T: Drop> From<AllocFailed<T>> for JournalFault {
-    ghost from_gives = { λ _ e. e ≡ NoMemory };
+    ghost from_gives = { λ _ e. e ≡ OutOfMemory };
 
     fn from(_e: AllocFailed<T>) -> JournalFault {
         JournalFault::OutOfMemory

@@ -1,10 +1,10 @@
 //! The fields of a record.
 ghost use Rattle.std.specs.Prelude.{◌≡◌, ◌<◌, ◌^◌, FitsSigned, IfOk, Some, option_map, pos, map, slice_get};
 ghost use Rattle.std.specs.Int.{w32};
-ghost use Rattle.bf_value.specs.declared.xval.Xval.TheVariants.{Int as IntValue, Text as TextValue};
+ghost use Rattle.bf_value.specs.declared.xval.Xval.TheVariants.{Int, Text};
 ghost use Rattle.bf_value.specs.Views.{list_of};
 ghost use Rattle.bf_xcom.specs.Pulls.{pushed_by};
-ghost use Rattle.bf_journal.specs.Records.{optional, outcome_word};
+ghost use Rattle.bf_journal.specs.Records.{optional_of, outcome_word};
 ghost use Rattle.bf_journal.specs.Tells.{IsFound};
 
 use bf_value::{OutOfMemory, Xval};
@@ -13,7 +13,7 @@ use std::alloc::Global;
 
 /// The text at a place.
 pub(crate) fn text_at(fields: &[Xval], at: usize) -> Option<&str>
-    ensures { IsFound (λ text. slice_get fields.now at ≡ Some (TextValue text))
+    ensures { IsFound (λ text. slice_get fields.now at ≡ Some (Text text))
         (option_map (λ t. t.now) result) }
 {
     match fields.get(at) {
@@ -24,7 +24,7 @@ pub(crate) fn text_at(fields: &[Xval], at: usize) -> Option<&str>
 
 /// The number at a place.
 pub(crate) fn int_at(fields: &[Xval], at: usize) -> Option<i64>
-    ensures { IsFound (λ n. slice_get fields.now at ≡ Some (IntValue n)) result }
+    ensures { IsFound (λ n. slice_get fields.now at ≡ Some (Int n)) result }
 {
     match fields.get(at) {
         Some(Xval::Int(n)) => Some(*n),
@@ -48,7 +48,7 @@ pub(crate) fn attempt_in(number: i64) -> Option<u32>
 
 /// The value of a list of one, or none of an empty list.
 pub(crate) fn optional_in(alloc: Global, value: &Xval) -> Result<Option<Option<Xval>>, OutOfMemory>
-    ensures { IfOk result (IsFound (λ x. value.now ≡ optional x)) }
+    ensures { IfOk result (IsFound (λ x. value.now ≡ optional_of x)) }
 {
     let Xval::List(values) = value else {
         return Ok(None);
@@ -66,7 +66,7 @@ pub(crate) fn optional_at(
     fields: &[Xval],
     at: usize,
 ) -> Result<Option<Option<Xval>>, OutOfMemory>
-    ensures { IfOk result (IsFound (λ x. slice_get fields.now at ≡ Some (optional x))) }
+    ensures { IfOk result (IsFound (λ x. slice_get fields.now at ≡ Some (optional_of x))) }
 {
     match fields.get(at) {
         Some(value) => optional_in(alloc, value),
@@ -76,7 +76,7 @@ pub(crate) fn optional_at(
 
 /// The values of lists of one or none.
 fn all_optional_in(alloc: Global, values: &[Xval]) -> Result<Option<Vec<Pulled>>, OutOfMemory>
-    ensures { IfOk result (λ o. IsFound (λ all. values.now ≡ map optional all)
+    ensures { IfOk result (λ o. IsFound (λ all. values.now ≡ map optional_of all)
         (option_map (λ v. v.items) o)) }
 {
     let mut all = Vec::with_capacity(alloc, values.len())?;
@@ -91,7 +91,7 @@ fn all_optional_in(alloc: Global, values: &[Xval]) -> Result<Option<Vec<Pulled>>
 
 /// The values of a list of such lists.
 fn optionals_in(alloc: Global, value: &Xval) -> Result<Option<Vec<Pulled>>, OutOfMemory>
-    ensures { IfOk result (λ o. IsFound (λ all. value.now ≡ list_of (map optional all))
+    ensures { IfOk result (λ o. IsFound (λ all. value.now ≡ list_of (map optional_of all))
         (option_map (λ v. v.items) o)) }
 {
     let Xval::List(values) = value else {
@@ -107,7 +107,7 @@ pub(crate) fn optionals_at(
     at: usize,
 ) -> Result<Option<Vec<Pulled>>, OutOfMemory>
     ensures { IfOk result (λ o. IsFound
-        (λ all. slice_get fields.now at ≡ Some (list_of (map optional all)))
+        (λ all. slice_get fields.now at ≡ Some (list_of (map optional_of all)))
         (option_map (λ v. v.items) o)) }
 {
     match fields.get(at) {

@@ -1,6 +1,6 @@
 //! What is found of a journal.
 ghost use Rattle.std.specs.Prelude.{◌≡◌, ◌≢◌, ◌<◌, ◌≤◌, ◌+◌, ◌++◌, ℕ, List, length, IfOk, IfErr};
-ghost use Rattle.std.specs.FinMap as map;
+ghost use Rattle.std.specs.FinMap;
 ghost use Rattle.bf_kept.specs.Kept.{AreFit};
 ghost use Rattle.bf_journal.specs.Found.{IsCutHead, IsFault, IsGoneOnWith};
 
@@ -25,7 +25,7 @@ pub struct Found {
 /// What is found where the bytes don't begin with the head: nothing is kept of a head that was cut short.
 #[tactic(auto, using(crate::proofs::Heading::begins))]
 fn found_in_head(alloc: Global, head: &[u8], bytes: &[u8]) -> Result<Found, JournalFault>
-    ensures ok { IfOk result (λ f. IsCutHead head.now bytes.now f.whole (map.get f.tries)) }
+    ensures ok { IfOk result (λ f. IsCutHead head.now bytes.now f.whole (FinMap.get f.tries)) }
     ensures torn { IfOk result (λ f. f.torn ≡ length bytes.now) }
     ensures err { IfErr result (λ fault. (fault ≡ JournalFault.Mismatch)
         × ((rest : List ℕ) → head.now ≢ bytes.now ++ rest)) }
@@ -51,11 +51,11 @@ pub fn read_journal(
     bytes: &[u8],
 ) -> Result<Found, JournalFault>
     ensures begun { IfOk result (λ f. f.whole < length head.now
-        → IsCutHead head.now bytes.now f.whole (map.get f.tries)) }
+        → IsCutHead head.now bytes.now f.whole (FinMap.get f.tries)) }
     ensures whole { IfOk result (λ f. length head.now ≤ f.whole
-        → IsGoneOnWith plan.now.dag runs.now head.now bytes.now f.whole (map.get f.tries)) }
+        → IsGoneOnWith plan.now.dag runs.now head.now bytes.now f.whole (FinMap.get f.tries)) }
     ensures torn { IfOk result (λ f. f.whole + f.torn ≡ length bytes.now) }
-    ensures fit { IfOk result (λ f. AreFit plan.now.dag (map.get f.tries)) }
+    ensures fit { IfOk result (λ f. AreFit plan.now.dag (FinMap.get f.tries)) }
     ensures refused { IfErr result (IsFault plan.now.dag runs.now head.now bytes.now) }
 {
     let Some(records) = behind(bytes, head) else {

@@ -1,8 +1,8 @@
 //! What is kept of tries of which some have one name: the last.
 ghost use Rattle.std.specs.Prelude.{◌≡◌, ◌<◌, length, IfOk, OnOk};
 ghost use Rattle.std.specs.Option.{option_or};
-ghost use Rattle.std.specs.FinMap as map;
-ghost use Rattle.bf_value.specs.declared.name.JobName.{JobName as JobNameTerm};
+ghost use Rattle.std.specs.FinMap;
+ghost use Rattle.bf_value.specs.declared.name.JobName.{JobName};
 ghost use Rattle.bf_journal.specs.Found.{AreOfTasks, entry_for, entry_named, last_for};
 
 use bf_plan::Plan;
@@ -13,8 +13,8 @@ use std::alloc::Global;
 /// Notes a try, unless one of its name is noted.
 #[tactic(auto, using(crate::proofs::Lasting::noted, crate::proofs::Lasting::not_noted))]
 fn note(ledger: &mut Ledger, name: JobName, entry: Entry) -> Result<(), OutOfMemory>
-    ensures { OnOk result ((n : JobNameTerm) →
-        map.get ledger.new n ≡ option_or (map.get ledger.old n) (entry_named (name, entry) n)) }
+    ensures { OnOk result ((n : JobName) →
+        FinMap.get ledger.new n ≡ option_or (FinMap.get ledger.old n) (entry_named (name, entry) n)) }
 {
     match ledger.note(name, entry) {
         Ok(()) => Ok(()),
@@ -31,8 +31,8 @@ fn note_before(
     entry: Entry,
 ) -> Result<(), OutOfMemory>
     requires { name.task < length plan.now.dag.tasks }
-    ensures { OnOk result ((n : JobNameTerm) →
-        map.get ledger.new n ≡ option_or (map.get ledger.old n)
+    ensures { OnOk result ((n : JobName) →
+        FinMap.get ledger.new n ≡ option_or (FinMap.get ledger.old n)
         (entry_for plan.now.dag (name, entry) n)) }
 {
     if !fits(plan, name.task, &entry.outcome) {
@@ -48,8 +48,8 @@ pub(crate) fn last_of(
     mut tries: Vec<(JobName, Entry)>,
 ) -> Result<Ledger, OutOfMemory>
     requires { AreOfTasks plan.now.dag tries.items }
-    ensures { IfOk result (λ ledger. (n : JobNameTerm) →
-        map.get ledger n ≡ last_for plan.now.dag tries.items n) }
+    ensures { IfOk result (λ ledger. (n : JobName) →
+        FinMap.get ledger n ≡ last_for plan.now.dag tries.items n) }
 {
     let mut ledger = Ledger::new(alloc);
     while let Some((name, entry)) = tries.pop() {

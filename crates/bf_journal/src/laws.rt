@@ -1,13 +1,13 @@
 //! What holds of journals. These functions do nothing: their contracts are the laws, over the definitions alone.
 ghost use Rattle.std.specs.Prelude.{◌≡◌, ◌+◌, ◌++◌, ℕ, Bool, List, [], All, Option, Some, length, take};
-ghost use Rattle.bf_value.specs.declared.name.JobName.{JobName as JobNameTerm};
-ghost use Rattle.bf_value.specs.declared.xval.Xval.{Xval as XvalTerm};
-ghost use Rattle.bf_plan.specs.declared.plan.Dag.{Dag as DagTerm};
+ghost use Rattle.bf_value.specs.declared.name.JobName.{JobName};
+ghost use Rattle.bf_value.specs.declared.xval.Xval.{Xval};
+ghost use Rattle.bf_plan.specs.declared.plan.Dag.{Dag};
 ghost use Rattle.bf_plan.specs.Sound.{IsNamed};
-ghost use Rattle.bf_interval.specs.declared.interval.Interval.{Interval as IntervalTerm};
+ghost use Rattle.bf_interval.specs.declared.interval.Interval.{Interval};
 ghost use Rattle.bf_interval.specs.Runs.{AreOfRuns};
-ghost use Rattle.bf_try.specs.declared.ledger.Entry.{Entry as EntryTerm};
-ghost use Rattle.bf_try.specs.Tries.{Look};
+ghost use Rattle.bf_try.specs.declared.ledger.Entry.{Entry};
+ghost use Rattle.bf_try.specs.Tries.{Ledger};
 ghost use Rattle.bf_kept.specs.Kept.{AreFit};
 ghost use Rattle.bf_journal.specs.Lines.{text_of_lines, whole_lines};
 ghost use Rattle.bf_journal.specs.Records.{IsTellable};
@@ -21,14 +21,14 @@ use bf_try::TaskRunner;
 
 /// Of the records of a journal that was cut short anywhere, just those are read that stand there whole.
 pub fn whole_records_are_read()
-    ensures { (records : List XvalTerm) → All IsTellable records → (n : ℕ)
+    ensures { (records : List Xval) → All IsTellable records → (n : ℕ)
         → ReadsWholeOnes records n }
 {}
 
 /// The whole lines of a journal tell one list of tries alone.
 pub fn journals_tell_one_list()
-    ensures { (dag : DagTerm) (intervals : List IntervalTerm) → IsNamed dag → AreOfRuns intervals
-        → (values : List (Option XvalTerm)) (tries others : List (JobNameTerm × EntryTerm))
+    ensures { (dag : Dag) (intervals : List Interval) → IsNamed dag → AreOfRuns intervals
+        → (values : List (Option Xval)) (tries others : List (JobName × Entry))
         → TellAll dag intervals values tries → TellAll dag intervals values others → tries
         ≡ others }
 {}
@@ -37,10 +37,10 @@ pub fn journals_tell_one_list()
 /// read, and each kept try has the grade of an answer that may be given to it. That is a premise of `resume`, so what is printed
 /// after any number of crashes is what a backfill from nothing may print.
 pub fn cut_journals_keep_graded_tries<R: TaskRunner>(runner: &R)
-    ensures told { (dag : DagTerm) (intervals : List IntervalTerm) (bytes : List ℕ)
+    ensures told { (dag : Dag) (intervals : List Interval) (bytes : List ℕ)
         → IsCutJournal (R.may_answer runner.now) dag intervals bytes
         → AreAllTold dag intervals bytes }
-    ensures graded { (dag : DagTerm) (intervals : List IntervalTerm) → IsNamed dag
+    ensures graded { (dag : Dag) (intervals : List Interval) → IsNamed dag
         → AreOfRuns intervals → (bytes : List ℕ)
         → IsCutJournal (R.may_answer runner.now) dag intervals bytes
         → KeepsGraded (R.may_answer runner.now) dag intervals bytes }
@@ -49,12 +49,12 @@ pub fn cut_journals_keep_graded_tries<R: TaskRunner>(runner: &R)
 /// Nothing is such a journal; what is left of one that is cut short again is; and so is what stands there once a backfill has gone
 /// on behind its whole lines.
 pub fn journals_are_cut_and_gone_on_with<R: TaskRunner>(runner: &R)
-    ensures begun { (dag : DagTerm) (intervals : List IntervalTerm)
+    ensures begun { (dag : Dag) (intervals : List Interval)
         → IsCutJournal (R.may_answer runner.now) dag intervals [] }
-    ensures cut { (dag : DagTerm) (intervals : List IntervalTerm) (bytes : List ℕ) (n : ℕ)
+    ensures cut { (dag : Dag) (intervals : List Interval) (bytes : List ℕ) (n : ℕ)
         → IsCutJournal (R.may_answer runner.now) dag intervals bytes
         → IsCutJournal (R.may_answer runner.now) dag intervals (take n bytes) }
-    ensures gone_on { (dag : DagTerm) (intervals : List IntervalTerm) (head bytes written : List ℕ)
+    ensures gone_on { (dag : Dag) (intervals : List Interval) (head bytes written : List ℕ)
         (failed : Bool)
         → IsCutJournal (R.may_answer runner.now) dag intervals bytes
         → IsWritten (IsRecordBy (R.may_answer runner.now) dag intervals)
@@ -65,17 +65,17 @@ pub fn journals_are_cut_and_gone_on_with<R: TaskRunner>(runner: &R)
 
 /// What is kept without failed tries is a part of what was kept, so it fits where that did.
 pub fn what_is_left_is_kept()
-    ensures part { (dag : DagTerm) (kept : Look) (n : JobNameTerm) (e : EntryTerm)
+    ensures part { (dag : Dag) (kept : Ledger) (n : JobName) (e : Entry)
         → without_failed dag kept n ≡ Some e → kept n ≡ Some e }
-    ensures fit { (dag : DagTerm) (kept : Look) → AreFit dag kept
+    ensures fit { (dag : Dag) (kept : Ledger) → AreFit dag kept
         → AreFit dag (without_failed dag kept) }
 {}
 
 /// No byte is what crashes leave of a journal, and so is each beginning of what they leave.
 pub fn what_crashes_leave_may_be_cut<R: TaskRunner>(runner: &R)
-    ensures nothing { (dag : DagTerm) (intervals : List IntervalTerm) (head : List ℕ)
+    ensures nothing { (dag : Dag) (intervals : List Interval) (head : List ℕ)
         → IsLeftByCrashes (R.may_answer runner.now) dag intervals head [] }
-    ensures cut { (dag : DagTerm) (intervals : List IntervalTerm) (head held : List ℕ) (n : ℕ)
+    ensures cut { (dag : Dag) (intervals : List Interval) (head held : List ℕ) (n : ℕ)
         → IsLeftByCrashes (R.may_answer runner.now) dag intervals head held
         → IsLeftByCrashes (R.may_answer runner.now) dag intervals head (take n held) }
 {}

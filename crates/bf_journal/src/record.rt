@@ -3,7 +3,7 @@ ghost use Rattle.std.specs.Prelude.{◌≡◌, ◌<◌, ◌≤◌, length, IfOk,
 ghost use Rattle.bf_value.specs.Plain.{plain_depth};
 ghost use Rattle.bf_value.specs.Views.{plain_of};
 ghost use Rattle.bf_interval.specs.Intervals.{IsShownInterval};
-ghost use Rattle.bf_journal.specs.Records.{exit_code, HasNoRecord, IsLineOf, IsRecord, optional as optional_value, outcome_word, record_of as record_in, stamp_value};
+ghost use Rattle.bf_journal.specs.Records.{exit_code, HasNoRecord, IsLineOf, IsRecord, optional_of, outcome_word, record_at, stamp_value};
 
 use crate::run::run_of;
 use crate::stamp::Stamp;
@@ -20,7 +20,7 @@ pub(crate) const DEEPEST_RECORD: usize = 127;
 
 /// A list of the value, or of none.
 fn optional(alloc: Global, value: Option<&Xval>) -> Result<Xval, OutOfMemory>
-    ensures { IfOk result (λ v. v ≡ optional_value (option_copied value.entry)) }
+    ensures { IfOk result (λ v. v ≡ optional_of (option_copied value.entry)) }
 {
     let mut items = Vec::new(alloc);
     match value {
@@ -33,7 +33,7 @@ fn optional(alloc: Global, value: Option<&Xval>) -> Result<Xval, OutOfMemory>
 }
 
 fn all_optional(alloc: Global, values: &[Pulled]) -> Result<Vec<Xval>, OutOfMemory>
-    ensures { IfOk result (λ all. all.items ≡ map optional_value values.now) }
+    ensures { IfOk result (λ all. all.items ≡ map optional_of values.now) }
 {
     let mut all = Vec::with_capacity(alloc, values.len())?;
     for value in values {
@@ -88,7 +88,7 @@ fn value_of(
 ) -> Result<Xval, OutOfMemory>
     requires task { done.now.name.task < length plan.now.dag.tasks }
     requires shown { IsShownInterval run.now }
-    ensures { IfOk result (λ v. v ≡ record_in plan.now.dag run.now done.now outcome.now stamp) }
+    ensures { IfOk result (λ v. v ≡ record_at plan.now.dag run.now done.now outcome.now stamp) }
 {
     let name = done.name();
     let given = done.given();
@@ -133,9 +133,9 @@ fn line_in(
     requires task { done.now.name.task < length plan.now.dag.tasks }
     requires shown { IsShownInterval run.now }
     ensures some { IfOk result (λ o. IfSome o (λ line.
-        IsLineOf (record_in plan.now.dag run.now done.now outcome.now stamp) (string_bytes line))) }
+        IsLineOf (record_at plan.now.dag run.now done.now outcome.now stamp) (string_bytes line))) }
     ensures none { IfOk result (λ o. IfNone o
-        (¬ (plain_depth (plain_of (record_in plan.now.dag run.now done.now outcome.now stamp)) ≤
+        (¬ (plain_depth (plain_of (record_at plan.now.dag run.now done.now outcome.now stamp)) ≤
         127))) }
 {
     let value = value_of(alloc, plan, run, done, outcome, stamp)?;

@@ -33,13 +33,13 @@ pub struct Recording<'a, K: Journaled, RT, R: DetailedRunner, D: Durable + Drop>
 impl<'a, K: Journaled, RT, R: DetailedRunner, D: Durable + Drop> Model
     for Recording<'a, K, RT, R, D> {
     ghost use Rattle.std.specs.Coded.{codes};
-    ghost use Rattle.bf_plan.specs.contracts.plan.Dag as d;
-    ghost use Rattle.bf_interval.specs.contracts.interval.Interval as i;
+    ghost use Rattle.bf_plan.specs.contracts.plan.Dag;
+    ghost use Rattle.bf_interval.specs.contracts.interval.Interval;
     ghost use Rattle.bf_journal.specs.Recording.{MayRecord, RecordingOf};
 
     ghost Value = { RecordingOf R };
 
-    ghost coded = { Prim.hlevel (codes, d.the_row.coded, i.the_row.coded) };
+    ghost coded = { Prim.hlevel (codes, Dag.the_row.coded, Interval.the_row.coded) };
 
     ghost view = { λ s. record { runner = s.runner.now; dag = s.plan.now.dag; intervals = s.runs.now } };
 

@@ -1,6 +1,6 @@
 //! Failed tries that are made again.
 ghost use Rattle.std.specs.Prelude.{◌≡◌, option_copied};
-ghost use Rattle.std.specs.FinMap as map;
+ghost use Rattle.std.specs.FinMap;
 ghost use Rattle.bf_plan.specs.Plans.{task_of};
 ghost use Rattle.bf_journal.specs.Retrying.{has_failed, has_passed, some_passed, with_attempt, without_failed};
 
@@ -50,14 +50,14 @@ fn retries_of(dag: &Dag, task: u32) -> u32
 
 /// Whether a try of the same instance, of the number, is there and succeeded or was skipped.
 fn passed_at(tries: &Ledger, name: JobName, attempt: u32) -> bool
-    ensures { result ≡ has_passed (map.get tries.now (with_attempt name attempt)) }
+    ensures { result ≡ has_passed (FinMap.get tries.now (with_attempt name attempt)) }
 {
     has_passed_in(tries.get(JobName { attempt, ..name }))
 }
 
 /// Whether a try of the instance succeeded or was skipped.
 fn some_passed_in(plan: &Plan, tries: &Ledger, name: JobName) -> bool
-    ensures { result ≡ some_passed plan.now.dag (map.get tries.now) name }
+    ensures { result ≡ some_passed plan.now.dag (FinMap.get tries.now) name }
 {
     let last = retries_of(plan.dag(), name.task) + 1;
     (1..last + 1).any(|attempt| passed_at(tries, name, attempt))
@@ -68,7 +68,7 @@ impl<'a> WithoutFailed<'a> {
     #[tactic(auto, unfolding(crate::specs::Retrying::without_failed))]
     pub(crate) fn entry(&self, name: JobName) -> Option<&'a Entry>
         ensures { option_copied result
-            ≡ without_failed self.now.plan.now.dag (map.get self.now.tries.now) name }
+            ≡ without_failed self.now.plan.now.dag (FinMap.get self.now.tries.now) name }
     {
         let entry = self.tries.get(name);
         if has_failed_in(entry) && !some_passed_in(self.plan, self.tries, name) {
@@ -79,10 +79,10 @@ impl<'a> WithoutFailed<'a> {
 }
 
 impl KeptTries for WithoutFailed<'_> {
-    ghost use Rattle.std.specs.FinMap as map;
+    ghost use Rattle.std.specs.FinMap;
     ghost use Rattle.bf_journal.specs.Retrying.{without_failed};
 
-    ghost kept = { λ s. without_failed s.plan.now.dag (map.get s.tries.now) };
+    ghost kept = { λ s. without_failed s.plan.now.dag (FinMap.get s.tries.now) };
 
     fn answer(
         &self,

@@ -1,6 +1,6 @@
 //! Tries that are kept of a journal, over those that were kept before it.
 ghost use Rattle.std.specs.Prelude.{◌≡◌, option_copied};
-ghost use Rattle.std.specs.FinMap as map;
+ghost use Rattle.std.specs.FinMap;
 ghost use Rattle.bf_journal.specs.Since.{left_of};
 
 use crate::retrying::WithoutFailed;
@@ -24,7 +24,7 @@ impl<K> Since<'_, K> {
     /// What is kept of the journal's try of a name.
     fn entry(&self, name: JobName) -> Option<&Entry>
         ensures { option_copied result
-            ≡ left_of self.now.retry_failed self.now.plan.now.dag (map.get self.now.tries.now)
+            ≡ left_of self.now.retry_failed self.now.plan.now.dag (FinMap.get self.now.tries.now)
             name }
     {
         if !self.retry_failed {
@@ -39,10 +39,10 @@ impl<K> Since<'_, K> {
 }
 
 impl<K: KeptTries> KeptTries for Since<'_, K> {
-    ghost use Rattle.std.specs.FinMap as map;
+    ghost use Rattle.std.specs.FinMap;
     ghost use Rattle.bf_journal.specs.Since.{left_of, since};
 
-    ghost kept = { λ s. since (left_of s.retry_failed s.plan.now.dag (map.get s.tries.now)) (K.kept s.before.now) };
+    ghost kept = { λ s. since (left_of s.retry_failed s.plan.now.dag (FinMap.get s.tries.now)) (K.kept s.before.now) };
 
     fn answer(
         &self,

@@ -1,6 +1,6 @@
 //! Texts and moments as values.
 ghost use Rattle.std.specs.Prelude.{◌≡◌, IfOk};
-ghost use Rattle.bf_value.specs.declared.xval.Xval.TheVariants.{Text as TextValue};
+ghost use Rattle.bf_value.specs.declared.xval.Xval.TheVariants.{Text};
 ghost use Rattle.bf_moment.specs.Moment.{IsShown, moment_text};
 
 use bf_moment::Moment;
@@ -10,7 +10,7 @@ use std::alloc::Global;
 
 /// A text as a value.
 pub(crate) fn text_value(alloc: Global, text: &str) -> Result<Xval, OutOfMemory>
-    ensures { IfOk result (λ v. v ≡ TextValue text.now) }
+    ensures { IfOk result (λ v. v ≡ Text text.now) }
 {
     Ok(Xval::Text(Text::copied(alloc, text)?))
 }
@@ -18,7 +18,7 @@ pub(crate) fn text_value(alloc: Global, text: &str) -> Result<Xval, OutOfMemory>
 /// The text of a moment as a value.
 pub(crate) fn moment_value(alloc: Global, at: Timestamp) -> Result<Xval, OutOfMemory>
     requires { IsShown at.nanosecond }
-    ensures { IfOk result (λ v. v ≡ TextValue (moment_text at.nanosecond)) }
+    ensures { IfOk result (λ v. v ≡ Text (moment_text at.nanosecond)) }
 {
     Ok(Xval::Text(Text::new(Moment::new(at).to_string(alloc)?)))
 }

@@ -6,10 +6,10 @@ use Rattle.bf_xcom.specs.declared.values.Given.{Given}
 use Rattle.bf_try.specs.declared.answers.Raw.{Raw}
 use Rattle.bf_try.specs.declared.ledger.Entry.{Entry}
 use Rattle.bf_try.specs.Grades.{grade_of}
-use Rattle.bf_try.specs.Tries.{AreAlike, Look, outcome_of}
+use Rattle.bf_try.specs.Tries.{AreAlike, Ledger, outcome_of}
 use Rattle.bf_kept.specs.Kept.{IsAnswer, IsKeptAnswer, AreFit, AreGradedAnew, HasGrade}
 
-module _ (dag : Dag) (kept ledger : Look) (may_answer : JobName → Given → Raw → Type 0) (fit : AreFit dag kept) (graded : (n : JobName) (e : Entry) → ledger n ≡ Some e → HasGrade (IsAnswer kept may_answer) dag n e) where
+module _ (dag : Dag) (kept ledger : Ledger) (may_answer : JobName → Given → Raw → Type 0) (fit : AreFit dag kept) (graded : (n : JobName) (e : Entry) → ledger n ≡ Some e → HasGrade (IsAnswer kept may_answer) dag n e) where
   -- a kept answer has the grade that was kept
   again : (n : JobName) (given : Given) (raw : Raw) (is : IsKeptAnswer kept n given raw) → grade_of dag n.task raw ≡ is.held.outcome
   again n given raw is = is.grades dag n.task (fit n is.held is.is_kept.0)

@@ -45,9 +45,9 @@ impl KeptTries for NothingKept {
 
 /// All tries of a ledger are kept.
 impl KeptTries for Ledger {
-    ghost use Rattle.std.specs.FinMap as map;
+    ghost use Rattle.std.specs.FinMap;
 
-    ghost kept = { λ s. map.get s };
+    ghost kept = { λ s. FinMap.get s };
 
     fn answer(
         &self,

@@ -18,13 +18,13 @@ pub struct Closed<K: Service> {
 impl<K: Service> Model for Closed<K> {
     ghost use Rattle.crossbeam_queue.specs.Passes.{view as known};
     ghost use Rattle.bf_lane.specs.Lanes.{FourLists};
-    ghost use Rattle.bf_lane.specs.contracts.messages.Job as j;
-    ghost use Rattle.bf_lane.specs.contracts.messages.Answer as a;
+    ghost use Rattle.bf_lane.specs.contracts.messages.Job;
+    ghost use Rattle.bf_lane.specs.contracts.messages.Answer;
     ghost use Rattle.std.specs.Coded.{codes};
 
     ghost Value = { FourLists };
 
-    ghost coded = { Prim.hlevel (codes, j.the_row.coded, a.the_row.coded) };
+    ghost coded = { Prim.hlevel (codes, Job.the_row.coded, Answer.the_row.coded) };
 
     ghost view = { λ c. record { submitted = (known c.jobs).put; taken = (known c.jobs).taken; sent = (known c.results).put; gathered = (known c.results).taken } };
 }

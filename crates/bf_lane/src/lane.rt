@@ -4,7 +4,7 @@ ghost use Rattle.crossbeam_queue.specs.Passes.{view, IsPassOf};
 ghost use Rattle.bf_lane.specs.Relay.{log};
 ghost use Rattle.bf_lane.specs.Lanes.{IsClosed, IsAllowedBy};
 ghost use Rattle.bf_lane.specs.Open.{IsFresh, scheduled, awaits, Fulfils, StartsWith};
-ghost use Rattle.bf_lane.specs.declared.messages.Job.TheVariants as job;
+ghost use Rattle.bf_lane.specs.declared.messages.Job.TheVariants;
 ghost use Rattle.bf_lane.specs.Drained.{IsDrained};
 
 use crate::closed::Closed;
@@ -37,13 +37,13 @@ pub struct Lane<'s, K: Service> {
 impl<'s, K: Service> Model for Lane<'s, K> {
     ghost use Rattle.crossbeam_queue.specs.Passes.{view as known};
     ghost use Rattle.bf_lane.specs.Open.{Scheduled, scheduled, IsOpen};
-    ghost use Rattle.bf_lane.specs.contracts.messages.Job as j;
-    ghost use Rattle.bf_lane.specs.contracts.messages.Answer as a;
+    ghost use Rattle.bf_lane.specs.contracts.messages.Job;
+    ghost use Rattle.bf_lane.specs.contracts.messages.Answer;
     ghost use Rattle.std.specs.Coded.{codes};
 
     ghost Value = { Scheduled };
 
-    ghost coded = { Prim.hlevel (codes, j.the_row.coded, a.the_row.coded) };
+    ghost coded = { Prim.hlevel (codes, Job.the_row.coded, Answer.the_row.coded) };
 
     ghost view = { λ l. scheduled (known l.puts).put (known l.gathers).taken };
 
@@ -160,7 +160,7 @@ impl<'s, K: Service + Send + Sync + 's> Lane<'s, K> {
     /// Submits a try to the worker, which then has one to answer.
     pub fn submit<W: Wait>(&mut self, rt: &W, ticket: Ticket)
         requires { awaits self.old ≡ false }
-        ensures { self.new ≡ scheduled (self.old.submitted ++ job.Run ticket ∷ [])
+        ensures { self.new ≡ scheduled (self.old.submitted ++ TheVariants.Run ticket ∷ [])
             self.old.gathered }
     {
         put(rt, &self.queues.jobs, &mut self.puts, Job::Run(ticket));
@@ -185,7 +185,7 @@ impl<'s, K: Service + Send + Sync + 's> Lane<'s, K> {
 
     /// Stops the worker, waits until it has ended, and takes what it left in its queues.
     pub fn close<W: Threads + Wait>(self, rt: &W) -> Closed<K>
-        ensures submitted { result.submitted ≡ self.entry.submitted ++ job.Stop ∷ [] }
+        ensures submitted { result.submitted ≡ self.entry.submitted ++ TheVariants.Stop ∷ [] }
         ensures gathered { StartsWith result.gathered self.entry.gathered }
         ensures closed { IsClosed K.answers K.gives_up result }
     {

@@ -29,13 +29,13 @@ pub struct Lanes<'s, K: Service> {
 impl<'s, K: Service> Model for Lanes<'s, K> {
     ghost use Rattle.std.specs.Prelude.{◌≡◌, ◌≤◌, [], length, vec_capacity, List};
     ghost use Rattle.bf_lane.specs.Open.{Scheduled};
-    ghost use Rattle.bf_lane.specs.contracts.messages.Job as j;
-    ghost use Rattle.bf_lane.specs.contracts.messages.Answer as a;
+    ghost use Rattle.bf_lane.specs.contracts.messages.Job;
+    ghost use Rattle.bf_lane.specs.contracts.messages.Answer;
     ghost use Rattle.std.specs.Coded.{codes};
 
     ghost Value = { List Scheduled };
 
-    ghost coded = { Prim.hlevel (codes, j.the_row.coded, a.the_row.coded) };
+    ghost coded = { Prim.hlevel (codes, Job.the_row.coded, Answer.the_row.coded) };
 
     ghost view = { λ e. e.lanes.items };
 

@@ -15,13 +15,13 @@ pub struct Reply<K: Service> {
 
 impl<K: Service> Model for Reply<K> {
     ghost use Rattle.bf_lane.specs.declared.messages.Answer.{Answer};
-    ghost use Rattle.bf_lane.specs.contracts.messages.Answer as a;
+    ghost use Rattle.bf_lane.specs.contracts.messages.Answer;
     ghost use Rattle.std.specs.Coded.{codes};
     ghost use Rattle.bf_lane.specs.Lanes.{IsAllowedBy};
 
     ghost Value = { Answer };
 
-    ghost coded = { Prim.hlevel (codes, a.the_row.coded) };
+    ghost coded = { Prim.hlevel (codes, Answer.the_row.coded) };
 
     ghost view = { λ r. r.answer };
 

@@ -5,7 +5,7 @@ use Rattle.std.proofs.lemmas.Bool.{false≢true, and_from, cond-true, cases_eq, 
 use Rattle.bf_plan.specs.declared.plan.Dag.{Dag}
 use Rattle.bf_plan.specs.Plans.{task_of}
 use Rattle.bf_plan.specs.Sound.{IsOneOf, IsSound}
-use Rattle.bf_marks.specs.RowOrder.{stands, is_let_go, is_source, order_from, order_of, tasks_where}
+use Rattle.bf_marks.specs.RowOrder.{stands, is_let_go_in, is_source_in, order_from, order_of, tasks_where}
 use Rattle.bf_marks.proofs.BehindFacts.{stands_now, stands_on, nothing_stands, one_of_all}
 use Rattle.bf_marks.proofs.OnceFacts.{Fits, begins, walks_on, set_stands, not_standing}
 
@@ -93,10 +93,10 @@ source_or : (n : ℕ) (us : List ℕ) → ((length us == 0) ≡ true) ⊎ (list_
 source_or n [] = inl refl
 source_or n (u ∷ us) = inr (ap (λ b. b && list_all (stands (replicate n false)) us) (nothing_stands n u))
 
-open_first : (dag : Dag) → Open dag (replicate (length dag.tasks) false) (tasks_where dag (is_source dag))
+open_first : (dag : Dag) → Open dag (replicate (length dag.tasks) false) (tasks_where dag (is_source_in dag))
 open_first dag x low not_yet =
     elim (source_or (length dag.tasks) (task_of dag x).upstreams) [
-      | inl e ↦ inl (in_kept (is_source dag) x (range_with_len 0 (length dag.tasks)) e (in_range 0 (length dag.tasks) x (omega arith) (omega arith)))
+      | inl e ↦ inl (in_kept (is_source_in dag) x (range_with_len 0 (length dag.tasks)) e (in_range 0 (length dag.tasks) x (omega arith) (omega arith)))
       | inr e ↦ inr e
     ]
 
@@ -107,19 +107,19 @@ newly s t us before now =
     any_of (λ v. v == t) us u there (eq-eqb u t same)
 
 by_ready : (dag : Dag) (s : List Bool) (t x : ℕ) (left : List ℕ) (b : Bool) → x < length dag.tasks → list_all (stands s) (task_of dag x).upstreams ≡ false → list_all (stands (slice_set s t true)) (task_of dag x).upstreams ≡ b →
-    In x (tasks_where dag (is_let_go dag (slice_set s t true) t) ++ left) ⊎ (list_all (stands (slice_set s t true)) (task_of dag x).upstreams ≡ false)
+    In x (tasks_where dag (is_let_go_in dag (slice_set s t true) t) ++ left) ⊎ (list_all (stands (slice_set s t true)) (task_of dag x).upstreams ≡ false)
 by_ready dag s t x left false low before now = inr now
 by_ready dag s t x left true low before now =
-    let p : ℕ → Bool = is_let_go dag (slice_set s t true) t in
+    let p : ℕ → Bool = is_let_go_in dag (slice_set s t true) t in
     let e : p x ≡ true = and_from _ _ (newly s t (task_of dag x).upstreams before now) now in
     inl (in_front x (tasks_where dag p) left (in_kept p x (range_with_len 0 (length dag.tasks)) e (in_range 0 (length dag.tasks) x (omega arith) (omega arith))))
 
-open_on : (dag : Dag) (s : List Bool) (t : ℕ) (left : List ℕ) → t < length s → Open dag s (t ∷ left) → Open dag (slice_set s t true) (tasks_where dag (is_let_go dag (slice_set s t true) t) ++ left)
+open_on : (dag : Dag) (s : List Bool) (t : ℕ) (left : List ℕ) → t < length s → Open dag s (t ∷ left) → Open dag (slice_set s t true) (tasks_where dag (is_let_go_in dag (slice_set s t true) t) ++ left)
 open_on dag s t left inside unlocked x low not_yet =
     let earlier : stands s x ≡ false = not_standing (stands s x) (λ e. false≢true (sym not_yet ∙ stands_on s t x e)) in
     elim (unlocked x low earlier) [
       | inl (inl same) ↦ absurd (false≢true (sym not_yet ∙ subst (λ k. stands (slice_set s t true) k ≡ true) (sym same) (set_stands s t inside)))
-      | inl (inr there) ↦ inl (in_back x (tasks_where dag (is_let_go dag (slice_set s t true) t)) left there)
+      | inl (inr there) ↦ inl (in_back x (tasks_where dag (is_let_go_in dag (slice_set s t true) t)) left there)
       | inr waits ↦ by_ready dag s t x left (list_all (stands (slice_set s t true)) (task_of dag x).upstreams) low waits refl
     ]
 
@@ -151,7 +151,7 @@ cover dag sound (suc n) s (t ∷ left) fits unlocked few x low not_yet =
     ⊎_elim (λ same. (0, ap Some (sym same)))
     (λ other.
     let still : stands more x ≡ false = not_standing (stands more x) (λ now. ⊎_elim other (λ e. false≢true (sym not_yet ∙ e)) (stands_now s t x now)) in
-    let (i, is) = cover dag sound n more (tasks_where dag (is_let_go dag more t) ++ left) (walks_on dag s t left fits) (open_on dag s t left fits.inside.0 unlocked) (omega arith) x low still in
+    let (i, is) = cover dag sound n more (tasks_where dag (is_let_go_in dag more t) ++ left) (walks_on dag s t left fits) (open_on dag s t left fits.inside.0 unlocked) (omega arith) x low still in
     (suc i, is))
     (cases_eq x t)
 
@@ -159,4 +159,4 @@ pub order_all : (dag : Dag) → IsSound dag → (x : ℕ) → x < length dag.tas
 unfolding order_of
 order_all dag sound x low =
     let n : ℕ = length dag.tasks in
-    cover dag sound n (replicate n false) (tasks_where dag (is_source dag)) (begins dag) (open_first dag) (omega (arith, all_lack n)) x low (nothing_stands n x)
+    cover dag sound n (replicate n false) (tasks_where dag (is_source_in dag)) (begins dag) (open_first dag) (omega (arith, all_lack n)) x low (nothing_stands n x)

@@ -5,7 +5,7 @@ use Rattle.std.proofs.lemmas.Bool.{false≢true, and_parts, and_from, cond_both,
 use Rattle.bf_plan.specs.declared.plan.Dag.{Dag}
 use Rattle.bf_plan.specs.Plans.{task_of}
 use Rattle.bf_plan.specs.Sound.{IsOneOf}
-use Rattle.bf_marks.specs.RowOrder.{stands, is_let_go, is_source, order_from, order_of, tasks_where}
+use Rattle.bf_marks.specs.RowOrder.{stands, is_let_go_in, is_source_in, order_from, order_of, tasks_where}
 use Rattle.bf_marks.specs.Behind.{IsReady, AreBehind}
 
 -- ---- what stands
@@ -55,22 +55,22 @@ unfolding AreReady
 ready_on dag s task [] all = tt
 ready_on dag s task (x ∷ xs) all = (all_stand_on s task (task_of dag x).upstreams all.0, ready_on dag s task xs all.1)
 
-let_go_ready : (dag : Dag) (s : List Bool) (task : ℕ) (xs : List ℕ) → AreReady dag s (filter (is_let_go dag s task) xs)
+let_go_ready : (dag : Dag) (s : List Bool) (task : ℕ) (xs : List ℕ) → AreReady dag s (filter (is_let_go_in dag s task) xs)
 unfolding AreReady
 let_go_ready dag s task [] = tt
 let_go_ready dag s task (x ∷ xs) =
-    cond_both (is_let_go dag s task x) (x ∷ filter (is_let_go dag s task) xs) (filter (is_let_go dag s task) xs) (AreReady dag s)
+    cond_both (is_let_go_in dag s task x) (x ∷ filter (is_let_go_in dag s task) xs) (filter (is_let_go_in dag s task) xs) (AreReady dag s)
     (λ kept. ((and_parts _ _ kept).1, let_go_ready dag s task xs)) (λ _. let_go_ready dag s task xs)
 
 pub no_upstreams : (f : ℕ → Bool) (us : List ℕ) → (length us == 0) ≡ true → list_all f us ≡ true
 no_upstreams f [] e = refl
 no_upstreams f (u ∷ us) e = let none : length (u ∷ us) ≡ 0 = eqb-true (length (u ∷ us)) 0 e in absurd (omega arith)
 
-sources_ready : (dag : Dag) (s : List Bool) (xs : List ℕ) → AreReady dag s (filter (is_source dag) xs)
+sources_ready : (dag : Dag) (s : List Bool) (xs : List ℕ) → AreReady dag s (filter (is_source_in dag) xs)
 unfolding AreReady
 sources_ready dag s [] = tt
 sources_ready dag s (x ∷ xs) =
-    cond_both (is_source dag x) (x ∷ filter (is_source dag) xs) (filter (is_source dag) xs) (AreReady dag s)
+    cond_both (is_source_in dag x) (x ∷ filter (is_source_in dag) xs) (filter (is_source_in dag) xs) (AreReady dag s)
     (λ kept. (no_upstreams (stands s) (task_of dag x).upstreams kept, sources_ready dag s xs)) (λ _. sources_ready dag s xs)
 
 -- ---- the order
@@ -81,7 +81,7 @@ from_behind dag zero s left ready = tt
 from_behind dag (suc n) s [] ready = tt
 from_behind dag (suc n) s (task ∷ left) ready =
     let more = slice_set s task true in
-    (ready.0, from_behind dag n more (tasks_where dag (is_let_go dag more task) ++ left) (both_ready dag more _ left (let_go_ready dag more task _) (ready_on dag s task left ready.1)))
+    (ready.0, from_behind dag n more (tasks_where dag (is_let_go_in dag more task) ++ left) (both_ready dag more _ left (let_go_ready dag more task _) (ready_on dag s task left ready.1)))
 
 before : (dag : Dag) (s : List Bool) (tasks : List ℕ) → AreBehind dag s tasks → (i t u : ℕ) → slice_get tasks i ≡ Some t → IsOneOf (task_of dag t).upstreams u → (stands s u ≡ true) ⊎ ((j : ℕ) × (j < i) × (slice_get tasks j ≡ Some u))
 before dag s [] behind i t u is up = cc
@@ -98,5 +98,5 @@ pub order_behind : (dag : Dag) (i t u : ℕ) → slice_get (order_of dag) i ≡ 
 unfolding order_of
 order_behind dag i t u is up =
     let none : List Bool = replicate (length dag.tasks) false in
-    let behind = from_behind dag (length dag.tasks) none (tasks_where dag (is_source dag)) (sources_ready dag none _) in
+    let behind = from_behind dag (length dag.tasks) none (tasks_where dag (is_source_in dag)) (sources_ready dag none _) in
     elim (before dag none _ behind i t u is up) [ inl e ↦ absurd (false≢true (sym (nothing_stands (length dag.tasks) u) ∙ e)) | inr w ↦ w ]

@@ -8,15 +8,15 @@ use Rattle.bf_moment.specs.declared.moment.Moment.{Moment}
 use Rattle.bf_value.proofs.ReadLemmas.{drop-item}
 use Rattle.bf_moment.specs.Moment.{moment_text}
 use Rattle.bf_marks.specs.declared.label.Scale.{Scale}
-use Rattle.bf_marks.specs.Labels.{are_apart, is_behind, counted, counted_on, fitted, group_label, group_of, groups_of, groups_text, left, same_first}
+use Rattle.bf_marks.specs.Labels.{are_apart_in, is_behind, counted, counted_on, fitted_of, group_label, group_of, groups_of, groups_text, left, same_first}
 
 abbrev pub moments : List Moment → List ℤ
 moments starts = map (λ start. start.at.nanosecond) starts
 
 -- one moment more
 pub apart_more : (least before : ℤ) (starts : List Moment) (i : ℕ) (start : Moment) → i < length starts → start ≡ get_or starts i start →
-    are_apart least (before ∷ moments (drop i starts)) ≡ (is_behind least before start.at.nanosecond && are_apart least (start.at.nanosecond ∷ moments (drop (i + 1) starts)))
-apart_more least before starts i start inside is = ap (λ rest. are_apart least (before ∷ moments rest)) (drop-item starts i start inside is)
+    are_apart_in least (before ∷ moments (drop i starts)) ≡ (is_behind least before start.at.nanosecond && are_apart_in least (start.at.nanosecond ∷ moments (drop (i + 1) starts)))
+apart_more least before starts i start inside is = ap (λ rest. are_apart_in least (before ∷ moments rest)) (drop-item starts i start inside is)
 
 -- ---- groups
 
@@ -37,18 +37,18 @@ front : (g : List ℕ) (gs : List (List ℕ)) → counted (g ∷ gs) ≡ (g, sam
 front g [] = refl
 front g (h ∷ gs) = ap (counted_on g) (front h gs) ∙ begins g h gs (bytes_eq h g) refl (front h gs)
 
-with_room : (scale : Scale) (g : List ℕ) (count : ℕ) (ys : List (List ℕ)) → groups_text scale ((g, count) ∷ counted ys) ≡ left count (fitted (if length ys == 0 then max count 99 else count) (group_label scale g)) ++ groups_text scale (counted ys)
-with_room scale g count [] = sym (append-nil (left count (fitted (max count 99) (group_label scale g))))
+with_room : (scale : Scale) (g : List ℕ) (count : ℕ) (ys : List (List ℕ)) → groups_text scale ((g, count) ∷ counted ys) ≡ left count (fitted_of (if length ys == 0 then max count 99 else count) (group_label scale g)) ++ groups_text scale (counted ys)
+with_room scale g count [] = sym (append-nil (left count (fitted_of (max count 99) (group_label scale g))))
 with_room scale g count (y ∷ ys) =
     let some : (if length (y ∷ ys) == 0 then max count 99 else count) ≡ count = cond-false _ _ _ (ne_eqb (length (y ∷ ys)) 0 (omega arith)) in
-    ap (λ rest. groups_text scale ((g, count) ∷ rest)) (front y ys) ∙ ap (λ rest. left count (fitted count (group_label scale g)) ++ groups_text scale rest) (sym (front y ys))
-    ∙ ap (λ room. left count (fitted room (group_label scale g)) ++ groups_text scale (counted (y ∷ ys))) (sym some)
+    ap (λ rest. groups_text scale ((g, count) ∷ rest)) (front y ys) ∙ ap (λ rest. left count (fitted_of count (group_label scale g)) ++ groups_text scale rest) (sym (front y ys))
+    ∙ ap (λ room. left count (fitted_of room (group_label scale g)) ++ groups_text scale (counted (y ∷ ys))) (sym some)
 
 pub group_more : (scale : Scale) (g : List ℕ) (gs : List (List ℕ)) (same room : ℕ) → same ≡ same_first g gs → room ≡ (if length (drop same gs) == 0 then max (same + 1) 99 else same + 1) →
-    groups_text scale (counted (g ∷ gs)) ≡ left (same + 1) (fitted room (group_label scale g)) ++ groups_text scale (counted (drop same gs))
+    groups_text scale (counted (g ∷ gs)) ≡ left (same + 1) (fitted_of room (group_label scale g)) ++ groups_text scale (counted (drop same gs))
 group_more scale g gs same room is has =
     ap (groups_text scale) (front g gs) ∙ ap (λ n. groups_text scale ((g, n + 1) ∷ counted (drop n gs))) (sym is) ∙ with_room scale g (same + 1) (drop same gs)
-    ∙ ap (λ n. left (same + 1) (fitted n (group_label scale g)) ++ groups_text scale (counted (drop same gs))) (sym has)
+    ∙ ap (λ n. left (same + 1) (fitted_of n (group_label scale g)) ++ groups_text scale (counted (drop same gs))) (sym has)
 
 pub dropped_groups : (scale : Scale) (n : ℕ) (starts : List Moment) → drop n (groups_of scale (moments starts)) ≡ groups_of scale (moments (drop n starts))
 dropped_groups scale n starts =

@@ -5,7 +5,7 @@ use Rattle.std.proofs.lemmas.Bool.{false≢true, and_parts, cond_both, eqb-true,
 use Rattle.std.proofs.lemmas.List.{length-replicate}
 use Rattle.bf_plan.specs.declared.plan.Dag.{Dag}
 use Rattle.bf_plan.specs.Plans.{task_of}
-use Rattle.bf_marks.specs.RowOrder.{stands, is_let_go, is_source, order_from, order_of, tasks_where}
+use Rattle.bf_marks.specs.RowOrder.{stands, is_let_go_in, is_source_in, order_from, order_of, tasks_where}
 use Rattle.bf_marks.specs.Behind.{IsReady}
 use Rattle.bf_marks.proofs.BehindFacts.{stands_now, stands_on, all_stand_on, nothing_stands, no_upstreams}
 
@@ -91,14 +91,14 @@ pub record Fits (dag : Dag) (s : List Bool) (left : List ℕ) : Type 0 where
 
 module _ (dag : Dag) (s : List Bool) (t : ℕ) (fresh : stands s t ≡ false) where
   -- who waited for a task that didn't stand was not ready
-  unready : (x : ℕ) → is_let_go dag (slice_set s t true) t x ≡ true → IsReady dag s x → ⊥
+  unready : (x : ℕ) → is_let_go_in dag (slice_set s t true) t x ≡ true → IsReady dag s x → ⊥
   unready x let_go ready =
       false≢true (sym fresh ∙ waited_for (stands s) (task_of dag x).upstreams t ((and_parts _ _ let_go).0) ready)
 
-pub walks_on : (dag : Dag) (s : List Bool) (t : ℕ) (left : List ℕ) → Fits dag s (t ∷ left) → Fits dag (slice_set s t true) (tasks_where dag (is_let_go dag (slice_set s t true) t) ++ left)
+pub walks_on : (dag : Dag) (s : List Bool) (t : ℕ) (left : List ℕ) → Fits dag s (t ∷ left) → Fits dag (slice_set s t true) (tasks_where dag (is_let_go_in dag (slice_set s t true) t) ++ left)
 walks_on dag s t left fits =
     let more : List Bool = slice_set s t true in
-    let p : ℕ → Bool = is_let_go dag more t in
+    let p : ℕ → Bool = is_let_go_in dag more t in
     let all : List ℕ = range_with_len 0 (length dag.tasks) in
     let never : (x : ℕ) → p x ≡ true → IsReady dag s x → ⊥ = unready dag s t fits.fresh.0 in
     let in_all : AllByRecursion (λ x. x < length dag.tasks) all = range_inside 0 (length dag.tasks) (length dag.tasks) (omega arith) in
@@ -148,17 +148,17 @@ one_place s (t ∷ ts) once zero (suc j) u first second = let same : t ≡ u = c
 one_place s (t ∷ ts) once (suc i) zero u first second = let same : t ≡ u = cc in absurd (no_second s t ts once i u same first)
 one_place s (t ∷ ts) once (suc i) (suc j) u first second = ap suc (one_place (slice_set s t true) ts once.2 i j u first second)
 
-pub begins : (dag : Dag) → Fits dag (replicate (length dag.tasks) false) (tasks_where dag (is_source dag))
+pub begins : (dag : Dag) → Fits dag (replicate (length dag.tasks) false) (tasks_where dag (is_source_in dag))
 begins dag =
     let n : ℕ = length dag.tasks in
     let none : List Bool = replicate n false in
     let all : List ℕ = range_with_len 0 n in
     let in_all : AllByRecursion (λ x. x < n) all = range_inside 0 n n (omega arith) in
     record {
-      ready = kept (is_source dag) (λ x. x < n) (IsReady dag none) (λ x _ e. no_upstreams (stands none) (task_of dag x).upstreams e) all in_all;
-      fresh = kept (is_source dag) (λ x. x < n) (λ x. stands none x ≡ false) (λ x _ _. nothing_stands n x) all in_all;
-      apart = apart_kept (is_source dag) all (range_apart 0 n);
-      inside = kept (is_source dag) (λ x. x < n) (λ x. x < length none) (λ x low _. omega (arith, low, length-replicate n false)) all in_all;
+      ready = kept (is_source_in dag) (λ x. x < n) (IsReady dag none) (λ x _ e. no_upstreams (stands none) (task_of dag x).upstreams e) all in_all;
+      fresh = kept (is_source_in dag) (λ x. x < n) (λ x. stands none x ≡ false) (λ x _ _. nothing_stands n x) all in_all;
+      apart = apart_kept (is_source_in dag) all (range_apart 0 n);
+      inside = kept (is_source_in dag) (λ x. x < n) (λ x. x < length none) (λ x low _. omega (arith, low, length-replicate n false)) all in_all;
       closed = λ x now. absurd (false≢true (sym (nothing_stands n x) ∙ now));
       size = length-replicate n false;
     }
@@ -166,4 +166,4 @@ begins dag =
 pub order_once : (dag : Dag) (i j t : ℕ) → slice_get (order_of dag) i ≡ Some t → slice_get (order_of dag) j ≡ Some t → i ≡ j
 unfolding order_of
 order_once dag i j t first second =
-    one_place (replicate (length dag.tasks) false) _ (once_from dag (length dag.tasks) (replicate (length dag.tasks) false) (tasks_where dag (is_source dag)) (begins dag)) i j t first second
+    one_place (replicate (length dag.tasks) false) _ (once_from dag (length dag.tasks) (replicate (length dag.tasks) false) (tasks_where dag (is_source_in dag)) (begins dag)) i j t first second

@@ -5,7 +5,7 @@ use Rattle.std.proofs.lemmas.List.{reverse-append, reverse-reverse}
 use Rattle.std.proofs.lemmas.List.Elements.{filter-append}
 use Rattle.bf_plan.specs.declared.plan.Dag.{Dag}
 use Rattle.bf_marks.specs.declared.row_order.Walk.{Walk}
-use Rattle.bf_marks.specs.RowOrder.{is_let_go, order_from, tasks_where}
+use Rattle.bf_marks.specs.RowOrder.{is_let_go_in, order_from, tasks_where}
 use Rattle.bf_marks.specs.Walk.{GoesOnBy}
 
 pub range_more : (a n : ℕ) → range_with_len a (n + 1) ≡ range_with_len a n ++ (a + n) ∷ []
@@ -42,6 +42,6 @@ pub stood : (dag : Dag) (n : ℕ) (old new : Walk) (order all : List ℕ) (task 
 stood dag n old new order all task goes is =
     let before : order_from dag (suc n) old.standing.items (reverse old.left.items) ≡ order_from dag (suc n) old.standing.items (task ∷ goes.left) =
     ap (order_from dag (suc n) old.standing.items) goes.was in
-    let behind : order_from dag n new.standing.items (reverse new.left.items) ≡ order_from dag n (slice_set old.standing.items task true) (tasks_where dag (is_let_go dag (slice_set old.standing.items task true) task) ++ goes.left) =
-    ap (order_from dag n new.standing.items) goes.now ∙ ap (λ standing. order_from dag n standing (tasks_where dag (is_let_go dag standing task) ++ goes.left)) goes.stands in
+    let behind : order_from dag n new.standing.items (reverse new.left.items) ≡ order_from dag n (slice_set old.standing.items task true) (tasks_where dag (is_let_go_in dag (slice_set old.standing.items task true) task) ++ goes.left) =
+    ap (order_from dag n new.standing.items) goes.now ∙ ap (λ standing. order_from dag n standing (tasks_where dag (is_let_go_in dag standing task) ++ goes.left)) goes.stands in
     append_assoc order (task ∷ []) (order_from dag n new.standing.items (reverse new.left.items)) ∙ ap (λ s. order ++ task ∷ s) behind ∙ ap (λ s. order ++ s) (sym before) ∙ is

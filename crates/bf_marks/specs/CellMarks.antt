@@ -5,7 +5,7 @@ use Rattle.bf_report.specs.declared.report.RunReport.{RunReport}
 use Rattle.bf_marks.specs.declared.tally.Tally.{Tally}
 use Rattle.bf_marks.specs.declared.mark.Mark.{Mark}
 use Rattle.bf_marks.specs.declared.mark.Mark.TheVariants.{Success, Retried, Failed, UpstreamFailed, Skipped, NoStatus}
-use Rattle.bf_marks.specs.Tallies.{tally_at}
+use Rattle.bf_marks.specs.Tallies.{tally_in}
 
 abbrev pub mark_letter : Mark → List ℕ
 mark_letter Success = codes "."
@@ -38,7 +38,7 @@ worse a b = if nat_lt (weight a) (weight b) then b else a
 
 -- the worst of a task in the runs of a column
 abbrev pub column_mark : ℕ → List RunReport → Mark
-column_mark task runs = fold worse Skipped (map (λ run. mark_of (tally_at task run)) runs)
+column_mark task runs = fold worse Skipped (map (λ run. mark_of (tally_in task run)) runs)
 
 -- ---- colours
 

@@ -10,21 +10,21 @@ abbrev pub is_behind : ℤ → ℤ → ℤ → Bool
 is_behind least first second = not (int_lt second (first +ℤ least))
 
 -- so is each of these behind the one before
-abbrev pub are_apart : ℤ → List ℤ → Bool
-are_apart least [] = true
-are_apart least (first ∷ []) = true
-are_apart least (first ∷ second ∷ rest) = is_behind least first second && are_apart least (second ∷ rest)
+abbrev pub are_apart_in : ℤ → List ℤ → Bool
+are_apart_in least [] = true
+are_apart_in least (first ∷ []) = true
+are_apart_in least (first ∷ second ∷ rest) = is_behind least first second && are_apart_in least (second ∷ rest)
 
 -- so many seconds in nanoseconds
-abbrev pub seconds : ℕ → ℤ
-seconds n = pos (n * 1_000_000_000)
+abbrev pub seconds_of : ℕ → ℤ
+seconds_of n = pos (n * 1_000_000_000)
 
 abbrev pub scale_among : List ℤ → Scale
 scale_among starts =
-    if are_apart (seconds 25_920_000) starts then Years
-    else (if are_apart (seconds 2_419_200) starts then Months
-    else (if are_apart (seconds 21_600) starts then Days
-    else (if are_apart (seconds 900) starts then Hours
+    if are_apart_in (seconds_of 25_920_000) starts then Years
+    else (if are_apart_in (seconds_of 2_419_200) starts then Months
+    else (if are_apart_in (seconds_of 21_600) starts then Days
+    else (if are_apart_in (seconds_of 900) starts then Hours
     else Minutes)))
 
 -- by the least time between two columns: 300 days, 28 days, 6 hours, 15 minutes; one column is a day
@@ -34,22 +34,22 @@ scale_of (start ∷ []) = Days
 scale_of (first ∷ second ∷ rest) = scale_among (first ∷ second ∷ rest)
 
 -- a year in its decade, a month in its year, and so on, of the text of a moment
-abbrev pub group_size : Scale → ℕ
-group_size Years = 3
-group_size Months = 4
-group_size Days = 7
-group_size Hours = 10
-group_size Minutes = 13
+abbrev pub group_size_of : Scale → ℕ
+group_size_of Years = 3
+group_size_of Months = 4
+group_size_of Days = 7
+group_size_of Hours = 10
+group_size_of Minutes = 13
 
-abbrev pub unit_place : Scale → ℕ
-unit_place Years = 2
-unit_place Months = 5
-unit_place Days = 8
-unit_place Hours = 11
-unit_place Minutes = 14
+abbrev pub unit_place_of : Scale → ℕ
+unit_place_of Years = 2
+unit_place_of Months = 5
+unit_place_of Days = 8
+unit_place_of Hours = 11
+unit_place_of Minutes = 14
 
 abbrev pub group_of : Scale → List ℕ → List ℕ
-group_of scale moment = take (group_size scale) moment
+group_of scale moment = take (group_size_of scale) moment
 
 -- as 2020s, 2024, 2024-01, 2024-01-31, 2024-01-31T06
 abbrev pub group_label : Scale → List ℕ → List ℕ
@@ -57,8 +57,8 @@ group_label Years group = group ++ codes "0s"
 group_label scale group = group
 
 -- whole where it fits before the next one, else its last three characters where it has more than five, else nothing
-abbrev pub fitted : ℕ → List ℕ → List ℕ
-fitted room label =
+abbrev pub fitted_of : ℕ → List ℕ → List ℕ
+fitted_of room label =
     if nat_lt (length label) room then label
     else (if nat_lt 5 (length label) && nat_lt 3 room then drop (length label - 3) label else [])
 
@@ -83,8 +83,8 @@ counted (group ∷ groups) = counted_on group (counted groups)
 -- each label at the first column of its group; the last one has room
 abbrev pub groups_text : Scale → List (List ℕ × ℕ) → List ℕ
 groups_text scale [] = []
-groups_text scale ((group, count) ∷ []) = left count (fitted (max count 99) (group_label scale group))
-groups_text scale ((group, count) ∷ next ∷ rest) = left count (fitted count (group_label scale group)) ++ groups_text scale (next ∷ rest)
+groups_text scale ((group, count) ∷ []) = left count (fitted_of (max count 99) (group_label scale group))
+groups_text scale ((group, count) ∷ next ∷ rest) = left count (fitted_of count (group_label scale group)) ++ groups_text scale (next ∷ rest)
 
 -- the groups of columns that start then
 abbrev pub groups_of : Scale → List ℤ → List (List ℕ)

@@ -8,9 +8,9 @@ use Rattle.bf_moment.specs.Moment.{moment_text}
 abbrev pub without_midnight : List ℕ → List ℕ
 without_midnight moment = if bytes_eq (drop 10 moment) (codes "T00:00:00Z") then take 10 moment else moment
 
-abbrev pub short_moment : ℤ → List ℕ
-short_moment n = without_midnight (moment_text n)
+abbrev pub short_moment_of : ℤ → List ℕ
+short_moment_of n = without_midnight (moment_text n)
 
 -- moments as they are written shortest
 abbrev pub short_moments : List Moment → List (List ℕ)
-short_moments moments = map short_moment (map (λ moment. moment.at.nanosecond) moments)
+short_moments moments = map short_moment_of (map (λ moment. moment.at.nanosecond) moments)

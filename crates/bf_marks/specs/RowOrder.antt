@@ -13,12 +13,12 @@ abbrev pub stands : List Bool → ℕ → Bool
 stands standing task = slice_index_or standing task false
 
 -- it waits for nothing more, and this task was one that it waited for
-abbrev pub is_let_go : Dag → List Bool → ℕ → ℕ → Bool
-is_let_go dag standing task other =
+abbrev pub is_let_go_in : Dag → List Bool → ℕ → ℕ → Bool
+is_let_go_in dag standing task other =
     list_any (λ upstream. upstream == task) (task_of dag other).upstreams && list_all (stands standing) (task_of dag other).upstreams
 
-abbrev pub is_source : Dag → ℕ → Bool
-is_source dag task = length (task_of dag task).upstreams == 0
+abbrev pub is_source_in : Dag → ℕ → Bool
+is_source_in dag task = length (task_of dag task).upstreams == 0
 
 -- of at most n more: behind a task those that it let go, and then what was left
 abbrev pub order_from : Dag → ℕ → List Bool → List ℕ → List ℕ
@@ -26,8 +26,8 @@ order_from dag zero standing left = []
 order_from dag (suc n) standing [] = []
 order_from dag (suc n) standing (task ∷ left) =
     let more = slice_set standing task true in
-    task ∷ order_from dag n more (tasks_where dag (is_let_go dag more task) ++ left)
+    task ∷ order_from dag n more (tasks_where dag (is_let_go_in dag more task) ++ left)
 
 -- the sources in file order, and behind each task those of its downstreams that wait for nothing more
 unfoldable pub order_of : Dag → List ℕ
-order_of dag = order_from dag (length dag.tasks) (replicate (length dag.tasks) false) (tasks_where dag (is_source dag))
+order_of dag = order_from dag (length dag.tasks) (replicate (length dag.tasks) false) (tasks_where dag (is_source_in dag))

@@ -21,16 +21,16 @@ abbrev pub instance_tally : InstanceReport → Tally
 instance_tally instance = one_ended instance.result.outcome instance.result.tries
 
 -- a sum as a counter of 64 bits holds it
-abbrev pub plus : ℕ → ℕ → ℕ
-plus a b = min (a + b) (2 ^ 64 - 1)
+abbrev pub plus_of : ℕ → ℕ → ℕ
+plus_of a b = min (a + b) (2 ^ 64 - 1)
 
 abbrev pub add : Tally → Tally → Tally
 add a b = record {
-  success = plus a.success b.success;
-  failed = plus a.failed b.failed;
-  upstream_failed = plus a.upstream_failed b.upstream_failed;
-  skipped = plus a.skipped b.skipped;
-  no_status = plus a.no_status b.no_status;
+  success = plus_of a.success b.success;
+  failed = plus_of a.failed b.failed;
+  upstream_failed = plus_of a.upstream_failed b.upstream_failed;
+  skipped = plus_of a.skipped b.skipped;
+  no_status = plus_of a.no_status b.no_status;
   retried = a.retried || b.retried;
 }
 
@@ -50,25 +50,25 @@ tally_if None = record nothing { no_status = 1 }
 tally_if (Some task) = task_tally task
 
 -- of the task in this place of the run
-abbrev pub tally_at : ℕ → RunReport → Tally
-tally_at task run = tally_if (slice_get run.tasks task)
+abbrev pub tally_in : ℕ → RunReport → Tally
+tally_in task run = tally_if (slice_get run.tasks task)
 
 -- of the task in all runs
 abbrev pub runs_tally : ℕ → List RunReport → Tally
-runs_tally task runs = sum (map (tally_at task) runs)
+runs_tally task runs = sum (map (tally_in task) runs)
 
 -- something failed, is upstream_failed or has no status
 abbrev pub is_bad : Tally → Bool
 is_bad tally = nat_lt 0 tally.failed || nat_lt 0 tally.upstream_failed || nat_lt 0 tally.no_status
 
 -- of all tasks in a run
-abbrev pub run_tally : RunReport → Tally
-run_tally run = sum (map task_tally run.tasks)
+abbrev pub run_tally_of : RunReport → Tally
+run_tally_of run = sum (map task_tally run.tasks)
 
 -- a run by its own state
-abbrev pub state_tally : RunState → Tally
-state_tally RunState.Success = record nothing { success = 1 }
-state_tally RunState.Failed = record nothing { failed = 1 }
+abbrev pub state_tally_of : RunState → Tally
+state_tally_of RunState.Success = record nothing { success = 1 }
+state_tally_of RunState.Failed = record nothing { failed = 1 }
 
 abbrev pub states_tally : List RunReport → Tally
-states_tally runs = sum (map (λ run. state_tally run.state) runs)
+states_tally runs = sum (map (λ run. state_tally_of run.state) runs)

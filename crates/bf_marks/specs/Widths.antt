@@ -13,22 +13,22 @@ cut_name room name =
     else name
 
 -- how wide the sums of a state are: 0 where they aren't shown
-abbrev pub width_of : Bool → ℕ → ℕ
-width_of shown greatest = if shown then length (number_text greatest) else 0
+abbrev pub width_in : Bool → ℕ → ℕ
+width_in shown greatest = if shown then length (number_text greatest) else 0
 
 -- by the sums over all tasks, and those of the runs
 abbrev pub widths_of : Tally → Tally → Widths
 widths_of total states = record {
-  success = width_of (nat_lt 0 total.success) (max total.success states.success);
-  failed = width_of (nat_lt 0 total.failed || nat_lt 0 states.failed) (max total.failed states.failed);
-  upstream_failed = width_of (nat_lt 0 total.upstream_failed) total.upstream_failed;
-  skipped = width_of (nat_lt 0 total.skipped) total.skipped;
-  no_status = width_of (nat_lt 0 total.no_status) total.no_status;
+  success = width_in (nat_lt 0 total.success) (max total.success states.success);
+  failed = width_in (nat_lt 0 total.failed || nat_lt 0 states.failed) (max total.failed states.failed);
+  upstream_failed = width_in (nat_lt 0 total.upstream_failed) total.upstream_failed;
+  skipped = width_in (nat_lt 0 total.skipped) total.skipped;
+  no_status = width_in (nat_lt 0 total.no_status) total.no_status;
 }
 
 -- what is left beside them, where a space stands before each
-abbrev pub beside : ℕ → ℕ → ℕ
-beside width room = if width == 0 then room else room - width - 1
+abbrev pub beside_of : ℕ → ℕ → ℕ
+beside_of width room = if width == 0 then room else room - width - 1
 
 -- with a space before it
 abbrev pub in_column : ℕ → List ℕ → List ℕ
@@ -50,5 +50,5 @@ heads_text w =
     ++ (in_column w.skipped (codes "s") ++ in_column w.no_status (codes "n"))))
 
 -- how many columns there is room for, and at least 8
-abbrev pub room_of : ℕ → ℕ → Widths → ℕ
-room_of width names w = max 8 (beside w.no_status (beside w.skipped (beside w.upstream_failed (beside w.failed (beside w.success (width - names - 4))))))
+abbrev pub room_in : ℕ → ℕ → Widths → ℕ
+room_in width names w = max 8 (beside_of w.no_status (beside_of w.skipped (beside_of w.upstream_failed (beside_of w.failed (beside_of w.success (width - names - 4))))))

@@ -1,6 +1,6 @@
 //! What columns are labelled by.
 ghost use Rattle.std.specs.Prelude.{◌≡◌, ◌≤◌, ◌<◌, ◌+◌, ◌==◌, ◌++◌, max, length, map, replicate, if◌then◌else◌, OnOk};
-ghost use Rattle.bf_marks.specs.Labels.{same_first, are_apart as apart, seconds as nanoseconds, is_behind, scale_of, group_size as group_size_of, unit_place as unit_place_of, fitted as fitted_label, digits_at, group_label, groups_of, groups_text, counted, left, right};
+ghost use Rattle.bf_marks.specs.Labels.{same_first, are_apart_in, seconds_of, is_behind, scale_of, group_size_of, unit_place_of, fitted_of, digits_at, group_label, groups_of, groups_text, counted, left, right};
 
 use crate::phrases::push;
 use bf_moment::{Moment, moment_bytes};
@@ -19,7 +19,7 @@ pub enum Scale {
 }
 
 fn are_two_apart(first: Moment, second: Moment, seconds: u32) -> bool
-    ensures { result ≡ is_behind (nanoseconds seconds) first.at.nanosecond second.at.nanosecond }
+    ensures { result ≡ is_behind (seconds_of seconds) first.at.nanosecond second.at.nanosecond }
 {
     let least = i128::from(seconds) * 1_000_000_000;
     second.at.as_nanosecond() >= first.at.as_nanosecond() + least
@@ -27,7 +27,7 @@ fn are_two_apart(first: Moment, second: Moment, seconds: u32) -> bool
 
 /// Whether each moment is at least so many seconds behind the one before.
 fn are_apart(starts: &[Moment], seconds: u32) -> bool
-    ensures { result ≡ apart (nanoseconds seconds) (map (λ start. start.at.nanosecond) starts.now) }
+    ensures { result ≡ are_apart_in (seconds_of seconds) (map (λ start. start.at.nanosecond) starts.now) }
 {
     let Some((first, rest)) = starts.split_first() else {
         return true;
@@ -106,7 +106,7 @@ impl Scale {
 
 /// A label, or its last three bytes, or nothing, as there is room before the next one.
 pub fn fitted(label: &[u8], room: usize) -> &[u8]
-    ensures { result.now ≡ fitted_label room label.now }
+    ensures { result.now ≡ fitted_of room label.now }
 {
     if label.len() < room {
         return label;
@@ -141,7 +141,7 @@ fn push_group(
     room: usize,
 ) -> Result<(), OutOfMemory>
     ensures { OnOk result (text.new.items ≡ text.old.items
-        ++ left count (fitted_label room (group_label scale group.now))) }
+        ++ left count (fitted_of room (group_label scale group.now))) }
 {
     let mut label = Vec::new(alloc);
     scale.push_label(&mut label, group)?;

@@ -2,9 +2,9 @@
 ghost use Rattle.std.specs.Prelude.{◌≡◌, ◌≤◌, ◌++◌, IfOk, OnOk, length};
 ghost use Rattle.std.specs.Str.{IsAscii};
 ghost use Rattle.bf_moment.specs.Moment.{IsShown};
-ghost use Rattle.bf_wording.specs.Lists.{listed};
-ghost use Rattle.bf_wording.specs.Numbers.{number_text, plural};
-ghost use Rattle.bf_marks.specs.Phrases.{short_moment as short, short_moments, without_midnight};
+ghost use Rattle.bf_wording.specs.Lists.{listed_of};
+ghost use Rattle.bf_wording.specs.Numbers.{number_text, plural_of};
+ghost use Rattle.bf_marks.specs.Phrases.{short_moment_of, short_moments, without_midnight};
 
 use bf_moment::{Moment, moment_bytes};
 use bf_value::{OutOfMemory, Text};
@@ -35,7 +35,7 @@ pub fn push_plural(
     number: u64,
     noun: &str,
 ) -> Result<(), OutOfMemory>
-    ensures { OnOk result (text.new.items ≡ text.old.items ++ plural number noun.now) }
+    ensures { OnOk result (text.new.items ≡ text.old.items ++ plural_of number noun.now) }
 {
     let mut shown = String::new(alloc);
     bf_wording::push_plural(alloc, &mut shown, number, noun)?;
@@ -58,14 +58,14 @@ fn short_moment(moment: &[u8]) -> &[u8]
 /// Adds a moment, as short as it is written on a line.
 pub fn push_moment(text: &mut Vec<u8>, moment: Timestamp) -> Result<(), OutOfMemory>
     requires { IsShown moment.nanosecond }
-    ensures { OnOk result (text.new.items ≡ text.old.items ++ short moment.nanosecond) }
+    ensures { OnOk result (text.new.items ≡ text.old.items ++ short_moment_of moment.nanosecond) }
 {
     push(text, short_moment(&moment_bytes(moment)))
 }
 
 /// The text of a moment, as short as it is written on a line.
 fn short_name(alloc: Global, moment: Moment) -> Result<Text, OutOfMemory>
-    ensures { IfOk result (λ name. name ≡ short moment.at.nanosecond) }
+    ensures { IfOk result (λ name. name ≡ short_moment_of moment.at.nanosecond) }
 {
     let bytes = moment_bytes(moment.at);
     let Ok(text) = std::str::from_utf8(short_moment(&bytes)) else {
@@ -87,7 +87,7 @@ fn short_names(alloc: Global, moments: &[Moment]) -> Result<Vec<Text>, OutOfMemo
 /// Adds moments, as `2024-01-25, 2024-01-31 and 2024-02-05`; of more than four three, and how many more there are.
 pub fn push_listed(alloc: Global, text: &mut Vec<u8>, moments: &[Moment]) -> Result<(), OutOfMemory>
     ensures { OnOk result (text.new.items
-        ≡ text.old.items ++ listed 3 (short_moments moments.now)) }
+        ≡ text.old.items ++ listed_of 3 (short_moments moments.now)) }
 {
     let names = short_names(alloc, moments)?;
     let mut shown = String::new(alloc);

@@ -3,7 +3,7 @@ ghost use Rattle.std.specs.Prelude.{◌≡◌, ◌<◌, ◌==◌, ℕ, List, [],
 ghost use Rattle.std.specs.List.{list_any, list_all};
 ghost use Rattle.bf_plan.specs.Plans.{task_of};
 ghost use Rattle.bf_plan.specs.Sound.{IsSound};
-ghost use Rattle.bf_marks.specs.RowOrder.{is_let_go as let_go, is_source as source, order_of, stands, tasks_where};
+ghost use Rattle.bf_marks.specs.RowOrder.{is_let_go_in, is_source_in, order_of, stands, tasks_where};
 ghost use Rattle.bf_marks.specs.Walk.{GoesOnBy};
 
 use bf_plan::Dag;
@@ -12,7 +12,7 @@ use std::alloc::Global;
 
 fn is_source(dag: &Dag, task: u32) -> bool
     requires { task < length dag.now.tasks }
-    ensures { result ≡ source dag.now task }
+    ensures { result ≡ is_source_in dag.now task }
 {
     dag.task(task).upstreams.is_empty()
 }
@@ -51,7 +51,7 @@ fn all_stand(upstreams: &[u32], standing: &[bool]) -> bool
 /// Whether a task waits for nothing more, and waited for this one.
 fn is_let_go(dag: &Dag, standing: &[bool], task: u32, other: u32) -> bool
     requires { other < length dag.now.tasks }
-    ensures { result ≡ let_go dag.now standing.now task other }
+    ensures { result ≡ is_let_go_in dag.now standing.now task other }
 {
     let upstreams = dag.task(other).upstreams.as_slice();
     waits_for(upstreams, task) && all_stand(upstreams, standing)
@@ -66,7 +66,7 @@ fn let_go_by(
 ) -> Result<Vec<u32>, OutOfMemory>
     requires { IsSound dag.now }
     ensures { IfOk result (λ tasks. tasks.items
-        ≡ tasks_where dag.now (let_go dag.now standing.now task)) }
+        ≡ tasks_where dag.now (is_let_go_in dag.now standing.now task)) }
 {
     let mut found = Vec::new(alloc);
     for other in 0..dag.tasks.len() as u32 {
@@ -80,7 +80,7 @@ fn let_go_by(
 /// The tasks without upstreams, in file order.
 fn sources(alloc: Global, dag: &Dag) -> Result<Vec<u32>, OutOfMemory>
     requires { IsSound dag.now }
-    ensures { IfOk result (λ tasks. tasks.items ≡ tasks_where dag.now (source dag.now)) }
+    ensures { IfOk result (λ tasks. tasks.items ≡ tasks_where dag.now (is_source_in dag.now)) }
 {
     let mut found = Vec::new(alloc);
     for task in 0..dag.tasks.len() as u32 {
@@ -121,7 +121,7 @@ fn first_walk(alloc: Global, dag: &Dag) -> Result<Walk, OutOfMemory>
     ensures standing { IfOk result
         (λ walk. walk.standing.items ≡ replicate (length dag.now.tasks) false) }
     ensures left { IfOk result (λ walk. reverse walk.left.items
-        ≡ tasks_where dag.now (source dag.now)) }
+        ≡ tasks_where dag.now (is_source_in dag.now)) }
 {
     let standing = vec![in alloc; false; dag.tasks.len()]?;
     let mut left = sources(alloc, dag)?;

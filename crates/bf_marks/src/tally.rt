@@ -1,6 +1,6 @@
 //! How many instances came to each state.
 ghost use Rattle.std.specs.Prelude.{◌≡◌, IfOk, map};
-ghost use Rattle.bf_marks.specs.Tallies.{add, instance_tally, is_bad, nothing, one_ended, plus as plus_up, sum, task_tally, run_tally as tally_of_tasks, runs_tally, state_tally as tally_of_state, states_tally, tally_at as tally_of_run};
+ghost use Rattle.bf_marks.specs.Tallies.{add, instance_tally, is_bad, nothing, one_ended, plus_of, sum, task_tally, run_tally_of, runs_tally, state_tally_of, states_tally, tally_in};
 
 use bf_report::{InstanceReport, RunReport, TaskReport};
 use bf_value::OutOfMemory;
@@ -122,7 +122,7 @@ fn tally_of_task(alloc: Global, task: &TaskReport) -> Result<Tally, OutOfMemory>
 
 /// Of the task in this place of a run. A place that a run doesn't have counts as no_status.
 pub fn tally_at(alloc: Global, run: &RunReport, task: u32) -> Result<Tally, OutOfMemory>
-    ensures { IfOk result (λ tally. tally ≡ tally_of_run task run.now) }
+    ensures { IfOk result (λ tally. tally ≡ tally_in task run.now) }
 {
     match run.tasks.get(task as usize) {
         Some(task) => tally_of_task(alloc, task),
@@ -145,7 +145,7 @@ pub fn tally_in(alloc: Global, runs: &[&RunReport], task: u32) -> Result<Tally, 
 }
 
 fn state_tally(state: RunState) -> Tally
-    ensures { result ≡ tally_of_state state }
+    ensures { result ≡ state_tally_of state }
 {
     let nothing = Tally::nothing();
     match state {
@@ -184,7 +184,7 @@ pub fn states_in(runs: &[&RunReport]) -> Tally
 
 /// Of all tasks in a run.
 pub fn run_tally(alloc: Global, run: &RunReport) -> Result<Tally, OutOfMemory>
-    ensures { IfOk result (λ tally. tally ≡ tally_of_tasks run.now) }
+    ensures { IfOk result (λ tally. tally ≡ run_tally_of run.now) }
 {
     let mut tally = Tally::nothing();
     for task in run.tasks.as_slice() {

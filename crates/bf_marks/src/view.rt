@@ -1,6 +1,6 @@
 //! What is asked of a grid.
 ghost use Rattle.std.specs.Prelude.{◌≡◌};
-ghost use Rattle.bf_marks.specs.GridViews.{in_range, is_from as from_holds, is_to as to_holds};
+ghost use Rattle.bf_marks.specs.GridViews.{in_range, is_from_in, is_to_in};
 
 use jiff::Timestamp;
 
@@ -25,7 +25,7 @@ impl View {
 }
 
 fn is_from(from: Option<Timestamp>, start: Timestamp) -> bool
-    ensures { result ≡ from_holds from start.nanosecond }
+    ensures { result ≡ is_from_in from start.nanosecond }
 {
     match from {
         Some(from) => from.as_nanosecond() <= start.as_nanosecond(),
@@ -34,7 +34,7 @@ fn is_from(from: Option<Timestamp>, start: Timestamp) -> bool
 }
 
 fn is_to(to: Option<Timestamp>, start: Timestamp) -> bool
-    ensures { result ≡ to_holds to start.nanosecond }
+    ensures { result ≡ is_to_in to start.nanosecond }
 {
     match to {
         Some(to) => start.as_nanosecond() <= to.as_nanosecond(),

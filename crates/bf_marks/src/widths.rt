@@ -1,6 +1,6 @@
 //! How wide the parts of a grid are.
 ghost use Rattle.std.specs.Prelude.{◌≡◌, ◌≤◌, ◌++◌, OnOk, IfOk};
-ghost use Rattle.bf_marks.specs.Widths.{beside as left_beside, cut_name, heads_text, in_column, room_of as room_beside, sum_text, sums_text, width_of as width, widths_of};
+ghost use Rattle.bf_marks.specs.Widths.{beside_of, cut_name, heads_text, in_column, room_in, sum_text, sums_text, width_in, widths_of};
 
 use crate::label::push_right;
 use crate::phrases::{push, push_number};
@@ -19,7 +19,7 @@ pub struct Widths {
 }
 
 fn width_of(alloc: Global, shown: bool, greatest: u64) -> Result<usize, OutOfMemory>
-    ensures { IfOk result (λ n. n ≡ width shown greatest) }
+    ensures { IfOk result (λ n. n ≡ width_in shown greatest) }
 {
     if !shown {
         return Ok(0);
@@ -31,7 +31,7 @@ fn width_of(alloc: Global, shown: bool, greatest: u64) -> Result<usize, OutOfMem
 
 /// Adds what stands in a column of sums.
 fn push_in_column(text: &mut Vec<u8>, width: usize, shown: &[u8]) -> Result<(), OutOfMemory>
-    ensures { OnOk result (text.new.items ≡ text.old.items ++ in_column width shown.now) }
+    ensures { OnOk result (text.new.items ≡ text.old.items ++ in_column width_in shown.now) }
 {
     if width == 0 {
         return Ok(());
@@ -42,7 +42,7 @@ fn push_in_column(text: &mut Vec<u8>, width: usize, shown: &[u8]) -> Result<(), 
 
 /// Adds a sum, and nothing for 0.
 fn push_sum(alloc: Global, text: &mut Vec<u8>, width: usize, number: u64) -> Result<(), OutOfMemory>
-    ensures { OnOk result (text.new.items ≡ text.old.items ++ sum_text width number) }
+    ensures { OnOk result (text.new.items ≡ text.old.items ++ sum_text width_in number) }
 {
     let mut shown = Vec::new(alloc);
     if number != 0 {
@@ -110,7 +110,7 @@ pub fn push_cut_name(text: &mut Vec<u8>, room: usize, name: &[u8]) -> Result<(),
 
 /// What is left beside the sums of a state.
 fn beside(width: usize, room: usize) -> usize
-    ensures { result ≡ left_beside width room }
+    ensures { result ≡ beside_of width_in room }
 {
     if width == 0 {
         room
@@ -121,7 +121,7 @@ fn beside(width: usize, room: usize) -> usize
 
 /// How many columns there is room for.
 pub fn room_of(width: usize, names: usize, widths: Widths) -> usize
-    ensures room { result ≡ room_beside width names widths }
+    ensures room { result ≡ room_in width_in names widths }
     ensures some { 8 ≤ result }
 {
     let room = width.saturating_sub(names).saturating_sub(4);

@@ -1,6 +1,6 @@
 //! Moments from texts.
 ghost use Rattle.std.specs.Prelude.{◌≡◌, ℕ, ℤ, ◌<◌, [], ◌∷◌, IfSome, IfNone};
-ghost use Rattle.jiff.specs.Types.{Date as PlainDate, Time as PlainTime, DateTime as PlainDateTime};
+ghost use Rattle.jiff.specs.Types.{Date, Time, DateTime};
 ghost use Rattle.jiff.specs.Words.{civil_nanos};
 ghost use Rattle.bf_moment.specs.Moment.{two, four, Spells, nearest};
 ghost use Rattle.bf_moment.specs.Long.{is_long};
@@ -30,7 +30,7 @@ fn four_digits(a: u8, b: u8, c: u8, d: u8) -> Option<u16>
 
 fn date_in(text: &[u8]) -> Option<Date>
     ensures found { IfSome result (λ d. IsShownDate d × (text.now ≡ clock_date_text d)) }
-    ensures none { IfNone result ((d : PlainDate) → IsShownDate d → text.now ≡ clock_date_text d → ⊥) }
+    ensures none { IfNone result ((d : Date) → IsShownDate d → text.now ≡ clock_date_text d → ⊥) }
 {
     let [y, e, a, r, b'-', m, o, b'-', d, i] = text else {
         return None;
@@ -48,7 +48,7 @@ fn date_in(text: &[u8]) -> Option<Date>
 
 fn time_in(text: &[u8]) -> Option<Time>
     ensures found { IfSome result (λ t. (t.subsec_nanosecond ≡ 0) × (text.now ≡ clock_time_text t)) }
-    ensures none { IfNone result ((t : PlainTime) → text.now ≡ clock_time_text t → ⊥) }
+    ensures none { IfNone result ((t : Time) → text.now ≡ clock_time_text t → ⊥) }
 {
     let [h, o, b':', m, i, b':', s, e] = text else {
         return None;
@@ -66,7 +66,7 @@ fn time_in(text: &[u8]) -> Option<Time>
 
 fn clock_in(text: &[u8]) -> Option<DateTime>
     ensures found { IfSome result (SpellsClock text.now) }
-    ensures none { IfNone result ((at : PlainDateTime) → SpellsClock text.now at → ⊥) }
+    ensures none { IfNone result ((at : DateTime) → SpellsClock text.now at → ⊥) }
 {
     if text.len() == 10 {
         let date = date_in(text)?;

@@ -1,7 +1,7 @@
 //! What holds of all texts on a page. These functions do nothing: their contracts are the laws, over the definitions alone.
 ghost use Rattle.std.specs.Prelude.{◌≡◌, ℕ, List};
 ghost use Rattle.std.specs.List.{All, AllPass, filter};
-ghost use Rattle.bf_page.specs.declared.page.PageTexts.{PageTexts as Texts};
+ghost use Rattle.bf_page.specs.declared.page.PageTexts.{PageTexts};
 ghost use Rattle.bf_page.specs.Page.{page_text, fixed_text, TellTheSame};
 ghost use Rattle.bf_page.specs.Safe.{safe, plain, IsTame, is_tag, is_cell_byte};
 
@@ -23,10 +23,10 @@ pub fn cells_stand_as_they_are()
 
 /// A page has just the `<` of its fixed pieces, whatever its texts are.
 pub fn all_tags_are_fixed()
-    ensures { (texts : Texts) → filter is_tag (page_text texts) ≡ filter is_tag fixed_text }
+    ensures { (texts : PageTexts) → filter is_tag (page_text texts) ≡ filter is_tag fixed_text }
 {}
 
 /// The seven texts are read off a page: pages that are the same tell the same.
 pub fn pages_differ_where_texts_do()
-    ensures { (one two : Texts) → page_text one ≡ page_text two → TellTheSame one two }
+    ensures { (one two : PageTexts) → page_text one ≡ page_text two → TellTheSame one two }
 {}

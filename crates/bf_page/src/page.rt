@@ -1,6 +1,6 @@
 //! The page that shows a report.
 ghost use Rattle.std.specs.Prelude.{◌≡◌, OnOk, IfErr};
-ghost use Rattle.bf_device.specs.declared.sending.Cause.TheVariants as cause;
+ghost use Rattle.bf_device.specs.declared.sending.Cause.TheVariants;
 ghost use Rattle.bf_device.specs.Device.{sent, HasHalted, HasGoneOn};
 ghost use Rattle.bf_page.specs.Page.{page_text, EndsAt};
 
@@ -28,7 +28,7 @@ pub fn write_page<W: Write>(texts: &PageTexts<'_>, out: &mut W) -> Result<(), Wr
         ≡ sent (W.written out.old) (page_text texts.now)) }
     ensures part { IfErr result (λ fault. EndsAt fault.sent (page_text texts.now)
         (W.written out.old) (W.written out.new)) }
-    ensures only_io { IfErr result (λ fault. fault.cause ≡ cause.Io) }
+    ensures only_io { IfErr result (λ fault. fault.cause ≡ TheVariants.Io) }
     ensures halted { IfErr result (λ _. HasHalted (W.failures out.old) (W.failures out.new)
         (W.interruptions out.old) (W.interruptions out.new)) }
     ensures went_on { OnOk result (HasGoneOn (W.failures out.old) (W.failures out.new)

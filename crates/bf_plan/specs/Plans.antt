@@ -28,8 +28,8 @@ abbrev pub is_branch_kind : TaskKind → Bool
 is_branch_kind TaskKind.Branch = true
 is_branch_kind TaskKind.Program = false
 
-abbrev pub is_branch : Task → Bool
-is_branch task = is_branch_kind task.kind
+abbrev pub is_branch_in : Task → Bool
+is_branch_in task = is_branch_kind task.kind
 
 -- the ids and the upstreams of the tasks
 abbrev pub shape_of : Dag → Shape

@@ -1,9 +1,9 @@
 //! The plans of graph files, and the tables that answer their tries.
 ghost use Rattle.std.specs.Prelude.{◌≡◌, ℕ, List, Option, map, option_map, IfOk, IfErr, Ok};
-ghost use Rattle.jiff.specs.Types.{TimeZone as TimeZoneTerm};
+ghost use Rattle.jiff.specs.Types.{TimeZone};
 ghost use Rattle.bf_zone.specs.Zones.{IsZoneOf};
 ghost use Rattle.bf_interval.specs.Runs.{IsSaid};
-ghost use Rattle.bf_table.specs.Tables.{table_of};
+ghost use Rattle.bf_table.specs.Tables.{table_in};
 ghost use Rattle.bf_planning.specs.Graphs.{IsFileOf, IsFaultIn, IsPlanOf, IsTimed};
 ghost use Rattle.bf_planning.specs.Lists.{HasListing, IsDatedFault, IsRangeFault};
 ghost use Rattle.bf_planning.specs.Tables.{IsTableFault};
@@ -34,7 +34,7 @@ impl TimedPlan {
     /// A run for each data interval of the plan's schedule that starts there.
     fn listed(&self, alloc: Global, starts: Starts) -> Result<Runs, IntervalFault>
         requires { IsSaid self.now.plan.schedule }
-        ensures { (zone : TimeZoneTerm) × IsZoneOf self.now.zone zone
+        ensures { (zone : TimeZone) × IsZoneOf self.now.zone zone
             × IsStartsAnswer self.now.plan.schedule zone starts result }
     {
         let zone = self.zone.as_time_zone();
@@ -102,7 +102,7 @@ impl TimedPlan {
 
 /// The table that a file says.
 pub fn table_in(alloc: Global, bytes: &[u8]) -> Result<Table, CommandFault>
-    ensures ok { IfOk result (λ table. table_of bytes.now ≡ Ok table) }
+    ensures ok { IfOk result (λ table. table_in bytes.now ≡ Ok table) }
     ensures fault { IfErr result (IsTableFault bytes.now) }
 {
     let table = Table::read(alloc, bytes)?;

@@ -7,7 +7,7 @@ use Rattle.std.proofs.lemmas.List.Sums.{fold-append}
 use Rattle.bf_words.specs.declared.context.JobContext.{JobContext}
 use Rattle.bf_process.specs.declared.variable.Variable.{Variable}
 use Rattle.bf_process.specs.declared.variable.Variable.TheVariants.{DagId}
-use Rattle.bf_process.specs.Environment.{environment_of, given_pairs, pairs_of, said_after, variable_name, variable_value, variables}
+use Rattle.bf_process.specs.Environment.{environment_of, given_pairs, pairs_of, said_after, variable_name, variable_value, variables_of}
 
 abbrev Said : Type 0
 Said = Option (Option (List ℕ))
@@ -29,27 +29,27 @@ unfolding said_after
 said_more name before said new first rest is next = next ∙ ap (λ s. said_after name s rest) is ∙ sym (fold-append (λ s pair. if bytes_eq pair.0 name then Some (Some pair.1) else s) before first rest)
 
 -- one more of the variables that each try has
-pub pairs_more : (try : JobContext) (clock : ℤ) (i : ℕ) → i < length variables → pairs_of try clock (take (i + 1) variables) ≡ pairs_of try clock (take i variables) ++ (variable_name (get_or variables i DagId), variable_value try clock (get_or variables i DagId)) ∷ []
-pairs_more try clock i within = map_more (λ v. (variable_name v, variable_value try clock v)) variables i DagId within
+pub pairs_more : (try : JobContext) (clock : ℤ) (i : ℕ) → i < length variables_of → pairs_of try clock (take (i + 1) variables_of) ≡ pairs_of try clock (take i variables_of) ++ (variable_name (get_or variables_of i DagId), variable_value try clock (get_or variables_of i DagId)) ∷ []
+pairs_more try clock i within = map_more (λ v. (variable_name v, variable_value try clock v)) variables_of i DagId within
 
-pub said_next : (try : JobContext) (clock : ℤ) (all : List Variable) (i : ℕ) → all ≡ variables → i < length all → (name n v : List ℕ) (before said new : Said) → said ≡ said_after name before (pairs_of try clock (take i variables))
-    → n ≡ variable_name (get_or all i DagId) → v ≡ variable_value try clock (get_or all i DagId) → new ≡ said_after name said ((n, v) ∷ []) → new ≡ said_after name before (pairs_of try clock (take (i + 1) variables))
+pub said_next : (try : JobContext) (clock : ℤ) (all : List Variable) (i : ℕ) → all ≡ variables_of → i < length all → (name n v : List ℕ) (before said new : Said) → said ≡ said_after name before (pairs_of try clock (take i variables_of))
+    → n ≡ variable_name (get_or all i DagId) → v ≡ variable_value try clock (get_or all i DagId) → new ≡ said_after name said ((n, v) ∷ []) → new ≡ said_after name before (pairs_of try clock (take (i + 1) variables_of))
 said_next try clock all i same within name n v before said new is named valued next =
-    said_more name before said new (pairs_of try clock (take i variables)) _ is (
+    said_more name before said new (pairs_of try clock (take i variables_of)) _ is (
     next
     ∙ ap (λ a. said_after name said ((a, v) ∷ [])) (named ∙ ap (λ (xs : List Variable). variable_name (get_or xs i DagId)) same)
-    ∙ ap (λ b. said_after name said ((variable_name (get_or variables i DagId), b) ∷ [])) (valued ∙ ap (λ (xs : List Variable). variable_value try clock (get_or xs i DagId)) same)
+    ∙ ap (λ b. said_after name said ((variable_name (get_or variables_of i DagId), b) ∷ [])) (valued ∙ ap (λ (xs : List Variable). variable_value try clock (get_or xs i DagId)) same)
     ) ∙ ap (said_after name before) (sym (pairs_more try clock i (subst (λ (xs : List Variable). i < length xs) same within)))
 
 -- ---- with what a try was given, and without it
 
-pub said_without : (try : JobContext) (clock : ℤ) (given : Option (List ℕ)) → None ≡ given → (name : List ℕ) (before new : Said) → new ≡ said_after name before (pairs_of try clock variables) → new ≡ said_after name before (environment_of try clock given)
+pub said_without : (try : JobContext) (clock : ℤ) (given : Option (List ℕ)) → None ≡ given → (name : List ℕ) (before new : Said) → new ≡ said_after name before (pairs_of try clock variables_of) → new ≡ said_after name before (environment_of try clock given)
 unfolding environment_of
-said_without try clock given none name before new is = is ∙ ap (said_after name before) (sym (append-nil (pairs_of try clock variables)) ∙ ap (λ (g : Option (List ℕ)). pairs_of try clock variables ++ given_pairs g) none)
+said_without try clock given none name before new is = is ∙ ap (said_after name before) (sym (append-nil (pairs_of try clock variables_of)) ∙ ap (λ (g : Option (List ℕ)). pairs_of try clock variables_of ++ given_pairs g) none)
 
-pub said_with : (try : JobContext) (clock : ℤ) (given : Option (List ℕ)) (path : List ℕ) → Some path ≡ given → (name : List ℕ) (before said new : Said) → said ≡ said_after name before (pairs_of try clock variables)
+pub said_with : (try : JobContext) (clock : ℤ) (given : Option (List ℕ)) (path : List ℕ) → Some path ≡ given → (name : List ℕ) (before said new : Said) → said ≡ said_after name before (pairs_of try clock variables_of)
     → new ≡ said_after name said (given_pairs (Some path)) → new ≡ said_after name before (environment_of try clock given)
 unfolding environment_of
 said_with try clock given path some name before said new is next =
-    said_more name before said new (pairs_of try clock variables) (given_pairs (Some path)) is next
-    ∙ ap (said_after name before) (ap (λ (g : Option (List ℕ)). pairs_of try clock variables ++ given_pairs g) some)
+    said_more name before said new (pairs_of try clock variables_of) (given_pairs (Some path)) is next
+    ∙ ap (said_after name before) (ap (λ (g : Option (List ℕ)). pairs_of try clock variables_of ++ given_pairs g) some)

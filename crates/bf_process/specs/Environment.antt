@@ -39,8 +39,8 @@ variable_value try clock AirflowTaskId = try.task_id.now
 variable_value try clock AirflowExecutionDate = moment_text try.data_interval_start.at.nanosecond
 variable_value try clock AirflowTryNumber = decimal try.try_number
 
-abbrev pub variables : List Variable
-variables =
+abbrev pub variables_of : List Variable
+variables_of =
     DagId ∷ TaskId ∷ Run ∷ Date ∷ DateNodash ∷ IntervalStart ∷ IntervalEnd ∷ MapIndex ∷ TryNumber
     ∷ AirflowDagId ∷ AirflowTaskId ∷ AirflowExecutionDate ∷ AirflowTryNumber ∷ []
 
@@ -55,7 +55,7 @@ given_pairs (Some path) = (codes "BACKFILL_GIVEN", path) ∷ []
 
 -- the variables that are added for a try, by what the clocks of the graph's zone show at its run's moment
 unfoldable pub environment_of : JobContext → ℤ → Option (List ℕ) → List (List ℕ × List ℕ)
-environment_of try clock given = pairs_of try clock variables ++ given_pairs given
+environment_of try clock given = pairs_of try clock variables_of ++ given_pairs given
 
 -- what is said of a name by pairs that are set in order, where this was said before
 unfoldable pub said_after : List ℕ → Option (Option (List ℕ)) → List (List ℕ × List ℕ) → Option (Option (List ℕ))

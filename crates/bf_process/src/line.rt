@@ -1,6 +1,6 @@
 //! The last line of an output, which is read up to a limit.
 ghost use Rattle.std.specs.Prelude.{◌≡◌, ◌≢◌, IfOk, IfSome};
-ghost use Rattle.bf_try.specs.declared.answers.Line.{Line as LineTerm};
+ghost use Rattle.bf_try.specs.declared.answers.Line.{Line};
 ghost use Rattle.bf_device.specs.Device.{HasHalted, HasGoneOn};
 ghost use Rattle.bf_process.specs.Output.{IsLineOf};
 
@@ -20,10 +20,10 @@ const ROOM: usize = 8_192;
 pub fn line_of<R: Read>(alloc: Global, device: &mut R) -> Result<Line, OutOfMemory>
     ensures line { IfOk result (λ line. IfSome (R.left device.old)
         (λ output. IsLineOf output line)) }
-    ensures halted { IfOk result (λ line. line ≡ LineTerm.ReadFault →
+    ensures halted { IfOk result (λ line. line ≡ Line.ReadFault →
         HasHalted (R.failures device.old) (R.failures device.new)
         (R.interruptions device.old) (R.interruptions device.new)) }
-    ensures went_on { IfOk result (λ line. line ≢ LineTerm.ReadFault →
+    ensures went_on { IfOk result (λ line. line ≢ Line.ReadFault →
         HasGoneOn (R.failures device.old) (R.failures device.new)
         (R.interruptions device.old) (R.interruptions device.new)) }
 {

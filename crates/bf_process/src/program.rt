@@ -2,12 +2,12 @@
 ghost use Rattle.std.specs.Prelude.{◌≡◌, ℕ, List, [], ◌∷◌, false, None, Some, IsSome, IfOk, IfErr, IfSome, IfNone, OnOk, option_map};
 ghost use Rattle.std.specs.Process.{child_status, clears_env, command_program, command_args, command_dir, command_var, exit_code, exit_signal};
 ghost use Rattle.bf_graph.specs.Shape.{texts};
-ghost use Rattle.bf_try.specs.declared.answers.Line.{Line as LineTerm};
-ghost use Rattle.bf_failure.specs.declared.detail.Detail.{Detail as DetailTerm};
-ghost use Rattle.bf_process.specs.Environment.{pairs_of, said_after, variables as all_variables};
+ghost use Rattle.bf_try.specs.declared.answers.Line.{Line};
+ghost use Rattle.bf_failure.specs.declared.detail.Detail.{Detail};
+ghost use Rattle.bf_process.specs.Environment.{pairs_of, said_after, variables_of};
 ghost use Rattle.bf_process.specs.Commands.{IsSaidAfter, IsSameElse};
 ghost use Rattle.bf_process.specs.Words.{variables_in};
-ghost use Rattle.bf_process.specs.Output.{IsLineOf, exit_in, not_started as nothing_started};
+ghost use Rattle.bf_process.specs.Output.{IsLineOf, exit_in, not_started_of};
 
 use crate::heard::Heard;
 use crate::line::line_of;
@@ -31,7 +31,7 @@ use std::process::{Child, Command, ExitStatus, OpenProcess, Processes, Stdio};
 
 /// The answer of what isn't started.
 pub(crate) fn not_started(alloc: Global) -> Raw
-    ensures { result ≡ nothing_started }
+    ensures { result ≡ not_started_of }
 {
     Raw {
         exit: Exit::NotStarted,
@@ -58,7 +58,7 @@ fn add_variables(
 ) -> Result<(), OutOfMemory>
     ensures variables { OnOk result
         (IsSaidAfter command.old command.new
-        (pairs_of context.now clock.now.at.nanosecond all_variables)) }
+        (pairs_of context.now clock.now.at.nanosecond variables_of)) }
     ensures same { OnOk result (IsSameElse command.old command.new) }
 {
     for variable in variables() {
@@ -126,7 +126,7 @@ fn exit_of(status: ExitStatus) -> Exit
 
 /// The signal that ended a program, where one did.
 fn signal_of(status: ExitStatus) -> Option<Detail>
-    ensures { result ≡ option_map (λ number. DetailTerm.Signal number) (exit_signal status) }
+    ensures { result ≡ option_map (λ number. Detail.Signal number) (exit_signal status) }
 {
     match status.signal() {
         Some(number) => Some(Detail::Signal(number)),
@@ -181,7 +181,7 @@ fn line_from<P: OpenProcess>(
 ) -> Result<Line, OutOfMemory>
     ensures line { IfOk result (λ line. IfSome child.old.stdout (λ pipe.
         IfSome (P.Stdout.remaining pipe) (λ output. IsLineOf output line))) }
-    ensures no_pipe { IfOk result (λ line. IfNone child.old.stdout (line ≡ LineTerm.ReadFault)) }
+    ensures no_pipe { IfOk result (λ line. IfNone child.old.stdout (line ≡ Line.ReadFault)) }
     ensures closed { child.new.stdout ≡ None }
 {
     let Some(pipe) = child.stdout.take() else {
@@ -204,7 +204,7 @@ fn heard_of<P: OpenProcess>(
         option_map (λ status. exit_in (exit_code status)) (child_status child.new)
         ≡ Some heard.raw.exit) }
     ensures signal { IfOk result (λ heard.
-        option_map (λ status. option_map (λ number. DetailTerm.Signal number) (exit_signal status))
+        option_map (λ status. option_map (λ number. Detail.Signal number) (exit_signal status))
         (child_status child.new) ≡ Some heard.detail) }
     ensures line { IfOk result (λ heard. IfSome child.old.stdout (λ pipe.
         IfSome (P.Stdout.remaining pipe) (λ output. IsLineOf output heard.raw.line))) }

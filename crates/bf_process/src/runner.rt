@@ -36,13 +36,13 @@ pub struct ProcessRunner<'s, 'p, 'i, 'l, S> {
 
 impl<'s, 'p, 'i, 'l, S> Model for ProcessRunner<'s, 'p, 'i, 'l, S> {
     ghost use Rattle.std.specs.Coded.{codes};
-    ghost use Rattle.bf_plan.specs.contracts.plan.Dag as d;
-    ghost use Rattle.bf_interval.specs.contracts.interval.Interval as i;
+    ghost use Rattle.bf_plan.specs.contracts.plan.Dag;
+    ghost use Rattle.bf_interval.specs.contracts.interval.Interval;
     ghost use Rattle.bf_process.specs.Words.{Programs, launching_of};
 
     ghost Value = { Programs S };
 
-    ghost coded = { Prim.hlevel (codes, d.the_row.coded, i.the_row.coded) };
+    ghost coded = { Prim.hlevel (codes, Dag.the_row.coded, Interval.the_row.coded) };
 
     ghost view = { λ r. record {
       starter = r.starter.now;

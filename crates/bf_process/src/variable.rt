@@ -1,6 +1,6 @@
 //! The variables of a try's environment.
 ghost use Rattle.std.specs.Prelude.{◌≡◌, IfOk, string_bytes};
-ghost use Rattle.bf_process.specs.Environment.{variable_name, variable_value, variables as all_variables};
+ghost use Rattle.bf_process.specs.Environment.{variable_name, variable_value, variables_of};
 
 use crate::clocks::{date, digits_of_date};
 use bf_moment::Moment;
@@ -50,7 +50,7 @@ static VARIABLES: [Variable; 13] = [
 
 /// All variables of a try's environment.
 pub(crate) fn variables() -> &'static [Variable]
-    ensures { result.now ≡ all_variables }
+    ensures { result.now ≡ variables_of }
 {
     &VARIABLES
 }

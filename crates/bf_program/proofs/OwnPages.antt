@@ -7,7 +7,7 @@ use Rattle.bf_plan.specs.Sound.{IsSound}
 use Rattle.bf_read.specs.declared.draft.Draft.{Draft}
 use Rattle.bf_check.specs.Checking.{dag_of}
 use Rattle.bf_interval.specs.declared.interval.Interval.{Interval}
-use Rattle.bf_try.specs.Tries.{Look}
+use Rattle.bf_try.specs.Tries.{Ledger}
 use Rattle.bf_report.specs.declared.report.RunReport.{RunReport}
 use Rattle.bf_report.specs.declared.report.Report.{Report}
 use Rattle.bf_report.specs.Dated.{IsDated}
@@ -19,10 +19,10 @@ use Rattle.bf_program.proofs.Printing.{same_dag, same_report}
 
 abbrev HaveNoDigit : Type 0
 HaveNoDigit =
-    (dag : Dag) → IsSound dag → (intervals : List Interval) (ledger : Look) (report : Report) → IsDated dag intervals ledger report
+    (dag : Dag) → IsSound dag → (intervals : List Interval) (ledger : Ledger) (report : Report) → IsDated dag intervals ledger report
     → (number : ℕ) (run : RunReport) → slice_get report.runs number ≡ Some run → list_any is_ascii_digit (letters_from dag report number 0 run.tasks) ≡ false
 
-pub no_digit_shown : HaveNoDigit → (graph : List ℕ) (zone : Option (List ℕ)) (draft : Draft) → IsGraph graph zone draft → (found : List Interval) (ledger : Look) (held : List ℕ) (success : Bool)
+pub no_digit_shown : HaveNoDigit → (graph : List ℕ) (zone : Option (List ℕ)) (draft : Draft) → IsGraph graph zone draft → (found : List Interval) (ledger : Ledger) (held : List ℕ) (success : Bool)
     → IsReportOf (dag_of draft) found ledger held success → (words : PageWords) (journal : Option (List ℕ)) (text : List ℕ) → (page : IsPageOf words graph zone held journal text)
     → (number : ℕ) (run : RunReport) → slice_get page.report.runs number ≡ Some run → list_any is_ascii_digit (letters_from (dag_of page.draft) page.report number 0 run.tasks) ≡ false
 no_digit_shown none graph zone draft says found ledger held success of words journal text page number run is =

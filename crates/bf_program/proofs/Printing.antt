@@ -18,10 +18,10 @@ use Rattle.bf_xcom.specs.declared.values.Given.{Given}
 use Rattle.bf_xcom.specs.declared.values.Outcome.{Outcome}
 use Rattle.bf_try.specs.declared.answers.Raw.{Raw}
 use Rattle.bf_try.specs.declared.ledger.Entry.{Entry}
-use Rattle.bf_try.specs.Grades.{fits}
+use Rattle.bf_try.specs.Grades.{fits_in}
 use Rattle.bf_try.proofs.GradeLemmas.{grade_fits}
 use Rattle.bf_table.specs.declared.table.TableEntry.{TableEntry}
-use Rattle.bf_table.specs.Tables.{json_of_file, longest_table, table_of, table_with}
+use Rattle.bf_table.specs.Tables.{json_of_file, longest_table, table_in, table_with}
 use Rattle.bf_core.specs.Agreement.{HoldsItsTries}
 use Rattle.bf_core.specs.Answered.{AreGraded}
 use Rattle.bf_report.specs.declared.report.Report.{Report}
@@ -39,7 +39,7 @@ use Rattle.bf_planning.specs.Lists.{HasListing}
 use Rattle.bf_planning.specs.declared.range.RunRange.{RunRange}
 use Rattle.bf_commands.specs.DatedRuns.{IsReportIn}
 use Rattle.bf_commands.specs.OverTable.{IsReportOver}
-use Rattle.bf_commands.specs.Reported.{IsReportBy, is_success}
+use Rattle.bf_commands.specs.Reported.{IsReportBy, is_success_in}
 use Rattle.bf_commands.proofs.OneList.{one_list}
 use Rattle.bf_views.specs.Tables.{IsTableOf}
 
@@ -55,8 +55,8 @@ pub same_report : (held : List ℕ) (one report : Report) → IsReadAs held one 
 same_report held one report says kept is = one_text_each one report [] says.shown kept (sym is ∙ says.text_is ∙ sym (append-nil (report_text one)))
 
 -- what is read as a table isn't too long for one
-short_table : (bytes : List ℕ) (entries : List TableEntry) → table_of bytes ≡ Ok entries → length bytes ≤ longest_table
-unfolding table_of json_of_file
+short_table : (bytes : List ℕ) (entries : List TableEntry) → table_in bytes ≡ Ok entries → length bytes ≤ longest_table
+unfolding table_in json_of_file
 short_table bytes entries e = by (nat_le (length bytes) longest_table) refl e
   where
     by : (b : Bool) → nat_le (length bytes) longest_table ≡ b → table_with (option_and_then as_array (if b && is_utf8 bytes then read bytes else None)) ≡ Ok entries → length bytes ≤ longest_table
@@ -64,7 +64,7 @@ short_table bytes entries e = by (nat_le (length bytes) longest_table) refl e
     by false low h = cc
 
 abbrev ReadBack : Type 0
-ReadBack = (report : Report) → IsShownReport report → length (answers_text report) ≤ longest_table → table_of (answers_text report) ≡ Ok (answers_in report)
+ReadBack = (report : Report) → IsShownReport report → length (answers_text report) ≤ longest_table → table_in (answers_text report) ≡ Ok (answers_in report)
 
 abbrev MadeAgain : Type 0
 MadeAgain =
@@ -84,7 +84,7 @@ module _ (back : ReadBack) (again : MadeAgain) (may_answer : JobName → Given �
   entries_are : made.entries ≡ answers_in report
   entries_are =
       let short : length (answers_text report) ≤ longest_table = subst (λ (t : List ℕ). length t ≤ longest_table) table_is (short_table table made.entries made.table_says) in
-      let said : Ok made.entries ≡ Ok (answers_in report) = sym made.table_says ∙ ap table_of table_is ∙ back report was.reported.kept short in
+      let said : Ok made.entries ≡ Ok (answers_in report) = sym made.table_says ∙ ap table_in table_is ∙ back report was.reported.kept short in
       cc
 
   moved : IsReportOver (dag_of draft) (answers_in report) found text other
@@ -94,12 +94,12 @@ module _ (back : ReadBack) (again : MadeAgain) (may_answer : JobName → Given �
       subst (λ (p : Dag × List TableEntry × List Interval). IsReportOver p.0 p.1 p.2 text other) (λ i. (dags i, entries_are i, intervals i)) made.reported
 
   fit : AreFit (dag_of draft) (finite.get was.ledger)
-  fit n e at = let graded = was.graded n e at in subst (λ (o : Outcome). fits (dag_of draft) n.task o ≡ true) (sym graded.2) (grade_fits (dag_of draft) n.task graded.0)
+  fit n e at = let graded = was.graded n e at in subst (λ (o : Outcome). fits_in (dag_of draft) n.task o ≡ true) (sym graded.2) (grade_fits (dag_of draft) n.task graded.0)
 
   pub printed_again : (text ≡ held) × (other ≡ success)
   printed_again =
       let same : moved.reported.report ≡ report =
       again (dag_of draft) graph_is.sound found was.ledger moved.ledger was.tries fit moved.tries report was.reported.dated was.reported.kept moved.graded moved.reported.report moved.reported.dated in (
         moved.reported.text_is ∙ ap report_text same ∙ sym was.reported.text_is,
-        moved.reported.state ∙ ap (λ (r : Report). list_all (λ run. is_success run.state) r.runs) same ∙ sym was.reported.state,
+        moved.reported.state ∙ ap (λ (r : Report). list_all (λ run. is_success_in run.state) r.runs) same ∙ sym was.reported.state,
       )

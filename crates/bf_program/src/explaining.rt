@@ -2,7 +2,7 @@
 ghost use Rattle.std.specs.Prelude.{◌≡◌, ◌++◌, true, IfOk, OnErr, OnOk, string_bytes};
 ghost use Rattle.bf_device.specs.Device.{HasHalted};
 ghost use Rattle.bf_command_line.specs.Asked.{IsLineBy};
-ghost use Rattle.bf_command_line.specs.declared.forms.CommandLine.{CommandLine as CommandLineTerm};
+ghost use Rattle.bf_command_line.specs.declared.forms.CommandLine.{CommandLine};
 ghost use Rattle.bf_input.specs.Inputs.{OfFiles};
 ghost use Rattle.bf_program.specs.Commands.{found_in};
 ghost use Rattle.bf_program.specs.Explained.{IsExplained, IsExplainedIf, IsExplanation, finding_line, findings_text};
@@ -119,7 +119,7 @@ pub fn explain<S: Source, E: Write>(
     files: &mut S,
     err: &mut E,
 ) -> Result<(), CommandFault>
-    ensures told { OnOk result ((line : CommandLineTerm) × IsLineBy (found_in words.now) line
+    ensures told { OnOk result ((line : CommandLine) × IsLineBy (found_in words.now) line
         × IsExplained (S.file files.old) line.command
         (HasHalted (E.failures err.old) (E.failures err.new)
         (E.interruptions err.old) (E.interruptions err.new))

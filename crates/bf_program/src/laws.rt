@@ -3,15 +3,15 @@
 ghost use Rattle.std.specs.Char.{is_ascii_digit};
 ghost use Rattle.std.specs.List.{list_any};
 ghost use Rattle.std.specs.Prelude.{◌≡◌, ℕ, Bool, false, List, Option, Ok, Some, slice_get};
-ghost use Rattle.bf_read.specs.declared.draft.Draft.{Draft as DraftTerm};
+ghost use Rattle.bf_read.specs.declared.draft.Draft.{Draft};
 ghost use Rattle.bf_check.specs.Checking.{dag_of};
-ghost use Rattle.bf_interval.specs.declared.interval.Interval.{Interval as IntervalTerm};
-ghost use Rattle.bf_try.specs.Tries.{Look};
-ghost use Rattle.bf_report.specs.declared.report.RunReport.{RunReport as RunReportTerm};
+ghost use Rattle.bf_interval.specs.declared.interval.Interval.{Interval};
+ghost use Rattle.bf_try.specs.Tries.{Ledger};
+ghost use Rattle.bf_report.specs.declared.report.RunReport.{RunReport};
 ghost use Rattle.bf_cells.specs.Cells.{letters_from};
 ghost use Rattle.bf_planning.specs.Graphs.{IsGraph};
 ghost use Rattle.bf_planning.specs.Lists.{HasListing};
-ghost use Rattle.bf_planning.specs.declared.range.RunRange.{RunRange as RunRangeTerm};
+ghost use Rattle.bf_planning.specs.declared.range.RunRange.{RunRange};
 ghost use Rattle.bf_commands.specs.DatedRuns.{IsReportIn};
 ghost use Rattle.bf_commands.specs.Reported.{IsReportBy, IsReportOf};
 ghost use Rattle.bf_views.specs.Pages.{IsPageOf, PageWords};
@@ -24,8 +24,8 @@ use bf_try::TaskRunner;
 /// Over the table that `answers` prints of the report of a backfill, whatever runner answered its tries, `dry` of the same graph and
 /// range prints that report, byte for byte.
 pub fn reports_are_printed_again<R: TaskRunner>(runner: &R)
-    ensures { (graph : List ℕ) (file : Option (List ℕ)) (range : RunRangeTerm) (draft : DraftTerm)
-        (found : List IntervalTerm)
+    ensures { (graph : List ℕ) (file : Option (List ℕ)) (range : RunRange) (draft : Draft)
+        (found : List Interval)
         → IsGraph graph file draft → HasListing graph file range (Ok found)
         → (report table text : List ℕ) (success other : Bool)
         → IsReportBy (R.may_answer runner.now) (dag_of draft) found report success
@@ -38,13 +38,13 @@ pub fn reports_are_printed_again<R: TaskRunner>(runner: &R)
 
 /// On the page of a report that a backfill of the graph printed, no digit stands among the letters of a run.
 pub fn own_pages_have_no_digit()
-    ensures { (graph : List ℕ) (zone : Option (List ℕ)) (draft : DraftTerm)
+    ensures { (graph : List ℕ) (zone : Option (List ℕ)) (draft : Draft)
         → IsGraph graph zone draft
-        → (found : List IntervalTerm) (ledger : Look) (report : List ℕ) (success : Bool)
+        → (found : List Interval) (ledger : Ledger) (report : List ℕ) (success : Bool)
         → IsReportOf (dag_of draft) found ledger report success
         → (words : PageWords) (journal : Option (List ℕ)) (text : List ℕ)
         → (page : IsPageOf words graph zone report journal text)
-        → (number : ℕ) (run : RunReportTerm) → slice_get page.report.runs number ≡ Some run
+        → (number : ℕ) (run : RunReport) → slice_get page.report.runs number ≡ Some run
         → list_any is_ascii_digit (letters_from (dag_of page.draft) page.report number 0 run.tasks)
         ≡ false }
 {

@@ -4,8 +4,8 @@ ghost use Rattle.clap.specs.Words.{kind_of};
 ghost use Rattle.bf_device.specs.Device.{HasHalted};
 ghost use Rattle.bf_command_fault.specs.Refusal.{Leaves, Sends, number_of};
 ghost use Rattle.bf_command_fault.specs.Status.{code_of};
-ghost use Rattle.bf_command_fault.specs.declared.fault.CommandFault.{CommandFault as FaultTerm};
-ghost use Rattle.bf_command_fault.specs.declared.status.Status.{Status as StatusTerm};
+ghost use Rattle.bf_command_fault.specs.declared.fault.CommandFault.{CommandFault};
+ghost use Rattle.bf_command_fault.specs.declared.status.Status.{Status};
 ghost use Rattle.bf_backfills.specs.Commands.{machine_of};
 ghost use Rattle.bf_program.specs.Commands.{IsAnswer, IsDone, found_in, outputs, wrongs_of};
 ghost use Rattle.bf_program.specs.CommandFaults.{IsFault, IsTold, MayBeFaulted, MayTell, Tells};
@@ -66,7 +66,7 @@ where
     ensures kept { wrongs_of words.now ≢ [] → F.placed folder.new ≡ F.placed folder.old }
 
     // Of a line with which nothing is wrong: which fault came, and what is told of it.
-    ensures why { wrongs_of words.now ≡ [] → 2 ≤ result → (fault : FaultTerm)
+    ensures why { wrongs_of words.now ≡ [] → 2 ≤ result → (fault : CommandFault)
         × MayBeFaulted (RT.may_hear rt.now) (RT.may_lose rt.now) canvas
         (S.file files.old) (machine_of (J.journal journals.now) (J.startable journals.now))
         (found_in words.now) (HasHalted (W.failures out.old) (W.failures out.new)
@@ -78,7 +78,7 @@ where
         (E.written err.old) (E.written err.new) fault result }
 
     // Of a wrong line, and of help: which fault came, and what is told of it.
-    ensures unshown { wrongs_of words.now ≢ [] → result ≡ 3 → (fault : FaultTerm)
+    ensures unshown { wrongs_of words.now ≢ [] → result ≡ 3 → (fault : CommandFault)
         × IsUnshown (ShowsHelp (wrongs_of words.now))
         (HasHalted (W.failures out.old) (W.failures out.new)
         (W.interruptions out.old) (W.interruptions out.new))
@@ -88,7 +88,7 @@ where
         (E.written err.old) (E.written err.new) fault result }
 
     // Of any line: a fault is told as one.
-    ensures fault { result ≡ 3 → (fault : FaultTerm)
+    ensures fault { result ≡ 3 → (fault : CommandFault)
         × Tells (HasHalted (E.failures err.old) (E.failures err.new)
         (E.interruptions err.old) (E.interruptions err.new))
         (E.written err.old) (E.written err.new) fault 3 }
@@ -171,7 +171,7 @@ where
         (machine_of (J.journal journals.now) (J.startable journals.now)) command) }
     ensures left { IfErr result (Leaves (HasHalted (W.failures out.old) (W.failures out.new)
         (W.interruptions out.old) (W.interruptions out.new))
-        (λ text. (status : StatusTerm)
+        (λ text. (status : Status)
         × IsAnswer (RT.may_hear rt.now) canvas (S.file files.old)
         (machine_of (J.journal journals.now) (J.startable journals.now)) command text status)
         (W.written out.old) (W.written out.new)) }

@@ -2,7 +2,7 @@
 ghost use Rattle.std.specs.Prelude.{◌≡◌, IfOk, IfErr};
 ghost use Rattle.bf_device.specs.Device.{HasHalted};
 ghost use Rattle.bf_command_fault.specs.Refusal.{Leaves, Sends};
-ghost use Rattle.bf_command_fault.specs.declared.status.Status.{Status as StatusTerm};
+ghost use Rattle.bf_command_fault.specs.declared.status.Status.{Status};
 ghost use Rattle.bf_program.specs.Texts.{IsDeviceFault, IsPrinted, completions_text, schema_text};
 
 use bf_command_fault::{CommandFault, Status};
@@ -35,7 +35,7 @@ fn printed<W: Write>(text: &str, out: &mut W) -> Result<Status, CommandFault>
     ensures fault { IfErr result IsDeviceFault }
     ensures left { IfErr result (Leaves (HasHalted (W.failures out.old) (W.failures out.new)
         (W.interruptions out.old) (W.interruptions out.new))
-        (λ sent. (status : StatusTerm) × IsPrinted text.now sent status)
+        (λ sent. (status : Status) × IsPrinted text.now sent status)
         (W.written out.old) (W.written out.new)) }
 {
     send(out, text.as_bytes())?;
@@ -50,7 +50,7 @@ pub fn schema_answered<W: Write>(format: Format, out: &mut W) -> Result<Status, 
     ensures fault { IfErr result IsDeviceFault }
     ensures left { IfErr result (Leaves (HasHalted (W.failures out.old) (W.failures out.new)
         (W.interruptions out.old) (W.interruptions out.new))
-        (λ text. (status : StatusTerm) × IsPrinted (schema_text format) text status)
+        (λ text. (status : Status) × IsPrinted (schema_text format) text status)
         (W.written out.old) (W.written out.new)) }
 {
     printed(schema_of(format), out)
@@ -64,7 +64,7 @@ pub fn completions_answered<W: Write>(shell: Shell, out: &mut W) -> Result<Statu
     ensures fault { IfErr result IsDeviceFault }
     ensures left { IfErr result (Leaves (HasHalted (W.failures out.old) (W.failures out.new)
         (W.interruptions out.old) (W.interruptions out.new))
-        (λ text. (status : StatusTerm) × IsPrinted (completions_text shell) text status)
+        (λ text. (status : Status) × IsPrinted (completions_text shell) text status)
         (W.written out.old) (W.written out.new)) }
 {
     printed(completions_of(shell), out)

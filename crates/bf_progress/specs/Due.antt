@@ -31,16 +31,16 @@ IsNoted event running now old new =
     (new.counts.running ≡ running) × (new.has_changed ≡ true) × (new.changed ≡ now) × (new.minutes ≡ 0) × (new.shown ≡ old.shown)
 
 -- the whole seconds from one moment to another
-abbrev pub seconds_between : Duration → Duration → ℕ
-seconds_between since now = (as_nanos now - as_nanos since) / 1_000_000_000
+abbrev pub seconds_between_of : Duration → Duration → ℕ
+seconds_between_of since now = (as_nanos now - as_nanos since) / 1_000_000_000
 
 -- no event has come for a minute more than was told
-abbrev pub is_minute_over : Board → Duration → Bool
-is_minute_over board now = nat_lt board.minutes (seconds_between board.changed now / 60)
+abbrev pub is_minute_over_in : Board → Duration → Bool
+is_minute_over_in board now = nat_lt board.minutes (seconds_between_of board.changed now / 60)
 
 -- the counts have changed, or are kept on a terminal, and were shown a second ago
-abbrev pub is_line_due : Board → Duration → Bool → Bool
-is_line_due board now keeps_line = (board.has_changed || keeps_line) && nat_lt 0 (seconds_between board.shown now)
+abbrev pub is_line_due_in : Board → Duration → Bool → Bool
+is_line_due_in board now keeps_line = (board.has_changed || keeps_line) && nat_lt 0 (seconds_between_of board.shown now)
 
 abbrev pub counts_due : Bool → Due
 counts_due true = Due.Counts
@@ -53,10 +53,10 @@ due_at true line_due (first ∷ rest) = Due.Longest first
 due_at false line_due (first ∷ rest) = counts_due line_due
 
 abbrev pub due_of : Board → Duration → Bool → Due
-due_of board now keeps_line = due_at (is_minute_over board now) (is_line_due board now keeps_line) board.running.items
+due_of board now keeps_line = due_at (is_minute_over_in board now) (is_line_due_in board now keeps_line) board.running.items
 
 -- what was due is told
 abbrev pub shown_of : Board → Due → Duration → Board
 shown_of board Due.Nothing now = board
 shown_of board Due.Counts now = record board { has_changed = false; shown = now }
-shown_of board (Due.Longest begun) now = record board { minutes = seconds_between board.changed now / 60 }
+shown_of board (Due.Longest begun) now = record board { minutes = seconds_between_of board.changed now / 60 }

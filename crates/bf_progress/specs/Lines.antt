@@ -1,7 +1,7 @@
 -- The lines that are told of progress.
 use Rattle.std.specs.Prelude.{ℕ, ◌-◌, Bool, true, false, List, ◌∷◌, ◌++◌, codes, decimal}
 use Rattle.bf_words.specs.declared.context.JobContext.{JobContext}
-use Rattle.bf_failure.specs.Tried.{try_text}
+use Rattle.bf_failure.specs.Tried.{try_text_of}
 use Rattle.bf_progress.specs.declared.counts.Counts.{Counts}
 
 -- as `runs 12/90 (4 open)  tasks 431/1800  running 8  waiting 3  failed 2`
@@ -20,10 +20,10 @@ abbrev pub kept_line : Counts → List ℕ
 kept_line c = 27 ∷ codes "[?7l" ++ (counts_text c ++ (27 ∷ codes "[?7h"))
 
 -- as `running for 3600 s: crawl 2024-01-01T05:00:00Z index 2 try 1`, and a line feed
-abbrev pub longest_line : ℕ → JobContext → List ℕ
-longest_line seconds try = codes "running for " ++ (decimal seconds ++ (codes " s: " ++ (try_text try ++ codes "\n")))
+abbrev pub longest_line_of : ℕ → JobContext → List ℕ
+longest_line_of seconds try = codes "running for " ++ (decimal seconds ++ (codes " s: " ++ (try_text_of try ++ codes "\n")))
 
 -- on a terminal a carriage return and ESC [ K take away the line that stands there
-abbrev pub line_on : Bool → List ℕ → List ℕ
-line_on true line = 13 ∷ 27 ∷ codes "[K" ++ line
-line_on false line = line
+abbrev pub line_at : Bool → List ℕ → List ℕ
+line_at true line = 13 ∷ 27 ∷ codes "[K" ++ line
+line_at false line = line

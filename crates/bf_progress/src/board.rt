@@ -1,6 +1,6 @@
 //! What is known of a backfill while it runs.
 ghost use Rattle.std.specs.Prelude.{◌≡◌, [], OnErr, OnOk, false};
-ghost use Rattle.bf_progress.specs.Due.{IsNoted, IsRunningAfter, due_of, is_line_due as line_due, is_minute_over as minute_over, running_after, shown_of};
+ghost use Rattle.bf_progress.specs.Due.{IsNoted, IsRunningAfter, due_of, is_line_due_in, is_minute_over_in, running_after, shown_of};
 
 use crate::begun::{Begun, begin, end};
 use crate::counts::Counts;
@@ -88,7 +88,7 @@ impl Board {
 
     /// Whether no event has come for a minute more than was told.
     fn is_minute_over(&self, now: Duration) -> bool
-        ensures { result ≡ minute_over self.now now }
+        ensures { result ≡ is_minute_over_in self.now now }
     {
         self.minutes < seconds_between(self.changed, now) / MINUTE
     }
@@ -96,7 +96,7 @@ impl Board {
     /// Whether the counts are to be shown: a second after they were, where they have changed, or where they are kept on a
     /// terminal, on which other lines may have taken their place.
     fn is_line_due(&self, now: Duration, keeps_line: bool) -> bool
-        ensures { result ≡ line_due self.now now keeps_line }
+        ensures { result ≡ is_line_due_in self.now now keeps_line }
     {
         (self.has_changed || keeps_line) && 0 < seconds_between(self.shown, now)
     }

@@ -1,6 +1,6 @@
 //! What is to be told at a moment.
 ghost use Rattle.std.specs.Prelude.{◌≡◌};
-ghost use Rattle.bf_progress.specs.Due.{seconds_between as between};
+ghost use Rattle.bf_progress.specs.Due.{seconds_between_of};
 
 use crate::begun::Begun;
 use std::time::Duration;
@@ -17,7 +17,7 @@ pub(crate) enum Due {
 
 /// The whole seconds from one moment to another, and none where that lies before it.
 pub(crate) fn seconds_between(from: Duration, to: Duration) -> u64
-    ensures { result ≡ between from to }
+    ensures { result ≡ seconds_between_of from to }
 {
     to.saturating_sub(from).as_secs()
 }

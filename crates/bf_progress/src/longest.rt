@@ -1,6 +1,6 @@
 //! The line of the try that runs longest.
 ghost use Rattle.std.specs.Prelude.{◌≡◌, IfOk, string_bytes};
-ghost use Rattle.bf_progress.specs.Lines.{longest_line as line_of};
+ghost use Rattle.bf_progress.specs.Lines.{longest_line_of};
 
 use bf_failure::try_text;
 use bf_value::OutOfMemory;
@@ -14,7 +14,7 @@ pub(crate) fn longest_line(
     seconds: u64,
     context: &JobContext<'_>,
 ) -> Result<String, OutOfMemory>
-    ensures { IfOk result (λ line. string_bytes line ≡ line_of seconds context.now) }
+    ensures { IfOk result (λ line. string_bytes line ≡ longest_line_of seconds context.now) }
 {
     let text = try_text(alloc, context)?;
     Ok(format!(in alloc; "running for {seconds} s: {text}\n")?)

@@ -1,6 +1,6 @@
 //! Where progress is shown.
 ghost use Rattle.std.specs.Prelude.{◌≡◌, IfOk, string_bytes};
-ghost use Rattle.bf_progress.specs.Lines.{line_on as text_on};
+ghost use Rattle.bf_progress.specs.Lines.{line_at};
 
 use bf_device::{Output, send};
 use bf_value::OutOfMemory;
@@ -29,7 +29,7 @@ impl Screen for HostRuntime {
 
 /// What shows a line: on a terminal first what takes away the line of progress that may stand there.
 fn line_on(alloc: Global, is_terminal: bool, line: &str) -> Result<String, OutOfMemory>
-    ensures { IfOk result (λ text. string_bytes text ≡ text_on is_terminal line.now) }
+    ensures { IfOk result (λ text. string_bytes text ≡ line_at is_terminal line.now) }
 {
     if is_terminal {
         Ok(format!(in alloc; "\r\u{1b}[K{line}")?)

@@ -7,8 +7,8 @@ use Rattle.std.proofs.lemmas.List.Elements.{All-head, All-tail}
 use Rattle.std.proofs.lemmas.List.Sums.{fold-append}
 use Rattle.std.proofs.lemmas.Str.{encode_ascii, encodes-chars}
 use lib.Utf8.{encode, encodes}
-use Rattle.bf_quoted.specs.Seen.{is_unseen}
-use Rattle.bf_quoted.specs.Words.{is_bare, is_bare_word, quoted_char, octal, escaped_char, quoted}
+use Rattle.bf_quoted.specs.Seen.{is_unseen_in}
+use Rattle.bf_quoted.specs.Words.{is_bare_in, is_bare_word_in, quoted_char, octal, escaped_char, quoted}
 use Rattle.bf_quoted.specs.Shell.{Reading, bare, in_quotes, in_dollar_quotes, in_escape, behind_digit, behind_digits, is_octal, reads_on, read_by_shell}
 use Rattle.bf_quoted.proofs.CharFacts.{IsByte, small_bytes, other_bytes, unseen_small, bare_small}
 
@@ -27,7 +27,7 @@ each_char at f step (c ∷ cs) word =
 -- ---- bare
 
 abbrev Bare : ℕ → Type 0
-Bare b = is_bare b ≡ true
+Bare b = is_bare_in b ≡ true
 
 bare_step : (word : List ℕ) (b : ℕ) → Bare b → reads_on (bare word) b ≡ bare (word ++ b ∷ [])
 bare_step word b e =
@@ -35,10 +35,10 @@ bare_step word b e =
     let not_backslash : b ≢ 92 = λ is. false≢true (subst Bare is e) in
     cond-false _ _ _ (ne_eqb b 39 (omega arith)) ∙ cond-false _ _ _ (ne_eqb b 92 not_backslash) ∙ cond-false _ _ _ (ne_eqb b 36 (omega arith)) ∙ cond-true _ _ _ e
 
-bare_read : (bs word : List ℕ) → list_all is_bare bs ≡ true → fold reads_on (bare word) bs ≡ bare (word ++ bs)
+bare_read : (bs word : List ℕ) → list_all is_bare_in bs ≡ true → fold reads_on (bare word) bs ≡ bare (word ++ bs)
 bare_read [] word e = ap bare (sym (append-nil word))
 bare_read (b ∷ bs) word e =
-    let (this, others) = and_parts (is_bare b) (list_all is_bare bs) e in
+    let (this, others) = and_parts (is_bare_in b) (list_all is_bare_in bs) e in
     ap (λ r. fold reads_on r bs) (bare_step word b this) ∙ bare_read bs (word ++ b ∷ []) others ∙ ap bare (append_assoc word (b ∷ []) bs)
 
 -- ---- in `'..'`
@@ -100,7 +100,7 @@ low_mark c e = ⊎_elim (λ h. let is = eqb-true c 39 h in omega arith) (λ h. l
 escaped_char_read : (word : List ℕ) (c : ℕ) → fold reads_on (in_dollar_quotes word) (escaped_char c) ≡ in_dollar_quotes (word ++ encode c)
 escaped_char_read word c =
     let Read : List ℕ → Type 0 = λ s. fold reads_on (in_dollar_quotes word) s ≡ in_dollar_quotes (word ++ encode c) in
-    cond_both (is_unseen c) _ _ Read
+    cond_both (is_unseen_in c) _ _ Read
     (λ unseen. octals_read (encode c) word (small_bytes c (unseen_small c unseen)))
     (λ _. cond_both (c == 39 || c == 92) _ _ Read
     (λ e. backslash_read word c e (low_mark c e))
@@ -118,22 +118,22 @@ pub shell_reads : (word : List ℕ) → IsUtf8 word → read_by_shell (quoted wo
 shell_reads word utf8 =
     let Read : List ℕ → Type 0 = λ s. read_by_shell s ≡ bare word in
     let same = encodes-chars word utf8 in
-    cond_both (is_bare_word word) _ _ Read
+    cond_both (is_bare_word_in word) _ _ Read
     (λ e.
     let (front, _) = and_parts _ _ e in
     let (_, all) = and_parts _ _ front in
     bare_read word [] all)
-    (λ _. cond_both (list_any is_unseen (chars word)) _ _ Read
+    (λ _. cond_both (list_any is_unseen_in (chars word)) _ _ Read
     (λ _. between in_dollar_quotes (flat_map escaped_char (chars word)) word (each_char in_dollar_quotes escaped_char escaped_char_read (chars word) [] ∙ ap in_dollar_quotes same) refl)
     (λ _. between in_quotes (flat_map quoted_char (chars word)) word (each_char in_quotes quoted_char quoted_char_read (chars word) [] ∙ ap in_quotes same) refl))
 
 -- it has some bytes
 pub some_quoted : (word : List ℕ) → 0 < length (quoted word)
 some_quoted word =
-    cond_both (is_bare_word word) _ _ (λ s. 0 < length s)
+    cond_both (is_bare_word_in word) _ _ (λ s. 0 < length s)
     (λ e.
     let (front, _) = and_parts _ _ e in
     let (some, _) = and_parts _ _ front in
     let least = leb-true 1 (length word) some in
     omega arith)
-    (λ _. cond_both (list_any is_unseen (chars word)) _ _ (λ s. 0 < length s) (λ _. omega arith) (λ _. omega arith))
+    (λ _. cond_both (list_any is_unseen_in (chars word)) _ _ (λ s. 0 < length s) (λ _. omega arith) (λ _. omega arith))

@@ -3,7 +3,7 @@ ghost use Rattle.std.specs.Prelude.{◌≡◌, ℕ, List, Some, IsUtf8};
 ghost use Rattle.std.specs.List.{All};
 ghost use Rattle.std.specs.Str.{NoCharPasses};
 ghost use Rattle.bf_quoted.specs.Lines.{line_of, words_by_shell};
-ghost use Rattle.bf_quoted.specs.Seen.{is_unseen};
+ghost use Rattle.bf_quoted.specs.Seen.{is_unseen_in};
 ghost use Rattle.bf_quoted.specs.Shell.{read_by_shell, bare};
 ghost use Rattle.bf_quoted.specs.Values.{shown};
 ghost use Rattle.bf_quoted.specs.Words.{quoted};
@@ -21,10 +21,10 @@ pub fn a_shell_reads_the_words_of_a_line()
 
 /// A terminal shows each character of a quoted word as itself.
 pub fn all_of_a_word_is_seen()
-    ensures { (word : List ℕ) → NoCharPasses is_unseen (quoted word) }
+    ensures { (word : List ℕ) → NoCharPasses is_unseen_in (quoted word) }
 {}
 
 /// A terminal shows each character of a value as itself.
 pub fn all_of_a_value_is_seen()
-    ensures { (json : List ℕ) → NoCharPasses is_unseen (shown json) }
+    ensures { (json : List ℕ) → NoCharPasses is_unseen_in (shown json) }
 {}

@@ -3,7 +3,7 @@ ghost use Rattle.std.specs.Prelude.{◌≡◌};
 ghost use Rattle.std.specs.Int.{is_in_range};
 ghost use Rattle.std.specs.List.{list_any};
 ghost use Rattle.std.specs.Str.{chars};
-ghost use Rattle.bf_quoted.specs.Seen.{is_unseen as unseen};
+ghost use Rattle.bf_quoted.specs.Seen.{is_unseen_in};
 
 fn is_within(c: char, first: char, last: char) -> bool
     ensures { result ≡ is_in_range first last c }
@@ -13,7 +13,7 @@ fn is_within(c: char, first: char, last: char) -> bool
 
 /// Whether a terminal doesn't show the character as itself.
 pub(crate) fn is_unseen(c: char) -> bool
-    ensures { result ≡ unseen c }
+    ensures { result ≡ is_unseen_in c }
 {
     c.is_control()
         || c == '\u{ad}'
@@ -27,7 +27,7 @@ pub(crate) fn is_unseen(c: char) -> bool
 
 /// Whether the text has such a character.
 pub(crate) fn has_unseen(text: &str) -> bool
-    ensures { result ≡ list_any unseen (chars text.now) }
+    ensures { result ≡ list_any is_unseen_in (chars text.now) }
 {
     text.chars().any(|c| is_unseen(c))
 }

@@ -2,7 +2,7 @@
 ghost use Rattle.std.specs.Prelude.{◌≡◌, ◌++◌, OnOk, IfOk, string_bytes, encode_utf8};
 ghost use Rattle.std.specs.List.{flat_map, list_all, list_any};
 ghost use Rattle.std.specs.Str.{bytes_eq, chars};
-ghost use Rattle.bf_quoted.specs.Words.{is_bare as bare, is_bare_word as bare_word, reserved_words, octal, quoted_char, escaped_char, quoted};
+ghost use Rattle.bf_quoted.specs.Words.{is_bare_in, is_bare_word_in, reserved_words, octal, quoted_char, escaped_char, quoted};
 
 use crate::seen::{has_unseen, is_unseen};
 use bf_value::OutOfMemory;
@@ -15,13 +15,13 @@ const RESERVED: [&str; 17] = [
 ];
 
 fn is_bare(byte: u8) -> bool
-    ensures { result ≡ bare byte }
+    ensures { result ≡ is_bare_in byte }
 {
     byte.is_ascii_alphanumeric() || b"_@+:,./-".contains(&byte)
 }
 
 fn are_bare(bytes: &[u8]) -> bool
-    ensures { result ≡ list_all bare bytes.now }
+    ensures { result ≡ list_all is_bare_in bytes.now }
 {
     bytes.iter().all(|byte| is_bare(*byte))
 }
@@ -39,7 +39,7 @@ fn is_reserved(word: &str) -> bool
 }
 
 fn is_bare_word(word: &str) -> bool
-    ensures { result ≡ bare_word word.now }
+    ensures { result ≡ is_bare_word_in word.now }
 {
     1 <= word.len() && are_bare(word.as_bytes()) && !is_reserved(word)
 }

@@ -9,11 +9,11 @@ use Rattle.bf_read.specs.declared.fault.ReadFault.{ReadFault}
 use Rattle.bf_read.specs.declared.fault.ReadFault.TheVariants.{NotJson, Shape, BadName, DuplicateTask, LimitPassed, OutOfMemory}
 use Rattle.bf_read.specs.declared.fields.ObjectKind.{ObjectKind}
 use Rattle.bf_read.specs.Gives.{◌>>=◌, Fails}
-use Rattle.bf_read.specs.Fields.{is_key, has_known_keys, each_item, each_member}
+use Rattle.bf_read.specs.Fields.{is_key_in, has_known_keys_in, each_item, each_member}
 
-pub known_by_keys : (kind : ObjectKind) (es : List (String Global × Value)) → list_all (λ name. is_key kind (string_bytes name)) (keys_of es) ≡ has_known_keys kind (members_view es)
+pub known_by_keys : (kind : ObjectKind) (es : List (String Global × Value)) → list_all (λ name. is_key_in kind (string_bytes name)) (keys_of es) ≡ has_known_keys_in kind (members_view es)
 known_by_keys kind [] = refl
-known_by_keys kind (e ∷ es) = ap (λ b. is_key kind (string_bytes e.0) && b) (known_by_keys kind es)
+known_by_keys kind (e ∷ es) = ap (λ b. is_key_in kind (string_bytes e.0) && b) (known_by_keys kind es)
 
 -- ---- one after another
 

@@ -16,8 +16,8 @@ use Rattle.bf_read.specs.Limits.{most_tasks, most_edges}
 use Rattle.bf_read.specs.declared.path.Path.{Path}
 use Rattle.bf_read.specs.Gives.{◌>>=◌}
 use Rattle.bf_read.specs.Drafts.{number_of_edges, HaveDistinctIds, IsTask, MayFollow}
-use Rattle.bf_read.specs.Fields.{limit}
-use Rattle.bf_read.specs.Reading.{task_at, tasks_from}
+use Rattle.bf_read.specs.Fields.{limit_of}
+use Rattle.bf_read.specs.Reading.{task_in, tasks_from}
 use Rattle.bf_read.proofs.FieldLemmas.{rest_from}
 
 -- ---- how many
@@ -26,17 +26,17 @@ items_len-items_view : (vs : List Value) → items_len (items_view vs) ≡ lengt
 items_len-items_view [] = refl
 items_len-items_view (v ∷ vs) = ap suc (items_len-items_view vs)
 
-pub tasks_count : (p : Path) (vs : List Value) → limit p (nat_le (items_len (items_view vs)) most_tasks) ≡ limit p (nat_le (length vs) most_tasks)
-tasks_count p vs = ap (λ n. limit p (nat_le n most_tasks)) (items_len-items_view vs)
+pub tasks_count : (p : Path) (vs : List Value) → limit_of p (nat_le (items_len (items_view vs)) most_tasks) ≡ limit_of p (nat_le (length vs) most_tasks)
+tasks_count p vs = ap (λ n. limit_of p (nat_le n most_tasks)) (items_len-items_view vs)
 
 -- ---- the walk
 
 -- the tasks before, as the call reads them, and what is read from n on
 pub step : (before read : List TaskDraft) (vs : List Value) (n : ℕ) (v : Value) → read ≡ before → n < length vs → v ≡ get_or vs n v
-    → tasks_from before n (items_view (drop n vs)) ≡ (task_at read n (view v) >>= λ t. tasks_from (before ++ t ∷ []) (n + 1) (items_view (drop (n + 1) vs)))
+    → tasks_from before n (items_view (drop n vs)) ≡ (task_in read n (view v) >>= λ t. tasks_from (before ++ t ∷ []) (n + 1) (items_view (drop (n + 1) vs)))
 unfolding tasks_from
 step before read vs n v same h is =
-    ap (λ us. tasks_from before n (items_view us)) (rest_from vs n v h is) ∙ ap (λ ts. task_at ts n (view v) >>= λ t. tasks_from (before ++ t ∷ []) (n + 1) (items_view (drop (n + 1) vs))) (sym same)
+    ap (λ us. tasks_from before n (items_view us)) (rest_from vs n v h is) ∙ ap (λ ts. task_in ts n (view v) >>= λ t. tasks_from (before ++ t ∷ []) (n + 1) (items_view (drop (n + 1) vs))) (sym same)
 
 pub all_read : (before : List TaskDraft) (n : ℕ) → tasks_from before n (items_view []) ≡ Ok before
 unfolding tasks_from

@@ -6,7 +6,7 @@ use Rattle.std.specs.Ordering.{nat_cmp}
 use Rattle.std.specs.declared.cmp.Ordering.TheVariants.{Less}
 use Rattle.std.specs.Str.{bytes_eq}
 use Rattle.bf_value.specs.Distinct.{AreDistinct}
-use Rattle.bf_plan.specs.Ids.{is_id}
+use Rattle.bf_plan.specs.Ids.{is_id_in}
 use Rattle.bf_read.specs.Limits.{most_tasks, most_edges, most_words, most_pulls, most_retries, longest_retry_delay, most_slots, greatest_weight, most_active_runs}
 use Rattle.bf_read.specs.declared.draft.PoolDraft.{PoolDraft}
 use Rattle.bf_read.specs.declared.draft.TaskDraft.{TaskDraft}
@@ -14,9 +14,9 @@ use Rattle.bf_read.specs.declared.draft.WordDraft.{WordDraft}
 use Rattle.bf_read.specs.declared.draft.WordDraft.TheVariants.{Pull}
 
 -- each text once, in order of first use
-unfoldable pub distinct : List (List ℕ) → List (List ℕ)
-distinct [] = []
-distinct (s ∷ ss) = s ∷ filter (λ t. not (bytes_eq s t)) (distinct ss)
+unfoldable pub distinct_of : List (List ℕ) → List (List ℕ)
+distinct_of [] = []
+distinct_of (s ∷ ss) = s ∷ filter (λ t. not (bytes_eq s t)) (distinct_of ss)
 
 abbrev pub pulled_by : WordDraft → Option (List ℕ)
 pulled_by (Pull id) = Some id
@@ -24,7 +24,7 @@ pulled_by _ = None
 
 -- the distinct ids that the words of a command pull from, in order of first use
 abbrev pub pulled_in : List WordDraft → List (List ℕ)
-pulled_in words = distinct (filter_map pulled_by words)
+pulled_in words = distinct_of (filter_map pulled_by words)
 
 -- how many upstreams the tasks have
 abbrev pub number_of_edges : List TaskDraft → ℕ
@@ -36,7 +36,7 @@ HaveDistinctIds tasks = AreDistinct (map (λ task. task.id) tasks)
 
 -- a task that has an id, whose upstreams are distinct, and whose numbers and words are within their limits
 pub record IsTask (task : TaskDraft) : Type 0 where
-  pub has_id : is_id task.id ≡ true
+  pub has_id : is_id_in task.id ≡ true
   pub distinct_upstreams : AreDistinct task.upstreams
   pub few_words : length task.command ≤ most_words
   pub few_pulls : length (pulled_in task.command) ≤ most_pulls
@@ -64,7 +64,7 @@ StandByName pools = AllPairs (λ a b. slice_cmp nat_cmp a.name b.name ≡ Less) 
 
 -- the id, the numbers, the pools and the tasks of a draft
 pub record IsDraft (dag_id : List ℕ) (max_active_runs : ℕ) (pools : List PoolDraft) (tasks : List TaskDraft) : Type 0 where
-  pub has_id : is_id dag_id ≡ true
+  pub has_id : is_id_in dag_id ≡ true
   pub some_runs : 1 ≤ max_active_runs
   pub few_runs : max_active_runs ≤ most_active_runs
   pub are_pools : All IsPool pools

@@ -10,15 +10,15 @@ use Rattle.bf_read.specs.declared.draft.PoolDraft.{PoolDraft}
 use Rattle.bf_read.specs.Limits.{most_slots}
 use Rattle.bf_plan.specs.declared.kinds.TaskKind.{TaskKind}
 use Rattle.bf_plan.specs.declared.kinds.WeightRule.{WeightRule}
-use Rattle.bf_plan.specs.Ids.{is_id}
+use Rattle.bf_plan.specs.Ids.{is_id_in}
 use Rattle.bf_plan.specs.Kinds.{kind_named, weight_rule_named}
 use Rattle.bf_read.specs.declared.fault.ReadFault.{ReadFault}
 use Rattle.bf_read.specs.declared.fault.ReadFault.TheVariants.{Shape, BadName, LimitPassed}
 use Rattle.bf_read.specs.declared.fields.Field.{Field}
 use Rattle.bf_read.specs.declared.fields.ObjectKind.{ObjectKind}
-use Rattle.bf_read.specs.Drafts.{distinct}
+use Rattle.bf_read.specs.Drafts.{distinct_of}
 use Rattle.bf_read.specs.Gives.{◌>>=◌}
-use Rattle.bf_read.specs.Keys.{graph_key_name, task_key_name, is_graph_key, is_task_key}
+use Rattle.bf_read.specs.Keys.{graph_key_name, task_key_name, is_graph_key_in, is_task_key_in}
 
 -- a value and its place, where the value may be missing
 pub record Member : Type 0 where
@@ -50,80 +50,80 @@ if_there None default read = Ok default
 if_there (Some d) default read = read
 
 -- a value that is there
-abbrev pub there : Path → Data → Member
-there p d = record { path = p; value = Some d }
+abbrev pub there_in : Path → Data → Member
+there_in p d = record { path = p; value = Some d }
 
 -- ---- objects and their keys
 
-abbrev pub is_key : ObjectKind → List ℕ → Bool
-is_key ObjectKind.Graph name = is_graph_key name
-is_key ObjectKind.Task name = is_task_key name
+abbrev pub is_key_in : ObjectKind → List ℕ → Bool
+is_key_in ObjectKind.Graph name = is_graph_key_in name
+is_key_in ObjectKind.Task name = is_task_key_in name
 
-abbrev pub has_known_keys : ObjectKind → Members → Bool
-has_known_keys kind no_members = true
-has_known_keys kind (member k d ms) = is_key kind k && has_known_keys kind ms
+abbrev pub has_known_keys_in : ObjectKind → Members → Bool
+has_known_keys_in kind no_members = true
+has_known_keys_in kind (member k d ms) = is_key_in kind k && has_known_keys_in kind ms
 
 abbrev pub known : ObjectKind → Path → Members → Result (Unit {0}) ReadFault
-known kind p ms = if has_known_keys kind ms then Ok tt else Err (Shape p)
+known kind p ms = if has_known_keys_in kind ms then Ok tt else Err (Shape p)
 
 -- an object without an unknown key
-unfoldable pub object_at : ObjectKind → Path → Data → Result (Unit {0}) ReadFault
-object_at kind p d = do
+unfoldable pub object_in : ObjectKind → Path → Data → Result (Unit {0}) ReadFault
+object_in kind p d = do
   ms ← or_shape p (as_object d)
   known kind p ms
 
 -- ---- texts and ids
 
 -- the text of a value that has to be there
-unfoldable pub text_at : Member → Result (List ℕ) ReadFault
-text_at = typed as_str
+unfoldable pub text_of : Member → Result (List ℕ) ReadFault
+text_of = typed as_str
 
 -- a text, or what stands for a missing one
-unfoldable pub text_or : List ℕ → Member → Result (List ℕ) ReadFault
-text_or default m = if_there m.value default (text_at m)
+unfoldable pub text_or_in : List ℕ → Member → Result (List ℕ) ReadFault
+text_or_in default m = if_there m.value default (text_of m)
 
 -- the source of the items of a task, if it has one
-unfoldable pub expand_at : Member → Result (Option (List ℕ)) ReadFault
-expand_at m = if_there m.value None (text_at m >>= λ s. Ok (Some s))
+unfoldable pub expand_in : Member → Result (Option (List ℕ)) ReadFault
+expand_in m = if_there m.value None (text_of m >>= λ s. Ok (Some s))
 
 -- a text that has to be an id
-unfoldable pub named_at : Path → List ℕ → Result (List ℕ) ReadFault
-named_at p s = if is_id s then Ok s else Err (BadName p)
+unfoldable pub named_in : Path → List ℕ → Result (List ℕ) ReadFault
+named_in p s = if is_id_in s then Ok s else Err (BadName p)
 
 -- an id that has to be there
-unfoldable pub id_at : Member → Result (List ℕ) ReadFault
-id_at m = do
-  s ← text_at m
-  named_at m.path s
+unfoldable pub id_in : Member → Result (List ℕ) ReadFault
+id_in m = do
+  s ← text_of m
+  named_in m.path s
 
 -- ---- truth values and numbers
 
 -- a truth value, which is false where it is missing
-unfoldable pub flag_at : Member → Result Bool ReadFault
-flag_at m = if_there m.value false (typed as_bool m)
+unfoldable pub flag_in : Member → Result Bool ReadFault
+flag_in m = if_there m.value false (typed as_bool m)
 
 -- a whole number that has to be there
-unfoldable pub whole_at : Member → Result ℤ ReadFault
-whole_at = typed (λ d. option_and_then as_i64 (as_number d))
+unfoldable pub whole_in : Member → Result ℤ ReadFault
+whole_in = typed (λ d. option_and_then as_i64 (as_number d))
 
 -- a number between these two
-unfoldable pub within : Path → ℕ → ℕ → ℤ → Result ℕ ReadFault
-within p least most (pos n) = if nat_le least n && nat_le n most then Ok n else Err (LimitPassed p)
-within p least most (negsuc n) = Err (LimitPassed p)
+unfoldable pub within_of : Path → ℕ → ℕ → ℤ → Result ℕ ReadFault
+within_of p least most (pos n) = if nat_le least n && nat_le n most then Ok n else Err (LimitPassed p)
+within_of p least most (negsuc n) = Err (LimitPassed p)
 
 -- a whole number between these two, or what stands for a missing one
-unfoldable pub count_at : ℕ → ℕ → ℕ → Member → Result ℕ ReadFault
-count_at default least most m = if_there m.value default (whole_at m >>= within m.path least most)
+unfoldable pub count_in : ℕ → ℕ → ℕ → Member → Result ℕ ReadFault
+count_in default least most m = if_there m.value default (whole_in m >>= within_of m.path least most)
 
 -- a limit that has to hold
-unfoldable pub limit : Path → Bool → Result (Unit {0}) ReadFault
-limit p holds = if holds then Ok tt else Err (LimitPassed p)
+unfoldable pub limit_of : Path → Bool → Result (Unit {0}) ReadFault
+limit_of p holds = if holds then Ok tt else Err (LimitPassed p)
 
 -- ---- lists
 
 -- the list of a value that has to be there
-unfoldable pub items_at : Member → Result Items ReadFault
-items_at = typed as_array
+unfoldable pub items_in : Member → Result Items ReadFault
+items_in = typed as_array
 
 -- what is read of each item
 unfoldable pub each_item : {A : Type 0} → (Data → Result A ReadFault) → Items → Result (List A) ReadFault
@@ -142,40 +142,40 @@ each_member f (member name d ms) = do
   Ok (x ∷ xs)
 
 -- the texts of a list of texts
-abbrev pub texts_in : Path → Items → Result (List (List ℕ)) ReadFault
-texts_in p = each_item (λ d. text_at (there p d))
+abbrev pub texts_of : Path → Items → Result (List (List ℕ)) ReadFault
+texts_of p = each_item (λ d. text_of (there_in p d))
 
 -- the distinct upstreams of a task; none where the key is missing
-unfoldable pub upstreams_at : Member → Result (List (List ℕ)) ReadFault
-upstreams_at m = if_there m.value [] (do
-  ds ← items_at m
-  ss ← texts_in m.path ds
-  Ok (distinct ss))
+unfoldable pub upstreams_in : Member → Result (List (List ℕ)) ReadFault
+upstreams_in m = if_there m.value [] (do
+  ds ← items_in m
+  ss ← texts_of m.path ds
+  Ok (distinct_of ss))
 
 -- ---- pools
 
 -- the members of a value that has to be there
-unfoldable pub members_at : Member → Result Members ReadFault
-members_at = typed as_object
+unfoldable pub members_in : Member → Result Members ReadFault
+members_in = typed as_object
 
 -- a pool of this name
-unfoldable pub pool_at : Path → List ℕ → Data → Result PoolDraft ReadFault
-pool_at p text d = do
-  number ← whole_at (there p d)
-  name ← named_at p text
-  slots ← within p 1 most_slots number
+unfoldable pub pool_in : Path → List ℕ → Data → Result PoolDraft ReadFault
+pool_in p text d = do
+  number ← whole_in (there_in p d)
+  name ← named_in p text
+  slots ← within_of p 1 most_slots number
   Ok (record { name = name; slots = slots })
 
 -- the pools by name, as members stand in an object; none where the key is missing
-unfoldable pub pools_at : Member → Result (List PoolDraft) ReadFault
-pools_at m = if_there m.value [] (members_at m >>= each_member (pool_at m.path))
+unfoldable pub pools_in : Member → Result (List PoolDraft) ReadFault
+pools_in m = if_there m.value [] (members_in m >>= each_member (pool_in m.path))
 
 -- ---- names
 
 -- a program where it is missing
-unfoldable pub kind_at : Member → Result TaskKind ReadFault
-kind_at m = if_there m.value TaskKind.Program (text_at m >>= λ s. or_shape m.path (kind_named s))
+unfoldable pub kind_in : Member → Result TaskKind ReadFault
+kind_in m = if_there m.value TaskKind.Program (text_of m >>= λ s. or_shape m.path (kind_named s))
 
 -- that of downstreams where it is missing
-unfoldable pub weight_rule_at : Member → Result WeightRule ReadFault
-weight_rule_at m = if_there m.value WeightRule.Downstream (text_at m >>= λ s. or_shape m.path (weight_rule_named s))
+unfoldable pub weight_rule_in : Member → Result WeightRule ReadFault
+weight_rule_in m = if_there m.value WeightRule.Downstream (text_of m >>= λ s. or_shape m.path (weight_rule_named s))

@@ -20,8 +20,8 @@ use Rattle.bf_read.specs.declared.fault.ReadFault.TheVariants.{NotJson, Duplicat
 use Rattle.bf_read.specs.declared.fields.ObjectKind.{ObjectKind}
 use Rattle.bf_read.specs.Drafts.{number_of_edges}
 use Rattle.bf_read.specs.Gives.{◌>>=◌}
-use Rattle.bf_read.specs.Fields.{Member, graph_member, task_member, object_at, text_at, text_or, id_at, kind_at, expand_at, flag_at, count_at, weight_rule_at, limit, items_at, upstreams_at, pools_at}
-use Rattle.bf_read.specs.Commands.{command_at}
+use Rattle.bf_read.specs.Fields.{Member, graph_member, task_member, object_in, text_of, text_or_in, id_in, kind_in, expand_in, flag_in, count_in, weight_rule_in, limit_of, items_in, upstreams_in, pools_in}
+use Rattle.bf_read.specs.Commands.{command_in}
 
 -- what a graph file says
 pub record GraphFile : Type 0 where
@@ -46,37 +46,37 @@ graph_file_of draft = record {
 -- ---- tasks
 
 -- an id that no task before has
-unfoldable pub fresh : List TaskDraft → List ℕ → Result (List ℕ) ReadFault
-fresh before id = if list_any (λ task. bytes_eq id task.id) before then Err (DuplicateTask id) else Ok id
+unfoldable pub fresh_of : List TaskDraft → List ℕ → Result (List ℕ) ReadFault
+fresh_of before id = if list_any (λ task. bytes_eq id task.id) before then Err (DuplicateTask id) else Ok id
 
 -- a task's id and its upstreams, which with those of the tasks before are not too many
-unfoldable pub place_at : List TaskDraft → (TaskKey → Member) → Result TaskPlace ReadFault
-place_at before at = do
-  found ← id_at (at TaskKey.Id)
-  id ← fresh before found
-  upstreams ← upstreams_at (at TaskKey.Upstream)
-  _ ← limit (at TaskKey.Upstream).path (nat_le (number_of_edges before + length upstreams) most_edges)
+unfoldable pub place_in : List TaskDraft → (TaskKey → Member) → Result TaskPlace ReadFault
+place_in before at = do
+  found ← id_in (at TaskKey.Id)
+  id ← fresh_of before found
+  upstreams ← upstreams_in (at TaskKey.Upstream)
+  _ ← limit_of (at TaskKey.Upstream).path (nat_le (number_of_edges before + length upstreams) most_edges)
   Ok (record { id = id; upstreams = upstreams })
 
 -- what a task does, and when
-unfoldable pub work_at : (TaskKey → Member) → Result TaskWork ReadFault
-work_at at = do
-  rule ← text_or (codes "all_success") (at TaskKey.Rule)
-  kind ← kind_at (at TaskKey.Kind)
-  command ← command_at (is_some (at TaskKey.Expand).value) (at TaskKey.Command)
-  expand ← expand_at (at TaskKey.Expand)
-  depends_on_past ← flag_at (at TaskKey.DependsOnPast)
-  retries ← count_at 0 0 most_retries (at TaskKey.Retries)
-  retry_delay ← count_at 0 0 longest_retry_delay (at TaskKey.RetryDelay)
+unfoldable pub work_in : (TaskKey → Member) → Result TaskWork ReadFault
+work_in at = do
+  rule ← text_or_in (codes "all_success") (at TaskKey.Rule)
+  kind ← kind_in (at TaskKey.Kind)
+  command ← command_in (is_some (at TaskKey.Expand).value) (at TaskKey.Command)
+  expand ← expand_in (at TaskKey.Expand)
+  depends_on_past ← flag_in (at TaskKey.DependsOnPast)
+  retries ← count_in 0 0 most_retries (at TaskKey.Retries)
+  retry_delay ← count_in 0 0 longest_retry_delay (at TaskKey.RetryDelay)
   Ok (record { rule = rule; kind = kind; command = command; expand = expand; depends_on_past = depends_on_past; retries = retries; retry_delay = retry_delay })
 
 -- what a running try of a task takes, and what the task weighs
-unfoldable pub demand_at : (TaskKey → Member) → Result TaskDemand ReadFault
-demand_at at = do
-  pool ← text_or (codes "default_pool") (at TaskKey.Pool)
-  slots ← count_at 1 1 most_slots (at TaskKey.PoolSlots)
-  weight ← count_at 1 0 greatest_weight (at TaskKey.PriorityWeight)
-  weight_rule ← weight_rule_at (at TaskKey.WeightRule)
+unfoldable pub demand_in : (TaskKey → Member) → Result TaskDemand ReadFault
+demand_in at = do
+  pool ← text_or_in (codes "default_pool") (at TaskKey.Pool)
+  slots ← count_in 1 1 most_slots (at TaskKey.PoolSlots)
+  weight ← count_in 1 0 greatest_weight (at TaskKey.PriorityWeight)
+  weight_rule ← weight_rule_in (at TaskKey.WeightRule)
   Ok (record { pool = pool; slots = slots; weight = weight; weight_rule = weight_rule })
 
 abbrev pub task_of : TaskPlace → TaskWork → TaskDemand → TaskDraft
@@ -97,49 +97,49 @@ task_of place work demand = record {
 }
 
 -- the task at n, after these
-unfoldable pub task_at : List TaskDraft → ℕ → Data → Result TaskDraft ReadFault
-task_at before n d = do
-  _ ← object_at ObjectKind.Task (Path.Task n) d
-  place ← place_at before (task_member n d)
-  work ← work_at (task_member n d)
-  demand ← demand_at (task_member n d)
+unfoldable pub task_in : List TaskDraft → ℕ → Data → Result TaskDraft ReadFault
+task_in before n d = do
+  _ ← object_in ObjectKind.Task (Path.Task n) d
+  place ← place_in before (task_member n d)
+  work ← work_in (task_member n d)
+  demand ← demand_in (task_member n d)
   Ok (task_of place work demand)
 
 -- these tasks, and those from n on
 unfoldable pub tasks_from : List TaskDraft → ℕ → Items → Result (List TaskDraft) ReadFault
 tasks_from before n no_items = Ok before
 tasks_from before n (item d ds) = do
-  task ← task_at before n d
+  task ← task_in before n d
   tasks_from (before ++ task ∷ []) (n + 1) ds
 
 -- the tasks, of which there may not be too many
-unfoldable pub tasks_at : Member → Result (List TaskDraft) ReadFault
-tasks_at m = do
-  ds ← items_at m
-  _ ← limit m.path (nat_le (items_len ds) most_tasks)
+unfoldable pub tasks_in : Member → Result (List TaskDraft) ReadFault
+tasks_in m = do
+  ds ← items_in m
+  _ ← limit_of m.path (nat_le (items_len ds) most_tasks)
   tasks_from [] 0 ds
 
 -- ---- the whole
 
-unfoldable pub draft_at : (GraphKey → Member) → Result GraphFile ReadFault
-draft_at at = do
-  dag_id ← id_at (at GraphKey.DagId)
-  schedule ← text_at (at GraphKey.Schedule)
-  zone ← text_or (codes "UTC") (at GraphKey.Zone)
-  max_active_runs ← count_at 16 1 most_active_runs (at GraphKey.MaxActiveRuns)
-  pools ← pools_at (at GraphKey.Pools)
-  tasks ← tasks_at (at GraphKey.Tasks)
+unfoldable pub draft_of_entry : (GraphKey → Member) → Result GraphFile ReadFault
+draft_of_entry at = do
+  dag_id ← id_in (at GraphKey.DagId)
+  schedule ← text_of (at GraphKey.Schedule)
+  zone ← text_or_in (codes "UTC") (at GraphKey.Zone)
+  max_active_runs ← count_in 16 1 most_active_runs (at GraphKey.MaxActiveRuns)
+  pools ← pools_in (at GraphKey.Pools)
+  tasks ← tasks_in (at GraphKey.Tasks)
   Ok (record { dag_id = dag_id; schedule = schedule; zone = zone; max_active_runs = max_active_runs; pools = pools; tasks = tasks })
 
-unfoldable pub draft_of : Data → Result GraphFile ReadFault
-draft_of d = do
-  _ ← object_at ObjectKind.Graph Path.Top d
-  draft_at (graph_member d)
+unfoldable pub draft_in : Data → Result GraphFile ReadFault
+draft_in d = do
+  _ ← object_in ObjectKind.Graph Path.Top d
+  draft_of_entry (graph_member d)
 
 -- what a text says that reads as this data, or as none
 abbrev pub graph_of : Option Data → Result GraphFile ReadFault
 graph_of None = Err NotJson
-graph_of (Some d) = draft_of d
+graph_of (Some d) = draft_in d
 
 -- the JSON data of a text in UTF-8
 abbrev pub data_in : List ℕ → Option Data
@@ -148,5 +148,5 @@ data_in bytes = if is_utf8 bytes then read bytes else None
 -- what a graph file says, or its first fault: it is too long, or no JSON text, or its value lacks something
 unfoldable pub graph_in : List ℕ → Result GraphFile ReadFault
 graph_in bytes = do
-  _ ← limit Path.Bytes (nat_le (length bytes) most_bytes)
+  _ ← limit_of Path.Bytes (nat_le (length bytes) most_bytes)
   graph_of (data_in bytes)

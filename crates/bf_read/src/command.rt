@@ -5,7 +5,7 @@ ghost use Rattle.serde_json.specs.View.{view, items_view, members_view};
 ghost use Rattle.bf_read.specs.Drafts.{pulled_by, pulled_in};
 ghost use Rattle.bf_read.specs.Gives.{Gives};
 ghost use Rattle.bf_read.specs.Fields.{member_of};
-ghost use Rattle.bf_read.specs.Commands.{only_of as only, only_member as only_in, context_word as context, pull_word as pull, item_word as item, keyed_word as keyed, word_at as word, words_in as words, is_short as short, command_at as command};
+ghost use Rattle.bf_read.specs.Commands.{only_in, only_member_in, context_word_of, pull_word_of, item_word_of, keyed_word_of, word_in, words_of, is_short_in, command_in};
 ghost use Rattle.bf_read.specs.Limits.{most_words, most_pulls};
 
 use crate::draft::WordDraft;
@@ -20,7 +20,7 @@ use serde_json::{Map, Value};
 use std::alloc::Global;
 
 fn only_of<'a>(members: &'a Map<String, Value>) -> Option<(&'a str, &'a Value)>
-    ensures { option_map (λ m. (m.0.now, view m.1.now)) result ≡ only (members_view members.entry.now.entries) }
+    ensures { option_map (λ m. (m.0.now, view m.1.now)) result ≡ only_in (members_view members.entry.now.entries) }
 {
     if members.len() != 1 {
         return None;
@@ -34,7 +34,7 @@ fn only_of<'a>(members: &'a Map<String, Value>) -> Option<(&'a str, &'a Value)>
 /// The member of an object with exactly one key.
 #[tactic(auto, unfolding(crate::specs::Commands::only_member))]
 fn only_member<'a>(path: Path, value: &'a Value) -> Result<(&'a str, &'a Value), ReadFault>
-    ensures { Gives (λ m. (m.0.now, view m.1.now)) result (only_in path (view value.entry.now)) }
+    ensures { Gives (λ m. (m.0.now, view m.1.now)) result (only_member_in path (view value.entry.now)) }
 {
     value
         .as_object()
@@ -44,7 +44,7 @@ fn only_member<'a>(path: Path, value: &'a Value) -> Result<(&'a str, &'a Value),
 
 #[tactic(auto, unfolding(crate::specs::Commands::context_word))]
 fn context_word(field: Field) -> Result<WordDraft, ReadFault>
-    ensures { Gives (λ w. w) result (context (member_of field.entry)) }
+    ensures { Gives (λ w. w) result (context_word_of (member_of field.entry)) }
 {
     let name = text_at(field)?;
     match ContextVariable::named(name) {
@@ -55,7 +55,7 @@ fn context_word(field: Field) -> Result<WordDraft, ReadFault>
 
 #[tactic(auto, unfolding(crate::specs::Commands::pull_word))]
 fn pull_word(alloc: Global, field: Field) -> Result<WordDraft, ReadFault>
-    ensures { Gives (λ w. w) result (pull (member_of field.entry)) }
+    ensures { Gives (λ w. w) result (pull_word_of (member_of field.entry)) }
 {
     let id = text_at(field)?;
     Ok(WordDraft::Pull(Text::copied(alloc, id)?))
@@ -63,7 +63,7 @@ fn pull_word(alloc: Global, field: Field) -> Result<WordDraft, ReadFault>
 
 #[tactic(auto, unfolding(crate::specs::Commands::item_word))]
 fn item_word(is_expanded: bool, field: Field) -> Result<WordDraft, ReadFault>
-    ensures { Gives (λ w. w) result (item is_expanded (member_of field.entry)) }
+    ensures { Gives (λ w. w) result (item_word_of is_expanded (member_of field.entry)) }
 {
     let is_item = flag_at(field)?;
     if !is_item || !is_expanded {
@@ -80,7 +80,7 @@ fn keyed_word(
     key: &str,
     field: Field,
 ) -> Result<WordDraft, ReadFault>
-    ensures { Gives (λ w. w) result (keyed is_expanded key.now (member_of field.entry)) }
+    ensures { Gives (λ w. w) result (keyed_word_of is_expanded key.now (member_of field.entry)) }
 {
     match key {
         "context" => context_word(field),
@@ -97,7 +97,7 @@ fn word_at(
     path: Path,
     value: &Value,
 ) -> Result<WordDraft, ReadFault>
-    ensures { Gives (λ w. w) result (word is_expanded path (view value.now)) }
+    ensures { Gives (λ w. w) result (word_in is_expanded path (view value.now)) }
 {
     if let Some(text) = value.as_str() {
         return Ok(WordDraft::Text(Text::copied(alloc, text)?));
@@ -112,7 +112,7 @@ fn words_in(
     path: Path,
     items: &[Value],
 ) -> Result<Vec<WordDraft>, ReadFault>
-    ensures { Gives (λ v. v.items) result (words is_expanded path (items_view items.now)) }
+    ensures { Gives (λ v. v.items) result (words_of is_expanded path (items_view items.now)) }
 {
     let mut words = Vec::new(alloc);
     for item in items {
@@ -122,7 +122,7 @@ fn words_in(
 }
 
 fn is_short(word: &WordDraft) -> bool
-    ensures { result ≡ short word.now }
+    ensures { result ≡ is_short_in word.now }
 {
     match word {
         WordDraft::Text(text) => text.as_str().len() <= LONGEST_WORD,
@@ -132,7 +132,7 @@ fn is_short(word: &WordDraft) -> bool
 }
 
 fn are_short(words: &[WordDraft]) -> bool
-    ensures { result ≡ list_all short words.now }
+    ensures { result ≡ list_all is_short_in words.now }
 {
     words.iter().all(|word| is_short(word))
 }
@@ -175,7 +175,7 @@ pub(crate) fn command_at(
     is_expanded: bool,
     field: Field,
 ) -> Result<Sequence<WordDraft>, ReadFault>
-    ensures exact { Gives (λ ws. ws) result (command is_expanded (member_of field.entry)) }
+    ensures exact { Gives (λ ws. ws) result (command_in is_expanded (member_of field.entry)) }
     ensures few_words { IfOk result (λ ws. length ws ≤ most_words) }
     ensures few_pulls { IfOk result (λ ws. length (pulled_in ws) ≤ most_pulls) }
 {

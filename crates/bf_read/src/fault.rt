@@ -61,9 +61,9 @@ impl fmt::Display for ReadFault {
 impl Error for ReadFault {}
 
 impl From<OutOfMemory> for ReadFault {
-    ghost use Rattle.bf_read.specs.declared.fault.ReadFault.TheVariants.{OutOfMemory as NoMemory};
+    ghost use Rattle.bf_read.specs.declared.fault.ReadFault.TheVariants.{OutOfMemory};
 
-    ghost from_gives = { λ _ e. e ≡ NoMemory };
+    ghost from_gives = { λ _ e. e ≡ OutOfMemory };
 
     fn from(_e: OutOfMemory) -> ReadFault {
         ReadFault::OutOfMemory
@@ -71,9 +71,9 @@ impl From<OutOfMemory> for ReadFault {
 }
 
 impl<T: Drop> From<AllocFailed<T>> for ReadFault {
-    ghost use Rattle.bf_read.specs.declared.fault.ReadFault.TheVariants.{OutOfMemory as NoMemory};
+    ghost use Rattle.bf_read.specs.declared.fault.ReadFault.TheVariants.{OutOfMemory};
 
-    ghost from_gives = { λ _ e. e ≡ NoMemory };
+    ghost from_gives = { λ _ e. e ≡ OutOfMemory };
 
     fn from(_e: AllocFailed<T>) -> ReadFault {
         ReadFault::OutOfMemory

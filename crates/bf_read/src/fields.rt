@@ -4,8 +4,8 @@ ghost use Rattle.std.specs.BTreeMap.{keys};
 ghost use Rattle.std.specs.List.{list_all};
 ghost use Rattle.serde_json.specs.View.{view, items_view, members_view};
 ghost use Rattle.bf_read.specs.Gives.{Gives};
-ghost use Rattle.bf_plan.specs.Ids.{is_id as id_text};
-ghost use Rattle.bf_read.specs.Fields.{member_of, there as place, graph_member, task_member, text_at as text, text_or as text_unless, expand_at as expand, id_at as id, named_at as named, is_key as key, has_known_keys as has_known, object_at as object, items_at as items, flag_at as flag, whole_at as whole, within as between, count_at as count, limit as limited, members_at as members};
+ghost use Rattle.bf_plan.specs.Ids.{is_id_in};
+ghost use Rattle.bf_read.specs.Fields.{member_of, there_in, graph_member, task_member, text_of, text_or_in, expand_in, id_in, named_in, is_key_in, has_known_keys_in, object_in, items_in, flag_in, whole_in, within_of, count_in, limit_of, members_in};
 
 use crate::fault::ReadFault;
 use crate::keys::{GraphKey, TaskKey, is_graph_key, is_task_key};
@@ -31,7 +31,7 @@ pub(crate) struct Field<'a> {
 
 /// A value that is there.
 pub(crate) fn there<'a>(path: Path, value: &'a Value) -> Field<'a>
-    ensures { member_of result ≡ place path (view value.entry.now) }
+    ensures { member_of result ≡ there_in path (view value.entry.now) }
 {
     Field {
         path,
@@ -55,7 +55,7 @@ pub(crate) struct TaskObject<'a> {
 impl<'a> GraphObject<'a> {
     /// The member at a key.
     pub(crate) fn at(self, key: GraphKey) -> Field<'a>
-        ensures { member_of result ≡ graph_member (view self.entry.value.now) key }
+        ensures { member_of result ≡ graph_member (view self.entry.value.now) is_key_in }
     {
         Field {
             path: Path::Key(key),
@@ -67,7 +67,7 @@ impl<'a> GraphObject<'a> {
 impl<'a> TaskObject<'a> {
     /// The member at a key.
     pub(crate) fn at(self, key: TaskKey) -> Field<'a>
-        ensures { member_of result ≡ task_member self.entry.n (view self.entry.value.now) key }
+        ensures { member_of result ≡ task_member self.entry.n (view self.entry.value.now) is_key_in }
     {
         Field {
             path: Path::TaskKey(self.n, key),
@@ -77,7 +77,7 @@ impl<'a> TaskObject<'a> {
 }
 
 fn is_key(kind: ObjectKind, name: &str) -> bool
-    ensures { result ≡ key kind name.now }
+    ensures { result ≡ is_key_in kind name.now }
 {
     match kind {
         ObjectKind::Graph => is_graph_key(name),
@@ -86,13 +86,13 @@ fn is_key(kind: ObjectKind, name: &str) -> bool
 }
 
 fn are_keys(kind: ObjectKind, members: &Map<String, Value>) -> bool
-    ensures { result ≡ list_all (λ name. key kind (string_bytes name)) (keys members.now) }
+    ensures { result ≡ list_all (λ name. is_key_in kind (string_bytes name)) (keys members.now) }
 {
     members.keys().all(|name| is_key(kind, name.as_str()))
 }
 
 fn has_known_keys(kind: ObjectKind, members: &Map<String, Value>) -> bool
-    ensures { result ≡ has_known kind (members_view members.now.entries) }
+    ensures { result ≡ has_known_keys_in kind (members_view members.now.entries) }
 {
     are_keys(kind, members)
 }
@@ -100,7 +100,7 @@ fn has_known_keys(kind: ObjectKind, members: &Map<String, Value>) -> bool
 /// Refuses what is no object, and an object with an unknown key.
 #[tactic(auto, unfolding(crate::specs::Fields::object_at))]
 pub(crate) fn object_at(kind: ObjectKind, path: Path, value: &Value) -> Result<(), ReadFault>
-    ensures { Gives (λ u. u) result (object kind path (view value.now)) }
+    ensures { Gives (λ u. u) result (object_in kind path (view value.now)) }
 {
     match value.as_object() {
         Some(members) if has_known_keys(kind, members) => Ok(()),
@@ -111,7 +111,7 @@ pub(crate) fn object_at(kind: ObjectKind, path: Path, value: &Value) -> Result<(
 /// The text of a value that has to be there.
 #[tactic(auto, unfolding(crate::specs::Fields::text_at))]
 pub(crate) fn text_at<'a>(field: Field<'a>) -> Result<&'a str, ReadFault>
-    ensures { Gives (λ s. s.now) result (text (member_of field.entry)) }
+    ensures { Gives (λ s. s.now) result (text_of (member_of field.entry)) }
 {
     field
         .value
@@ -122,7 +122,7 @@ pub(crate) fn text_at<'a>(field: Field<'a>) -> Result<&'a str, ReadFault>
 /// A text, or what stands for a missing one.
 #[tactic(auto, unfolding(crate::specs::Fields::text_or))]
 pub(crate) fn text_or(alloc: Global, default: &str, field: Field) -> Result<Text, ReadFault>
-    ensures { Gives (λ s. s) result (text_unless default.now (member_of field.entry)) }
+    ensures { Gives (λ s. s) result (text_or_in default.now (member_of field.entry)) }
 {
     if field.value.is_none() {
         return Ok(Text::copied(alloc, default)?);
@@ -133,7 +133,7 @@ pub(crate) fn text_or(alloc: Global, default: &str, field: Field) -> Result<Text
 /// The source of the items of a task, if it has one.
 #[tactic(auto, unfolding(crate::specs::Fields::expand_at))]
 pub(crate) fn expand_at(alloc: Global, field: Field) -> Result<Option<Text>, ReadFault>
-    ensures { Gives (λ s. s) result (expand (member_of field.entry)) }
+    ensures { Gives (λ s. s) result (expand_in (member_of field.entry)) }
 {
     if field.value.is_none() {
         return Ok(None);
@@ -144,9 +144,9 @@ pub(crate) fn expand_at(alloc: Global, field: Field) -> Result<Option<Text>, Rea
 /// A text that has to be an id.
 #[tactic(auto, unfolding(crate::specs::Fields::named_at))]
 pub(crate) fn named_at(alloc: Global, path: Path, text: &str) -> Result<Text, ReadFault>
-    ensures exact { Gives (λ s. s) result (named path text.now) }
+    ensures exact { Gives (λ s. s) result (named_in path text.now) }
     ensures same { IfOk result (λ s. s ≡ text.now) }
-    ensures id { IfOk result (λ s. id_text s ≡ true) }
+    ensures id { IfOk result (λ s. is_id_in s ≡ true) }
 {
     if !is_id(text) {
         return Err(ReadFault::BadName(path));
@@ -157,8 +157,8 @@ pub(crate) fn named_at(alloc: Global, path: Path, text: &str) -> Result<Text, Re
 /// An id that has to be there.
 #[tactic(auto, unfolding(crate::specs::Fields::id_at))]
 pub(crate) fn id_at(alloc: Global, field: Field) -> Result<Text, ReadFault>
-    ensures exact { Gives (λ s. s) result (id (member_of field.entry)) }
-    ensures id { IfOk result (λ s. id_text s ≡ true) }
+    ensures exact { Gives (λ s. s) result (id_in (member_of field.entry)) }
+    ensures id { IfOk result (λ s. is_id_in s ≡ true) }
 {
     let text = text_at(field)?;
     named_at(alloc, field.path, text)
@@ -167,7 +167,7 @@ pub(crate) fn id_at(alloc: Global, field: Field) -> Result<Text, ReadFault>
 /// A truth value, which is false where it is missing.
 #[tactic(auto, unfolding(crate::specs::Fields::flag_at))]
 pub(crate) fn flag_at(field: Field) -> Result<bool, ReadFault>
-    ensures { Gives (λ b. b) result (flag (member_of field.entry)) }
+    ensures { Gives (λ b. b) result (flag_in (member_of field.entry)) }
 {
     match field.value {
         None => Ok(false),
@@ -178,7 +178,7 @@ pub(crate) fn flag_at(field: Field) -> Result<bool, ReadFault>
 /// A whole number that has to be there.
 #[tactic(auto, unfolding(crate::specs::Fields::whole_at))]
 pub(crate) fn whole_at(field: Field) -> Result<i64, ReadFault>
-    ensures { Gives (λ z. z) result (whole (member_of field.entry)) }
+    ensures { Gives (λ z. z) result (whole_in (member_of field.entry)) }
 {
     field
         .value
@@ -189,7 +189,7 @@ pub(crate) fn whole_at(field: Field) -> Result<i64, ReadFault>
 /// Refuses a whole number that isn't between these two.
 #[tactic(auto, unfolding(crate::specs::Fields::within))]
 pub(crate) fn within(path: Path, least: u32, most: u32, number: i64) -> Result<u32, ReadFault>
-    ensures exact { Gives (λ n. n) result (between path least most number) }
+    ensures exact { Gives (λ n. n) result (within_of path least most number) }
     ensures least { IfOk result (λ n. least ≤ n) }
     ensures most { IfOk result (λ n. n ≤ most) }
 {
@@ -202,7 +202,7 @@ pub(crate) fn within(path: Path, least: u32, most: u32, number: i64) -> Result<u
 /// A whole number between two others, or what stands for a missing one.
 #[tactic(auto, unfolding(crate::specs::Fields::count_at))]
 pub(crate) fn count_at(default: u32, least: u32, most: u32, field: Field) -> Result<u32, ReadFault>
-    ensures exact { Gives (λ n. n) result (count default least most (member_of field.entry)) }
+    ensures exact { Gives (λ n. n) result (count_in default least most (member_of field.entry)) }
     ensures least { least ≤ default → IfOk result (λ n. least ≤ n) }
     ensures most { default ≤ most → IfOk result (λ n. n ≤ most) }
 {
@@ -216,7 +216,7 @@ pub(crate) fn count_at(default: u32, least: u32, most: u32, field: Field) -> Res
 /// Refuses what passes a limit.
 #[tactic(auto, unfolding(crate::specs::Fields::limit))]
 pub(crate) fn limit(path: Path, holds: bool) -> Result<(), ReadFault>
-    ensures exact { Gives (λ u. u) result (limited path holds) }
+    ensures exact { Gives (λ u. u) result (limit_of path holds) }
     ensures holds { OnOk result (holds ≡ true) }
 {
     if !holds {
@@ -228,7 +228,7 @@ pub(crate) fn limit(path: Path, holds: bool) -> Result<(), ReadFault>
 /// The list of a value that has to be there.
 #[tactic(auto, unfolding(crate::specs::Fields::items_at))]
 pub(crate) fn items_at<'a>(field: Field<'a>) -> Result<&'a [Value], ReadFault>
-    ensures { Gives (λ items. items_view items.now) result (items (member_of field.entry)) }
+    ensures { Gives (λ items. items_view items.now) result (items_in (member_of field.entry)) }
 {
     field
         .value
@@ -240,7 +240,7 @@ pub(crate) fn items_at<'a>(field: Field<'a>) -> Result<&'a [Value], ReadFault>
 /// The members of a value that has to be there.
 #[tactic(auto, unfolding(crate::specs::Fields::members_at))]
 pub(crate) fn members_at<'a>(field: Field<'a>) -> Result<&'a Map<String, Value>, ReadFault>
-    ensures { Gives (λ ms. members_view ms.now.entries) result (members (member_of field.entry)) }
+    ensures { Gives (λ ms. members_view ms.now.entries) result (members_in (member_of field.entry)) }
 {
     field
         .value

@@ -1,6 +1,6 @@
 //! The keys of a graph file.
 ghost use Rattle.std.specs.Prelude.{◌≡◌};
-ghost use Rattle.bf_read.specs.Keys.{graph_key_name, task_key_name, is_graph_key as graph_key, is_task_key as task_key};
+ghost use Rattle.bf_read.specs.Keys.{graph_key_name, task_key_name, is_graph_key_in, is_task_key_in};
 
 /// A key of the object of the whole file.
 #[derive(Clone, Copy, Debug, PartialEq, Eq)]
@@ -96,13 +96,13 @@ impl TaskKey {
 }
 
 pub(crate) fn is_graph_key(name: &str) -> bool
-    ensures { result ≡ graph_key name.now }
+    ensures { result ≡ is_graph_key_in name.now }
 {
     GRAPH_KEYS.iter().any(|key| name == key.name())
 }
 
 pub(crate) fn is_task_key(name: &str) -> bool
-    ensures { result ≡ task_key name.now }
+    ensures { result ≡ is_task_key_in name.now }
 {
     TASK_KEYS.iter().any(|key| name == key.name())
 }

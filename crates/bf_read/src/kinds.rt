@@ -1,6 +1,6 @@
 //! The kind and the weight rule of a task.
 ghost use Rattle.bf_read.specs.Gives.{Gives};
-ghost use Rattle.bf_read.specs.Fields.{member_of, kind_at as kind, weight_rule_at as weight_rule};
+ghost use Rattle.bf_read.specs.Fields.{member_of, kind_in, weight_rule_in};
 
 use crate::fault::ReadFault;
 use crate::fields::{Field, text_at};
@@ -9,7 +9,7 @@ use bf_plan::{TaskKind, WeightRule};
 /// A program where it is missing.
 #[tactic(auto, unfolding(crate::specs::Fields::kind_at))]
 pub(crate) fn kind_at(field: Field) -> Result<TaskKind, ReadFault>
-    ensures { Gives (λ k. k) result (kind (member_of field.entry)) }
+    ensures { Gives (λ k. k) result (kind_in (member_of field.entry)) }
 {
     if field.value.is_none() {
         return Ok(TaskKind::Program);
@@ -21,7 +21,7 @@ pub(crate) fn kind_at(field: Field) -> Result<TaskKind, ReadFault>
 /// That of downstreams where it is missing.
 #[tactic(auto, unfolding(crate::specs::Fields::weight_rule_at))]
 pub(crate) fn weight_rule_at(field: Field) -> Result<WeightRule, ReadFault>
-    ensures { Gives (λ r. r) result (weight_rule (member_of field.entry)) }
+    ensures { Gives (λ r. r) result (weight_rule_in (member_of field.entry)) }
 {
     if field.value.is_none() {
         return Ok(WeightRule::Downstream);

@@ -3,7 +3,7 @@ ghost use Rattle.std.specs.Prelude.{◌≡◌, All, IfOk};
 ghost use Rattle.serde_json.specs.View.{view, members_view};
 ghost use Rattle.bf_read.specs.Drafts.{IsPool, StandByName};
 ghost use Rattle.bf_read.specs.Gives.{Gives};
-ghost use Rattle.bf_read.specs.Fields.{member_of, pool_at as pool, each_member, pools_at as pools};
+ghost use Rattle.bf_read.specs.Fields.{member_of, pool_in, each_member, pools_in};
 
 use crate::draft::PoolDraft;
 use crate::fault::ReadFault;
@@ -16,7 +16,7 @@ use std::alloc::Global;
 
 #[tactic(auto, unfolding(crate::specs::Fields::pool_at))]
 fn pool_at(alloc: Global, path: Path, name: &str, value: &Value) -> Result<PoolDraft, ReadFault>
-    ensures exact { Gives (λ p. p) result (pool path name.now (view value.now)) }
+    ensures exact { Gives (λ p. p) result (pool_in path name.now (view value.now)) }
     ensures named { IfOk result (λ p. p.name ≡ name.now) }
     ensures pool { IfOk result IsPool }
 {
@@ -32,7 +32,7 @@ fn pools_in(
     path: Path,
     members: &Map<String, Value>,
 ) -> Result<Vec<PoolDraft>, ReadFault>
-    ensures exact { Gives (λ v. v.items) result (each_member (pool path) (members_view members.now.entries)) }
+    ensures exact { Gives (λ v. v.items) result (each_member (pool_in path) (members_view members.now.entries)) }
     ensures pools { IfOk result (λ v. All IsPool v.items) }
     ensures by_name { IfOk result (λ v. StandByName v.items) }
 {
@@ -46,7 +46,7 @@ fn pools_in(
 /// The pools that a file names, of which there are none where the key is missing.
 #[tactic(auto, unfolding(crate::specs::Fields::pools_at))]
 pub(crate) fn pools_at(alloc: Global, field: Field) -> Result<Sequence<PoolDraft>, ReadFault>
-    ensures exact { Gives (λ ps. ps) result (pools (member_of field.entry)) }
+    ensures exact { Gives (λ ps. ps) result (pools_in (member_of field.entry)) }
     ensures pools { IfOk result (λ ps. All IsPool ps) }
     ensures by_name { IfOk result StandByName }
 {

@@ -3,7 +3,7 @@ ghost use Rattle.std.specs.Prelude.{◌≡◌};
 ghost use Rattle.serde_json.specs.View.{view};
 ghost use Rattle.bf_read.specs.Gives.{Gives};
 ghost use Rattle.bf_read.specs.Fields.{graph_member};
-ghost use Rattle.bf_read.specs.Reading.{draft_at as draft_with, draft_of as draft, graph_in, graph_file_of};
+ghost use Rattle.bf_read.specs.Reading.{draft_of_entry, draft_in, graph_in, graph_file_of};
 
 use crate::draft::Draft;
 use crate::fault::ReadFault;
@@ -19,7 +19,7 @@ use std::alloc::Global;
 
 #[tactic(auto, unfolding(crate::specs::Reading::draft_at))]
 fn draft_at(alloc: Global, graph: GraphObject) -> Result<Draft, ReadFault>
-    ensures { Gives graph_file_of result (draft_with (graph_member (view graph.entry.value.now))) }
+    ensures { Gives graph_file_of result (draft_of_entry (graph_member (view graph.entry.value.now))) }
 {
     let dag_id = id_at(alloc, graph.at(GraphKey::DagId))?;
     let schedule = text_at(graph.at(GraphKey::Schedule))?;
@@ -42,7 +42,7 @@ fn draft_at(alloc: Global, graph: GraphObject) -> Result<Draft, ReadFault>
 /// The draft of a JSON value, or the first fault.
 #[tactic(auto, unfolding(crate::specs::Reading::draft_of))]
 fn draft_of(alloc: Global, value: &Value) -> Result<Draft, ReadFault>
-    ensures { Gives graph_file_of result (draft (view value.now)) }
+    ensures { Gives graph_file_of result (draft_in (view value.now)) }
 {
     object_at(ObjectKind::Graph, Path::Top, value)?;
     draft_at(alloc, GraphObject { value })

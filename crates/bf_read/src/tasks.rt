@@ -6,10 +6,10 @@ ghost use Rattle.serde_json.specs.Events.{items_len};
 ghost use Rattle.serde_json.specs.View.{view, items_view};
 ghost use Rattle.bf_value.specs.Distinct.{AreDistinct};
 ghost use Rattle.bf_read.specs.Gives.{Gives};
-ghost use Rattle.bf_plan.specs.Ids.{is_id};
+ghost use Rattle.bf_plan.specs.Ids.{is_id_in};
 ghost use Rattle.bf_read.specs.Drafts.{number_of_edges, pulled_in, AreTasks, MayFollow};
-ghost use Rattle.bf_read.specs.Fields.{member_of, task_member, limit as limited};
-ghost use Rattle.bf_read.specs.Reading.{fresh as new, place_at as place, work_at as work, demand_at as demand, task_at as task, tasks_from, tasks_at as tasks};
+ghost use Rattle.bf_read.specs.Fields.{member_of, task_member, limit_of};
+ghost use Rattle.bf_read.specs.Reading.{fresh_of, place_in, work_in, demand_in, task_in, tasks_from, tasks_in};
 ghost use Rattle.bf_read.specs.Limits.{most_edges, most_tasks, most_words, most_pulls, most_retries, longest_retry_delay, most_slots, greatest_weight};
 
 use crate::command::command_at;
@@ -68,7 +68,7 @@ fn is_seen(tasks: &[TaskDraft], id: &str) -> bool
 /// Refuses an id that a task before has.
 #[tactic(auto, unfolding(crate::specs::Reading::fresh))]
 fn fresh(tasks: &[TaskDraft], id: Text) -> Result<Text, ReadFault>
-    ensures exact { Gives (λ id. id) result (new tasks.now id) }
+    ensures exact { Gives (λ id. id) result (fresh_of tasks.now id) }
     ensures fresh { IfOk result (λ id. list_any (λ task. bytes_eq id task.id) tasks.now ≡ false) }
     ensures same { IfOk result (λ fresh. fresh ≡ id) }
 {
@@ -81,9 +81,9 @@ fn fresh(tasks: &[TaskDraft], id: Text) -> Result<Text, ReadFault>
 #[tactic(auto, unfolding(crate::specs::Reading::place_at))]
 fn place_of(alloc: Global, tasks: &[TaskDraft], task: TaskObject) -> Result<TaskPlace, ReadFault>
     requires { number_of_edges tasks.now ≤ most_edges }
-    ensures exact { Gives (λ p. p) result (place tasks.now (task_member task.entry.n (view task.entry.value.now))) }
+    ensures exact { Gives (λ p. p) result (place_in tasks.now (task_member task.entry.n (view task.entry.value.now))) }
     ensures fresh { IfOk result (λ p. list_any (λ task. bytes_eq p.id task.id) tasks.now ≡ false) }
-    ensures id { IfOk result (λ p. is_id p.id ≡ true) }
+    ensures id { IfOk result (λ p. is_id_in p.id ≡ true) }
     ensures distinct { IfOk result (λ p. AreDistinct p.upstreams) }
     ensures few { IfOk result (λ p. number_of_edges tasks.now + length p.upstreams ≤ most_edges) }
 {
@@ -103,7 +103,7 @@ fn place_of(alloc: Global, tasks: &[TaskDraft], task: TaskObject) -> Result<Task
 
 #[tactic(auto, unfolding(crate::specs::Reading::work_at))]
 fn work_of(alloc: Global, task: TaskObject) -> Result<TaskWork, ReadFault>
-    ensures exact { Gives (λ w. w) result (work (task_member task.entry.n (view task.entry.value.now))) }
+    ensures exact { Gives (λ w. w) result (work_in (task_member task.entry.n (view task.entry.value.now))) }
     ensures few_words { IfOk result (λ w. length w.command ≤ most_words) }
     ensures few_pulls { IfOk result (λ w. length (pulled_in w.command) ≤ most_pulls) }
     ensures few_retries { IfOk result (λ w. w.retries ≤ most_retries) }
@@ -131,7 +131,7 @@ fn work_of(alloc: Global, task: TaskObject) -> Result<TaskWork, ReadFault>
 
 #[tactic(auto, unfolding(crate::specs::Reading::demand_at))]
 fn demand_of(alloc: Global, task: TaskObject) -> Result<TaskDemand, ReadFault>
-    ensures exact { Gives (λ d. d) result (demand (task_member task.entry.n (view task.entry.value.now))) }
+    ensures exact { Gives (λ d. d) result (demand_in (task_member task.entry.n (view task.entry.value.now))) }
     ensures some_slots { IfOk result (λ d. 1 ≤ d.slots) }
     ensures few_slots { IfOk result (λ d. d.slots ≤ most_slots) }
     ensures light { IfOk result (λ d. d.weight ≤ greatest_weight) }
@@ -157,7 +157,7 @@ fn task_of(
     value: &Value,
 ) -> Result<TaskDraft, ReadFault>
     requires { number_of_edges tasks.now ≤ most_edges }
-    ensures exact { Gives (λ t. t) result (task tasks.now n (view value.now)) }
+    ensures exact { Gives (λ t. t) result (task_in tasks.now n (view value.now)) }
     ensures follows { IfOk result (MayFollow tasks.now) }
 {
     object_at(ObjectKind::Task, Path::Task(n), value)?;
@@ -197,7 +197,7 @@ fn tasks_of(alloc: Global, items: &[Value]) -> Result<Vec<TaskDraft>, ReadFault>
 
 /// Refuses more tasks than there may be.
 fn few_tasks(path: Path, items: &[Value]) -> Result<(), ReadFault>
-    ensures exact { Gives (λ u. u) result (limited path (nat_le (items_len (items_view items.now)) most_tasks)) }
+    ensures exact { Gives (λ u. u) result (limit_of path (nat_le (items_len (items_view items.now)) most_tasks)) }
     ensures few { OnOk result (length items.now ≤ most_tasks) }
 {
     limit(path, items.len() <= MOST_TASKS)
@@ -206,7 +206,7 @@ fn few_tasks(path: Path, items: &[Value]) -> Result<(), ReadFault>
 /// The tasks of a file, which have to be there.
 #[tactic(auto, unfolding(crate::specs::Reading::tasks_at))]
 pub(crate) fn tasks_at(alloc: Global, field: Field) -> Result<Sequence<TaskDraft>, ReadFault>
-    ensures exact { Gives (λ ts. ts) result (tasks (member_of field.entry)) }
+    ensures exact { Gives (λ ts. ts) result (tasks_in (member_of field.entry)) }
     ensures tasks { IfOk result AreTasks }
 {
     let items = items_at(field)?;

@@ -3,8 +3,8 @@ ghost use Rattle.std.specs.Prelude.{◌≡◌, map, IfOk};
 ghost use Rattle.serde_json.specs.View.{items_view};
 ghost use Rattle.bf_read.specs.Gives.{Gives};
 ghost use Rattle.bf_value.specs.Distinct.{AreDistinct};
-ghost use Rattle.bf_read.specs.Drafts.{distinct as distinct_texts};
-ghost use Rattle.bf_read.specs.Fields.{member_of, texts_in as texts, upstreams_at as upstreams};
+ghost use Rattle.bf_read.specs.Drafts.{distinct_of};
+ghost use Rattle.bf_read.specs.Fields.{member_of, texts_of, upstreams_in};
 
 use crate::fault::ReadFault;
 use crate::fields::{Field, items_at, text_at, there};
@@ -16,7 +16,7 @@ use std::collections::HashSet;
 
 /// The texts of a list of texts.
 fn texts_in<'a>(alloc: Global, path: Path, items: &'a [Value]) -> Result<Vec<&'a str>, ReadFault>
-    ensures { Gives (λ v. map (λ s. s.now) v.items) result (texts path (items_view items.entry.now)) }
+    ensures { Gives (λ v. map (λ s. s.now) v.items) result (texts_of path (items_view items.entry.now)) }
 {
     let mut texts = Vec::new(alloc);
     for item in items {
@@ -27,7 +27,7 @@ fn texts_in<'a>(alloc: Global, path: Path, items: &'a [Value]) -> Result<Vec<&'a
 
 /// Each text once, in order of first use.
 pub(crate) fn distinct(alloc: Global, texts: &[&str]) -> Result<Vec<Text>, OutOfMemory>
-    ensures { IfOk result (λ v. v.items ≡ distinct_texts (map (λ s. s.now) texts.now)) }
+    ensures { IfOk result (λ v. v.items ≡ distinct_of (map (λ s. s.now) texts.now)) }
 {
     let mut seen = HashSet::new(alloc);
     let mut found = Vec::new(alloc);
@@ -42,7 +42,7 @@ pub(crate) fn distinct(alloc: Global, texts: &[&str]) -> Result<Vec<Text>, OutOf
 /// The distinct upstreams of a task, of which there are none where the key is missing.
 #[tactic(auto, unfolding(crate::specs::Fields::upstreams_at))]
 pub(crate) fn upstreams_at(alloc: Global, field: Field) -> Result<Vec<Text>, ReadFault>
-    ensures exact { Gives (λ v. v.items) result (upstreams (member_of field.entry)) }
+    ensures exact { Gives (λ v. v.items) result (upstreams_in (member_of field.entry)) }
     ensures distinct { IfOk result (λ v. AreDistinct v.items) }
 {
     if field.value.is_none() {

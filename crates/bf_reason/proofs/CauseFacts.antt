@@ -3,18 +3,18 @@ use Rattle.std.proofs.Common.{◌≡◌, ℕ, zero, suc, Bool, true, false, not,
 use Rattle.std.specs.List.{cons_option, filter, filter_map, list_all, list_any}
 use Rattle.std.proofs.lemmas.Bool.{ne_eqb}
 use Rattle.bf_core.specs.Terms.{Dag, Items, Task, TaskResult, TaskValue, Xval, is_failed, items, task_of, verdict}
-use Rattle.bf_core.specs.Deciding.{all_passed, branch_is, branch_skips, counts_over, is_blocked, lets_decide, lets_pass, pulled}
+use Rattle.bf_core.specs.Deciding.{all_passed, branch_is, branch_skips, counts_over, is_blocked_in, lets_decide_in, lets_pass_in, pulled}
 use Rattle.std.specs.Prelude.{slice_get, slice_index_or}
 use Rattle.bf_mapped.specs.Items.{items_of}
 use Rattle.bf_plan.specs.Plans.{no_task}
-use Rattle.bf_xcom.specs.Pulls.{pushed}
+use Rattle.bf_xcom.specs.Pulls.{pushed_of}
 use Rattle.bf_report.specs.declared.report.TaskReport.{TaskReport}
 use Rattle.bf_reason.specs.declared.cause.StateCause.{StateCause}
-use Rattle.bf_reason.specs.Causes.{cause_by_count, cause_of, item_count, past_lets_go_on, values_given}
-use Rattle.bf_reason.specs.Reasons.{Reason, waits, not_followed, branch_is_blocked, past_has_not_passed, by_items, by_past, by_verdict, reason}
+use Rattle.bf_reason.specs.Causes.{cause_by_count, cause_of, item_count, past_lets_go_on_of, values_given}
+use Rattle.bf_reason.specs.Reasons.{Reason, waits, not_followed, branch_is_blocked, past_has_not_passed, by_items, by_past, by_verdict_of, reason}
 use Rattle.bf_reason.specs.Settled.{before_among, seen_among, value_among}
 
-all_decide : (dag : Dag) (task : Task) (tasks : List TaskReport) (us : List ℕ) → list_all (lets_decide dag task (seen_among tasks)) us ≡ true
+all_decide : (dag : Dag) (task : Task) (tasks : List TaskReport) (us : List ℕ) → list_all (lets_decide_in dag task (seen_among tasks)) us ≡ true
 all_decide dag task tasks [] = refl
 all_decide dag task tasks (u ∷ us) = all_decide dag task tasks us
 
@@ -25,10 +25,10 @@ module _ (dag : Dag) (run : ℕ) (tasks : List TaskReport) (before : Option Task
   Skips us = list_any (λ u. branch_is dag (branch_skips dag task u) u (Some (value_among tasks u))) us
 
   abbrev Blocks : List ℕ → Bool
-  Blocks us = list_any (λ u. branch_is dag is_blocked u (Some (value_among tasks u))) us
+  Blocks us = list_any (λ u. branch_is dag is_blocked_in u (Some (value_among tasks u))) us
 
   abbrev Rules : Task → List ℕ → Reason
-  Rules of us = by_verdict dag run (seen_among tasks) before task (verdict of.rule (counts_over (seen_among tasks) us))
+  Rules of us = by_verdict_of dag run (seen_among tasks) before task (verdict of.rule (counts_over (seen_among tasks) us))
 
   abbrev chosen : Bool → Bool → Bool → Reason → Reason
   chosen all skips blocks rules = if not all then waits else (if skips then not_followed else (if blocks then branch_is_blocked else rules))
@@ -60,14 +60,14 @@ go_on true goes_on = refl
 go_on false goes_on = refl
 
 pub cause_past : (depends : Bool) (run : ℕ) (before : List TaskReport) (task : ℕ) (goes_on : Reason) →
-    (if past_lets_go_on depends run (before_among before run task) then cause_of goes_on else StateCause.PastHasNotPassed)
+    (if past_lets_go_on_of depends run (before_among before run task) then cause_of goes_on else StateCause.PastHasNotPassed)
     ≡ cause_of (if depends && not (run == 0) then by_past goes_on (before_among before run task) else goes_on)
 cause_past false run before task goes_on = refl
 cause_past true zero before task goes_on = refl
 cause_past true (suc run) before task goes_on =
     let value = value_among before task in
-    subst (λ (first : Bool). (if (if not first then lets_pass value else true) then cause_of goes_on else StateCause.PastHasNotPassed) ≡ cause_of (if not first then (if lets_pass value then goes_on else past_has_not_passed) else goes_on))
-    (sym (ne_eqb (suc run) 0 (omega arith))) (go_on (lets_pass value) goes_on)
+    subst (λ (first : Bool). (if (if not first then lets_pass_in value else true) then cause_of goes_on else StateCause.PastHasNotPassed) ≡ cause_of (if not first then (if lets_pass_in value then goes_on else past_has_not_passed) else goes_on))
+    (sym (ne_eqb (suc run) 0 (omega arith))) (go_on (lets_pass_in value) goes_on)
 
 pub all_passed_is : (results : List TaskResult) → list_all (λ ended. not (is_failed ended.outcome)) results ≡ all_passed results
 all_passed_is [] = refl
@@ -80,10 +80,10 @@ length-map f [] = refl
 length-map f (x ∷ xs) = ap suc (length-map f xs)
 
 abbrev has_pushed : TaskResult → Bool
-has_pushed ended = is_some (pushed ended)
+has_pushed ended = is_some (pushed_of ended)
 
 abbrev values_of : List TaskResult → List Xval
-values_of results = filter_map (λ value. value) (map pushed results)
+values_of results = filter_map (λ value. value) (map pushed_of results)
 
 one_pushed : (value : Option Xval) (result : TaskResult) (kept : List TaskResult) (values : List Xval) → length kept ≡ length values →
     length {A = TaskResult} (if is_some value then result ∷ kept else kept) ≡ length {A = Xval} (cons_option value values)
@@ -93,7 +93,7 @@ one_pushed (Some given) result kept values same = ap suc same
 -- as many instances pushed something as values are left
 pub pushed_count : (results : List TaskResult) → length (filter has_pushed results) ≡ length (values_of results)
 pushed_count [] = refl
-pushed_count (result ∷ results) = one_pushed (pushed result) result (filter has_pushed results) (values_of results) (pushed_count results)
+pushed_count (result ∷ results) = one_pushed (pushed_of result) result (filter has_pushed results) (values_of results) (pushed_count results)
 
 pub items_by : (source : Task) (value : TaskValue) → items_of (values_given (is_some source.expand) value) ≡ items source value
 items_by source TaskValue.Blocked = refl

@@ -10,7 +10,7 @@ use Rattle.bf_reason.specs.declared.cause.StateCause.{StateCause}
 use Rattle.bf_reason.specs.Reasons.{decided_for, Reason, not_followed, rule_fails, branch_is_blocked, runs}
 use Rattle.bf_reason.specs.Causes.{cause_of}
 use Rattle.std.specs.Char.{is_ascii_digit}
-use Rattle.bf_reason.specs.Letters.{any_letter, first_by, follows, ended_letter, instance_letter, expanded_letter, digit_for, foreign_letter, letter_for, success, failed, skipped, upstream_failed, no_status, state_of_outcome, told_state, is_success, state_of_instances, state_of}
+use Rattle.bf_reason.specs.Letters.{any_letter, first_by_of, follows, ended_letter_of, instance_letter, expanded_letter, digit_for, foreign_letter, letter_for, success, failed, skipped, upstream_failed, no_status, state_of_outcome, told_state, is_success, state_of_instances, state_of}
 
 -- ---- without a try
 
@@ -32,7 +32,7 @@ first_or_later : (first : Bool) → told_state (if first then byte "s" else byte
 first_or_later true = refl
 first_or_later false = refl
 
-ended_told : (outcome : Outcome) (tries : ℕ) → told_state (ended_letter outcome tries) ≡ state_of_outcome outcome
+ended_told : (outcome : Outcome) (tries : ℕ) → told_state (ended_letter_of outcome tries) ≡ state_of_outcome outcome
 ended_told (Outcome.Success value) tries = first_or_later (tries == 1)
 ended_told Outcome.Failed tries = refl
 ended_told Outcome.Skipped tries = refl
@@ -53,7 +53,7 @@ is_f : (first : Bool) → ((if first then byte "s" else byte "r") == byte "f") �
 is_f true = refl
 is_f false = refl
 
-failed_letter : (outcome : Outcome) (tries : ℕ) → (ended_letter outcome tries == byte "f") ≡ is_failed outcome
+failed_letter : (outcome : Outcome) (tries : ℕ) → (ended_letter_of outcome tries == byte "f") ≡ is_failed outcome
 failed_letter (Outcome.Success value) tries = is_f (tries == 1)
 failed_letter Outcome.Failed tries = refl
 failed_letter Outcome.Skipped tries = refl
@@ -62,7 +62,7 @@ is_r_or_s : (first : Bool) → (((if first then byte "s" else byte "r") == byte 
 is_r_or_s true = refl
 is_r_or_s false = refl
 
-success_letter : (outcome : Outcome) (tries : ℕ) → ((ended_letter outcome tries == byte "r") || (ended_letter outcome tries == byte "s")) ≡ is_success outcome
+success_letter : (outcome : Outcome) (tries : ℕ) → ((ended_letter_of outcome tries == byte "r") || (ended_letter_of outcome tries == byte "s")) ≡ is_success outcome
 success_letter (Outcome.Success value) tries = is_r_or_s (tries == 1)
 success_letter Outcome.Failed tries = refl
 success_letter Outcome.Skipped tries = refl
@@ -85,7 +85,7 @@ any_success (instance ∷ instances) =
 
 -- the letters by which instances there are
 upper_told : (some_f some_r some_s : Bool) →
-    told_state (if first_by some_f some_r some_s == byte "f" then byte "F" else (if first_by some_f some_r some_s == byte "r" then byte "R" else (if first_by some_f some_r some_s == byte "s" then byte "S" else byte "X")))
+    told_state (if first_by_of some_f some_r some_s == byte "f" then byte "F" else (if first_by_of some_f some_r some_s == byte "r" then byte "R" else (if first_by_of some_f some_r some_s == byte "s" then byte "S" else byte "X")))
     ≡ (if some_f then failed else (if some_r || some_s then success else skipped))
 upper_told true some_r some_s = refl
 upper_told false true some_s = refl
@@ -93,7 +93,7 @@ upper_told false false true = refl
 upper_told false false false = refl
 
 digits_told : (some_f some_r some_s : Bool) →
-    told_state (if first_by some_f some_r some_s == byte "f" then byte "8" else (if first_by some_f some_r some_s == byte "x" then byte "9" else byte "7"))
+    told_state (if first_by_of some_f some_r some_s == byte "f" then byte "8" else (if first_by_of some_f some_r some_s == byte "x" then byte "9" else byte "7"))
     ≡ (if some_f then failed else (if some_r || some_s then success else skipped))
 digits_told true some_r some_s = refl
 digits_told false true some_s = refl
@@ -128,7 +128,7 @@ no_digit_first : (first : Bool) → is_ascii_digit (if first then byte "s" else 
 no_digit_first true = refl
 no_digit_first false = refl
 
-no_digit_ended : (outcome : Outcome) (tries : ℕ) → is_ascii_digit (ended_letter outcome tries) ≡ false
+no_digit_ended : (outcome : Outcome) (tries : ℕ) → is_ascii_digit (ended_letter_of outcome tries) ≡ false
 no_digit_ended (Outcome.Success value) tries = no_digit_first (tries == 1)
 no_digit_ended Outcome.Failed tries = refl
 no_digit_ended Outcome.Skipped tries = refl
@@ -139,14 +139,14 @@ digit_foreign Outcome.Failed = refl
 digit_foreign Outcome.Skipped = refl
 
 no_digit_upper : (some_f some_r some_s : Bool) →
-    is_ascii_digit (if first_by some_f some_r some_s == byte "f" then byte "F" else (if first_by some_f some_r some_s == byte "r" then byte "R" else (if first_by some_f some_r some_s == byte "s" then byte "S" else byte "X"))) ≡ false
+    is_ascii_digit (if first_by_of some_f some_r some_s == byte "f" then byte "F" else (if first_by_of some_f some_r some_s == byte "r" then byte "R" else (if first_by_of some_f some_r some_s == byte "s" then byte "S" else byte "X"))) ≡ false
 no_digit_upper true some_r some_s = refl
 no_digit_upper false true some_s = refl
 no_digit_upper false false true = refl
 no_digit_upper false false false = refl
 
 digit_digits : (some_f some_r some_s : Bool) →
-    is_ascii_digit (if first_by some_f some_r some_s == byte "f" then byte "8" else (if first_by some_f some_r some_s == byte "x" then byte "9" else byte "7")) ≡ true
+    is_ascii_digit (if first_by_of some_f some_r some_s == byte "f" then byte "8" else (if first_by_of some_f some_r some_s == byte "x" then byte "9" else byte "7")) ≡ true
 digit_digits true some_r some_s = refl
 digit_digits false true some_s = refl
 digit_digits false false true = refl

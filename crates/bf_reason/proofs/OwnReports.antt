@@ -15,7 +15,7 @@ use Rattle.bf_report.specs.declared.report.InstanceReport.{InstanceReport}
 use Rattle.bf_report.specs.declared.report.TaskReport.{TaskReport}
 use Rattle.bf_report.specs.declared.report.Report.{Report}
 use Rattle.bf_report.specs.Dated.{cell_by, IsDated, reported, reported_instance, reported_instances}
-use Rattle.bf_clear.specs.Entries.{report_at, value_at, value_by, value_in}
+use Rattle.bf_clear.specs.Entries.{report_at, value_reported_at, value_by, value_in}
 use Rattle.bf_clear.proofs.Own.{pull-in}
 use Rattle.bf_clear.proofs.Told.{reported-there, task-at}
 use Rattle.bf_reason.specs.Letters.{before_at, follows, follows_in, seen_at}
@@ -81,7 +81,7 @@ module _ (dag : Dag) (sound : IsSound dag) (ledger : Ledger) (run task : ℕ) wh
 -- ---- what is decided over what a report has
 
 module _ (dag : Dag) (sound : IsSound dag) (intervals : List Interval) (ledger : Ledger) (report : Report) (dated : IsDated dag intervals ledger report) where
-  values-are : (run task : ℕ) → run < length intervals → task < length dag.tasks → value_at report run task ≡ out dag ledger run task
+  values-are : (run task : ℕ) → run < length intervals → task < length dag.tasks → value_reported_at report run task ≡ out dag ledger run task
   values-are run task l m = ap value_by (task-at dag ledger intervals report dated run task l m) ∙ cell-value dag sound ledger run task
 
   decided-over : (run task : ℕ) (past : Option TaskValue) → run < length intervals →

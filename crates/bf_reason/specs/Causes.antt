@@ -2,8 +2,8 @@
 use Rattle.std.specs.Prelude.{ℕ, zero, suc, ◌==◌, ◌&&◌, not, Bool, true, false, if◌then◌else◌, length, map, Option, None, Some}
 use Rattle.bf_core.specs.Terms.{Items, TaskValue}
 use Rattle.bf_mapped.specs.declared.source.SourceValues.{SourceValues}
-use Rattle.bf_xcom.specs.Pulls.{pushed, pushed_alone}
-use Rattle.bf_core.specs.Deciding.{lets_pass}
+use Rattle.bf_xcom.specs.Pulls.{pushed_of, pushed_alone_in}
+use Rattle.bf_core.specs.Deciding.{lets_pass_in}
 use Rattle.bf_reason.specs.declared.cause.StateCause.{StateCause}
 use Rattle.bf_reason.specs.Reasons.{Reason, waits, not_followed, branch_is_blocked, upstream_is_blocked, rule_skips, rule_fails, past_has_not_passed, items_are_missing, has_no_items, runs}
 
@@ -27,7 +27,7 @@ item_count (Items.List items) = Some (length items)
 
 -- what a source that is expanded, or isn't, has by its value
 abbrev pub values_given : Bool → TaskValue → SourceValues
-values_given each (TaskValue.Ran results) = if each then SourceValues.Each (map pushed results) else SourceValues.Pushed (pushed_alone results)
+values_given each (TaskValue.Ran results) = if each then SourceValues.Each (map pushed_of results) else SourceValues.Pushed (pushed_alone_in results)
 values_given each value = SourceValues.Absent
 
 abbrev pub cause_by_count : Option ℕ → StateCause
@@ -38,12 +38,12 @@ cause_by_count (Some (suc count)) = StateCause.Runs (suc count)
 -- the past, where it is asked, lets the task go on
 abbrev pub passed : Option TaskValue → Bool
 passed None = false
-passed (Some value) = lets_pass value
+passed (Some value) = lets_pass_in value
 
-abbrev pub past_lets_go_on : Bool → ℕ → Option TaskValue → Bool
-past_lets_go_on depends run before = if depends && not (run == 0) then passed before else true
+abbrev pub past_lets_go_on_of : Bool → ℕ → Option TaskValue → Bool
+past_lets_go_on_of depends run before = if depends && not (run == 0) then passed before else true
 
 -- it runs as so many instances
-abbrev pub runs_as : StateCause → ℕ → Bool
-runs_as (StateCause.Runs instances) count = count == instances
-runs_as cause count = false
+abbrev pub runs_as_in : StateCause → ℕ → Bool
+runs_as_in (StateCause.Runs instances) count = count == instances
+runs_as_in cause count = false

@@ -8,36 +8,36 @@ use Rattle.bf_core.specs.Deciding.{Seen, settled, decision}
 use Rattle.bf_report.specs.declared.report.InstanceReport.{InstanceReport}
 use Rattle.bf_report.specs.declared.report.TaskReport.{TaskReport}
 use Rattle.bf_report.specs.declared.report.Report.{Report}
-use Rattle.bf_clear.specs.Entries.{value_at}
+use Rattle.bf_clear.specs.Entries.{value_reported_at}
 use Rattle.bf_reason.specs.declared.cause.StateCause.{StateCause}
 use Rattle.bf_reason.specs.Reasons.{reason}
 use Rattle.bf_reason.specs.Causes.{cause_of}
 
 -- how an instance ended, and a success by its first try or a later one
-abbrev pub ended_letter : Outcome → ℕ → ℕ
-ended_letter (Outcome.Success value) tries = if tries == 1 then byte "s" else byte "r"
-ended_letter Outcome.Failed tries = byte "f"
-ended_letter Outcome.Skipped tries = byte "x"
+abbrev pub ended_letter_of : Outcome → ℕ → ℕ
+ended_letter_of (Outcome.Success value) tries = if tries == 1 then byte "s" else byte "r"
+ended_letter_of Outcome.Failed tries = byte "f"
+ended_letter_of Outcome.Skipped tries = byte "x"
 
 abbrev pub instance_letter : InstanceReport → ℕ
-instance_letter instance = ended_letter instance.result.outcome instance.result.tries
+instance_letter instance = ended_letter_of instance.result.outcome instance.result.tries
 
 -- the first of f, r and s that some instance has, or else x
-abbrev pub first_by : Bool → Bool → Bool → ℕ
-first_by some_f some_r some_s = if some_f then byte "f" else (if some_r then byte "r" else (if some_s then byte "s" else byte "x"))
+abbrev pub first_by_of : Bool → Bool → Bool → ℕ
+first_by_of some_f some_r some_s = if some_f then byte "f" else (if some_r then byte "r" else (if some_s then byte "s" else byte "x"))
 
 abbrev pub any_letter : ℕ → List InstanceReport → Bool
 any_letter letter instances = list_any (λ instance. instance_letter instance == letter) instances
 
-abbrev pub first_letter : List InstanceReport → ℕ
-first_letter instances = first_by (any_letter (byte "f") instances) (any_letter (byte "r") instances) (any_letter (byte "s") instances)
+abbrev pub first_letter_of : List InstanceReport → ℕ
+first_letter_of instances = first_by_of (any_letter (byte "f") instances) (any_letter (byte "r") instances) (any_letter (byte "s") instances)
 
 -- the same of an expanded task, in upper case
-abbrev pub upper : ℕ → ℕ
-upper first = if first == byte "f" then byte "F" else (if first == byte "r" then byte "R" else (if first == byte "s" then byte "S" else byte "X"))
+abbrev pub upper_of : ℕ → ℕ
+upper_of first = if first == byte "f" then byte "F" else (if first == byte "r" then byte "R" else (if first == byte "s" then byte "S" else byte "X"))
 
 abbrev pub expanded_letter : List InstanceReport → ℕ
-expanded_letter instances = upper (first_letter instances)
+expanded_letter instances = upper_of (first_letter_of instances)
 
 -- a digit for an outcome, the first for a success
 abbrev pub digit_for : ℕ → Outcome → ℕ
@@ -46,8 +46,8 @@ digit_for first Outcome.Failed = first + 1
 digit_for first Outcome.Skipped = first + 2
 
 -- a digit for an expanded task, by that letter
-abbrev pub expanded_digit : ℕ → ℕ
-expanded_digit first = if first == byte "f" then byte "8" else (if first == byte "x" then byte "9" else byte "7")
+abbrev pub expanded_digit_of : ℕ → ℕ
+expanded_digit_of first = if first == byte "f" then byte "8" else (if first == byte "x" then byte "9" else byte "7")
 
 -- of a task that has what doesn't follow from the graph
 abbrev pub foreign_letter : TaskReport → ℕ
@@ -55,7 +55,7 @@ foreign_letter TaskReport.Skipped = byte "4"
 foreign_letter TaskReport.UpstreamFailed = byte "5"
 foreign_letter TaskReport.NoStatus = byte "6"
 foreign_letter (TaskReport.Ran instance) = digit_for (byte "1") instance.result.outcome
-foreign_letter (TaskReport.Mapped instances) = expanded_digit (first_letter instances)
+foreign_letter (TaskReport.Mapped instances) = expanded_digit_of (first_letter_of instances)
 
 -- by the cause, where the task has what is decided for it, and is expanded where the graph expands it
 abbrev pub letter_for : Bool → StateCause → TaskReport → ℕ
@@ -75,11 +75,11 @@ letter_for is_expanded cause task = foreign_letter task
 
 -- what is known of the tasks in a run of the report, and of a task in the run before
 abbrev pub seen_at : Report → ℕ → ℕ → Seen
-seen_at report run task = settled (value_at report run task)
+seen_at report run task = settled (value_reported_at report run task)
 
 abbrev pub before_at : Report → ℕ → ℕ → Option TaskValue
 before_at report zero task = None
-before_at report (suc run) task = Some (value_at report run task)
+before_at report (suc run) task = Some (value_reported_at report run task)
 
 -- of a task that the report has in a run, by this graph
 abbrev pub letter_of : Dag → Report → ℕ → ℕ → TaskReport → ℕ

@@ -1,9 +1,9 @@
 -- What came of the tasks of a run, and what is seen of it by those that look at them.
 use Rattle.std.specs.Prelude.{◌≡◌, ◌≤◌, ℕ, zero, suc, List, [], length, Option, None, Some, slice_get}
-use Rattle.bf_rule.specs.Verdicts.{total}
+use Rattle.bf_rule.specs.Verdicts.{total_of}
 use Rattle.bf_try.specs.Grades.{most_items}
 use Rattle.bf_core.specs.Terms.{Counts, TaskResult, TaskValue}
-use Rattle.bf_core.specs.Deciding.{Seen, counts_of, settled}
+use Rattle.bf_core.specs.Deciding.{Seen, counts_in, settled}
 use Rattle.bf_report.specs.declared.report.TaskReport.{TaskReport}
 use Rattle.bf_clear.specs.Entries.{value_in, value_by}
 
@@ -19,8 +19,8 @@ IsFewValue _ = Unit {0}
 -- the value of a task, with its instances counted
 pub record IsCounted (told : TaskReport) (value : TaskValue) (counts : Counts) : Type 0 where
   pub has_value : value ≡ value_in told
-  pub counted : counts ≡ counts_of value
-  pub few : total counts ≤ most_items
+  pub counted : counts ≡ counts_in value
+  pub few : total_of counts ≤ most_items
 
 -- what came of each instance, by map index
 abbrev pub results_of : TaskValue → List TaskResult

@@ -3,13 +3,13 @@ ghost use Rattle.std.specs.Prelude.{◌≡◌, ◌≤◌, ◌<◌, List, Option,
 ghost use Rattle.std.specs.List.{list_all, list_any};
 ghost use Rattle.bf_mapped.specs.Items.{items_of};
 ghost use Rattle.bf_mapped.specs.declared.source.SourceValues.{SourceValues};
-ghost use Rattle.bf_xcom.specs.Pulls.{pushed, pushed_alone};
-ghost use Rattle.bf_core.specs.Deciding.{branch_is, branch_skips, counts_of, counts_over, is_blocked as blocked, lets_pass as lets_go_on};
-ghost use Rattle.bf_core.specs.Terms.{is_failed, items, task_of, TaskResult as ResultTerm, TaskValue as ValueTerm, Verdict as VerdictTerm, Xval as XvalTerm};
-ghost use Rattle.bf_reason.specs.Causes.{cause_of, item_count, past_lets_go_on as past_lets_go_on_in, values_given};
-ghost use Rattle.bf_reason.specs.Reasons.{by_source as by_source_of, by_verdict as by_verdict_of, reason};
+ghost use Rattle.bf_xcom.specs.Pulls.{pushed_of, pushed_alone_in};
+ghost use Rattle.bf_core.specs.Deciding.{branch_is, branch_skips, counts_in, counts_over, is_blocked_in, lets_pass_in};
+ghost use Rattle.bf_core.specs.Terms.{is_failed, items, task_of, TaskResult, TaskValue, Verdict, Xval};
+ghost use Rattle.bf_reason.specs.Causes.{cause_of, item_count, past_lets_go_on_of, values_given};
+ghost use Rattle.bf_reason.specs.Reasons.{by_source_of, by_verdict_of, reason};
 ghost use Rattle.bf_reason.specs.Settled.{before_among, seen_among, value_among};
-ghost use Rattle.bf_rule.specs.Verdicts.{total};
+ghost use Rattle.bf_rule.specs.Verdicts.{total_of};
 
 use crate::settled::Settled;
 use bf_plan::{Dag, Plan, Task};
@@ -44,8 +44,8 @@ pub enum StateCause {
 
 /// How many instances of a task are in each state; of one that isn't there as of one that is blocked.
 pub fn counts_at(settled: &[Settled<'_>], task: u32) -> Counts
-    ensures counts { result ≡ counts_of (value_among settled.now task) }
-    ensures few { total result ≤ 1_024 }
+    ensures counts { result ≡ counts_in (value_among settled.now task) }
+    ensures few { total_of result ≤ 1_024 }
 {
     match settled.get(task as usize) {
         Some(settled) => settled.counts(),
@@ -70,7 +70,7 @@ pub fn counts_of_upstreams(settled: &[Settled<'_>], upstreams: &[u32]) -> Counts
 
 fn results_skip(plan: &Plan, branch: u32, task: u32, results: &[TaskResult]) -> bool
     requires { task < length plan.now.dag.tasks }
-    ensures { result ≡ branch_skips plan.now.dag task branch (ValueTerm.Ran results.now) }
+    ensures { result ≡ branch_skips plan.now.dag task branch (TaskValue.Ran results.now) }
 {
     let [first, ..] = results else {
         return false;
@@ -108,7 +108,7 @@ pub fn skips(plan: &Plan, settled: &[Settled<'_>], upstream: u32, task: u32) -> 
 
 /// Whether a task is blocked, and so one that isn't there.
 pub fn is_blocked(settled: &[Settled<'_>], task: u32) -> bool
-    ensures { result ≡ blocked (value_among settled.now task) }
+    ensures { result ≡ is_blocked_in (value_among settled.now task) }
 {
     match settled.get(task as usize) {
         Some(settled) => matches!(settled.value(), TaskValue::Blocked),
@@ -118,7 +118,7 @@ pub fn is_blocked(settled: &[Settled<'_>], task: u32) -> bool
 
 /// Whether an upstream is a branch that is blocked.
 pub fn is_blocked_branch(dag: &Dag, settled: &[Settled<'_>], upstream: u32) -> bool
-    ensures { result ≡ branch_is dag.now blocked upstream
+    ensures { result ≡ branch_is dag.now is_blocked_in upstream
         (Some (value_among settled.now upstream)) }
 {
     dag.is_branch(upstream) && is_blocked(settled, upstream)
@@ -135,7 +135,7 @@ fn any_skips(plan: &Plan, settled: &[Settled<'_>], task: u32, upstreams: &[u32])
 }
 
 fn any_is_blocked_branch(plan: &Plan, settled: &[Settled<'_>], upstreams: &[u32]) -> bool
-    ensures { result ≡ list_any (λ u. branch_is plan.now.dag blocked u
+    ensures { result ≡ list_any (λ u. branch_is plan.now.dag is_blocked_in u
         (Some (value_among settled.now u))) upstreams.now }
 {
     let dag = plan.dag();
@@ -159,7 +159,7 @@ fn have_passed(results: &[TaskResult]) -> bool
 /// Whether a task that depends on its past goes on after this value of the run before.
 #[tactic(auto, using(crate::proofs::CauseFacts::all_passed_is))]
 fn lets_pass(value: &TaskValue) -> bool
-    ensures { result ≡ lets_go_on value.now }
+    ensures { result ≡ lets_pass_in value.now }
 {
     match value {
         TaskValue::Skipped => true,
@@ -170,7 +170,7 @@ fn lets_pass(value: &TaskValue) -> bool
 
 /// Whether a task passed in a run of which these are the tasks.
 fn has_passed(settled: &[Settled<'_>], task: u32) -> bool
-    ensures { result ≡ lets_go_on (value_among settled.now task) }
+    ensures { result ≡ lets_pass_in (value_among settled.now task) }
 {
     match settled.get(task as usize) {
         Some(settled) => lets_pass(settled.value()),
@@ -180,7 +180,7 @@ fn has_passed(settled: &[Settled<'_>], task: u32) -> bool
 
 /// Whether its past lets a task go on. Nothing is asked of it in the first run.
 fn past_lets_go_on(task: &Task, run: usize, before: &[Settled<'_>], number: u32) -> bool
-    ensures { result ≡ past_lets_go_on_in task.now.depends_on_past run
+    ensures { result ≡ past_lets_go_on_of task.now.depends_on_past run
         (before_among before.now run number) }
 {
     !task.depends_on_past || run == 0 || has_passed(before, number)
@@ -198,7 +198,7 @@ pub fn is_expanded(dag: &Dag, task: u32) -> bool
 }
 
 fn count_pushed(results: &[TaskResult]) -> usize
-    ensures { result ≡ length (filter (λ ended. is_some (pushed ended)) results.now) }
+    ensures { result ≡ length (filter (λ ended. is_some (pushed_of ended)) results.now) }
 {
     results
         .iter()
@@ -208,7 +208,7 @@ fn count_pushed(results: &[TaskResult]) -> usize
 
 /// How many items the list has that an unmapped source pushed.
 fn count_listed(results: &[TaskResult]) -> Option<usize>
-    ensures { result ≡ item_count (items_of (SourceValues.Pushed (pushed_alone results.now))) }
+    ensures { result ≡ item_count (items_of (SourceValues.Pushed (pushed_alone_in results.now))) }
 {
     let [first, ..] = results else {
         return None;
@@ -223,7 +223,7 @@ fn count_listed(results: &[TaskResult]) -> Option<usize>
 #[tactic(auto, using(crate::proofs::CauseFacts::pushed_count))]
 fn count_of_ran(is_expanded: bool, results: &[TaskResult]) -> Option<usize>
     ensures { result ≡ item_count (items_of
-        (values_given is_expanded (ValueTerm.Ran results.now))) }
+        (values_given is_expanded (TaskValue.Ran results.now))) }
 {
     if is_expanded {
         Some(count_pushed(results))
@@ -255,7 +255,7 @@ fn count_items(dag: &Dag, settled: &[Settled<'_>], source: u32) -> Option<usize>
 
 /// Of a task that goes on, by the source of its items.
 fn by_source(dag: &Dag, settled: &[Settled<'_>], expand: Option<u32>) -> StateCause
-    ensures { (pulled : List (Option XvalTerm)) →
+    ensures { (pulled : List (Option Xval)) →
         result ≡ cause_of (by_source_of dag.now (seen_among settled.now) pulled expand) }
 {
     let Some(source) = expand else {
@@ -278,7 +278,7 @@ fn by_past(
 ) -> StateCause
     requires { number < length dag.now.tasks }
     ensures { result ≡ cause_of (by_verdict_of dag.now run (seen_among settled.now)
-        (before_among before.now run number) number VerdictTerm.Run) }
+        (before_among before.now run number) number Verdict.Run) }
 {
     let task = dag.task(number);
     if past_lets_go_on(task, run, before, number) {

@@ -1,12 +1,12 @@
 //! The letter of a task in a run, which tells its state and why it has that.
 ghost use Rattle.std.specs.Prelude.{◌≡◌, ◌<◌, ◌==◌, Bool, List, length, map};
 ghost use Rattle.std.specs.List.{list_any};
-ghost use Rattle.bf_reason.specs.Causes.{runs_as as runs_as_by};
-ghost use Rattle.bf_reason.specs.Letters.{ended_letter as ended_letter_of, expanded_digit as expanded_digit_of, first_by as first_by_of, first_letter as first_letter_of, letter_for, letter_of, upper as upper_of};
-ghost use Rattle.bf_reason.specs.Runs.{tasks_at, tasks_before};
-ghost use Rattle.bf_report.specs.declared.report.InstanceReport.{InstanceReport as InstanceTerm};
-ghost use Rattle.bf_report.specs.declared.report.TaskReport.{TaskReport as TaskTerm};
-ghost use Rattle.bf_report.specs.declared.report.Report.{Report as ReportTerm};
+ghost use Rattle.bf_reason.specs.Causes.{runs_as_in};
+ghost use Rattle.bf_reason.specs.Letters.{ended_letter_of, expanded_digit_of, first_by_of, first_letter_of, letter_for, letter_of, upper_of};
+ghost use Rattle.bf_reason.specs.Runs.{tasks_in, tasks_before};
+ghost use Rattle.bf_report.specs.declared.report.InstanceReport.{InstanceReport};
+ghost use Rattle.bf_report.specs.declared.report.TaskReport.{TaskReport};
+ghost use Rattle.bf_report.specs.declared.report.Report.{Report};
 
 use crate::cause::{StateCause, cause_at, is_expanded};
 use crate::settled::Settled;
@@ -48,7 +48,7 @@ fn first_by(some_f: bool, some_r: bool, some_s: bool) -> u8
 }
 
 fn first_letter(results: &[TaskResult]) -> u8
-    ensures letter { (instances : List InstanceTerm) → results.now
+    ensures letter { (instances : List InstanceReport) → results.now
         ≡ map (λ instance. instance.result) instances →
         result ≡ first_letter_of instances }
     ensures ascii { result < 128 }
@@ -84,7 +84,7 @@ fn expanded_digit(first: u8) -> u8
 }
 
 fn skipped_letter(cause: StateCause) -> u8
-    ensures letter { (expanded : Bool) → result ≡ letter_for expanded cause TaskTerm.Skipped }
+    ensures letter { (expanded : Bool) → result ≡ letter_for expanded cause TaskReport.Skipped }
     ensures ascii { result < 128 }
 {
     match cause {
@@ -97,7 +97,7 @@ fn skipped_letter(cause: StateCause) -> u8
 
 fn upstream_failed_letter(cause: StateCause) -> u8
     ensures letter { (expanded : Bool) → result
-        ≡ letter_for expanded cause TaskTerm.UpstreamFailed }
+        ≡ letter_for expanded cause TaskReport.UpstreamFailed }
     ensures ascii { result < 128 }
 {
     match cause {
@@ -108,7 +108,7 @@ fn upstream_failed_letter(cause: StateCause) -> u8
 }
 
 fn no_status_letter(cause: StateCause) -> u8
-    ensures letter { (expanded : Bool) → result ≡ letter_for expanded cause TaskTerm.NoStatus }
+    ensures letter { (expanded : Bool) → result ≡ letter_for expanded cause TaskReport.NoStatus }
     ensures ascii { result < 128 }
 {
     match cause {
@@ -121,8 +121,8 @@ fn no_status_letter(cause: StateCause) -> u8
 
 /// Of an unmapped task, by its result.
 fn ran_letter(is_expanded: bool, cause: StateCause, ended: &TaskResult) -> u8
-    ensures letter { (instance : InstanceTerm) → instance.result ≡ ended.now →
-        result ≡ letter_for is_expanded cause (TaskTerm.Ran instance) }
+    ensures letter { (instance : InstanceReport) → instance.result ≡ ended.now →
+        result ≡ letter_for is_expanded cause (TaskReport.Ran instance) }
     ensures ascii { result < 128 }
 {
     if !is_expanded && matches!(cause, StateCause::Runs(_)) {
@@ -136,7 +136,7 @@ fn ran_letter(is_expanded: bool, cause: StateCause, ended: &TaskResult) -> u8
 }
 
 fn runs_as(cause: StateCause, count: usize) -> bool
-    ensures { result ≡ runs_as_by cause count }
+    ensures { result ≡ runs_as_in cause count }
 {
     match cause {
         StateCause::Runs(instances) => count == instances,
@@ -146,9 +146,9 @@ fn runs_as(cause: StateCause, count: usize) -> bool
 
 /// Of an expanded task, by the results of its instances.
 fn mapped_letter(is_expanded: bool, cause: StateCause, results: &[TaskResult]) -> u8
-    ensures letter { (instances : List InstanceTerm) → results.now
+    ensures letter { (instances : List InstanceReport) → results.now
         ≡ map (λ instance. instance.result) instances →
-        result ≡ letter_for is_expanded cause (TaskTerm.Mapped instances) }
+        result ≡ letter_for is_expanded cause (TaskReport.Mapped instances) }
     ensures ascii { result < 128 }
 {
     let first = first_letter(results);
@@ -184,7 +184,7 @@ pub fn letter_at(
     told: &Settled<'_>,
 ) -> u8
     requires { task < length plan.now.dag.tasks }
-    ensures letter { (report : ReportTerm) → settled.now ≡ tasks_at report run → before.now
+    ensures letter { (report : Report) → settled.now ≡ tasks_in report run → before.now
         ≡ tasks_before report run →
         result ≡ letter_of plan.now.dag report run task told.now }
     ensures ascii { result < 128 }

@@ -1,9 +1,9 @@
 //! What came of the tasks of a run.
 ghost use Rattle.std.specs.Prelude.{◌≡◌, ◌≤◌, All, IfOk, length};
 ghost use Rattle.bf_clear.specs.Entries.{value_in};
-ghost use Rattle.bf_core.specs.Deciding.{counts_of as counts_in, counts_of_results as counts_over, one_of};
+ghost use Rattle.bf_core.specs.Deciding.{counts_in, counts_of_results_of, one_of};
 ghost use Rattle.bf_reason.specs.Settled.{IsFewTask, IsFewValue, results_of};
-ghost use Rattle.bf_rule.specs.Verdicts.{total};
+ghost use Rattle.bf_rule.specs.Verdicts.{total_of};
 
 use bf_clear::value_of;
 use bf_report::TaskReport;
@@ -24,13 +24,13 @@ pub struct Settled<'a> {
 
 impl<'a> Model for Settled<'a> {
     ghost use Rattle.std.specs.Coded.{codes};
-    ghost use Rattle.bf_report.specs.contracts.report.TaskReport as t;
+    ghost use Rattle.bf_report.specs.contracts.report.TaskReport;
     ghost use Rattle.bf_report.specs.declared.report.TaskReport.{TaskReport};
     ghost use Rattle.bf_reason.specs.Settled.{IsCounted};
 
     ghost Value = { TaskReport };
 
-    ghost coded = { Prim.hlevel (codes, t.the_row.coded) };
+    ghost coded = { Prim.hlevel (codes, TaskReport.the_row.coded) };
 
     ghost view = { λ s. s.told.now };
 
@@ -51,8 +51,8 @@ fn counts_of_outcome(outcome: &Outcome) -> Counts
 
 fn counts_of_results(results: &[TaskResult]) -> Counts
     requires { length results.now ≤ 1_024 }
-    ensures counts { result ≡ counts_over results.now }
-    ensures few { total result ≤ 1_024 }
+    ensures counts { result ≡ counts_of_results_of results.now }
+    ensures few { total_of result ≤ 1_024 }
 {
     let mut counts = Counts::NONE;
     for result in results {
@@ -64,7 +64,7 @@ fn counts_of_results(results: &[TaskResult]) -> Counts
 fn counts_of(value: &TaskValue) -> Counts
     requires { IsFewValue value.now }
     ensures counts { result ≡ counts_in value.now }
-    ensures few { total result ≤ 1_024 }
+    ensures few { total_of result ≤ 1_024 }
 {
     match value {
         TaskValue::Blocked => Counts {
@@ -115,7 +115,7 @@ impl<'a> Settled<'a> {
     /// How many instances are in each state; a task without a try counts as one.
     pub fn counts(&self) -> Counts
         ensures counts { result ≡ counts_in (value_in self.now) }
-        ensures few { total result ≤ 1_024 }
+        ensures few { total_of result ≤ 1_024 }
     {
         self.counts
     }

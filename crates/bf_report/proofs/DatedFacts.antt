@@ -11,7 +11,7 @@ use Rattle.bf_plan.specs.declared.plan.Task.{Task}
 use Rattle.bf_plan.specs.declared.plan.Dag.{Dag}
 use Rattle.bf_plan.specs.Plans.{no_task, task_of}
 use Rattle.bf_plan.specs.Sound.{IsSound, IsSettledAncestor}
-use Rattle.bf_try.specs.Tries.{Look}
+use Rattle.bf_try.specs.Tries.{Ledger}
 use Rattle.bf_core.specs.declared.state.Cell.{Cell}
 use Rattle.bf_core.specs.declared.state.State.{State}
 use Rattle.bf_core.specs.Recursion.{out, run_state_of}
@@ -22,7 +22,7 @@ use Rattle.bf_moment.specs.Moment.{IsShown}
 use Rattle.bf_report.specs.declared.report.TaskReport.{TaskReport}
 use Rattle.bf_report.specs.declared.report.RunReport.{RunReport}
 use Rattle.bf_report.specs.declared.report.Report.{Report}
-use Rattle.bf_report.specs.Dated.{pulls_of, reported, reports_from, cell_by, AreDated, IsDated}
+use Rattle.bf_report.specs.Dated.{pulls_in, reported, reports_from, cell_by, AreDated, IsDated}
 
 -- what holds of each and of one more
 pub all_more : {X : Type 0} (P : X → Type 0) (xs : List X) (x : X) → AllByRecursion P xs → P x → AllByRecursion P (xs ++ x ∷ [])
@@ -38,11 +38,11 @@ pulls_in_range dag sound t =
     All-weaker (IsSettledAncestor dag t) (λ p. p < length dag.tasks) (ancestor-in dag sound t) pulls
     (All-from_recursion (IsSettledAncestor dag t) pulls (sound.pulls_settled t))
 
-pub no_pulls : (dag : Dag) (ps : List ℕ) (vs : List (Option Xval)) → length ps ≡ 0 → pulls_of dag ps vs ≡ []
+pub no_pulls : (dag : Dag) (ps : List ℕ) (vs : List (Option Xval)) → length ps ≡ 0 → pulls_in dag ps vs ≡ []
 no_pulls dag [] vs e = refl
 no_pulls dag (p ∷ ps) vs e = absurd (omega arith)
 
-pub no_values : (dag : Dag) (ps : List ℕ) (vs : List (Option Xval)) → length vs ≡ 0 → pulls_of dag ps vs ≡ []
+pub no_values : (dag : Dag) (ps : List ℕ) (vs : List (Option Xval)) → length vs ≡ 0 → pulls_in dag ps vs ≡ []
 no_values dag [] vs e = refl
 no_values dag (p ∷ ps) [] e = refl
 no_values dag (p ∷ ps) (v ∷ vs) e = absurd (omega arith)
@@ -71,7 +71,7 @@ outcome-reports dag runs s is k l =
 -- ---- runs
 
 -- one more run is dated
-dated-more : (dag : Dag) (ledger : Look) (k : ℕ) (intervals : List Interval) (runs : List RunReport) (interval : Interval) (run : RunReport) → AreDated dag ledger k intervals runs →
+dated-more : (dag : Dag) (ledger : Ledger) (k : ℕ) (intervals : List Interval) (runs : List RunReport) (interval : Interval) (run : RunReport) → AreDated dag ledger k intervals runs →
     run.interval ≡ interval → run.state ≡ run_state_of dag (out dag ledger (k + length intervals)) → run.tasks ≡ reports_from dag (cell_by dag ledger (k + length intervals)) 0 dag.tasks →
     AreDated dag ledger k (intervals ++ interval ∷ []) (runs ++ run ∷ [])
 dated-more dag ledger k [] [] interval run are a b c =
@@ -84,7 +84,7 @@ dated-more dag ledger k (i ∷ is) (r ∷ rs) interval run are a b c =
     (are.0, are.1, are.2, dated-more dag ledger (suc k) is rs interval run are.3 a (rw same at b) (rw same at c))
 
 -- the runs of the intervals so far, and one more
-pub dated-next : (dag : Dag) (ledger : Look) (intervals : List Interval) (k : ℕ) (interval : Interval) (runs : List RunReport) (run : RunReport) → k < length intervals → interval ≡ get_or intervals k interval →
+pub dated-next : (dag : Dag) (ledger : Ledger) (intervals : List Interval) (k : ℕ) (interval : Interval) (runs : List RunReport) (run : RunReport) → k < length intervals → interval ≡ get_or intervals k interval →
     AreDated dag ledger 0 (take k intervals) runs → run.interval ≡ interval → run.state ≡ run_state_of dag (out dag ledger k) → run.tasks ≡ reports_from dag (cell_by dag ledger k) 0 dag.tasks →
     AreDated dag ledger 0 (take (k + 1) intervals) (runs ++ run ∷ [])
 dated-next dag ledger intervals k interval runs run l e are a b c =
@@ -110,7 +110,7 @@ pub length-reports_from : (dag : Dag) (cell : ℕ → Cell) (t : ℕ) (tasks : L
 length-reports_from dag cell t [] = refl
 length-reports_from dag cell t (task ∷ tasks) = ap suc (length-reports_from dag cell (suc t) tasks)
 
-runs-once : (dag : Dag) (ledger : Look) (k : ℕ) (intervals : List Interval) (runs others : List RunReport) → AreDated dag ledger k intervals runs → AreDated dag ledger k intervals others → runs ≡ others
+runs-once : (dag : Dag) (ledger : Ledger) (k : ℕ) (intervals : List Interval) (runs others : List RunReport) → AreDated dag ledger k intervals runs → AreDated dag ledger k intervals others → runs ≡ others
 runs-once dag ledger k [] [] [] a b = refl
 runs-once dag ledger k [] (r ∷ rs) others a b = absurd a
 runs-once dag ledger k [] [] (r ∷ rs) a b = absurd b
@@ -120,7 +120,7 @@ runs-once dag ledger k (i ∷ is) (r ∷ rs) (q ∷ qs) a b =
     ap₂ (λ x xs. x ∷ xs) (same_run r q (a.0 ∙ sym b.0) (a.1 ∙ sym b.1) (a.2 ∙ sym b.2)) (runs-once dag ledger (suc k) is rs qs a.3 b.3)
 
 -- the recursion over a ledger has one report
-pub dated-once : (dag : Dag) (intervals : List Interval) (ledger : Look) (report other : Report) → IsDated dag intervals ledger report → IsDated dag intervals ledger other → report ≡ other
+pub dated-once : (dag : Dag) (intervals : List Interval) (ledger : Ledger) (report other : Report) → IsDated dag intervals ledger report → IsDated dag intervals ledger other → report ≡ other
 dated-once dag intervals ledger report other a b =
     let runs : report.runs ≡ other.runs = runs-once dag ledger 0 intervals report.runs other.runs a.runs b.runs in
     λ i. record { version = (a.version ∙ sym b.version) i; dag_id = (a.dag_id ∙ sym b.dag_id) i; tasks = (a.tasks ∙ sym b.tasks) i; runs = runs i }

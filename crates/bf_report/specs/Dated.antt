@@ -8,7 +8,7 @@ use Rattle.bf_plan.specs.declared.plan.Dag.{Dag}
 use Rattle.bf_plan.specs.Plans.{task_of}
 use Rattle.bf_xcom.specs.declared.values.Given.{Given}
 use Rattle.bf_xcom.specs.declared.values.TaskResult.{TaskResult}
-use Rattle.bf_try.specs.Tries.{Look}
+use Rattle.bf_try.specs.Tries.{Ledger}
 use Rattle.bf_core.specs.declared.state.Cell.{Cell}
 use Rattle.bf_core.specs.declared.state.Instance.{Instance}
 use Rattle.bf_core.specs.declared.state.Phase.{Phase}
@@ -23,14 +23,14 @@ use Rattle.bf_report.specs.declared.report.RunReport.{RunReport}
 use Rattle.bf_report.specs.declared.report.Report.{Report}
 
 -- what came of the pulls from these tasks, each under its task's id
-abbrev pub pulls_of : Dag → List ℕ → List (Option Xval) → List Pull
-pulls_of dag [] values = []
-pulls_of dag (source ∷ sources) [] = []
-pulls_of dag (source ∷ sources) (value ∷ values) = record { task = (task_of dag source).id; value = value } ∷ pulls_of dag sources values
+abbrev pub pulls_in : Dag → List ℕ → List (Option Xval) → List Pull
+pulls_in dag [] values = []
+pulls_in dag (source ∷ sources) [] = []
+pulls_in dag (source ∷ sources) (value ∷ values) = record { task = (task_of dag source).id; value = value } ∷ pulls_in dag sources values
 
 -- an instance of the task that was given this and came to this result
 abbrev pub instance_report : Dag → ℕ → Given → TaskResult → InstanceReport
-instance_report dag task given result = record { result = result; item = given.item; pulls = pulls_of dag (task_of dag task).pulls given.pulled }
+instance_report dag task given result = record { result = result; item = given.item; pulls = pulls_in dag (task_of dag task).pulls given.pulled }
 
 -- one that is in this phase of this attempt
 abbrev pub reported_phase : Dag → ℕ → Given → ℕ → Phase → Option InstanceReport
@@ -63,11 +63,11 @@ reports_from dag cell place (first ∷ rest) = reported dag place (cell place) �
 
 -- the cell that the recursion makes of the task in the run: its instances have the items and the pulled values, and
 -- the results, that their entries in the ledger have
-unfoldable pub cell_by : Dag → Look → ℕ → ℕ → Cell
+unfoldable pub cell_by : Dag → Ledger → ℕ → ℕ → Cell
 cell_by dag ledger run task = final_cell (decided dag ledger run task) (result_of dag ledger run task)
 
 -- the runs are those of the intervals, of which the first has this number, with the states and the cells of the recursion
-abbrev pub AreDated : Dag → Look → ℕ → List Interval → List RunReport → Type 0
+abbrev pub AreDated : Dag → Ledger → ℕ → List Interval → List RunReport → Type 0
 AreDated dag ledger number [] [] = Unit {0}
 AreDated dag ledger number (interval ∷ intervals) (run ∷ runs) =
     (run.interval ≡ interval) × (run.state ≡ run_state_of dag (out dag ledger number)) × (run.tasks ≡ reports_from dag (cell_by dag ledger number) 0 dag.tasks) × AreDated dag ledger (suc number) intervals runs
@@ -80,7 +80,7 @@ ids_shown dag [] = []
 ids_shown dag (interval ∷ intervals) = map (λ task. task.id) dag.tasks
 
 -- the report is the recursion's over the ledger, and tells what the instances were given
-pub record IsDated (dag : Dag) (intervals : List Interval) (ledger : Look) (report : Report) : Type 0 where
+pub record IsDated (dag : Dag) (intervals : List Interval) (ledger : Ledger) (report : Report) : Type 0 where
   pub version : report.version ≡ Version.Two
   pub dag_id : report.dag_id ≡ dag.id
   pub tasks : report.tasks ≡ ids_shown dag intervals

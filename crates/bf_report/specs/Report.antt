@@ -2,7 +2,7 @@
 use Rattle.std.specs.Prelude.{ℕ, List, [], ◌∷◌, ◌++◌, Option, Some, None, codes, decimal, length}
 use Rattle.std.specs.List.{flat_map, join_with_byte, enumerate_from, zip}
 use Rattle.bf_value.specs.declared.xval.Xval.{Xval}
-use Rattle.bf_value.specs.Json.{text_of}
+use Rattle.bf_value.specs.Json.{json_of}
 use Rattle.bf_xcom.specs.declared.values.Outcome.{Outcome}
 use Rattle.bf_xcom.specs.declared.values.Outcome.TheVariants.{Success, Failed, Skipped}
 use Rattle.bf_xcom.specs.declared.values.TaskResult.{TaskResult}
@@ -27,7 +27,7 @@ state_word Skipped = codes "skipped"
 
 -- what it pushed
 abbrev pub value_word : Outcome → List ℕ
-value_word (Success (Some value)) = text_of value
+value_word (Success (Some value)) = json_of value
 value_word (Success None) = codes "-"
 value_word Failed = codes "-"
 value_word Skipped = codes "-"
@@ -39,12 +39,12 @@ instance_line id index result = line (id ∷ index ∷ state_word result.outcome
 -- its item, if it has one
 abbrev pub item_line : Option Xval → List ℕ
 item_line None = []
-item_line (Some item) = line (codes "@item" ∷ text_of item ∷ [])
+item_line (Some item) = line (codes "@item" ∷ json_of item ∷ [])
 
 -- a value, or nothing
 abbrev pub pulled_word : Option Xval → List ℕ
 pulled_word None = codes "-"
-pulled_word (Some value) = text_of value
+pulled_word (Some value) = json_of value
 
 -- what it pulled from a task
 abbrev pub pull_line : Pull → List ℕ
@@ -74,23 +74,23 @@ task_text id (TaskReport.Mapped instances) = mapped_text id instances
 abbrev pub tasks_text : List (List ℕ) → List TaskReport → List ℕ
 tasks_text ids tasks = flat_map (λ pair. task_text pair.0 pair.1) (zip ids tasks)
 
-abbrev pub run_state_word : RunState → List ℕ
-run_state_word RunState.Success = codes "success"
-run_state_word RunState.Failed = codes "failed"
+abbrev pub run_state_word_of : RunState → List ℕ
+run_state_word_of RunState.Success = codes "success"
+run_state_word_of RunState.Failed = codes "failed"
 
 abbrev pub run_line : RunReport → List ℕ
-run_line run = line (codes "@run" ∷ moment_text run.interval.start.nanosecond ∷ moment_text run.interval.end.nanosecond ∷ run_state_word run.state ∷ [])
+run_line run = line (codes "@run" ∷ moment_text run.interval.start.nanosecond ∷ moment_text run.interval.end.nanosecond ∷ run_state_word_of run.state ∷ [])
 
 -- a run, with the tasks of these ids
 abbrev pub run_text : List (List ℕ) → RunReport → List ℕ
 run_text ids run = run_line run ++ tasks_text ids run.tasks
 
-abbrev pub version_word : Version → List ℕ
-version_word Version.One = codes "1"
-version_word Version.Two = codes "2"
+abbrev pub version_word_of : Version → List ℕ
+version_word_of Version.One = codes "1"
+version_word_of Version.Two = codes "2"
 
 abbrev pub head_line : Version → List ℕ → List ℕ
-head_line version dag_id = line (codes "@backfill" ∷ version_word version ∷ dag_id ∷ [])
+head_line version dag_id = line (codes "@backfill" ∷ version_word_of version ∷ dag_id ∷ [])
 
 -- the head, the runs and the end
 abbrev pub report_text : Report → List ℕ

@@ -3,7 +3,7 @@ ghost use Rattle.std.specs.Prelude.{◌≡◌, ◌<◌, All, length, IfOk, IfSom
 ghost use Rattle.std.specs.List.{filter_map};
 ghost use Rattle.bf_plan.specs.Plans.{task_of};
 ghost use Rattle.bf_plan.specs.Sound.{IsSound};
-ghost use Rattle.bf_report.specs.Dated.{pulls_of as pulls_in, reported_instance};
+ghost use Rattle.bf_report.specs.Dated.{pulls_in, reported_instance};
 ghost use Rattle.bf_report.specs.Values.{IsSoundValue, IsSoundOutcome, AreSoundPulls, IsSoundInstance, AreSoundInstances};
 
 use crate::report::{InstanceReport, Pull};

@@ -1,6 +1,6 @@
 //! The lines of a report, each added behind a text.
 ghost use Rattle.std.specs.Prelude.{◌≡◌, ◌++◌, ◌∷◌, [], IfOk, OnOk, string_bytes, decimal, codes, option_copied};
-ghost use Rattle.bf_report.specs.Report.{line, state_word, value_word, item_line, pulled_word, pull_line, instance_text, untried_line, mapped_text, task_text, tasks_text, run_state_word as run_state, run_line, run_text, version_word as version_digit, report_text};
+ghost use Rattle.bf_report.specs.Report.{line, state_word, value_word, item_line, pulled_word, pull_line, instance_text, untried_line, mapped_text, task_text, tasks_text, run_state_word_of, run_line, run_text, version_word_of, report_text};
 ghost use Rattle.std.specs.List.{flat_map};
 
 use crate::report::{InstanceReport, Pull, Report, RunReport, TaskReport, Version};
@@ -170,7 +170,7 @@ fn push_tasks(
 }
 
 fn run_state_word(state: RunState) -> &'static str
-    ensures { result.now ≡ run_state state }
+    ensures { result.now ≡ run_state_word_of state }
 {
     match state {
         RunState::Success => "success",
@@ -219,7 +219,7 @@ fn push_runs(
 }
 
 fn version_word(version: Version) -> &'static str
-    ensures { result.now ≡ version_digit version }
+    ensures { result.now ≡ version_word_of version }
 {
     match version {
         Version::One => "1",

@@ -78,14 +78,14 @@ pub struct InstanceReport {
 
 impl Model for InstanceReport {
     ghost use Rattle.std.specs.Coded.{codes};
-    ghost use Rattle.bf_value.specs.contracts.xval.Xval as v;
-    ghost use Rattle.bf_xcom.specs.contracts.values.TaskResult as r;
-    ghost use Rattle.bf_report.specs.contracts.report.Pull as p;
+    ghost use Rattle.bf_value.specs.contracts.xval.Xval;
+    ghost use Rattle.bf_xcom.specs.contracts.values.TaskResult;
+    ghost use Rattle.bf_report.specs.contracts.report.Pull;
     ghost use Rattle.bf_report.specs.Instances.{ReportedInstance};
 
     ghost Value = { ReportedInstance };
 
-    ghost coded = { Prim.hlevel (codes, v.the_row.coded, r.the_row.coded, p.the_row.coded) };
+    ghost coded = { Prim.hlevel (codes, Xval.the_row.coded, TaskResult.the_row.coded, Pull.the_row.coded) };
 
     ghost use Rattle.bf_report.specs.Told.{instance_told};
 

@@ -6,7 +6,7 @@ use Rattle.bf_report.specs.Report.{line, report_text}
 use Rattle.bf_report_reader.specs.declared.beginning.Beginning.{Beginning}
 use Rattle.bf_report_reader.specs.Rules.{IsRuled, IsShownReport}
 use Rattle.bf_report_reader.specs.Faults.{IsInLine, longest_line, Begins, IsReportText}
-use Rattle.bf_report_reader.specs.Beginning.{runs_of, is_whole, so_far, opening_text, IsCounted, IsSmall, room}
+use Rattle.bf_report_reader.specs.Beginning.{runs_of, is_whole_at, so_far, opening_text, IsCounted, IsSmall, room}
 use Rattle.bf_report_reader.specs.Steps.{Follows, MayEnd, MayStand, IsNext}
 use Rattle.bf_report_reader.specs.Extensions.{Leads, Extends, IsKnown}
 use Rattle.bf_report_reader.proofs.Splits.{cut_once, none_stands, within_piece, piece_first}
@@ -64,7 +64,7 @@ goes_on b report keeps extends = go extends.lines extends.leads
     go : (n : ℕ) → Leads n b extends.last → GoesOn (opening_text (so_far b)) report (IsNextOf b report)
     go zero same =
         let is : so_far b ≡ report = ap so_far same ∙ extends.is in
-        let ends : MayEnd b (codes "@end" ++ 32 ∷ decimal (length (runs_of b))) = (refl, subst (λ (x : Beginning). is_whole x ≡ true) (sym same) extends.whole) in
+        let ends : MayEnd b (codes "@end" ++ 32 ∷ decimal (length (runs_of b))) = (refl, subst (λ (x : Beginning). is_whole_at x ≡ true) (sym same) extends.whole) in
         record {
           next = codes "@end" ++ 32 ∷ decimal (length (runs_of b));
           more = [];

@@ -21,15 +21,15 @@ use Rattle.bf_xcom.specs.declared.values.Outcome.{Outcome}
 use Rattle.bf_xcom.specs.declared.values.Outcome.TheVariants.{Success, Failed, Skipped}
 use Rattle.bf_xcom.specs.declared.values.TaskResult.{TaskResult}
 use Rattle.bf_xcom.specs.declared.values.TaskValue.{TaskValue}
-use Rattle.bf_try.specs.Grades.{fits, is_value_of_lines, may_push, is_short}
-use Rattle.bf_try.specs.Tries.{Look, result_of, outcome_at, last_try, is_failed}
+use Rattle.bf_try.specs.Grades.{fits_in, is_value_of_lines_in, may_push_in, is_short_in}
+use Rattle.bf_try.specs.Tries.{Ledger, result_of, outcome_at, last_try, is_failed}
 use Rattle.bf_core.specs.declared.event.Event.{Event}
 use Rattle.bf_core.specs.declared.state.State.{State}
 use Rattle.bf_core.specs.declared.state.Cell.{Cell}
 use Rattle.bf_core.specs.declared.state.Instance.{Instance}
 use Rattle.bf_core.specs.Terms.{Limits, Verdict, items}
 use Rattle.bf_core.specs.declared.decision.Decision.{Decision}
-use Rattle.bf_core.specs.Deciding.{Seen, settled, decision, after_verdict, instances, mapped, pulled, gate}
+use Rattle.bf_core.specs.Deciding.{Seen, settled, decision, after_verdict, instances_of, mapped, pulled, gate_of}
 use Rattle.bf_core.specs.Recursion.{out, before, decided, results_from}
 use Rattle.bf_core.specs.Events.{IsLegal, replay, after, start, cell_at, value_in, entry_in, results}
 use Rattle.bf_core.specs.Agreement.{IsOutcome, final_cell, finished_from}
@@ -58,19 +58,19 @@ run_interval i is = record { start = report_moment i.start is.start; end = repor
 -- ---- values
 
 -- what fits, with sound numbers and texts, is a value that lines have
-shown_value : (x : Xval) → IsSound (plain_of x) → is_value_of_lines (Some x) ≡ true → is_short (Some x) ≡ true → IsShownValue x
+shown_value : (x : Xval) → IsSound (plain_of x) → is_value_of_lines_in (Some x) ≡ true → is_short_in (Some x) ≡ true → IsShownValue x
 shown_value (Flag b) sound good short = record { utf8 = IsUtf8-text_of (Flag b) sound; pushed = value_of_line-text_of (Flag b) sound (omega arith) (λ e. cc e); short = grind (arith, nat_tests, short) }
 shown_value (Int n) sound good short = record { utf8 = IsUtf8-text_of (Int n) sound; pushed = value_of_line-text_of (Int n) sound (omega arith) (λ e. cc e); short = grind (arith, nat_tests, short) }
 shown_value (Text t) sound good short = record { utf8 = IsUtf8-text_of (Text t) sound; pushed = value_of_line-text_of (Text t) sound (omega arith) (λ e. cc e); short = grind (arith, nat_tests, short) }
 shown_value (ListOf ps) sound good short = record { utf8 = IsUtf8-text_of (ListOf ps) sound; pushed = value_of_line-text_of (ListOf ps) sound (grind (arith, nat_tests, good)) (λ e. cc e); short = grind (arith, nat_tests, short) }
 shown_value Nil sound good short = absurd (cc good)
 
-pub shown_outcome : (dag : Dag) (t : ℕ) (o : Outcome) → IsSoundOutcome o → fits dag t o ≡ true → IsShownOutcome o
-unfolding fits
+pub shown_outcome : (dag : Dag) (t : ℕ) (o : Outcome) → IsSoundOutcome o → fits_in dag t o ≡ true → IsShownOutcome o
+unfolding fits_in
 shown_outcome dag t (Success None) sound fit = tt
 shown_outcome dag t (Success (Some x)) sound fit =
-    let (line, push) = and_parts (is_value_of_lines (Some x)) (may_push dag t (Some x)) fit in
-    shown_value x sound line (and_parts (is_short (Some x)) _ push).0
+    let (line, push) = and_parts (is_value_of_lines_in (Some x)) (may_push_in dag t (Some x)) fit in
+    shown_value x sound line (and_parts (is_short_in (Some x)) _ push).0
 shown_outcome dag t Failed sound fit = tt
 shown_outcome dag t Skipped sound fit = tt
 
@@ -84,7 +84,7 @@ last_try-to f a (suc left) = go (is_failed (f a)) (last_try-to f (suc a) left)
     go true h = omega arith
     go false h = omega arith
 
-pub tries_are : (dag : Dag) (ledger : Look) (k t i : ℕ) → (task_of dag t).retries ≤ 100 → IsTries (result_of dag ledger k t i).tries
+pub tries_are : (dag : Dag) (ledger : Ledger) (k t i : ℕ) → (task_of dag t).retries ≤ 100 → IsTries (result_of dag ledger k t i).tries
 unfolding result_of
 tries_are dag ledger k t i few =
     (last_try-from (outcome_at dag ledger k t i) 1 (task_of dag t).retries, omega (arith, last_try-to (outcome_at dag ledger k t i) 1 (task_of dag t).retries))
@@ -110,7 +110,7 @@ some_mapped pulls (Items.List []) gs e = absurd (cc e)
 some_mapped pulls (Items.List (x ∷ xs)) [] e = absurd (cc e)
 some_mapped pulls (Items.List (x ∷ xs)) (g ∷ gs) e = omega arith
 
-some_instances : (dag : Dag) (seen : ℕ → Seen) (pulls : List (Option Xval)) (expand : Option ℕ) (gs : List Given) → instances dag seen pulls expand ≡ Decision.Instances gs → is_some expand ≡ true → 1 ≤ length gs
+some_instances : (dag : Dag) (seen : ℕ → Seen) (pulls : List (Option Xval)) (expand : Option ℕ) (gs : List Given) → instances_of dag seen pulls expand ≡ Decision.Instances gs → is_some expand ≡ true → 1 ≤ length gs
 some_instances dag seen pulls None gs e expanded = absurd (cc expanded)
 some_instances dag seen pulls (Some source) gs e expanded = go (seen source).value e
   where
@@ -120,7 +120,7 @@ some_instances dag seen pulls (Some source) gs e expanded = go (seen source).val
 
 some_decided : (dag : Dag) (k : ℕ) (seen : ℕ → Seen) (before : Option TaskValue) (t : ℕ) (gs : List Given) → decision dag k seen before t ≡ Decision.Instances gs → is_some (task_of dag t).expand ≡ true → 1 ≤ length gs
 unfolding decision
-some_decided dag k seen before t gs e expanded = go (gate dag k seen before t) e
+some_decided dag k seen before t gs e expanded = go (gate_of dag k seen before t) e
   where
     go : (v : Verdict) → after_verdict dag seen t v ≡ Decision.Instances gs → 1 ≤ length gs
     go Verdict.Wait e = absurd (cc e)
@@ -129,7 +129,7 @@ some_decided dag k seen before t gs e expanded = go (gate dag k seen before t) e
     go Verdict.UpstreamFailed e = absurd (cc e)
     go Verdict.Run e = some_instances dag seen (pulled dag seen t) (task_of dag t).expand gs e expanded
 
-pub some_in_run : (dag : Dag) (ledger : Look) (k t : ℕ) (gs : List Given) → decided dag ledger k t ≡ Decision.Instances gs → is_some (task_of dag t).expand ≡ true → 1 ≤ length gs
+pub some_in_run : (dag : Dag) (ledger : Ledger) (k t : ℕ) (gs : List Given) → decided dag ledger k t ≡ Decision.Instances gs → is_some (task_of dag t).expand ≡ true → 1 ≤ length gs
 unfolding decided
 some_in_run dag ledger k t gs e expanded = some_decided dag k (λ u. settled (out dag ledger k u)) (Some (before dag ledger k t)) t gs e expanded
 
@@ -196,7 +196,7 @@ given_mapped pulls (Items.List []) gs each e = absurd (cc e)
 given_mapped pulls (Items.List (x ∷ xs)) gs each e = subst (AllByRecursion (IsGivenSo true pulls)) (ap givens_in e) (given_each pulls (x ∷ xs) (each (x ∷ xs) refl))
 
 given_instances : (dag : Dag) (value : ℕ → TaskValue) (pulls : List (Option Xval)) (expand : Option ℕ) (gs : List Given) → ((source : ℕ) → expand ≡ Some source → FitsValue dag source (value source))
-    → instances dag (λ u. settled (value u)) pulls expand ≡ Decision.Instances gs → AllByRecursion (IsGivenSo (is_some expand) pulls) gs
+    → instances_of dag (λ u. settled (value u)) pulls expand ≡ Decision.Instances gs → AllByRecursion (IsGivenSo (is_some expand) pulls) gs
 unfolding givens_in
 given_instances dag value pulls None gs source_fits e = subst (AllByRecursion (IsGivenSo false pulls)) (ap givens_in e) (record { pulled = refl; item = refl }, tt)
 given_instances dag value pulls (Some source) gs source_fits e =
@@ -205,7 +205,7 @@ given_instances dag value pulls (Some source) gs source_fits e =
 given_decided : (dag : Dag) (k : ℕ) (value : ℕ → TaskValue) (before : Option TaskValue) (t : ℕ) (gs : List Given) → ((source : ℕ) → (task_of dag t).expand ≡ Some source → FitsValue dag source (value source))
     → decision dag k (λ u. settled (value u)) before t ≡ Decision.Instances gs → AllByRecursion (IsGivenSo (is_some (task_of dag t).expand) (pulled dag (λ u. settled (value u)) t)) gs
 unfolding decision
-given_decided dag k value before t gs source_fits e = go (gate dag k (λ u. settled (value u)) before t) e
+given_decided dag k value before t gs source_fits e = go (gate_of dag k (λ u. settled (value u)) before t) e
   where
     go : (v : Verdict) → after_verdict dag (λ u. settled (value u)) t v ≡ Decision.Instances gs → AllByRecursion (IsGivenSo (is_some (task_of dag t).expand) (pulled dag (λ u. settled (value u)) t)) gs
     go Verdict.Wait e = absurd (cc e)
@@ -214,7 +214,7 @@ given_decided dag k value before t gs source_fits e = go (gate dag k (λ u. sett
     go Verdict.UpstreamFailed e = absurd (cc e)
     go Verdict.Run e = given_instances dag value (pulled dag (λ u. settled (value u)) t) (task_of dag t).expand gs source_fits e
 
-pub given_in_run : (dag : Dag) (ledger : Look) (k t : ℕ) (gs : List Given) → ((source : ℕ) → (task_of dag t).expand ≡ Some source → FitsValue dag source (out dag ledger k source))
+pub given_in_run : (dag : Dag) (ledger : Ledger) (k t : ℕ) (gs : List Given) → ((source : ℕ) → (task_of dag t).expand ≡ Some source → FitsValue dag source (out dag ledger k source))
     → decided dag ledger k t ≡ Decision.Instances gs → AllByRecursion (IsGivenSo (is_some (task_of dag t).expand) (pulled dag (λ u. settled (out dag ledger k u)) t)) gs
 unfolding decided
 given_in_run dag ledger k t gs source_fits e = given_decided dag k (out dag ledger k) (Some (before dag ledger k t)) t gs source_fits e

@@ -5,7 +5,7 @@ use Rattle.std.specs.Str.{IsUtf8, bytes_eq}
 use Rattle.std.specs.Cmp.Lexicographic.{bytes_decides}
 use Rattle.std.proofs.lemmas.Bool.{and_parts, eqb-true}
 use Rattle.std.proofs.lemmas.Option.{slice_get-get_or}
-use Rattle.bf_plan.specs.Ids.{is_id}
+use Rattle.bf_plan.specs.Ids.{is_id_in}
 use Rattle.bf_value.specs.declared.xval.Xval.{Xval}
 use Rattle.bf_interval.specs.declared.interval.Interval.{Interval}
 use Rattle.bf_xcom.specs.declared.values.TaskResult.{TaskResult}
@@ -26,7 +26,7 @@ use Rattle.bf_report_reader.specs.declared.beginning.Beginning.{Beginning}
 use Rattle.bf_report_reader.specs.Parts.{part_text}
 use Rattle.bf_report_reader.specs.Rules.{IsOpenInstance, IsOpenTask, IsOpenRun, IsRuled}
 use Rattle.bf_report_reader.specs.Entries.{entry_text}
-use Rattle.bf_report_reader.specs.Beginning.{task_with, open_task, tasks_in, open_count, count, closed, last_run, runs_of, run_count, tells_item, most_told, has_item, takes, with_told, untold, is_given, is_whole_in, is_whole, starts_before, is_text, is_new, is_next_in, is_next, ids_with, is_further, is_further_task, goes_on_in, goes_on, takes_task, takes_in, put_task, put_open, further, put_further, told, put_part, may_begin, with_run, with_task, with_open, with_further, with_part, with_entry, IsCountedIn, IsCounted, opening_text, so_far}
+use Rattle.bf_report_reader.specs.Beginning.{task_with, open_task, tasks_in, open_count, count_of, closed, last_run, runs_of, run_count_of, tells_item, most_told, has_item, takes_at, with_told, untold, is_given_at, is_whole_in, is_whole_at, starts_before, is_text, is_new_in, is_next_in, is_next_at, ids_with, is_further, is_further_task, goes_on_in, goes_on_at, takes_task, takes_in, put_task, put_open, further, put_further, told, put_part, may_begin_in, with_run, with_task, with_open, with_further, with_part, with_entry, IsCountedIn, IsCounted, opening_text, so_far}
 use Rattle.bf_report_reader.proofs.Words.{id_utf8}
 
 -- the line of a task
@@ -86,12 +86,12 @@ open_long : (t : Option OpenTask) → length (open_task t) ≡ open_count t
 open_long None = refl
 open_long (Some t) = refl
 
-pub count_is : (o : OpenRun) → length (tasks_in o) ≡ count o
+pub count_is : (o : OpenRun) → length (tasks_in o) ≡ count_of o
 count_is o = length-append o.run.tasks (open_task o.task) ∙ ap (λ n. length o.run.tasks + n) (open_long o.task)
 
 -- what stands in a test of what may come next
-pub next_parts : (b : Beginning) (id : List ℕ) → is_next b id ≡ true → (is_given b ≡ true) × (is_next_in b.runs b.tasks b.run id ≡ true)
-next_parts b id e = and_parts (is_given b) (is_next_in b.runs b.tasks b.run id) e
+pub next_parts : (b : Beginning) (id : List ℕ) → is_next_at b id ≡ true → (is_given_at b ≡ true) × (is_next_in b.runs b.tasks b.run id ≡ true)
+next_parts b id e = and_parts (is_given_at b) (is_next_in b.runs b.tasks b.run id) e
 
 three_parts : (a b c : Bool) → (a && b) && c ≡ true → (a ≡ true) × ((b ≡ true) × (c ≡ true))
 three_parts a b c e =
@@ -99,10 +99,10 @@ three_parts a b c e =
     let (first, second) = and_parts a b both in
     (first, (second, third))
 
-pub new_parts : (tasks : List (List ℕ)) (id : List ℕ) → is_new tasks id ≡ true → (is_id id ≡ true) × ((nat_lt (length tasks) 2_000 ≡ true) × (not (list_any (λ task. bytes_eq task id) tasks) ≡ true))
-new_parts tasks id e = three_parts (is_id id) (nat_lt (length tasks) 2_000) (not (list_any (λ task. bytes_eq task id) tasks)) e
+pub new_parts : (tasks : List (List ℕ)) (id : List ℕ) → is_new_in tasks id ≡ true → (is_id_in id ≡ true) × ((nat_lt (length tasks) 2_000 ≡ true) × (not (list_any (λ task. bytes_eq task id) tasks) ≡ true))
+new_parts tasks id e = three_parts (is_id_in id) (nat_lt (length tasks) 2_000) (not (list_any (λ task. bytes_eq task id) tasks)) e
 
-pub pull_parts : (version : Version) (complete : Bool) (x : InstanceReport) (p : Pull) → takes version complete x (GivenPart.Pull p) ≡ true
+pub pull_parts : (version : Version) (complete : Bool) (x : InstanceReport) (p : Pull) → takes_at version complete x (GivenPart.Pull p) ≡ true
     → (complete ≡ true) × ((nat_lt (length x.pulls) (most_told version) ≡ true) × (not (list_any (λ q. bytes_eq q.task p.task) x.pulls) ≡ true))
 pull_parts version complete x p e = three_parts complete (nat_lt (length x.pulls) (most_told version)) (not (list_any (λ q. bytes_eq q.task p.task) x.pulls)) e
 
@@ -112,14 +112,14 @@ first_utf8 [] tasks None id first next = absurd (true≢false (sym next))
 first_utf8 [] tasks (Some o) id first next = id_utf8 id (new_parts tasks id next).0
 first_utf8 (r ∷ rs) tasks run id first next = absurd (omega (arith, first))
 
-pub further_parts : (b : Beginning) (id : List ℕ) (index : ℕ) → goes_on b id index ≡ true → (is_given b ≡ true) × (goes_on_in b.tasks b.run id index ≡ true)
-further_parts b id index e = and_parts (is_given b) (goes_on_in b.tasks b.run id index) e
+pub further_parts : (b : Beginning) (id : List ℕ) (index : ℕ) → goes_on_at b id index ≡ true → (is_given_at b ≡ true) × (goes_on_in b.tasks b.run id index ≡ true)
+further_parts b id index e = and_parts (is_given_at b) (goes_on_in b.tasks b.run id index) e
 
-pub whole_parts : (b : Beginning) → is_whole b ≡ true → (is_given b ≡ true) × (is_whole_in b.run b.tasks ≡ true)
-whole_parts b e = and_parts (is_given b) (is_whole_in b.run b.tasks) e
+pub whole_parts : (b : Beginning) → is_whole_at b ≡ true → (is_given_at b ≡ true) × (is_whole_in b.run b.tasks ≡ true)
+whole_parts b e = and_parts (is_given_at b) (is_whole_in b.run b.tasks) e
 
-pub begin_parts : (b : Beginning) (i : Interval) → may_begin b i ≡ true → (is_whole b ≡ true) × ((nat_lt (run_count b) 4_096 ≡ true) × (starts_before b.run i ≡ true))
-begin_parts b i e = three_parts (is_whole b) (nat_lt (run_count b) 4_096) (starts_before b.run i) e
+pub begin_parts : (b : Beginning) (i : Interval) → may_begin_in b i ≡ true → (is_whole_at b ≡ true) × ((nat_lt (run_count_of b) 4_096 ≡ true) × (starts_before b.run i ≡ true))
+begin_parts b i e = three_parts (is_whole_at b) (nat_lt (run_count_of b) 4_096) (starts_before b.run i) e
 
 -- a run with one more task
 run_more : (ids : List (List ℕ)) (run : RunReport) (ts us : List TaskReport) (id : List ℕ) (t : TaskReport) → slice_get ids (length ts) ≡ Some id → us ≡ ts ++ t ∷ []
@@ -140,22 +140,22 @@ one_more [] ids o new id t is counted next =
     ∙ ap (λ l. (run_line o.run ++ l) ++ task_text id t) (more_ids ids (id ∷ []) (tasks_in o) (omega (arith, size)))
     ∙ ap (λ l. l ++ task_text id t) (sym (append-nil (run_text ids (closed o))))
 one_more (r ∷ rs) ids o new id t is counted next =
-    let at : slice_get ids (length (tasks_in o)) ≡ Some id = ap (slice_get ids) (count_is o) ∙ is_text_of (slice_get ids (count o)) id next in
+    let at : slice_get ids (length (tasks_in o)) ≡ Some id = ap (slice_get ids) (count_is o) ∙ is_text_of (slice_get ids (count_of o)) id next in
     flat_push (run_text ids) (r ∷ rs) (closed new)
     ∙ ap (λ l. flat_map (run_text ids) (r ∷ rs) ++ l) (ap (run_text ids) is ∙ run_more ids o.run (tasks_in o) (tasks_in o ++ t ∷ []) id t at refl)
     ∙ sym (append_assoc (flat_map (run_text ids) (r ∷ rs)) (run_text ids (closed o)) (task_text id t))
     ∙ ap (λ l. l ++ task_text id t) (sym (flat_push (run_text ids) (r ∷ rs) (closed o)))
 
-counts_more : (runs : List RunReport) (ids : List (List ℕ)) (o new : OpenRun) (id : List ℕ) → count new ≡ count o + 1
+counts_more : (runs : List RunReport) (ids : List (List ℕ)) (o new : OpenRun) (id : List ℕ) → count_of new ≡ count_of o + 1
     → IsCountedIn runs ids (Some o) → is_next_in runs ids (Some o) id ≡ true → IsCountedIn runs (ids_with runs ids id) (Some new)
 counts_more [] ids o new id more counted next = omega (arith, more, counted, length-append ids (id ∷ []))
-counts_more (r ∷ rs) ids o new id more counted next = omega (arith, more, get_within ids id (count o) (is_text_of (slice_get ids (count o)) id next))
+counts_more (r ∷ rs) ids o new id more counted next = omega (arith, more, get_within ids id (count_of o) (is_text_of (slice_get ids (count_of o)) id next))
 
 -- ---- a task without a try
 
 pub task_grows : (b c : Beginning) (id : List ℕ) (t : TaskReport) → IsCounted b → with_task b id t ≡ Some c → GrowsBy b (task_text id t) c
 task_grows b c id t counted e =
-    let (next, is) = if_some (is_next b id) _ c e in
+    let (next, is) = if_some (is_next_at b id) _ c e in
     let P : Beginning → Type 0 = λ x. GrowsBy b (task_text id t) x in
     subst P is (grown b.run counted (next_parts b id next).1)
   where
@@ -175,7 +175,7 @@ task_grows b c id t counted e =
 
 pub open_grows : (b c : Beginning) (id : List ℕ) (t : OpenTask) → IsCounted b → with_open b id t ≡ Some c → GrowsBy b (task_text id (task_with t.before t.instance)) c
 open_grows b c id t counted e =
-    let (next, is) = if_some (is_next b id) _ c e in
+    let (next, is) = if_some (is_next_at b id) _ c e in
     let P : Beginning → Type 0 = λ x. GrowsBy b (task_text id (task_with t.before t.instance)) x in
     subst P is (grown b.run counted (next_parts b id next).1)
   where
@@ -209,7 +209,7 @@ run_longer ids run old new id more at longer =
     ∙ sym (append_assoc (run_text ids run) (task_text id old) more)
     ∙ ap (λ l. l ++ more) (sym (run_more ids run run.tasks (run.tasks ++ old ∷ []) id old at refl))
 
-same_count : (runs : List RunReport) (ids : List (List ℕ)) (o new : OpenRun) → count new ≡ count o → IsCountedIn runs ids (Some o) → IsCountedIn runs ids (Some new)
+same_count : (runs : List RunReport) (ids : List (List ℕ)) (o new : OpenRun) → count_of new ≡ count_of o → IsCountedIn runs ids (Some o) → IsCountedIn runs ids (Some new)
 same_count [] ids o new same counted = same ∙ counted
 same_count (r ∷ rs) ids o new same counted = omega (arith, same, counted)
 
@@ -242,7 +242,7 @@ further_text id xs x r index is =
 
 pub further_grows : (b c : Beginning) (id : List ℕ) (index : ℕ) (r : TaskResult) → IsCounted b → with_further b id index r ≡ Some c → GrowsBy b (instance_line id (decimal index) r) c
 further_grows b c id index r counted e =
-    let (next, is) = if_some (goes_on b id index) _ c e in
+    let (next, is) = if_some (goes_on_at b id index) _ c e in
     let P : Beginning → Type 0 = λ x. GrowsBy b (instance_line id (decimal index) r) x in
     subst P is (grown b.run counted (further_parts b id index next).1)
   where
@@ -295,10 +295,10 @@ not_true false e = refl
 abbrev pub part_line : GivenPart → List ℕ
 part_line part = part_text part ++ 10 ∷ []
 
-part_longer : (version : Version) (expanded : Bool) (id index : List ℕ) (x : InstanceReport) (part : GivenPart) → IsOpenInstance version expanded x → takes version (has_item (tells_item version expanded) x.item) x part ≡ true
+part_longer : (version : Version) (expanded : Bool) (id index : List ℕ) (x : InstanceReport) (part : GivenPart) → IsOpenInstance version expanded x → takes_at version (has_item (tells_item version expanded) x.item) x part ≡ true
     → instance_text id index (with_told x part) ≡ instance_text id index x ++ part_line part
-part_longer version expanded id index x (GivenPart.Item v) good takes =
-    let lacks = not_true (has_item (tells_item version expanded) x.item) takes in
+part_longer version expanded id index x (GivenPart.Item v) good takes_at =
+    let lacks = not_true (has_item (tells_item version expanded) x.item) takes_at in
     item_more id index x v (no_item (tells_item version expanded) x.item lacks) (good.in_order lacks)
 part_longer version expanded id index x (GivenPart.Pull p) good takes = pull_more id index x p
 
@@ -333,7 +333,7 @@ part_grows b c part counted ruled e =
 
 -- ---- a run
 
-run_begins : (runs : List RunReport) (ids : List (List ℕ)) (run : Option OpenRun) (o : OpenRun) → count o ≡ 0 → IsCountedIn runs ids run → IsCountedIn (runs ++ last_run run) ids (Some o)
+run_begins : (runs : List RunReport) (ids : List (List ℕ)) (run : Option OpenRun) (o : OpenRun) → count_of o ≡ 0 → IsCountedIn runs ids run → IsCountedIn (runs ++ last_run run) ids (Some o)
 run_begins [] ids None o none counted = none ∙ ap length (sym counted)
 run_begins [] ids (Some p) o none counted = omega (arith, none)
 run_begins (r ∷ rs) ids None o none counted = absurd counted
@@ -341,7 +341,7 @@ run_begins (r ∷ rs) ids (Some p) o none counted = omega (arith, none)
 
 pub run_grows : (b c : Beginning) (run : RunReport) → run.tasks ≡ [] → IsCounted b → with_run b run ≡ Some c → GrowsBy b (run_line run) c
 run_grows b c run none counted e =
-    let (next, is) = if_some (may_begin b run.interval) _ c e in
+    let (next, is) = if_some (may_begin_in b run.interval) _ c e in
     let o : OpenRun = record { run = run; task = None } in
     let P : Beginning → Type 0 = λ x. GrowsBy b (run_line run) x in
     let bare : run_text b.tasks (closed o) ≡ run_line run = ap (λ ts. run_line run ++ tasks_text b.tasks (ts ++ [])) none ∙ ap (λ l. run_line run ++ l) (no_tasks b.tasks) ∙ append-nil (run_line run) in

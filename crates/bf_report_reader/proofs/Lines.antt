@@ -2,8 +2,8 @@
 use Rattle.std.proofs.Common.{◌≡◌, ◌≤◌, ℕ, zero, suc, List, [], ◌∷◌, ◌++◌, length, slice_get, Bool, true, false, cond, true≢false, Option, Some, None, codes, decimal, refl, sym, ap, ◌∙◌, subst, arith, length-append, inl, inr}
 use Rattle.std.specs.List.{AllByRecursion}
 use Rattle.std.proofs.lemmas.Bool.{and_parts}
-use Rattle.bf_plan.specs.Ids.{is_id}
-use Rattle.bf_value.specs.Json.{text_of}
+use Rattle.bf_plan.specs.Ids.{is_id_in}
+use Rattle.bf_value.specs.Json.{json_of}
 use Rattle.bf_value.specs.declared.xval.Xval.{Xval}
 use Rattle.bf_value.proofs.LackLemmas.{Lacks, lacks_append, text_lacks}
 use Rattle.bf_interval.specs.declared.interval.Interval.{Interval}
@@ -13,7 +13,7 @@ use Rattle.bf_moment.proofs.OneText.{one_text}
 use Rattle.bf_xcom.specs.declared.values.RunState.{RunState}
 use Rattle.bf_report.specs.declared.report.Pull.{Pull}
 use Rattle.bf_report.specs.declared.report.RunReport.{RunReport}
-use Rattle.bf_report.specs.Report.{run_state_word, state_word, value_word, pulled_word}
+use Rattle.bf_report.specs.Report.{run_state_word_of, state_word, value_word, pulled_word}
 use Rattle.bf_report.proofs.DatedFacts.{same_run}
 use Rattle.bf_plan.proofs.ListLemmas.{some_same}
 use Rattle.bf_report_reader.specs.declared.entry.Untried.{Untried}
@@ -26,7 +26,7 @@ use Rattle.bf_report_reader.specs.Parts.{IsToldItem, IsToldPull, IsPart, pull_wo
 use Rattle.bf_report_reader.specs.Runs.{IsRunInterval, run_words}
 use Rattle.bf_report_reader.specs.Rules.{IsRuled}
 use Rattle.bf_report_reader.specs.Faults.{IsInLine, longest_line}
-use Rattle.bf_report_reader.specs.Beginning.{count, runs_of, is_text, is_next_in, is_next, is_further_task, goes_on_in, goes_on, with_entry, with_run, with_part, IsCounted, IsSmall}
+use Rattle.bf_report_reader.specs.Beginning.{count_of, runs_of, is_text, is_next_in, is_next_at, is_further_task, goes_on_in, goes_on_at, with_entry, with_run, with_part, IsCounted, IsSmall}
 use Rattle.bf_report_reader.specs.declared.reading.Step.{Step}
 use Rattle.bf_report_reader.specs.Reads.{IsWord}
 use Rattle.bf_report_reader.specs.Steps.{Follows, MayEnd, MayStand, Steps, EntrySteps, EndsBy}
@@ -43,57 +43,57 @@ each_at P [] n x each at = absurd (cc at)
 each_at P (y ∷ ys) zero x each at = subst P (some_same at) each.0
 each_at P (y ∷ ys) (suc n) x each at = each_at P ys n x each.1 at
 
-next_id : (runs : List RunReport) (ids : List (List ℕ)) (run : Option OpenRun) (id : List ℕ) → AllByRecursion (λ id. is_id id ≡ true) ids → is_next_in runs ids run id ≡ true → is_id id ≡ true
+next_id : (runs : List RunReport) (ids : List (List ℕ)) (run : Option OpenRun) (id : List ℕ) → AllByRecursion (λ id. is_id_in id ≡ true) ids → is_next_in runs ids run id ≡ true → is_id_in id ≡ true
 next_id runs ids None id named next = absurd (true≢false (sym next))
 next_id [] ids (Some o) id named next = (new_parts ids id next).0
-next_id (r ∷ rs) ids (Some o) id named next = each_at (λ i. is_id i ≡ true) ids (count o) id named (is_text_of (slice_get ids (count o)) id next)
+next_id (r ∷ rs) ids (Some o) id named next = each_at (λ i. is_id_in i ≡ true) ids (count_of o) id named (is_text_of (slice_get ids (count_of o)) id next)
 
-further_id : (ids : List (List ℕ)) (run : Option OpenRun) (id : List ℕ) (index : ℕ) → AllByRecursion (λ id. is_id id ≡ true) ids → goes_on_in ids run id index ≡ true → is_id id ≡ true
+further_id : (ids : List (List ℕ)) (run : Option OpenRun) (id : List ℕ) (index : ℕ) → AllByRecursion (λ id. is_id_in id ≡ true) ids → goes_on_in ids run id index ≡ true → is_id_in id ≡ true
 further_id ids None id index named next = absurd (true≢false (sym next))
 further_id ids (Some o) id index named next =
     let (number, last) = and_parts (is_further_task o.task index) (is_text (slice_get ids (length o.run.tasks)) id) next in
-    each_at (λ i. is_id i ≡ true) ids (length o.run.tasks) id named (is_text_of _ id last)
+    each_at (λ i. is_id_in i ≡ true) ids (length o.run.tasks) id named (is_text_of _ id last)
 
-pub entry_id : (b c : Beginning) (id : List ℕ) (e : Entry) → IsRuled b → with_entry b id e ≡ Some c → is_id id ≡ true
+pub entry_id : (b c : Beginning) (id : List ℕ) (e : Entry) → IsRuled b → with_entry b id e ≡ Some c → is_id_in id ≡ true
 unfolding with_entry
-entry_id b c id (Entry.Never Untried.NoStatus) ruled added = next_id b.runs b.tasks b.run id ruled.ids (next_parts b id (if_some (is_next b id) _ c added).0).1
-entry_id b c id (Entry.Never Untried.Skipped) ruled added = next_id b.runs b.tasks b.run id ruled.ids (next_parts b id (if_some (is_next b id) _ c added).0).1
-entry_id b c id (Entry.Never Untried.UpstreamFailed) ruled added = next_id b.runs b.tasks b.run id ruled.ids (next_parts b id (if_some (is_next b id) _ c added).0).1
-entry_id b c id (Entry.Tried None r) ruled added = next_id b.runs b.tasks b.run id ruled.ids (next_parts b id (if_some (is_next b id) _ c added).0).1
-entry_id b c id (Entry.Tried (Some zero) r) ruled added = next_id b.runs b.tasks b.run id ruled.ids (next_parts b id (if_some (is_next b id) _ c added).0).1
-entry_id b c id (Entry.Tried (Some (suc n)) r) ruled added = further_id b.tasks b.run id (suc n) ruled.ids (further_parts b id (suc n) (if_some (goes_on b id (suc n)) _ c added).0).1
+entry_id b c id (Entry.Never Untried.NoStatus) ruled added = next_id b.runs b.tasks b.run id ruled.ids (next_parts b id (if_some (is_next_at b id) _ c added).0).1
+entry_id b c id (Entry.Never Untried.Skipped) ruled added = next_id b.runs b.tasks b.run id ruled.ids (next_parts b id (if_some (is_next_at b id) _ c added).0).1
+entry_id b c id (Entry.Never Untried.UpstreamFailed) ruled added = next_id b.runs b.tasks b.run id ruled.ids (next_parts b id (if_some (is_next_at b id) _ c added).0).1
+entry_id b c id (Entry.Tried None r) ruled added = next_id b.runs b.tasks b.run id ruled.ids (next_parts b id (if_some (is_next_at b id) _ c added).0).1
+entry_id b c id (Entry.Tried (Some zero) r) ruled added = next_id b.runs b.tasks b.run id ruled.ids (next_parts b id (if_some (is_next_at b id) _ c added).0).1
+entry_id b c id (Entry.Tried (Some (suc n)) r) ruled added = further_id b.tasks b.run id (suc n) ruled.ids (further_parts b id (suc n) (if_some (goes_on_at b id (suc n)) _ c added).0).1
 
 -- ---- one thing each
 
 -- no id is a word of the format
-not_word : (word id rest more : List ℕ) → IsWord word → is_id word ≡ false → is_id id ≡ true → id ++ 32 ∷ rest ≡ word ++ 32 ∷ more → ⊥
-not_word word id rest more plain none good e = true≢false (sym good ∙ ap is_id (cut_once 32 id word rest more (id_lacks 32 id (omega arith) good) plain e).0 ∙ none)
+not_word : (word id rest more : List ℕ) → IsWord word → is_id_in word ≡ false → is_id_in id ≡ true → id ++ 32 ∷ rest ≡ word ++ 32 ∷ more → ⊥
+not_word word id rest more plain none good e = true≢false (sym good ∙ ap is_id_in (cut_once 32 id word rest more (id_lacks 32 id (omega arith) good) plain e).0 ∙ none)
 
-pub not_run : (id rest more : List ℕ) → is_id id ≡ true → id ++ 32 ∷ rest ≡ codes "@run" ++ 32 ∷ more → ⊥
+pub not_run : (id rest more : List ℕ) → is_id_in id ≡ true → id ++ 32 ∷ rest ≡ codes "@run" ++ 32 ∷ more → ⊥
 not_run id rest more good e = not_word (codes "@run") id rest more refl refl good e
 
-pub not_end : (id rest more : List ℕ) → is_id id ≡ true → id ++ 32 ∷ rest ≡ codes "@end" ++ 32 ∷ more → ⊥
+pub not_end : (id rest more : List ℕ) → is_id_in id ≡ true → id ++ 32 ∷ rest ≡ codes "@end" ++ 32 ∷ more → ⊥
 not_end id rest more good e = not_word (codes "@end") id rest more refl refl good e
 
 run_not_end : (rest more : List ℕ) → codes "@run" ++ 32 ∷ rest ≡ codes "@end" ++ 32 ∷ more → ⊥
 run_not_end rest more e = apart (codes "@run") (codes "@end") rest more refl refl refl refl e
 
 -- nor is a part such a line
-id_not_part : (part : GivenPart) (id rest : List ℕ) → is_id id ≡ true → id ++ 32 ∷ rest ≡ part_text part → ⊥
-id_not_part (GivenPart.Item v) id rest good e = not_word (codes "@item") id rest (text_of v) refl refl good e
+id_not_part : (part : GivenPart) (id rest : List ℕ) → is_id_in id ≡ true → id ++ 32 ∷ rest ≡ part_text part → ⊥
+id_not_part (GivenPart.Item v) id rest good e = not_word (codes "@item") id rest (json_of v) refl refl good e
 id_not_part (GivenPart.Pull p) id rest good e = not_word (codes "@pull") id rest (pull_words p) refl refl good e
 
 run_not_part : (part : GivenPart) (rest : List ℕ) → codes "@run" ++ 32 ∷ rest ≡ part_text part → ⊥
-run_not_part (GivenPart.Item v) rest e = apart (codes "@run") (codes "@item") rest (text_of v) refl refl refl refl e
+run_not_part (GivenPart.Item v) rest e = apart (codes "@run") (codes "@item") rest (json_of v) refl refl refl refl e
 run_not_part (GivenPart.Pull p) rest e = apart (codes "@run") (codes "@pull") rest (pull_words p) refl refl refl refl e
 
 end_not_part : (part : GivenPart) (rest : List ℕ) → codes "@end" ++ 32 ∷ rest ≡ part_text part → ⊥
-end_not_part (GivenPart.Item v) rest e = apart (codes "@end") (codes "@item") rest (text_of v) refl refl refl refl e
+end_not_part (GivenPart.Item v) rest e = apart (codes "@end") (codes "@item") rest (json_of v) refl refl refl refl e
 end_not_part (GivenPart.Pull p) rest e = apart (codes "@end") (codes "@pull") rest (pull_words p) refl refl refl refl e
 
 same_words : (i j : Interval) (u v : RunState) → IsRunInterval i → IsRunInterval j → run_words (i, u) ≡ run_words (j, v) → (i ≡ j) × (u ≡ v)
 same_words i j u v good other e =
-    let (start, end, state) = run_fields (j, v) (run_words (i, u)) (moment_text i.start.nanosecond) (moment_text i.end.nanosecond) (run_state_word u) _
+    let (start, end, state) = run_fields (j, v) (run_words (i, u)) (moment_text i.start.nanosecond) (moment_text i.end.nanosecond) (run_state_word_of u) _
     (moment_plain i.start.nanosecond).0 refl (moment_plain i.end.nanosecond).0 refl e in
     let starts = same_moment i.start j.start (one_text i.start.nanosecond j.start.nanosecond good.start.shown other.start.shown good.start.whole other.start.whole start) in
     let ends = same_moment i.end j.end (one_text i.end.nanosecond j.end.nanosecond good.end.shown other.end.shown good.end.whole other.end.whole end) in
@@ -140,8 +140,8 @@ entry_in_line (Entry.Tried x r) =
 
 words_in_line : (p : Interval × RunState) → Lacks 10 (run_words p)
 words_in_line p =
-    lacks_append 10 (moment_text p.0.start.nanosecond) (32 ∷ (moment_text p.0.end.nanosecond ++ 32 ∷ run_state_word p.1)) (moment_plain p.0.start.nanosecond).1
-    (lacks_append 10 (moment_text p.0.end.nanosecond) (32 ∷ run_state_word p.1) (moment_plain p.0.end.nanosecond).1 (run_state_plain p.1).1)
+    lacks_append 10 (moment_text p.0.start.nanosecond) (32 ∷ (moment_text p.0.end.nanosecond ++ 32 ∷ run_state_word_of p.1)) (moment_plain p.0.start.nanosecond).1
+    (lacks_append 10 (moment_text p.0.end.nanosecond) (32 ∷ run_state_word_of p.1) (moment_plain p.0.end.nanosecond).1 (run_state_plain p.1).1)
 
 part_in_line : (part : GivenPart) → IsPart part → Lacks 10 (part_text part)
 part_in_line (GivenPart.Item v) good = text_lacks v
@@ -192,8 +192,8 @@ stands_short b text ruled (inl (c, inr (inl one))) =
       run_state_short p.1,
       moment_length p.0.start.nanosecond,
       moment_length p.0.end.nanosecond,
-      length-append (moment_text p.0.start.nanosecond) (32 ∷ (moment_text p.0.end.nanosecond ++ 32 ∷ run_state_word p.1)),
-      length-append (moment_text p.0.end.nanosecond) (32 ∷ run_state_word p.1),
+      length-append (moment_text p.0.start.nanosecond) (32 ∷ (moment_text p.0.end.nanosecond ++ 32 ∷ run_state_word_of p.1)),
+      length-append (moment_text p.0.end.nanosecond) (32 ∷ run_state_word_of p.1),
     ))
 stands_short b text ruled (inl (c, inr (inr one))) = subst (λ t. length t ≤ longest_line t) (sym one.spelled) (part_short one.part one.good)
 stands_short b text ruled (inr ends) = short_enough text (omega (arith, ap length ends.0, decimal_short (length (runs_of b)) (omega (arith, ruled.few_runs, counted_runs b))))
@@ -223,13 +223,13 @@ run_step b c text run false bare good counted small ruled spelled none =
     no_run b text ruled (λ s other too fine spelled' added. none_added _ _ other none (ap (with_run b) (same_bare run s bare too good fine (sym spelled ∙ spelled'))) added)
 
 -- no item and no pull is spelled
-pub no_item_line : (b : Beginning) (text : List ℕ) → IsRuled b → ((v : Xval) (c : Beginning) → IsToldItem v → text ≡ text_of v → with_part b (GivenPart.Item v) ≡ Some c → ⊥) → MayStand b (codes "@item" ++ 32 ∷ text) → ⊥
+pub no_item_line : (b : Beginning) (text : List ℕ) → IsRuled b → ((v : Xval) (c : Beginning) → IsToldItem v → text ≡ json_of v → with_part b (GivenPart.Item v) ≡ Some c → ⊥) → MayStand b (codes "@item" ++ 32 ∷ text) → ⊥
 no_item_line b text ruled none (inl (c, inl one)) = not_word (codes "@item") one.id _ text refl refl (entry_id b c one.id one.entry ruled one.added) (sym one.spelled)
 no_item_line b text ruled none (inl (c, inr (inl one))) = apart (codes "@item") (codes "@run") text _ refl refl refl refl one.spelled
 no_item_line b text ruled none (inl (c, inr (inr one))) = go one.part one.good one.spelled one.added
   where
     go : (part : GivenPart) → IsPart part → codes "@item" ++ 32 ∷ text ≡ part_text part → with_part b part ≡ Some c → ⊥
-    go (GivenPart.Item v) good spelled added = none v c good (cut_once 32 (codes "@item") (codes "@item") text (text_of v) refl refl spelled).1 added
+    go (GivenPart.Item v) good spelled added = none v c good (cut_once 32 (codes "@item") (codes "@item") text (json_of v) refl refl spelled).1 added
     go (GivenPart.Pull p) good spelled added = apart (codes "@item") (codes "@pull") text (pull_words p) refl refl refl refl spelled
 no_item_line b text ruled none (inr ends) = apart (codes "@item") (codes "@end") text _ refl refl refl refl ends.0
 
@@ -240,7 +240,7 @@ no_pull_line b text ruled none (inl (c, inr (inr one))) = go one.part one.good o
   where
     go : (part : GivenPart) → IsPart part → codes "@pull" ++ 32 ∷ text ≡ part_text part → with_part b part ≡ Some c → ⊥
     go (GivenPart.Pull p) good spelled added = none p c good (cut_once 32 (codes "@pull") (codes "@pull") text (pull_words p) refl refl spelled).1 added
-    go (GivenPart.Item v) good spelled added = apart (codes "@pull") (codes "@item") text (text_of v) refl refl refl refl spelled
+    go (GivenPart.Item v) good spelled added = apart (codes "@pull") (codes "@item") text (json_of v) refl refl refl refl spelled
 no_pull_line b text ruled none (inr ends) = apart (codes "@pull") (codes "@end") text _ refl refl refl refl ends.0
 
 pub part_step : (b c : Beginning) (line : List ℕ) (part : GivenPart) (taken : Bool) → IsCounted b → IsSmall b → IsRuled b → IsPart part → line ≡ part_text part → with_part b part ≡ cond taken (Some c) None
@@ -251,7 +251,7 @@ part_step b c line part false counted small ruled good spelled none =
     subst P (sym spelled) (go part good none)
   where
     go : (part : GivenPart) → IsPart part → with_part b part ≡ None → MayStand b (part_text part) → ⊥
-    go (GivenPart.Item v) good none = no_item_line b (text_of v) ruled (λ w other too spelled' added. none_added _ _ other none (ap (λ x. with_part b (GivenPart.Item x)) (same_told 64 65_536 v w good too spelled')) added)
+    go (GivenPart.Item v) good none = no_item_line b (json_of v) ruled (λ w other too spelled' added. none_added _ _ other none (ap (λ x. with_part b (GivenPart.Item x)) (same_told 64 65_536 v w good too spelled')) added)
     go (GivenPart.Pull p) good none = no_pull_line b (pull_words p) ruled (λ q other too spelled' added. none_added _ _ other none (ap (λ x. with_part b (GivenPart.Pull x)) (same_pull p q good too spelled')) added)
 
 pub no_end : (b : Beginning) (text : List ℕ) → IsRuled b → (MayEnd b (codes "@end" ++ 32 ∷ text) → ⊥) → MayStand b (codes "@end" ++ 32 ∷ text) → ⊥
@@ -277,7 +277,7 @@ no_entry b id text other ruled none (inl (c, inr (inl one))) = other.not_run (cu
 no_entry b id text other ruled none (inl (c, inr (inr one))) = go one.part one.spelled
   where
     go : (part : GivenPart) → id ++ 32 ∷ text ≡ part_text part → ⊥
-    go (GivenPart.Item v) spelled = other.not_item (cut_once 32 id (codes "@item") text (text_of v) other.word refl spelled).0
+    go (GivenPart.Item v) spelled = other.not_item (cut_once 32 id (codes "@item") text (json_of v) other.word refl spelled).0
     go (GivenPart.Pull p) spelled = other.not_pull (cut_once 32 id (codes "@pull") text (pull_words p) other.word refl spelled).0
 no_entry b id text other ruled none (inr ends) = other.not_end (cut_once 32 id (codes "@end") text _ other.word refl ends.0).0
 

@@ -13,7 +13,7 @@ use Rattle.bf_report_reader.specs.declared.entry.Untried.{Untried}
 use Rattle.bf_report_reader.specs.declared.part.GivenPart.{GivenPart}
 use Rattle.bf_report_reader.specs.Open.{OpenTask, RunSoFar}
 use Rattle.bf_report_reader.specs.Parting.{parted_with, parted, expanded_by, open_by, last_open, open_in, shut_with, shut_by, shut_in, run_so_far}
-use Rattle.bf_report_reader.specs.Beginning.{open_task, count, closed, never_report, has_item, takes, is_given_task, takes_task, is_further_task, further, told, untold, with_told, put_task, put_open, put_further, put_part}
+use Rattle.bf_report_reader.specs.Beginning.{open_task, count_of, closed, never_report, has_item, takes_at, is_given_task, takes_task, is_further_task, further, told, untold, with_told, put_task, put_open, put_further, put_part}
 use Rattle.bf_report_reader.specs.Lasts.{put_last, at_last, told_task, further_task}
 use Rattle.bf_report_reader.proofs.Growth.{get_last, count_is}
 
@@ -88,7 +88,7 @@ tasks_seen tasks = tasks_back tasks (parted tasks) (parted_is tasks)
 pub closed_seen : (r : RunReport) → closed (run_so_far r) ≡ r
 closed_seen r = ap (λ ts. record r { tasks = ts }) (tasks_seen r.tasks)
 
-pub count_seen : (r : RunReport) → length r.tasks ≡ count (run_so_far r)
+pub count_seen : (r : RunReport) → length r.tasks ≡ count_of (run_so_far r)
 count_seen r = ap length (sym (tasks_seen r.tasks)) ∙ count_is (run_so_far r)
 
 pub seen_empty : (r : RunReport) → r.tasks ≡ [] → run_so_far r ≡ record { run = r; task = None }
@@ -141,11 +141,11 @@ pub mapped_given : (xs : List InstanceReport) (x : InstanceReport) → slice_get
 mapped_given xs x is = let (front, ends) = ends_with xs x is in ap (λ parts. is_given_task Version.Two (expanded_by parts)) ends
 
 pub mapped_takes : (version : Version) (xs : List InstanceReport) (x : InstanceReport) (part : GivenPart) → slice_get xs (length xs - 1) ≡ Some x →
-    takes_task version (open_by (TaskReport.Mapped xs)) part ≡ takes version (is_given_task version (open_by (TaskReport.Mapped xs))) x part
+    takes_task version (open_by (TaskReport.Mapped xs)) part ≡ takes_at version (is_given_task version (open_by (TaskReport.Mapped xs))) x part
 mapped_takes version xs x part is =
     let (front, ends) = ends_with xs x is in
     let opens : open_by (TaskReport.Mapped xs) ≡ Some (record { before = Some front; instance = x }) = ap expanded_by ends in
-    ap (λ t. takes_task version t part) opens ∙ ap (λ t. takes version (is_given_task version t) x part) (sym opens)
+    ap (λ t. takes_task version t part) opens ∙ ap (λ t. takes_at version (is_given_task version t) x part) (sym opens)
 
 pub mapped_next : (xs : List InstanceReport) (index : ℕ) → 0 < index → (length xs == index) ≡ is_further_task (open_by (TaskReport.Mapped xs)) index
 mapped_next xs index some = by (parted xs) (parted_is xs)

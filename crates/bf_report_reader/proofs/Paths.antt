@@ -8,7 +8,7 @@ use Rattle.std.proofs.lemmas.List.{get_or_append_left, map-append}
 use Rattle.std.proofs.lemmas.Bool.{cases_Bool}
 use Rattle.std.proofs.lemmas.Bool.Decides.{nat_tests}
 use Rattle.std.proofs.lemmas.Int.{ints}
-use Rattle.bf_plan.specs.Ids.{is_id}
+use Rattle.bf_plan.specs.Ids.{is_id_in}
 use Rattle.bf_value.specs.Distinct.{AreDistinct}
 use Rattle.bf_value.specs.declared.xval.Xval.{Xval}
 use Rattle.bf_xcom.specs.declared.values.TaskResult.{TaskResult}
@@ -28,7 +28,7 @@ use Rattle.bf_report_reader.specs.Entries.{IsEntry, entry_text}
 use Rattle.bf_report_reader.specs.Parts.{IsToldPull, IsPart, part_text}
 use Rattle.bf_report_reader.specs.Runs.{run_words}
 use Rattle.bf_report_reader.specs.Rules.{MayHaveItem, IsShownInstance, IsShownTask, IsShownRun, Rise, IsShownReport}
-use Rattle.bf_report_reader.specs.Beginning.{task_with, tasks_in, count, closed, runs_of, run_count, so_far, tells_item, most_told, has_item, untold, is_given_task, is_whole, may_begin, is_text, is_next_in, ids_with, with_entry, with_part}
+use Rattle.bf_report_reader.specs.Beginning.{task_with, tasks_in, count_of, closed, runs_of, run_count_of, so_far, tells_item, most_told, has_item, untold, is_given_task, is_whole_at, may_begin_in, is_text, is_next_in, ids_with, with_entry, with_part}
 use Rattle.bf_report_reader.specs.Steps.{Follows}
 use Rattle.bf_report_reader.specs.Extensions.{start, Leads, Extends}
 use Rattle.bf_report_reader.proofs.Growth.{count_is}
@@ -204,7 +204,7 @@ closed_all version o (t ∷ ts) shown =
     ∙ ap (λ (r : RunReport). record r { tasks = r.tasks ++ ts }) one
     ∙ ap (λ l. record o.run { tasks = l }) (append_assoc (tasks_in o) (t ∷ []) ts)
 
-opened_count : (version : Version) (o : OpenRun) (t : TaskReport) → IsShownTask version t → count (opened o t) ≡ count o + 1
+opened_count : (version : Version) (o : OpenRun) (t : TaskReport) → IsShownTask version t → count_of (opened o t) ≡ count_of o + 1
 opened_count version o t shown = omega (arith, count_is o, count_is (opened o t), ap (λ (r : RunReport). length r.tasks) (closed_opened version o t shown), length-append (tasks_in o) (t ∷ []))
 
 -- all is told of a task that is shown
@@ -224,7 +224,7 @@ given_all version o (t ∷ ts) given shown = given_all version (opened o t) ts (
 record IsTurn (b : Beginning) (o : OpenRun) (id : List ℕ) : Type 0 where
   given : is_given_task b.version o.task ≡ true
   next : is_next_in b.runs b.tasks (Some o) id ≡ true
-  at : slice_get (ids_with b.runs b.tasks id) (count o) ≡ Some id
+  at : slice_get (ids_with b.runs b.tasks id) (count_of o) ≡ Some id
 
 abbrev turned : Beginning → OpenRun → List ℕ → OpenRun → Beginning
 turned b o id new = record b { tasks = ids_with b.runs b.tasks id; run = Some new }
@@ -269,30 +269,30 @@ seen_more [] done ids id = refl
 seen_more (r ∷ rs) done ids id = sym (append_assoc done (id ∷ []) ids)
 
 record AreNames (ids : List (List ℕ)) : Type 0 where
-  named : AllByRecursion (λ id. is_id id ≡ true) ids
+  named : AllByRecursion (λ id. is_id_in id ≡ true) ids
   distinct : AreDistinct ids
   few : length ids ≤ 2_000
 
-name_at : (done ids : List (List ℕ)) (id : List ℕ) → AllByRecursion (λ id. is_id id ≡ true) (done ++ id ∷ ids) → is_id id ≡ true
+name_at : (done ids : List (List ℕ)) (id : List ℕ) → AllByRecursion (λ id. is_id_in id ≡ true) (done ++ id ∷ ids) → is_id_in id ≡ true
 name_at [] ids id named = named.0
 name_at (d ∷ ds) ids id named = name_at ds ids id named.1
 
-turn_of : (b : Beginning) (o : OpenRun) (done ids : List (List ℕ)) (id : List ℕ) → is_given_task b.version o.task ≡ true → b.tasks ≡ seen b.runs done (id ∷ ids) → count o ≡ length done → AreNames (done ++ id ∷ ids) → IsTurn b o id
+turn_of : (b : Beginning) (o : OpenRun) (done ids : List (List ℕ)) (id : List ℕ) → is_given_task b.version o.task ≡ true → b.tasks ≡ seen b.runs done (id ∷ ids) → count_of o ≡ length done → AreNames (done ++ id ∷ ids) → IsTurn b o id
 turn_of b o done ids id given known counted names = record {
   given = given;
   next = ap (λ l. is_next_in b.runs l (Some o) id) known ∙ next b.runs;
-  at = ap (λ l. slice_get (ids_with b.runs l id) (count o)) known ∙ at b.runs;
+  at = ap (λ l. slice_get (ids_with b.runs l id) (count_of o)) known ∙ at b.runs;
 }
   where
     next : (runs : List RunReport) → is_next_in runs (seen runs done (id ∷ ids)) (Some o) id ≡ true
     next [] = rw (name_at done ids id names.named, below_true (length done) 2_000 (omega (arith, names.few, length-append done (id ∷ ids))), not_there done ids id names.distinct) refl
-    next (r ∷ rs) = text_true (slice_get (done ++ id ∷ ids) (count o)) id (get_at done ids id (count o) counted)
+    next (r ∷ rs) = text_true (slice_get (done ++ id ∷ ids) (count_of o)) id (get_at done ids id (count_of o) counted)
 
-    at : (runs : List RunReport) → slice_get (ids_with runs (seen runs done (id ∷ ids)) id) (count o) ≡ Some id
-    at [] = get_at done [] id (count o) counted
-    at (r ∷ rs) = get_at done ids id (count o) counted
+    at : (runs : List RunReport) → slice_get (ids_with runs (seen runs done (id ∷ ids)) id) (count_of o) ≡ Some id
+    at [] = get_at done [] id (count_of o) counted
+    at (r ∷ rs) = get_at done ids id (count_of o) counted
 
-tasks_path : (b : Beginning) (o : OpenRun) (done ids : List (List ℕ)) (ts : List TaskReport) → is_given_task b.version o.task ≡ true → b.tasks ≡ seen b.runs done ids → count o ≡ length done → length ids ≡ length ts → AreNames (done ++ ids) → AllByRecursion (IsShownTask b.version) ts
+tasks_path : (b : Beginning) (o : OpenRun) (done ids : List (List ℕ)) (ts : List TaskReport) → is_given_task b.version o.task ≡ true → b.tasks ≡ seen b.runs done ids → count_of o ≡ length done → length ids ≡ length ts → AreNames (done ++ ids) → AllByRecursion (IsShownTask b.version) ts
     → Reaches (record b { run = Some o }) (record b { tasks = done ++ ids; run = Some (opened_all o ts) })
 tasks_path b o done [] [] given known counted same names shown =
     stays _ _ (ap (λ l. record b { tasks = l; run = Some o }) (known ∙ seen_all b.runs done ∙ sym (append-nil done)))
@@ -316,7 +316,7 @@ seen_later [] r ids = refl
 seen_later (x ∷ xs) r ids = refl
 
 -- the line of a run, and those of its tasks
-run_path : (b : Beginning) (ids : List (List ℕ)) (r : RunReport) → may_begin b r.interval ≡ true → b.tasks ≡ seen (runs_of b) [] ids → AreNames ids → IsShownRun b.version (length ids) r
+run_path : (b : Beginning) (ids : List (List ℕ)) (r : RunReport) → may_begin_in b r.interval ≡ true → b.tasks ≡ seen (runs_of b) [] ids → AreNames ids → IsShownRun b.version (length ids) r
     → Reaches b (record b { tasks = ids; runs = runs_of b; run = Some (opened_all (bare r) r.tasks) })
 run_path b ids r begins known names shown =
     let c : Beginning = record b { runs = runs_of b } in
@@ -331,10 +331,10 @@ closed_bare version r shown = closed_all version (bare r) r.tasks shown
 record Completes (b : Beginning) (report : Report) : Type 0 where
   last : Beginning
   path : Reaches b last
-  whole : is_whole last ≡ true
+  whole : is_whole_at last ≡ true
   is : so_far last ≡ report
 
-runs_path : (b : Beginning) (o : OpenRun) (rs : List RunReport) → is_given_task b.version o.task ≡ true → count o ≡ length b.tasks → AreNames b.tasks → AllByRecursion (IsShownRun b.version (length b.tasks)) rs → Rise (closed o ∷ rs) → length b.runs + 1 + length rs ≤ 4_096
+runs_path : (b : Beginning) (o : OpenRun) (rs : List RunReport) → is_given_task b.version o.task ≡ true → count_of o ≡ length b.tasks → AreNames b.tasks → AllByRecursion (IsShownRun b.version (length b.tasks)) rs → Rise (closed o ∷ rs) → length b.runs + 1 + length rs ≤ 4_096
     → Completes (record b { run = Some o }) (record { version = b.version; dag_id = b.dag_id; tasks = b.tasks; runs = (b.runs ++ closed o ∷ []) ++ rs })
 runs_path b o [] given whole names shown rise few = record {
   last = record b { run = Some o };
@@ -347,10 +347,10 @@ runs_path b o (r ∷ rs) given whole names shown rise few =
     let c : Beginning = record b { runs = b.runs ++ closed o ∷ [] } in
     let p = opened_all (bare r) r.tasks in
     let same : closed p ≡ r = closed_bare b.version r shown.0.each in
-    let begins : may_begin before r.interval ≡ true =
-    rw (given, ap (λ n. n == length b.tasks) whole ∙ same_number (length b.tasks), below_true (run_count before) 4_096 (omega (arith, few)), later_true _ _ rise.0) refl in
+    let begins : may_begin_in before r.interval ≡ true =
+    rw (given, ap (λ n. n == length b.tasks) whole ∙ same_number (length b.tasks), below_true (run_count_of before) 4_096 (omega (arith, few)), later_true _ _ rise.0) refl in
     let path = run_path before b.tasks r begins (sym (seen_later b.runs (closed o) b.tasks)) names shown.0 in
-    let counted : count p ≡ length b.tasks = sym (count_is p) ∙ ap (λ (x : RunReport). length x.tasks) same ∙ shown.0.all in
+    let counted : count_of p ≡ length b.tasks = sym (count_is p) ∙ ap (λ (x : RunReport). length x.tasks) same ∙ shown.0.all in
     let rest = runs_path c p rs (given_all b.version (bare r) r.tasks refl shown.0.each) counted names shown.1 (subst (λ x. Rise (x ∷ rs)) (sym same) rise.1) (omega (arith, few, length-append b.runs (closed o ∷ []))) in
     record {
       last = rest.last;
@@ -378,7 +378,7 @@ all_path report shown = go report.runs refl
         let p = opened_all (bare r) r.tasks in
         let same : closed p ≡ r = closed_bare report.version r each.0.each in
         let b : Beginning = record { version = report.version; dag_id = report.dag_id; tasks = report.tasks; runs = []; run = None } in
-        let counted : count p ≡ length report.tasks = sym (count_is p) ∙ ap (λ (x : RunReport). length x.tasks) same ∙ each.0.all in
+        let counted : count_of p ≡ length report.tasks = sym (count_is p) ∙ ap (λ (x : RunReport). length x.tasks) same ∙ each.0.all in
         let rest = runs_path b p rs (given_all report.version (bare r) r.tasks refl each.0.each) counted names each.1 (subst (λ x. Rise (x ∷ rs)) (sym same) (subst Rise some shown.rise)) (omega (arith, shown.few_runs, ap length some)) in
         record {
           last = rest.last;

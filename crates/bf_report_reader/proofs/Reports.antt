@@ -5,17 +5,17 @@ use Rattle.std.specs.List.{flat_map, enumerate_from, zip}
 use Rattle.std.proofs.lemmas.List.{append_cancel_left}
 use Rattle.std.proofs.lemmas.Option.{slice_get-get_or}
 use Rattle.std.proofs.lemmas.Bool.{cases_Bool, eqb-false}
-use Rattle.bf_plan.specs.Ids.{is_id}
+use Rattle.bf_plan.specs.Ids.{is_id_in}
 use Rattle.bf_value.specs.declared.xval.Xval.{Xval}
 use Rattle.bf_value.specs.declared.xval.Xval.TheVariants.{Nil}
-use Rattle.bf_value.specs.Json.{text_of}
+use Rattle.bf_value.specs.Json.{json_of}
 use Rattle.bf_value.proofs.TextLemmas.{IsUtf8-text_of, value_of_text-text_of}
 use Rattle.bf_report.specs.declared.report.Version.{Version}
 use Rattle.bf_report.specs.declared.report.InstanceReport.{InstanceReport}
 use Rattle.bf_report.specs.declared.report.TaskReport.{TaskReport}
 use Rattle.bf_report.specs.declared.report.RunReport.{RunReport}
 use Rattle.bf_report.specs.declared.report.Report.{Report}
-use Rattle.bf_report.specs.Report.{head_line, version_word, run_line, run_text, task_text, tasks_text, instance_line, item_line, pull_line, instance_text, report_text}
+use Rattle.bf_report.specs.Report.{head_line, version_word_of, run_line, run_text, task_text, tasks_text, instance_line, item_line, pull_line, instance_text, report_text}
 use Rattle.bf_report_reader.specs.declared.entry.Untried.{Untried}
 use Rattle.bf_report_reader.specs.declared.entry.Entry.{Entry}
 use Rattle.bf_report_reader.specs.declared.fault.ReportFault.{ReportFault}
@@ -27,7 +27,7 @@ use Rattle.bf_report_reader.specs.Entries.{entry_text}
 use Rattle.bf_report_reader.specs.Parts.{IsToldItem, pull_words, part_text}
 use Rattle.bf_report_reader.specs.Runs.{run_words}
 use Rattle.bf_report_reader.specs.Rules.{IsShownReport}
-use Rattle.bf_report_reader.specs.Beginning.{count, so_far, opening_text, is_given_task, is_given_in, is_given, is_whole_in, is_next_in, ids_with, takes_task, takes_in, put_task, put_part, with_entry, IsCountedIn, room}
+use Rattle.bf_report_reader.specs.Beginning.{count_of, so_far, opening_text, is_given_task, is_given_in, is_given_at, is_whole_in, is_next_in, ids_with, takes_task, takes_in, put_task, put_part, with_entry, IsCountedIn, room}
 use Rattle.bf_report_reader.specs.Steps.{IsNext}
 use Rattle.bf_report_reader.specs.Extensions.{head_words, SaysHead, start, Extends, IsKnown}
 use Rattle.bf_report_reader.specs.Faults.{IsInLine, AreLines, Begins, IsOpening, IsReportText, IsFromOutside, Tells}
@@ -46,11 +46,11 @@ behind_head r = flat_map (run_text r.tasks) r.runs ++ end_of r
 pub head_first : (r : Report) → report_text r ≡ (head_words (head_of r) ++ 10 ∷ []) ++ behind_head r
 head_first r = append_assoc (head_words (head_of r) ++ 10 ∷ []) (flat_map (run_text r.tasks) r.runs) (end_of r)
 
-head_in_line : (head : Version × List ℕ) → is_id head.1 ≡ true → IsInLine (head_words head)
+head_in_line : (head : Version × List ℕ) → is_id_in head.1 ≡ true → IsInLine (head_words head)
 head_in_line (Version.One, id) good = id_lacks 10 id (omega arith) good
 head_in_line (Version.Two, id) good = id_lacks 10 id (omega arith) good
 
-head_short : (head : Version × List ℕ) → is_id head.1 ≡ true → length (head_words head) ≤ 66_000
+head_short : (head : Version × List ℕ) → is_id_in head.1 ≡ true → length (head_words head) ≤ 66_000
 head_short (Version.One, id) good = omega (arith, id_short id good)
 head_short (Version.Two, id) good = omega (arith, id_short id good)
 
@@ -64,7 +64,7 @@ head_goes report more shown is = record {
   stands = (shown.dag_id, refl);
 }
 
-same_version : (one two : Version) → version_word one ≡ version_word two → one ≡ two
+same_version : (one two : Version) → version_word_of one ≡ version_word_of two → one ≡ two
 same_version Version.One Version.One e = refl
 same_version Version.One Version.Two e = absurd (omega (arith, ap (λ l. get_or l 0 0) e))
 same_version Version.Two Version.One e = absurd (omega (arith, ap (λ l. get_or l 0 0) e))
@@ -72,12 +72,12 @@ same_version Version.Two Version.Two e = refl
 
 same_words : (head other : Version × List ℕ) → head_words head ≡ head_words other → head ≡ other
 same_words head other e =
-    let (version, id) = cut_once 32 (version_word head.0) (version_word other.0) head.1 other.1 (version_plain head.0) (version_plain other.0) (ap (drop 10) e) in
+    let (version, id) = cut_once 32 (version_word_of head.0) (version_word_of other.0) head.1 other.1 (version_plain head.0) (version_plain other.0) (ap (drop 10) e) in
     let versions = same_version head.0 other.0 version in
     λ k. (versions k, id k)
 
 -- texts that begin with one head line have one head
-same_head : (head other : Version × List ℕ) (more rest : List ℕ) → is_id head.1 ≡ true → is_id other.1 ≡ true → (head_words head ++ 10 ∷ []) ++ more ≡ (head_words other ++ 10 ∷ []) ++ rest → head ≡ other
+same_head : (head other : Version × List ℕ) (more rest : List ℕ) → is_id_in head.1 ≡ true → is_id_in other.1 ≡ true → (head_words head ++ 10 ∷ []) ++ more ≡ (head_words other ++ 10 ∷ []) ++ rest → head ≡ other
 same_head head other more rest good too e =
     same_words head other (cut_once 10 (head_words head) (head_words other) more rest (head_in_line head good) (head_in_line other too)
     (sym (append_assoc (head_words head) (10 ∷ []) more) ∙ e ∙ append_assoc (head_words other) (10 ∷ []) rest)).0
@@ -85,12 +85,12 @@ same_head head other more rest good too e =
 pub start_text : (head : Version × List ℕ) → opening_text (so_far (start head)) ≡ head_words head ++ 10 ∷ []
 start_text head = append-nil (head_words head ++ 10 ∷ [])
 
-pub known_start : (head : Version × List ℕ) → is_id head.1 ≡ true → IsKnown (start head)
+pub known_start : (head : Version × List ℕ) → is_id_in head.1 ≡ true → IsKnown (start head)
 known_start head good report more shown is =
     let same : head_of report ≡ head = same_head (head_of report) head (behind_head report) more shown.dag_id good (sym (head_first report) ∙ is ∙ ap (λ l. l ++ more) (start_text head)) in
     subst (λ h. Extends (start h) report) same (starts report shown)
 
-pub keeps_start : (head : Version × List ℕ) → is_id head.1 ≡ true → Keeps (start head)
+pub keeps_start : (head : Version × List ℕ) → is_id_in head.1 ≡ true → Keeps (start head)
 keeps_start head good = record {
   counted = refl;
   small = omega arith;
@@ -110,12 +110,12 @@ one_text_each one two more shown too is =
 
 lacks_task : (runs : List RunReport) (ids : List (List ℕ)) (run : Option OpenRun) → IsCountedIn runs ids run → is_whole_in run ids ≡ false → (id : List ℕ) × (is_next_in runs ids run id ≡ true)
 lacks_task runs ids None counted short = absurd (true≢false short)
-lacks_task [] ids (Some o) counted short = absurd (eqb-false (count o) (length ids) short counted)
+lacks_task [] ids (Some o) counted short = absurd (eqb-false (count_of o) (length ids) short counted)
 lacks_task (r ∷ rs) ids (Some o) counted short =
-    let below : count o < length ids = omega (arith, counted, eqb-false (count o) (length ids) short) in
-    (get_or ids (count o) [], text_true _ _ (slice_get-get_or ids (count o) [] below))
+    let below : count_of o < length ids = omega (arith, counted, eqb-false (count_of o) (length ids) short) in
+    (get_or ids (count_of o) [], text_true _ _ (slice_get-get_or ids (count_of o) [] below))
 
-filled : (b : Beginning) (id : List ℕ) → is_given b ≡ true → is_next_in b.runs b.tasks b.run id ≡ true
+filled : (b : Beginning) (id : List ℕ) → is_given_at b ≡ true → is_next_in b.runs b.tasks b.run id ≡ true
     → with_entry b id (Entry.Never Untried.NoStatus) ≡ Some (record b { tasks = ids_with b.runs b.tasks id; run = put_task b.run TaskReport.NoStatus })
 unfolding with_entry
 filled b id given next = rw (given, next) refl
@@ -143,7 +143,7 @@ begun b c text step rest = record {
 
 begins_by : (fuel : ℕ) (b : Beginning) → room b < fuel → Keeps b → Begins (opening_text (so_far b))
 begins_by zero b less keeps = absurd (omega (arith, less))
-begins_by (suc fuel) b less keeps = elim (cases_Bool (is_given b)) [
+begins_by (suc fuel) b less keeps = elim (cases_Bool (is_given_at b)) [
   | inl given ↦ elim (cases_Bool (is_whole_in b.run b.tasks)) [
     | inl whole ↦ record { report = so_far b; more = end_of (so_far b); shown = report_ruled b keeps.counted keeps.small keeps.ruled (rw (given, whole) refl); text_is = refl }
     | inr short ↦
@@ -173,7 +173,7 @@ lines_flat f (x ∷ xs) each = lines_append (f x) (flat_map f xs) (each x) (line
 
 item_lines : (item : Option Xval) → AreLines (item_line item)
 item_lines None = inl refl
-item_lines (Some v) = inr (codes "@item" ++ 32 ∷ text_of v, refl)
+item_lines (Some v) = inr (codes "@item" ++ 32 ∷ json_of v, refl)
 
 instance_lines : (id index : List ℕ) (x : InstanceReport) → AreLines (instance_text id index x)
 instance_lines id index x =

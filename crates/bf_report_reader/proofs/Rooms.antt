@@ -14,18 +14,18 @@ use Rattle.bf_report_reader.specs.Open.{OpenTask}
 use Rattle.bf_report_reader.specs.declared.open.OpenRun.{OpenRun}
 use Rattle.bf_report_reader.specs.declared.beginning.Beginning.{Beginning}
 use Rattle.bf_report_reader.specs.Entries.{IsEntry}
-use Rattle.bf_report_reader.specs.Beginning.{tasks_in, count, last_run, run_count, tells_item, most_told, has_item, takes, with_told, untold, is_text, is_next_in, is_next, ids_with, is_further, is_further_task, goes_on_in, goes_on, takes_task, takes_in, put_task, put_open, further, put_further, put_part, may_begin, with_run, with_task, with_open, with_further, with_part, with_entry, IsCountedIn, IsCounted, item_room, instance_room, before_room, task_room, open_room, room, IsSmall}
+use Rattle.bf_report_reader.specs.Beginning.{tasks_in, count_of, last_run, run_count_of, tells_item, most_told, has_item, takes_at, with_told, untold, is_text, is_next_in, is_next_at, ids_with, is_further, is_further_task, goes_on_in, goes_on_at, takes_task, takes_in, put_task, put_open, further, put_further, put_part, may_begin_in, with_run, with_task, with_open, with_further, with_part, with_entry, IsCountedIn, IsCounted, item_room, instance_room, before_room, task_room, open_room, room, IsSmall}
 use Rattle.bf_report_reader.proofs.Growth.{if_some, count_is, get_within, is_text_of, next_parts, further_parts, begin_parts, no_item, not_true, new_parts, pull_parts}
 
 -- ---- a task
 
 -- there is room for one more
 fits : (runs : List RunReport) (ids : List (List ℕ)) (o : OpenRun) (id : List ℕ) → length ids ≤ 2_000 → IsCountedIn runs ids (Some o) → is_next_in runs ids (Some o) id ≡ true
-    → (count o < 2_000) × (length (ids_with runs ids id) ≤ 2_000)
+    → (count_of o < 2_000) × (length (ids_with runs ids id) ≤ 2_000)
 fits [] ids o id small counted next =
     let below : length ids < 2_000 = ltb-true (length ids) 2_000 (new_parts ids id next).1.0 in
     (omega (arith, below, counted), omega (arith, below, length-append ids (id ∷ [])))
-fits (r ∷ rs) ids o id small counted next = (omega (arith, small, get_within ids id (count o) (is_text_of (slice_get ids (count o)) id next)), small)
+fits (r ∷ rs) ids o id small counted next = (omega (arith, small, get_within ids id (count_of o) (is_text_of (slice_get ids (count_of o)) id next)), small)
 
 -- how many lines an open task may have at most
 before_most : (before : Option (List InstanceReport)) → before_room before ≤ 20_480
@@ -42,7 +42,7 @@ open_most (Some t) = omega (arith, before_most t.before, item_most t.instance.it
 
 untried_room : (b c : Beginning) (id : List ℕ) (t : TaskReport) → IsCounted b → IsSmall b → with_task b id t ≡ Some c → IsSmall c × (room c < room b)
 untried_room b c id t counted small e =
-    let (next, is) = if_some (is_next b id) _ c e in
+    let (next, is) = if_some (is_next_at b id) _ c e in
     let P : Beginning → Type 0 = λ x. IsSmall x × (room x < room b) in
     subst P is (go b.run counted (next_parts b id next).1)
   where
@@ -55,7 +55,7 @@ untried_room b c id t counted small e =
 
 opened_room : (b c : Beginning) (id : List ℕ) (t : OpenTask) → IsCounted b → IsSmall b → with_open b id t ≡ Some c → IsSmall c × (room c < room b)
 opened_room b c id t counted small e =
-    let (next, is) = if_some (is_next b id) _ c e in
+    let (next, is) = if_some (is_next_at b id) _ c e in
     let P : Beginning → Type 0 = λ x. IsSmall x × (room x < room b) in
     subst P is (go b.run counted (next_parts b id next).1)
   where
@@ -68,7 +68,7 @@ opened_room b c id t counted small e =
 
 further_room : (b c : Beginning) (id : List ℕ) (index : ℕ) (r : TaskResult) → index < 1_024 → IsSmall b → with_further b id index r ≡ Some c → IsSmall c × (room c < room b)
 further_room b c id index r within small e =
-    let (next, is) = if_some (goes_on b id index) _ c e in
+    let (next, is) = if_some (goes_on_at b id index) _ c e in
     let P : Beginning → Type 0 = λ x. IsSmall x × (room x < room b) in
     subst P is (small, go b.run (further_parts b id index next).1)
   where
@@ -101,7 +101,7 @@ few_told : (version : Version) → most_told version ≤ 16
 few_told Version.One = omega arith
 few_told Version.Two = omega arith
 
-told_less : (version : Version) (is_told : Bool) (x : InstanceReport) (part : GivenPart) → takes version (has_item is_told x.item) x part ≡ true → instance_room (with_told x part) < instance_room x
+told_less : (version : Version) (is_told : Bool) (x : InstanceReport) (part : GivenPart) → takes_at version (has_item is_told x.item) x part ≡ true → instance_room (with_told x part) < instance_room x
 told_less version is_told x (GivenPart.Item v) next = omega (arith, ap item_room (no_item is_told x.item (not_true (has_item is_told x.item) next)))
 told_less version is_told x (GivenPart.Pull p) next =
     omega (arith, ltb-true (length x.pulls) (most_told version) (pull_parts version (has_item is_told x.item) x p next).1.0, few_told version, length-append x.pulls (p ∷ []))
@@ -124,7 +124,7 @@ part_room b c part small e =
 
 pub run_room : (b c : Beginning) (run : RunReport) → run.tasks ≡ [] → IsSmall b → with_run b run ≡ Some c → IsSmall c × (room c < room b)
 run_room b c run none small e =
-    let (next, is) = if_some (may_begin b run.interval) _ c e in
-    let below : run_count b < 4_096 = ltb-true (run_count b) 4_096 (begin_parts b run.interval next).1.0 in
+    let (next, is) = if_some (may_begin_in b run.interval) _ c e in
+    let below : run_count_of b < 4_096 = ltb-true (run_count_of b) 4_096 (begin_parts b run.interval next).1.0 in
     let P : Beginning → Type 0 = λ x. IsSmall x × (room x < room b) in
     subst P is (small, omega (arith, below, length-append b.runs (last_run b.run)))

@@ -7,7 +7,7 @@ use Rattle.std.proofs.lemmas.Int.{ints}
 use Rattle.std.proofs.lemmas.Bool.{and_parts, eqb-true, cases_Bool, ltb-true}
 use Rattle.std.proofs.lemmas.List.{map-append}
 use Rattle.std.proofs.lemmas.List.Quantifiers.{all_pairs_push}
-use Rattle.bf_plan.specs.Ids.{is_id}
+use Rattle.bf_plan.specs.Ids.{is_id_in}
 use Rattle.bf_value.specs.Distinct.{AreDistinct}
 use Rattle.bf_value.specs.declared.xval.Xval.{Xval}
 use Rattle.bf_xcom.specs.declared.values.TaskResult.{TaskResult}
@@ -26,7 +26,7 @@ use Rattle.bf_report_reader.specs.declared.beginning.Beginning.{Beginning}
 use Rattle.bf_report_reader.specs.Entries.{IsEntry, IsShownResult}
 use Rattle.bf_report_reader.specs.Runs.{IsRunInterval}
 use Rattle.bf_report_reader.specs.Parts.{IsPart}
-use Rattle.bf_report_reader.specs.Beginning.{task_with, open_task, tasks_in, count, closed, last_run, so_far, run_count, tells_item, most_told, has_item, takes, with_told, untold, is_given_task, is_given_in, is_whole_in, is_whole, starts_before, is_text, is_next_in, is_next, ids_with, is_further, is_further_task, goes_on_in, goes_on, takes_task, takes_in, put_task, put_open, further, put_further, told, put_part, may_begin, with_run, with_task, with_open, with_further, with_part, with_entry, IsCountedIn, IsCounted, IsSmall}
+use Rattle.bf_report_reader.specs.Beginning.{task_with, open_task, tasks_in, count_of, closed, last_run, so_far, run_count_of, tells_item, most_told, has_item, takes_at, with_told, untold, is_given_task, is_given_in, is_whole_in, is_whole_at, starts_before, is_text, is_next_in, is_next_at, ids_with, is_further, is_further_task, goes_on_in, goes_on_at, takes_task, takes_in, put_task, put_open, further, put_further, told, put_part, may_begin_in, with_run, with_task, with_open, with_further, with_part, with_entry, IsCountedIn, IsCounted, IsSmall}
 use Rattle.bf_report_reader.specs.Rules.{AreToldPulls, IsShownInstance, IsShownTask, IsShownRun, Rise, IsShownReport, AreShownBefore, IsOpenInstance, IsOpenTask, IsOpenRun, IsRuled}
 use Rattle.bf_report_reader.proofs.Growth.{if_some, count_is, next_parts, further_parts, begin_parts, whole_parts, not_true, new_parts, pull_parts}
 
@@ -84,7 +84,7 @@ pulls_told version pulls p told good few other = record {
   each = all_more _ pulls p told.each good;
 }
 
-told_open : (version : Version) (expanded : Bool) (x : InstanceReport) (part : GivenPart) → IsPart part → IsOpenInstance version expanded x → takes version (has_item (tells_item version expanded) x.item) x part ≡ true
+told_open : (version : Version) (expanded : Bool) (x : InstanceReport) (part : GivenPart) → IsPart part → IsOpenInstance version expanded x → takes_at version (has_item (tells_item version expanded) x.item) x part ≡ true
     → IsOpenInstance version expanded (with_told x part)
 told_open version expanded x (GivenPart.Item v) good begun next =
     let lacks = not_true (has_item (tells_item version expanded) x.item) next in
@@ -119,15 +119,15 @@ tasks_each version o given shown = each_more (IsShownTask version) o.run.tasks (
 
 -- the ids with the next one, and the runs before
 record AreNamed (version : Version) (runs : List RunReport) (ids : List (List ℕ)) : Type 0 where
-  named : AllByRecursion (λ id. is_id id ≡ true) ids
+  named : AllByRecursion (λ id. is_id_in id ≡ true) ids
   distinct : AreDistinct ids
   shown : AllByRecursion (IsShownRun version (length ids)) runs
 
-names : (version : Version) (runs : List RunReport) (ids : List (List ℕ)) (o : OpenRun) (id : List ℕ) → is_next_in runs ids (Some o) id ≡ true → AllByRecursion (λ id. is_id id ≡ true) ids → AreDistinct ids
+names : (version : Version) (runs : List RunReport) (ids : List (List ℕ)) (o : OpenRun) (id : List ℕ) → is_next_in runs ids (Some o) id ≡ true → AllByRecursion (λ id. is_id_in id ≡ true) ids → AreDistinct ids
     → AllByRecursion (IsShownRun version (length ids)) runs → AreNamed version runs (ids_with runs ids id)
 names version [] ids o id next named distinct shown =
     let (good, (few, other)) = new_parts ids id next in
-    record { named = all_more (λ id. is_id id ≡ true) ids id named good; distinct = all_pairs_push (λ a b. a ≢ b) ids id distinct (none_there ids id other); shown = tt }
+    record { named = all_more (λ id. is_id_in id ≡ true) ids id named good; distinct = all_pairs_push (λ a b. a ≢ b) ids id distinct (none_there ids id other); shown = tt }
 names version (r ∷ rs) ids o id next named distinct shown = record { named = named; distinct = distinct; shown = shown }
 
 -- ---- a line of a task
@@ -149,7 +149,7 @@ put_ruled b o new id ruled next same shown =
 
 task_ruled : (b c : Beginning) (id : List ℕ) (t : TaskReport) → IsShownTask b.version t → IsRuled b → with_task b id t ≡ Some c → IsRuled c
 task_ruled b c id t good ruled e =
-    let (next, is) = if_some (is_next b id) _ c e in
+    let (next, is) = if_some (is_next_at b id) _ c e in
     let (given, first) = next_parts b id next in
     subst IsRuled is (go b.run ruled given first)
   where
@@ -161,7 +161,7 @@ task_ruled b c id t good ruled e =
 
 opened_ruled : (b c : Beginning) (id : List ℕ) (t : OpenTask) → IsOpenTask b.version (Some t) → IsRuled b → with_open b id t ≡ Some c → IsRuled c
 opened_ruled b c id t good ruled e =
-    let (next, is) = if_some (is_next b id) _ c e in
+    let (next, is) = if_some (is_next_at b id) _ c e in
     let (given, first) = next_parts b id next in
     subst IsRuled is (go b.run ruled given first)
   where
@@ -185,7 +185,7 @@ last_ruled b run t u ruled good = record {
 
 further_ruled : (b c : Beginning) (id : List ℕ) (index : ℕ) (r : TaskResult) → index < 1_024 → IsShownResult r → IsRuled b → with_further b id index r ≡ Some c → IsRuled c
 further_ruled b c id index r within good ruled e =
-    let (next, is) = if_some (goes_on b id index) _ c e in
+    let (next, is) = if_some (goes_on_at b id index) _ c e in
     let (given, last) = further_parts b id index next in
     subst IsRuled is (go b.run ruled given last)
   where
@@ -230,7 +230,7 @@ part_ruled b c part good ruled e =
 
 -- ---- a run
 
-close_ruled : (b : Beginning) (o : OpenRun) → IsRuled (record b { run = Some o }) → is_given_in b.version (Some o) ≡ true → (count o == length b.tasks) ≡ true → AllByRecursion (IsShownRun b.version (length b.tasks)) (b.runs ++ closed o ∷ [])
+close_ruled : (b : Beginning) (o : OpenRun) → IsRuled (record b { run = Some o }) → is_given_in b.version (Some o) ≡ true → (count_of o == length b.tasks) ≡ true → AllByRecursion (IsShownRun b.version (length b.tasks)) (b.runs ++ closed o ∷ [])
 close_ruled b o ruled given whole =
     all_more (IsShownRun b.version (length b.tasks)) b.runs (closed o) ruled.runs
     (record { interval = ruled.last.0; each = tasks_each b.version o given ruled.last; all = count_is o ∙ eqb-true _ _ whole })
@@ -245,7 +245,7 @@ starts_later m n e = grind (arith, ints)
 
 pub run_ruled : (b c : Beginning) (run : RunReport) → run.tasks ≡ [] → IsRunInterval run.interval → IsCounted b → IsRuled b → with_run b run ≡ Some c → IsRuled c
 run_ruled b c run none good counted ruled e =
-    let (next, is) = if_some (may_begin b run.interval) _ c e in
+    let (next, is) = if_some (may_begin_in b run.interval) _ c e in
     let (all, (few, later)) = begin_parts b run.interval next in
     let (given, whole) = whole_parts b all in
     let new : OpenRun = record { run = run; task = None } in
@@ -256,7 +256,7 @@ run_ruled b c run none good counted ruled e =
       distinct = ruled.distinct;
       runs = shown;
       last = (good, subst (AllByRecursion (IsShownTask b.version)) (sym none) tt, tt);
-      few_runs = omega (arith, ltb-true (run_count b) 4_096 few, length-append b.runs (last_run b.run));
+      few_runs = omega (arith, ltb-true (run_count_of b) 4_096 few, length-append b.runs (last_run b.run));
       rise = rise;
     })
   where
@@ -270,7 +270,7 @@ run_ruled b c run none good counted ruled e =
 
 -- ---- the whole
 
-pub report_ruled : (b : Beginning) → IsCounted b → IsSmall b → IsRuled b → is_whole b ≡ true → IsShownReport (so_far b)
+pub report_ruled : (b : Beginning) → IsCounted b → IsSmall b → IsRuled b → is_whole_at b ≡ true → IsShownReport (so_far b)
 report_ruled b counted small ruled all =
     let (given, whole) = whole_parts b all in
     let (shown, known) = go b.run counted ruled given whole in

@@ -7,14 +7,14 @@ use Rattle.bf_moment.specs.Moment.{moment_text, nearest, Spells as SpellsMoment}
 use Rattle.std.proofs.lemmas.Int.{ints}
 use Rattle.bf_moment.proofs.OneText.{one_text}
 use Rattle.std.specs.Str.{bytes_eq}
-use Rattle.bf_value.specs.Json.{text_of, value_of_line, value_of_text}
+use Rattle.bf_value.specs.Json.{json_of, value_of_line, value_of_text}
 use Rattle.bf_value.specs.declared.xval.Xval.{Xval}
 use Rattle.bf_xcom.specs.declared.values.Outcome.{Outcome}
 use Rattle.bf_xcom.specs.declared.values.Outcome.TheVariants.{Success, Failed, Skipped}
 use Rattle.bf_xcom.specs.declared.values.RunState.{RunState}
 use Rattle.bf_xcom.specs.declared.values.TaskResult.{TaskResult}
 use Rattle.bf_report.specs.declared.report.Pull.{Pull}
-use Rattle.bf_report.specs.Report.{state_word, value_word, pulled_word, run_state_word}
+use Rattle.bf_report.specs.Report.{state_word, value_word, pulled_word, run_state_word_of}
 use Rattle.bf_plan.proofs.ListLemmas.{some_same}
 use Rattle.bf_report_reader.specs.declared.part.GivenPart.{GivenPart}
 use Rattle.bf_report_reader.specs.Parts.{IsToldValue, IsToldPulled, IsToldPull, IsPart, pull_words, part_text}
@@ -77,13 +77,13 @@ same_never Untried.UpstreamFailed Untried.NoStatus e = absurd (differ _ _ 0 e (�
 same_never Untried.UpstreamFailed Untried.Skipped e = absurd (differ _ _ 0 e (λ h. omega (arith, h)))
 same_never Untried.UpstreamFailed Untried.UpstreamFailed e = refl
 
-pub same_run_state : (u v : RunState) → run_state_word u ≡ run_state_word v → u ≡ v
+pub same_run_state : (u v : RunState) → run_state_word_of u ≡ run_state_word_of v → u ≡ v
 same_run_state RunState.Success RunState.Success e = refl
 same_run_state RunState.Success RunState.Failed e = absurd (differ _ _ 0 e (λ h. omega (arith, h)))
 same_run_state RunState.Failed RunState.Success e = absurd (differ _ _ 0 e (λ h. omega (arith, h)))
 same_run_state RunState.Failed RunState.Failed e = refl
 
-pub same_value : (v w : Xval) → IsShownValue v → IsShownValue w → text_of v ≡ text_of w → v ≡ w
+pub same_value : (v w : Xval) → IsShownValue v → IsShownValue w → json_of v ≡ json_of w → v ≡ w
 same_value v w good other e = some_same (sym good.pushed ∙ ap value_of_line e ∙ other.pushed)
 
 pub same_outcome : (o p : Outcome) → IsShownOutcome o → IsShownOutcome p → state_word o ≡ state_word p → value_word o ≡ value_word p → o ≡ p
@@ -135,7 +135,7 @@ one_outcome o p state value one two = same_outcome o p one.0 two.0 (sym one.1 �
 
 -- ---- what was given
 
-pub same_told : (deepest longest : ℕ) (v w : Xval) → IsToldValue deepest longest v → IsToldValue deepest longest w → text_of v ≡ text_of w → v ≡ w
+pub same_told : (deepest longest : ℕ) (v w : Xval) → IsToldValue deepest longest v → IsToldValue deepest longest w → json_of v ≡ json_of w → v ≡ w
 same_told deepest longest v w good other e = some_same (sym good.says ∙ ap (value_of_text deepest) e ∙ other.says)
 
 pub same_pulled : (v w : Option Xval) → IsToldPulled v → IsToldPulled w → pulled_word v ≡ pulled_word w → v ≡ w
@@ -160,9 +160,9 @@ apart v w rest more plain other own other_not e = true≢false (sym own ∙ ap (
 
 pub same_part : (g h : GivenPart) → IsPart g → IsPart h → part_text g ≡ part_text h → g ≡ h
 same_part (GivenPart.Item v) (GivenPart.Item w) good other e =
-    ap GivenPart.Item (same_told 64 65_536 v w good other (cut_once 32 (codes "@item") (codes "@item") (text_of v) (text_of w) refl refl e).1)
-same_part (GivenPart.Item v) (GivenPart.Pull q) good other e = absurd (apart (codes "@item") (codes "@pull") (text_of v) (pull_words q) refl refl refl refl e)
-same_part (GivenPart.Pull p) (GivenPart.Item w) good other e = absurd (apart (codes "@pull") (codes "@item") (pull_words p) (text_of w) refl refl refl refl e)
+    ap GivenPart.Item (same_told 64 65_536 v w good other (cut_once 32 (codes "@item") (codes "@item") (json_of v) (json_of w) refl refl e).1)
+same_part (GivenPart.Item v) (GivenPart.Pull q) good other e = absurd (apart (codes "@item") (codes "@pull") (json_of v) (pull_words q) refl refl refl refl e)
+same_part (GivenPart.Pull p) (GivenPart.Item w) good other e = absurd (apart (codes "@pull") (codes "@item") (pull_words p) (json_of w) refl refl refl refl e)
 same_part (GivenPart.Pull p) (GivenPart.Pull q) good other e =
     ap GivenPart.Pull (same_pull p q good other (cut_once 32 (codes "@pull") (codes "@pull") (pull_words p) (pull_words q) refl refl e).1)
 
@@ -178,10 +178,10 @@ moment_found t text n found long says = elim found.text [
 
 -- start, end and state are those of the run
 pub run_fields : (p : Interval × RunState) (text start end state rest : List ℕ) → IsWord start → text ≡ start ++ 32 ∷ rest → IsWord end → rest ≡ end ++ 32 ∷ state → text ≡ run_words p
-    → (start ≡ moment_text p.0.start.nanosecond) × (end ≡ moment_text p.0.end.nanosecond) × (state ≡ run_state_word p.1)
+    → (start ≡ moment_text p.0.start.nanosecond) × (end ≡ moment_text p.0.end.nanosecond) × (state ≡ run_state_word_of p.1)
 run_fields p text start end state rest word is other then says =
-    let (first, more) = cut_once 32 start (moment_text p.0.start.nanosecond) rest (moment_text p.0.end.nanosecond ++ 32 ∷ run_state_word p.1) word (moment_plain p.0.start.nanosecond).0 (sym is ∙ says) in
-    let (second, last) = cut_once 32 end (moment_text p.0.end.nanosecond) state (run_state_word p.1) other (moment_plain p.0.end.nanosecond).0 (sym then ∙ more) in
+    let (first, more) = cut_once 32 start (moment_text p.0.start.nanosecond) rest (moment_text p.0.end.nanosecond ++ 32 ∷ run_state_word_of p.1) word (moment_plain p.0.start.nanosecond).0 (sym is ∙ says) in
+    let (second, last) = cut_once 32 end (moment_text p.0.end.nanosecond) state (run_state_word_of p.1) other (moment_plain p.0.end.nanosecond).0 (sym then ∙ more) in
     (first, second, last)
 
 -- ---- a line of a task from its fields

@@ -11,7 +11,7 @@ use Rattle.bf_report_reader.specs.Entries.{IsEntry, entry_text}
 use Rattle.bf_report_reader.specs.Parts.{IsPart, part_text}
 use Rattle.bf_report_reader.specs.Runs.{run_words, IsRunInterval}
 use Rattle.bf_report_reader.specs.Rules.{IsRuled}
-use Rattle.bf_report_reader.specs.Beginning.{runs_of, run_count, last_run, so_far, opening_text, with_run, with_part, with_entry, IsCounted, IsSmall}
+use Rattle.bf_report_reader.specs.Beginning.{runs_of, run_count_of, last_run, so_far, opening_text, with_run, with_part, with_entry, IsCounted, IsSmall}
 use Rattle.bf_report_reader.specs.Extensions.{head_words, start}
 use Rattle.bf_report_reader.specs.Steps.{Follows, IsNext, ReadsOn}
 use Rattle.bf_report_reader.proofs.Growth.{entry_line, entry_grows, run_grows, part_line, part_grows}
@@ -67,7 +67,7 @@ follows_next b c line counted small ruled (inl one) = entry_next b c one.id line
 follows_next b c line counted small ruled (inr (inl one)) = run_next b c line one.run one.bare one.good counted small ruled one.spelled one.added
 follows_next b c line counted small ruled (inr (inr one)) = part_next b c line one.part counted small ruled one.good one.spelled one.added
 
-pub counted_runs : (b : Beginning) → length (runs_of b) ≡ run_count b
+pub counted_runs : (b : Beginning) → length (runs_of b) ≡ run_count_of b
 counted_runs b = length-append b.runs (last_run b.run)
 
 -- ---- bytes that come line by line

@@ -11,14 +11,14 @@ use Rattle.std.proofs.lemmas.Bool.Decides.{nat_tests}
 use Rattle.std.proofs.lemmas.Fmt.{length-decimal-le}
 use Rattle.bf_moment.specs.Moment.{moment_text, IsShown}
 use Rattle.bf_moment.proofs.OneText.{moment_ascii}
-use Rattle.bf_plan.specs.Ids.{is_id, is_id_byte}
+use Rattle.bf_plan.specs.Ids.{is_id_in, is_id_byte_in}
 use Rattle.bf_value.specs.declared.xval.Xval.{Xval}
 use Rattle.bf_value.specs.declared.xval.Xval.TheVariants.{Flag, Int, Text, List as ListOf, Nil}
-use Rattle.bf_value.specs.Json.{text_of}
+use Rattle.bf_value.specs.Json.{json_of}
 use Rattle.bf_xcom.specs.declared.values.Outcome.{Outcome}
 use Rattle.bf_xcom.specs.declared.values.Outcome.TheVariants.{Success, Failed, Skipped}
 use Rattle.bf_xcom.specs.declared.values.RunState.{RunState}
-use Rattle.bf_report.specs.Report.{state_word, value_word, pulled_word, run_state_word, version_word}
+use Rattle.bf_report.specs.Report.{state_word, value_word, pulled_word, run_state_word_of, version_word_of}
 use Rattle.bf_report.specs.declared.report.Version.{Version}
 use Rattle.bf_report_reader.specs.declared.entry.Untried.{Untried}
 use Rattle.bf_report_reader.specs.Entries.{index_text, IsIndex, never_word, IsShownOutcome}
@@ -28,37 +28,37 @@ use Rattle.bf_value.proofs.LackLemmas.{Lacks, first_lacks, lacks_more, decimal_l
 
 -- ---- ids
 
-id_byte : (b : ℕ) → is_id_byte b ≡ true → (44 < b) × (b < 123) × (b ≡ 64 → ⊥)
+id_byte : (b : ℕ) → is_id_byte_in b ≡ true → (44 < b) × (b < 123) × (b ≡ 64 → ⊥)
 id_byte b e = (grind (arith, nat_tests, e), grind (arith, nat_tests, e), λ same. grind (arith, nat_tests, e, same))
 
-bytes_lack : (s : ℕ) (text : List ℕ) → s < 45 → list_all is_id_byte text ≡ true → Lacks s text
+bytes_lack : (s : ℕ) (text : List ℕ) → s < 45 → list_all is_id_byte_in text ≡ true → Lacks s text
 bytes_lack s [] low e = refl
 bytes_lack s (x ∷ xs) low e =
-    let (good, rest) = and_parts (is_id_byte x) (list_all is_id_byte xs) e in
+    let (good, rest) = and_parts (is_id_byte_in x) (list_all is_id_byte_in xs) e in
     lacks_more s x xs (λ same. omega (arith, same, (id_byte x good).0)) (bytes_lack s xs low rest)
 
-bytes_ascii : (text : List ℕ) → list_all is_id_byte text ≡ true → IsAscii text
+bytes_ascii : (text : List ℕ) → list_all is_id_byte_in text ≡ true → IsAscii text
 bytes_ascii [] e i = omega arith
-bytes_ascii (x ∷ xs) e zero = omega (arith, (id_byte x (and_parts (is_id_byte x) (list_all is_id_byte xs) e).0).1)
-bytes_ascii (x ∷ xs) e (suc i) = bytes_ascii xs (and_parts (is_id_byte x) (list_all is_id_byte xs) e).1 i
+bytes_ascii (x ∷ xs) e zero = omega (arith, (id_byte x (and_parts (is_id_byte_in x) (list_all is_id_byte_in xs) e).0).1)
+bytes_ascii (x ∷ xs) e (suc i) = bytes_ascii xs (and_parts (is_id_byte_in x) (list_all is_id_byte_in xs) e).1 i
 
-id_parts : (id : List ℕ) → is_id id ≡ true → (length id ≤ 250) × (list_all is_id_byte id ≡ true)
+id_parts : (id : List ℕ) → is_id_in id ≡ true → (length id ≤ 250) × (list_all is_id_byte_in id ≡ true)
 id_parts id e =
-    let (sizes, all) = and_parts (nat_le 1 (length id) && nat_le (length id) 250) (list_all is_id_byte id) e in
+    let (sizes, all) = and_parts (nat_le 1 (length id) && nat_le (length id) 250) (list_all is_id_byte_in id) e in
     let (some, few) = and_parts (nat_le 1 (length id)) (nat_le (length id) 250) sizes in
     (grind (arith, nat_tests, few), all)
 
-pub id_lacks : (s : ℕ) (id : List ℕ) → s < 45 → is_id id ≡ true → Lacks s id
+pub id_lacks : (s : ℕ) (id : List ℕ) → s < 45 → is_id_in id ≡ true → Lacks s id
 id_lacks s id low e = bytes_lack s id low (id_parts id e).1
 
-pub id_utf8 : (id : List ℕ) → is_id id ≡ true → IsUtf8 id
+pub id_utf8 : (id : List ℕ) → is_id_in id ≡ true → IsUtf8 id
 id_utf8 id e = IsUtf8-from_ascii id (bytes_ascii id (id_parts id e).1)
 
 -- a text that isn't UTF-8 is no id
-pub no_id : (text : List ℕ) → ¬ (IsUtf8 text) → is_id text ≡ false
-no_id text other = elim (cases_Bool (is_id text)) [ inl is ↦ absurd (other (id_utf8 text is)) | inr is ↦ is ]
+pub no_id : (text : List ℕ) → ¬ (IsUtf8 text) → is_id_in text ≡ false
+no_id text other = elim (cases_Bool (is_id_in text)) [ inl is ↦ absurd (other (id_utf8 text is)) | inr is ↦ is ]
 
-pub id_short : (id : List ℕ) → is_id id ≡ true → length id ≤ 250
+pub id_short : (id : List ℕ) → is_id_in id ≡ true → length id ≤ 250
 id_short id e = (id_parts id e).0
 
 -- ---- moments
@@ -101,11 +101,11 @@ never_plain Untried.NoStatus = (refl, refl)
 never_plain Untried.Skipped = (refl, refl)
 never_plain Untried.UpstreamFailed = (refl, refl)
 
-pub run_state_plain : (state : RunState) → IsPlain (run_state_word state)
+pub run_state_plain : (state : RunState) → IsPlain (run_state_word_of state)
 run_state_plain RunState.Success = (refl, refl)
 run_state_plain RunState.Failed = (refl, refl)
 
-pub version_plain : (version : Version) → Lacks 32 (version_word version)
+pub version_plain : (version : Version) → Lacks 32 (version_word_of version)
 version_plain Version.One = refl
 version_plain Version.Two = refl
 
@@ -134,7 +134,7 @@ never_short Untried.NoStatus = omega arith
 never_short Untried.Skipped = omega arith
 never_short Untried.UpstreamFailed = omega arith
 
-pub run_state_short : (state : RunState) → length (run_state_word state) ≤ 7
+pub run_state_short : (state : RunState) → length (run_state_word_of state) ≤ 7
 run_state_short RunState.Success = omega arith
 run_state_short RunState.Failed = omega arith
 
@@ -206,7 +206,7 @@ first_byte : (x y : ℕ) (xs ys : List ℕ) → x ∷ xs ≡ y ∷ ys → x ≡ 
 first_byte x y xs ys e = ap (λ l. get_or l 0 0) e
 
 -- no value has the text that stands for none
-pub value_not_dash : (value : Xval) → text_of value ≡ codes "-" → ⊥
+pub value_not_dash : (value : Xval) → json_of value ≡ codes "-" → ⊥
 value_not_dash (Flag true) e = absurd (omega (arith, first_byte _ _ _ _ e))
 value_not_dash (Flag false) e = absurd (omega (arith, first_byte _ _ _ _ e))
 value_not_dash (Int (pos n)) e = (first_lacks 45 45 [] (subst (Lacks 45) e (decimal_lacks 45 n (omega arith)))).0 refl

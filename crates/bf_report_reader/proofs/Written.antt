@@ -6,7 +6,7 @@ use Rattle.std.proofs.lemmas.Bool.{cases_Bool}
 use Rattle.std.proofs.lemmas.Bool.Decides.{nat_tests}
 use Rattle.std.proofs.lemmas.List.{length-map}
 use Rattle.bf_value.specs.declared.xval.Xval.{Xval}
-use Rattle.bf_plan.specs.Ids.{is_id}
+use Rattle.bf_plan.specs.Ids.{is_id_in}
 use Rattle.bf_value.specs.Distinct.{AreDistinct}
 use Rattle.bf_interval.specs.declared.interval.Interval.{Interval}
 use Rattle.bf_interval.specs.Runs.{AreOfRuns, IsOfRun}
@@ -17,14 +17,14 @@ use Rattle.bf_plan.specs.Sound.{IsSound as IsSoundDag}
 use Rattle.bf_xcom.specs.declared.values.Given.{Given}
 use Rattle.bf_xcom.specs.declared.values.TaskResult.{TaskResult}
 use Rattle.bf_xcom.specs.declared.values.TaskValue.{TaskValue}
-use Rattle.bf_try.specs.Tries.{Look, result_of}
+use Rattle.bf_try.specs.Tries.{Ledger, result_of}
 use Rattle.bf_core.specs.declared.event.Event.{Event}
 use Rattle.bf_core.specs.declared.state.State.{State}
 use Rattle.bf_core.specs.declared.state.Cell.{Cell}
 use Rattle.bf_core.specs.declared.state.Instance.{Instance}
 use Rattle.bf_core.specs.Terms.{Limits}
 use Rattle.bf_core.specs.declared.decision.Decision.{Decision}
-use Rattle.bf_core.specs.Deciding.{settled, instances, pull_seen}
+use Rattle.bf_core.specs.Deciding.{settled, instances_of, pull_seen}
 use Rattle.bf_core.specs.Recursion.{out, decided}
 use Rattle.bf_core.specs.Events.{cell_at, entry_in}
 use Rattle.bf_core.specs.Agreement.{IsOutcome, final_cell, finished_from}
@@ -36,7 +36,7 @@ use Rattle.bf_report.specs.declared.report.InstanceReport.{InstanceReport}
 use Rattle.bf_report.specs.declared.report.TaskReport.{TaskReport}
 use Rattle.bf_report.specs.declared.report.RunReport.{RunReport}
 use Rattle.bf_report.specs.declared.report.Report.{Report}
-use Rattle.bf_report.specs.Dated.{pulls_of, instance_report, reported_instance, reported_instances, reported, reports_from, cell_by, AreDated, IsDated, ids_shown}
+use Rattle.bf_report.specs.Dated.{pulls_in, instance_report, reported_instance, reported_instances, reported, reports_from, cell_by, AreDated, IsDated, ids_shown}
 use Rattle.bf_report.specs.Values.{IsSoundValue, AreSoundPulls, IsSoundInstance, IsSoundTask, AreSoundTasks, HasSoundValues}
 use Rattle.bf_report.proofs.DatedFacts.{pulls_in_range, length-reports_from}
 use Rattle.bf_report_reader.specs.Entries.{IsTries}
@@ -56,7 +56,7 @@ id_at [] p d l = absurd (omega (arith, l))
 id_at (task ∷ tasks) zero d l = refl
 id_at (task ∷ tasks) (suc p) d l = id_at tasks p d (omega (arith, l))
 
-id_of : (tasks : List Task) (p : ℕ) → AllByRecursion (λ id. is_id id ≡ true) (map (λ (task : Task). task.id) tasks) → p < length tasks → is_id (slice_index_or tasks p no_task).id ≡ true
+id_of : (tasks : List Task) (p : ℕ) → AllByRecursion (λ id. is_id_in id ≡ true) (map (λ (task : Task). task.id) tasks) → p < length tasks → is_id_in (slice_index_or tasks p no_task).id ≡ true
 id_of [] p named l = absurd (omega (arith, l))
 id_of (task ∷ tasks) zero named l = named.0
 id_of (task ∷ tasks) (suc p) named l = id_of tasks p named.1 (omega (arith, l))
@@ -77,11 +77,11 @@ same_task tasks p q distinct l m same =
 abbrev pull_each : Dag → (ℕ → TaskValue) → List ℕ → List (Option Xval)
 pull_each dag value ps = map (pull_seen dag (λ u. settled (value u))) ps
 
-pull_ids : (dag : Dag) (value : ℕ → TaskValue) (ps : List ℕ) → map (λ (p : Pull). p.task) (pulls_of dag ps (pull_each dag value ps)) ≡ map (λ p. (task_of dag p).id) ps
+pull_ids : (dag : Dag) (value : ℕ → TaskValue) (ps : List ℕ) → map (λ (p : Pull). p.task) (pulls_in dag ps (pull_each dag value ps)) ≡ map (λ p. (task_of dag p).id) ps
 pull_ids dag value [] = refl
 pull_ids dag value (p ∷ ps) = ap (λ ids. (task_of dag p).id ∷ ids) (pull_ids dag value ps)
 
-pull_count : (dag : Dag) (value : ℕ → TaskValue) (ps : List ℕ) → length (pulls_of dag ps (pull_each dag value ps)) ≡ length ps
+pull_count : (dag : Dag) (value : ℕ → TaskValue) (ps : List ℕ) → length (pulls_in dag ps (pull_each dag value ps)) ≡ length ps
 pull_count dag value [] = refl
 pull_count dag value (p ∷ ps) = ap suc (pull_count dag value ps)
 
@@ -98,8 +98,8 @@ distinct_pulls dag named ps within distinct i j d l m = λ same.
     let first : i < length ps = omega (arith, l, k) in
     distinct i j 0 l k (same_task dag.tasks (get_or ps i 0) (get_or ps j 0) named.distinct (within i 0 first) (within j 0 k) (sym (pull_at dag ps i d first) ∙ same ∙ pull_at dag ps j d k))
 
-pulls_each : (dag : Dag) → IsNamed dag → (value : ℕ → TaskValue) → ((u : ℕ) → u < length dag.tasks → FitsValue dag u (value u)) → (ps : List ℕ) → All (λ p. p < length dag.tasks) ps → AreSoundPulls (pulls_of dag ps (pull_each dag value ps))
-    → AllByRecursion IsToldPull (pulls_of dag ps (pull_each dag value ps))
+pulls_each : (dag : Dag) → IsNamed dag → (value : ℕ → TaskValue) → ((u : ℕ) → u < length dag.tasks → FitsValue dag u (value u)) → (ps : List ℕ) → All (λ p. p < length dag.tasks) ps → AreSoundPulls (pulls_in dag ps (pull_each dag value ps))
+    → AllByRecursion IsToldPull (pulls_in dag ps (pull_each dag value ps))
 unfolding task_of
 pulls_each dag named value fit [] within sound = tt
 pulls_each dag named value fit (p ∷ ps) within sound =
@@ -107,7 +107,7 @@ pulls_each dag named value fit (p ∷ ps) within sound =
     ((id_of dag.tasks p named.ids here, pulled_told dag p (value p) (fit p here) sound.0), pulls_each dag named value fit ps (λ i d l. within (suc i) d (omega (arith, l))) sound.1)
 
 pulls_shown : (dag : Dag) → IsNamed dag → (value : ℕ → TaskValue) → ((u : ℕ) → u < length dag.tasks → FitsValue dag u (value u)) → (ps : List ℕ) → length ps ≤ 16 → AllPairs (λ p q. p ≢ q) ps → All (λ p. p < length dag.tasks) ps
-    → AreSoundPulls (pulls_of dag ps (pull_each dag value ps)) → AreToldPulls Version.Two (pulls_of dag ps (pull_each dag value ps))
+    → AreSoundPulls (pulls_in dag ps (pull_each dag value ps)) → AreToldPulls Version.Two (pulls_in dag ps (pull_each dag value ps))
 pulls_shown dag named value fit ps few distinct within sound = record {
   few = omega (arith, few, pull_count dag value ps);
   distinct = subst AreDistinct (sym (pull_ids dag value ps)) (distinct_pulls dag named ps within distinct);
@@ -142,12 +142,12 @@ length-reports_by dag t result i (g ∷ gs) = ap suc (length-reports_by dag t re
 abbrev MayBeShown : Bool → InstanceReport → Type 0
 MayBeShown expanded x = IsSoundInstance x → IsShownInstance Version.Two expanded x
 
-instances_shown : (dag : Dag) (t : ℕ) (expanded : Bool) (pulls : List (Option Xval)) → (AreSoundPulls (pulls_of dag (task_of dag t).pulls pulls) → AreToldPulls Version.Two (pulls_of dag (task_of dag t).pulls pulls))
+instances_shown : (dag : Dag) (t : ℕ) (expanded : Bool) (pulls : List (Option Xval)) → (AreSoundPulls (pulls_in dag (task_of dag t).pulls pulls) → AreToldPulls Version.Two (pulls_in dag (task_of dag t).pulls pulls))
     → (result : ℕ → TaskResult) → ((i : ℕ) → IsTries (result i).tries) → (i : ℕ) (gs : List Given) → AllByRecursion (λ (x : Instance). IsFitting dag t x.phase) (finished_from result i gs) → AllByRecursion (IsGivenSo expanded pulls) gs
     → AllByRecursion (MayBeShown expanded) (reports_by dag t result i gs)
 instances_shown dag t expanded pulls told result tries i [] fit given = tt
 instances_shown dag t expanded pulls told result tries i (g ∷ gs) fit given =
-    let P : List (Option Xval) → Type 0 = λ vs. AreSoundPulls (pulls_of dag (task_of dag t).pulls vs) → AreToldPulls Version.Two (pulls_of dag (task_of dag t).pulls vs) in (
+    let P : List (Option Xval) → Type 0 = λ vs. AreSoundPulls (pulls_in dag (task_of dag t).pulls vs) → AreToldPulls Version.Two (pulls_in dag (task_of dag t).pulls vs) in (
       λ sound. record {
         result = record { tries = tries i; outcome = shown_outcome dag t (result i).outcome sound.outcome fit.0 };
         item = item_told expanded g.item given.0.item sound.item;
@@ -172,7 +172,7 @@ reported_shown false (x ∷ xs) may few some sound = may.0 sound
 abbrev IsReadBack : Dag → ℕ → Cell → Type 0
 IsReadBack dag t c = IsSoundTask (reported dag t c) → IsShownTask Version.Two (reported dag t c)
 
-read_back_decided : (dag : Dag) (t : ℕ) (result : ℕ → TaskResult) (d : Decision) (pulls : List (Option Xval)) → (AreSoundPulls (pulls_of dag (task_of dag t).pulls pulls) → AreToldPulls Version.Two (pulls_of dag (task_of dag t).pulls pulls))
+read_back_decided : (dag : Dag) (t : ℕ) (result : ℕ → TaskResult) (d : Decision) (pulls : List (Option Xval)) → (AreSoundPulls (pulls_in dag (task_of dag t).pulls pulls) → AreToldPulls Version.Two (pulls_in dag (task_of dag t).pulls pulls))
     → ((i : ℕ) → IsTries (result i).tries) → ((gs : List Given) → d ≡ Decision.Instances gs → AllByRecursion (IsGivenSo (is_some (task_of dag t).expand) pulls) gs)
     → ((gs : List Given) → d ≡ Decision.Instances gs → is_some (task_of dag t).expand ≡ true → 1 ≤ length gs) → IsFew (final_cell d result) → HasFitting dag t (final_cell d result) → IsReadBack dag t (final_cell d result)
 read_back_decided dag t result Decision.Wait pulls told tries given some few fit = λ sound. tt
@@ -211,10 +211,10 @@ tasks_shown dag cell t (task ∷ tasks) each sound =
     (each t (omega arith) (omega arith) sound.0, tasks_shown dag cell (suc t) tasks (λ u low high. each u (omega (arith, low)) (omega (arith, high))) sound.1)
 
 -- each task of the runs from k on is read back
-abbrev AreReadBack : Dag → Look → ℕ → ℕ → Type 0
+abbrev AreReadBack : Dag → Ledger → ℕ → ℕ → Type 0
 AreReadBack dag ledger k runs = (j t : ℕ) → k ≤ j → j < k + runs → t < length dag.tasks → IsReadBack dag t (cell_by dag ledger j t)
 
-runs_shown : (dag : Dag) (ledger : Look) (k : ℕ) (intervals : List Interval) (runs : List RunReport) → All IsOfRun intervals → AreReadBack dag ledger k (length intervals) → AreDated dag ledger k intervals runs → AllByRecursion (λ (r : RunReport). AreSoundTasks r.tasks) runs
+runs_shown : (dag : Dag) (ledger : Ledger) (k : ℕ) (intervals : List Interval) (runs : List RunReport) → All IsOfRun intervals → AreReadBack dag ledger k (length intervals) → AreDated dag ledger k intervals runs → AllByRecursion (λ (r : RunReport). AreSoundTasks r.tasks) runs
     → AllByRecursion (IsShownRun Version.Two (length dag.tasks)) runs
 runs_shown dag ledger k [] [] each back dated sound = tt
 runs_shown dag ledger k [] (r ∷ rs) each back dated sound = absurd dated
@@ -231,13 +231,13 @@ runs_shown dag ledger k (i ∷ is) (r ∷ rs) each back (interval, state, tasks,
       runs_shown dag ledger (suc k) is rs (λ j d l. each (suc j) d (omega arith)) (λ j t low high l. back j t (omega arith) (omega arith) l) more sound.1,
     )
 
-length-dated : (dag : Dag) (ledger : Look) (k : ℕ) (intervals : List Interval) (runs : List RunReport) → AreDated dag ledger k intervals runs → length runs ≡ length intervals
+length-dated : (dag : Dag) (ledger : Ledger) (k : ℕ) (intervals : List Interval) (runs : List RunReport) → AreDated dag ledger k intervals runs → length runs ≡ length intervals
 length-dated dag ledger k [] [] dated = refl
 length-dated dag ledger k [] (r ∷ rs) dated = absurd dated
 length-dated dag ledger k (i ∷ is) [] dated = absurd dated
 length-dated dag ledger k (i ∷ is) (r ∷ rs) dated = ap suc (length-dated dag ledger (suc k) is rs dated.3)
 
-starts_rise : (dag : Dag) (ledger : Look) (k : ℕ) (intervals : List Interval) (runs : List RunReport) → AllPairs (λ i j. i.start.nanosecond <ℤ j.start.nanosecond) intervals → AreDated dag ledger k intervals runs → Rise runs
+starts_rise : (dag : Dag) (ledger : Ledger) (k : ℕ) (intervals : List Interval) (runs : List RunReport) → AllPairs (λ i j. i.start.nanosecond <ℤ j.start.nanosecond) intervals → AreDated dag ledger k intervals runs → Rise runs
 starts_rise dag ledger k [] [] rising dated = tt
 starts_rise dag ledger k [] (r ∷ rs) rising dated = absurd dated
 starts_rise dag ledger k (i ∷ is) [] rising dated = absurd dated
@@ -251,14 +251,14 @@ starts_rise dag ledger k (i ∷ j ∷ is) (r ∷ q ∷ rs) rising dated =
 
 -- ---- reports
 
-none_without_runs : (dag : Dag) (ledger : Look) (intervals : List Interval) (runs : List RunReport) → AreDated dag ledger 0 intervals runs → runs ≡ [] → ids_shown dag intervals ≡ []
+none_without_runs : (dag : Dag) (ledger : Ledger) (intervals : List Interval) (runs : List RunReport) → AreDated dag ledger 0 intervals runs → runs ≡ [] → ids_shown dag intervals ≡ []
 none_without_runs dag ledger [] runs dated none = refl
 none_without_runs dag ledger (i ∷ is) [] dated none = absurd dated
 none_without_runs dag ledger (i ∷ is) (r ∷ rs) dated none = absurd (cc none)
 
 -- the ids that a report shows
 record AreShownIds (dag : Dag) (ids : List (List ℕ)) : Type 0 where
-  named : AllByRecursion (λ id. is_id id ≡ true) ids
+  named : AllByRecursion (λ id. is_id_in id ≡ true) ids
   distinct : AreDistinct ids
   few : length ids ≤ 2_000
 
@@ -266,7 +266,7 @@ ids_are_shown : (dag : Dag) (intervals : List Interval) → IsNamed dag → leng
 ids_are_shown dag [] is few = record { named = tt; distinct = λ i j d h k. absurd (omega (arith, k)); few = omega arith }
 ids_are_shown dag (i ∷ is) named few = record { named = named.ids; distinct = named.distinct; few = omega (arith, length-map dag.tasks (λ (task : Task). task.id), few) }
 
-each_of_ids : (dag : Dag) (ledger : Look) (intervals : List Interval) (runs : List RunReport) → AreDated dag ledger 0 intervals runs → AllByRecursion (IsShownRun Version.Two (length dag.tasks)) runs → AllByRecursion (IsShownRun Version.Two (length (ids_shown dag intervals))) runs
+each_of_ids : (dag : Dag) (ledger : Ledger) (intervals : List Interval) (runs : List RunReport) → AreDated dag ledger 0 intervals runs → AllByRecursion (IsShownRun Version.Two (length dag.tasks)) runs → AllByRecursion (IsShownRun Version.Two (length (ids_shown dag intervals))) runs
 each_of_ids dag ledger [] [] dated each = tt
 each_of_ids dag ledger [] (r ∷ rs) dated each = absurd dated
 each_of_ids dag ledger (i ∷ is) runs dated each =
@@ -281,11 +281,11 @@ written_reports_are_shown dag sound named intervals are limits journal s by is r
     let back : AreReadBack dag ledger 0 (length intervals) = λ j t low high l. task_read_back dag sound named (length intervals) s is few fit j t (omega arith) l in
     let ids = ids_are_shown dag intervals named sound.few_tasks in
     let runs = each_of_ids dag ledger intervals report.runs dated.runs (runs_shown dag ledger 0 intervals report.runs are.each back dated.runs values) in
-    let I : List (List ℕ) → Type 0 = λ x. AllByRecursion (λ id. is_id id ≡ true) x in
+    let I : List (List ℕ) → Type 0 = λ x. AllByRecursion (λ id. is_id_in id ≡ true) x in
     let R : List (List ℕ) → Type 0 = λ x. AllByRecursion (IsShownRun Version.Two (length x)) report.runs in
     let V : Version → Type 0 = λ v. AllByRecursion (IsShownRun v (length report.tasks)) report.runs in
     record {
-      dag_id = ap is_id dated.dag_id ∙ named.dag_id;
+      dag_id = ap is_id_in dated.dag_id ∙ named.dag_id;
       ids = subst I (sym dated.tasks) ids.named;
       distinct = subst AreDistinct (sym dated.tasks) ids.distinct;
       few_tasks = omega (arith, ap length dated.tasks, ids.few);

@@ -2,7 +2,7 @@
 use Rattle.std.specs.Prelude.{◌≡◌, ◌≤◌, ℕ, zero, suc, ◌+◌, ◌-◌, ◌*◌, ◌==◌, ◌&&◌, ◌||◌, nat_lt, not, if◌then◌else◌, Bool, true, false, List, [], ◌∷◌, ◌++◌, length, Option, Some, None, is_some, option_map, slice_get, int_lt}
 use Rattle.std.specs.List.{list_any, flat_map}
 use Rattle.std.specs.Str.{bytes_eq}
-use Rattle.bf_plan.specs.Ids.{is_id}
+use Rattle.bf_plan.specs.Ids.{is_id_in}
 use Rattle.bf_interval.specs.declared.interval.Interval.{Interval}
 use Rattle.bf_value.specs.declared.xval.Xval.{Xval}
 use Rattle.bf_xcom.specs.declared.values.TaskResult.{TaskResult}
@@ -39,8 +39,8 @@ abbrev pub open_count : Option OpenTask → ℕ
 open_count None = 0
 open_count (Some task) = 1
 
-abbrev pub count : OpenRun → ℕ
-count open_run = length open_run.run.tasks + open_count open_run.task
+abbrev pub count_of : OpenRun → ℕ
+count_of open_run = length open_run.run.tasks + open_count open_run.task
 
 abbrev pub closed : OpenRun → RunReport
 closed open_run = record open_run.run { tasks = tasks_in open_run }
@@ -79,9 +79,9 @@ abbrev pub lacks_no_item : Version → OpenTask → Bool
 lacks_no_item version task = has_item (tells_item version (is_some task.before)) task.instance.item
 
 -- an item where one is lacking, or a pull behind it, which is none of those before
-abbrev pub takes : Version → Bool → InstanceReport → GivenPart → Bool
-takes version complete instance (GivenPart.Item item) = not complete
-takes version complete instance (GivenPart.Pull pull) = (complete && nat_lt (length instance.pulls) (most_told version)) && not (list_any (λ earlier. bytes_eq earlier.task pull.task) instance.pulls)
+abbrev pub takes_at : Version → Bool → InstanceReport → GivenPart → Bool
+takes_at version complete instance (GivenPart.Item item) = not complete
+takes_at version complete instance (GivenPart.Pull pull) = (complete && nat_lt (length instance.pulls) (most_told version)) && not (list_any (λ earlier. bytes_eq earlier.task pull.task) instance.pulls)
 
 -- the instance with a further part of what it was given
 abbrev pub with_told : InstanceReport → GivenPart → InstanceReport
@@ -94,8 +94,8 @@ untold result = record { result = result; item = None; pulls = [] }
 
 -- ---- what may stand next
 
-abbrev pub run_count : Beginning → ℕ
-run_count beginning = length beginning.runs + length (last_run beginning.run)
+abbrev pub run_count_of : Beginning → ℕ
+run_count_of beginning = length beginning.runs + length (last_run beginning.run)
 
 -- the instance that was read last has its item, where one is told
 abbrev pub is_given_task : Version → Option OpenTask → Bool
@@ -106,24 +106,24 @@ abbrev pub is_given_in : Version → Option OpenRun → Bool
 is_given_in version None = true
 is_given_in version (Some open_run) = is_given_task version open_run.task
 
-abbrev pub is_given : Beginning → Bool
-is_given beginning = is_given_in beginning.version beginning.run
+abbrev pub is_given_at : Beginning → Bool
+is_given_at beginning = is_given_in beginning.version beginning.run
 
 -- each run has all tasks
 abbrev pub is_whole_in : Option OpenRun → List (List ℕ) → Bool
 is_whole_in None tasks = true
-is_whole_in (Some open_run) tasks = count open_run == length tasks
+is_whole_in (Some open_run) tasks = count_of open_run == length tasks
 
-abbrev pub is_whole : Beginning → Bool
-is_whole beginning = is_given beginning && is_whole_in beginning.run beginning.tasks
+abbrev pub is_whole_at : Beginning → Bool
+is_whole_at beginning = is_given_at beginning && is_whole_in beginning.run beginning.tasks
 
 abbrev pub starts_before : Option OpenRun → Interval → Bool
 starts_before None interval = true
 starts_before (Some open_run) interval = int_lt open_run.run.interval.start.nanosecond interval.start.nanosecond
 
 -- a run with this data interval
-abbrev pub may_begin : Beginning → Interval → Bool
-may_begin beginning interval = (is_whole beginning && nat_lt (run_count beginning) 4_096) && starts_before beginning.run interval
+abbrev pub may_begin_in : Beginning → Interval → Bool
+may_begin_in beginning interval = (is_whole_at beginning && nat_lt (run_count_of beginning) 4_096) && starts_before beginning.run interval
 
 -- the task of that number has this id
 abbrev pub is_text : Option (List ℕ) → List ℕ → Bool
@@ -131,17 +131,17 @@ is_text None id = false
 is_text (Some task) id = bytes_eq task id
 
 -- an id that isn't there yet
-abbrev pub is_new : List (List ℕ) → List ℕ → Bool
-is_new tasks id = (is_id id && nat_lt (length tasks) 2_000) && not (list_any (λ task. bytes_eq task id) tasks)
+abbrev pub is_new_in : List (List ℕ) → List ℕ → Bool
+is_new_in tasks id = (is_id_in id && nat_lt (length tasks) 2_000) && not (list_any (λ task. bytes_eq task id) tasks)
 
 -- in the first run a task that isn't there yet, in the others the next one
 abbrev pub is_next_in : List RunReport → List (List ℕ) → Option OpenRun → List ℕ → Bool
 is_next_in runs tasks None id = false
-is_next_in [] tasks (Some open_run) id = is_new tasks id
-is_next_in (first ∷ rest) tasks (Some open_run) id = is_text (slice_get tasks (count open_run)) id
+is_next_in [] tasks (Some open_run) id = is_new_in tasks id
+is_next_in (first ∷ rest) tasks (Some open_run) id = is_text (slice_get tasks (count_of open_run)) id
 
-abbrev pub is_next : Beginning → List ℕ → Bool
-is_next beginning id = is_given beginning && is_next_in beginning.runs beginning.tasks beginning.run id
+abbrev pub is_next_at : Beginning → List ℕ → Bool
+is_next_at beginning id = is_given_at beginning && is_next_in beginning.runs beginning.tasks beginning.run id
 
 abbrev pub ids_with : List RunReport → List (List ℕ) → List ℕ → List (List ℕ)
 ids_with [] tasks id = tasks ++ id ∷ []
@@ -160,8 +160,8 @@ abbrev pub goes_on_in : List (List ℕ) → Option OpenRun → List ℕ → ℕ 
 goes_on_in tasks None id index = false
 goes_on_in tasks (Some open_run) id index = is_further_task open_run.task index && is_text (slice_get tasks (length open_run.run.tasks)) id
 
-abbrev pub goes_on : Beginning → List ℕ → ℕ → Bool
-goes_on beginning id index = is_given beginning && goes_on_in beginning.tasks beginning.run id index
+abbrev pub goes_on_at : Beginning → List ℕ → ℕ → Bool
+goes_on_at beginning id index = is_given_at beginning && goes_on_in beginning.tasks beginning.run id index
 
 -- a task without a try
 abbrev pub never_report : Untried → TaskReport
@@ -177,7 +177,7 @@ opened_by true result = record { before = Some []; instance = untold result }
 -- a part of what the instance that was read last was given
 abbrev pub takes_task : Version → Option OpenTask → GivenPart → Bool
 takes_task version None part = false
-takes_task version (Some task) part = takes version (lacks_no_item version task) task.instance part
+takes_task version (Some task) part = takes_at version (lacks_no_item version task) task.instance part
 
 abbrev pub takes_in : Version → Option OpenRun → GivenPart → Bool
 takes_in version None part = false
@@ -209,16 +209,16 @@ put_part (Some open_run) part = Some (record open_run { task = option_map (λ ta
 
 abbrev pub with_run : Beginning → RunReport → Option Beginning
 with_run beginning run =
-    if may_begin beginning run.interval then Some (record beginning { runs = runs_of beginning; run = Some (record { run = run; task = None }) }) else None
+    if may_begin_in beginning run.interval then Some (record beginning { runs = runs_of beginning; run = Some (record { run = run; task = None }) }) else None
 
 abbrev pub with_task : Beginning → List ℕ → TaskReport → Option Beginning
-with_task beginning id task = if is_next beginning id then Some (record beginning { tasks = ids_with beginning.runs beginning.tasks id; run = put_task beginning.run task }) else None
+with_task beginning id task = if is_next_at beginning id then Some (record beginning { tasks = ids_with beginning.runs beginning.tasks id; run = put_task beginning.run task }) else None
 
 abbrev pub with_open : Beginning → List ℕ → OpenTask → Option Beginning
-with_open beginning id task = if is_next beginning id then Some (record beginning { tasks = ids_with beginning.runs beginning.tasks id; run = put_open beginning.run task }) else None
+with_open beginning id task = if is_next_at beginning id then Some (record beginning { tasks = ids_with beginning.runs beginning.tasks id; run = put_open beginning.run task }) else None
 
 abbrev pub with_further : Beginning → List ℕ → ℕ → TaskResult → Option Beginning
-with_further beginning id index result = if goes_on beginning id index then Some (record beginning { run = put_further beginning.run result }) else None
+with_further beginning id index result = if goes_on_at beginning id index then Some (record beginning { run = put_further beginning.run result }) else None
 
 -- what a line tells of what the last instance was given
 abbrev pub with_part : Beginning → GivenPart → Option Beginning
@@ -236,9 +236,9 @@ with_entry beginning id (Entry.Tried (Some (suc before)) result) = with_further 
 -- in the first run each task has its id, in the others there are no more tasks than ids
 abbrev pub IsCountedIn : List RunReport → List (List ℕ) → Option OpenRun → Type 0
 IsCountedIn [] tasks None = tasks ≡ []
-IsCountedIn [] tasks (Some open_run) = count open_run ≡ length tasks
+IsCountedIn [] tasks (Some open_run) = count_of open_run ≡ length tasks
 IsCountedIn (first ∷ rest) tasks None = ⊥
-IsCountedIn (first ∷ rest) tasks (Some open_run) = count open_run ≤ length tasks
+IsCountedIn (first ∷ rest) tasks (Some open_run) = count_of open_run ≤ length tasks
 
 abbrev pub IsCounted : Beginning → Type 0
 IsCounted beginning = IsCountedIn beginning.runs beginning.tasks beginning.run
@@ -263,10 +263,10 @@ task_room (Some task) = before_room task.before + instance_room task.instance
 
 abbrev pub open_room : Option OpenRun → ℕ
 open_room None = 0
-open_room (Some open_run) = (2_000 - count open_run) * 30_000 + task_room open_run.task
+open_room (Some open_run) = (2_000 - count_of open_run) * 30_000 + task_room open_run.task
 
 abbrev pub room : Beginning → ℕ
-room beginning = (4_096 - run_count beginning) * 70_000_000 + open_room beginning.run
+room beginning = (4_096 - run_count_of beginning) * 70_000_000 + open_room beginning.run
 
 abbrev pub IsSmall : Beginning → Type 0
 IsSmall beginning = length beginning.tasks ≤ 2_000

@@ -1,6 +1,6 @@
 -- What the lines of tasks say, behind the id.
 use Rattle.std.specs.Prelude.{◌≡◌, ℕ, ◌<◌, ◌≤◌, List, ◌∷◌, ◌++◌, length, Option, Some, None, codes, decimal, IsUtf8}
-use Rattle.bf_value.specs.Json.{text_of, value_of_line}
+use Rattle.bf_value.specs.Json.{json_of, value_of_line}
 use Rattle.bf_value.specs.declared.xval.Xval.{Xval}
 use Rattle.bf_xcom.specs.declared.values.Outcome.{Outcome}
 use Rattle.bf_xcom.specs.declared.values.Outcome.TheVariants.{Success, Failed, Skipped}
@@ -12,9 +12,9 @@ use Rattle.bf_report_reader.specs.declared.entry.Entry.TheVariants.{Never, Tried
 
 -- a value is what a line of its own text pushes: it isn't null, and its lists are at most 64 deep
 pub record IsShownValue (value : Xval) : Type 0 where
-  pub utf8 : IsUtf8 (text_of value)
-  pub pushed : value_of_line (text_of value) ≡ Some value
-  pub short : length (text_of value) ≤ 65_536
+  pub utf8 : IsUtf8 (json_of value)
+  pub pushed : value_of_line (json_of value) ≡ Some value
+  pub short : length (json_of value) ≤ 65_536
 
 abbrev pub IsShownOutcome : Outcome → Type 0
 IsShownOutcome (Success None) = Unit {0}

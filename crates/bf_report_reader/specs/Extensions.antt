@@ -1,21 +1,21 @@
 -- Reports that begin as one does that was read so far.
 use Rattle.std.specs.Prelude.{◌≡◌, ℕ, zero, suc, true, List, [], ◌∷◌, ◌++◌, None, codes}
-use Rattle.bf_plan.specs.Ids.{is_id}
+use Rattle.bf_plan.specs.Ids.{is_id_in}
 use Rattle.bf_report.specs.declared.report.Version.{Version}
 use Rattle.bf_report.specs.declared.report.Report.{Report}
-use Rattle.bf_report.specs.Report.{version_word, report_text}
+use Rattle.bf_report.specs.Report.{version_word_of, report_text}
 use Rattle.bf_report_reader.specs.declared.beginning.Beginning.{Beginning}
 use Rattle.bf_report_reader.specs.Rules.{IsShownReport}
-use Rattle.bf_report_reader.specs.Beginning.{is_whole, so_far, opening_text}
+use Rattle.bf_report_reader.specs.Beginning.{is_whole_at, so_far, opening_text}
 use Rattle.bf_report_reader.specs.Steps.{Follows}
 
 -- the words of a head line
 abbrev pub head_words : Version × List ℕ → List ℕ
-head_words head = codes "@backfill" ++ 32 ∷ (version_word head.0 ++ 32 ∷ head.1)
+head_words head = codes "@backfill" ++ 32 ∷ (version_word_of head.0 ++ 32 ∷ head.1)
 
 -- the head line says this version and this dag id
 abbrev pub SaysHead : List ℕ → Version × List ℕ → Type 0
-SaysHead text head = (is_id head.1 ≡ true) × (text ≡ head_words head)
+SaysHead text head = (is_id_in head.1 ≡ true) × (text ≡ head_words head)
 
 -- a report of which only the head was read
 abbrev pub start : Version × List ℕ → Beginning
@@ -31,7 +31,7 @@ pub record Extends (beginning : Beginning) (report : Report) : Type 0 where
   pub lines : ℕ
   pub last : Beginning
   pub leads : Leads lines beginning last
-  pub whole : is_whole last ≡ true
+  pub whole : is_whole_at last ≡ true
   pub is : so_far last ≡ report
 
 -- each report whose text begins so goes on from here

@@ -1,7 +1,7 @@
 -- The rules of a report.
 use Rattle.std.specs.Prelude.{◌≡◌, ◌≤◌, ◌<◌, ◌<ℤ◌, ℕ, Bool, true, false, List, [], ◌∷◌, length, map, Option, Some, None, is_some}
 use Rattle.std.specs.List.{AllByRecursion}
-use Rattle.bf_plan.specs.Ids.{is_id}
+use Rattle.bf_plan.specs.Ids.{is_id_in}
 use Rattle.bf_value.specs.Distinct.{AreDistinct}
 use Rattle.bf_value.specs.declared.xval.Xval.{Xval}
 use Rattle.bf_report.specs.declared.report.Version.{Version}
@@ -16,7 +16,7 @@ use Rattle.bf_report_reader.specs.declared.beginning.Beginning.{Beginning}
 use Rattle.bf_report_reader.specs.Entries.{IsShownResult}
 use Rattle.bf_report_reader.specs.Parts.{IsToldItem, IsToldPull}
 use Rattle.bf_report_reader.specs.Runs.{IsRunInterval}
-use Rattle.bf_report_reader.specs.Beginning.{runs_of, run_count, tells_item, most_told, has_item}
+use Rattle.bf_report_reader.specs.Beginning.{runs_of, run_count_of, tells_item, most_told, has_item}
 
 -- an item that is there is told, and it can be read back
 abbrev pub MayHaveItem : Bool → Option Xval → Type 0
@@ -58,8 +58,8 @@ Rise (first ∷ second ∷ rest) = (first.interval.start.nanosecond <ℤ second.
 
 -- a report that can be read back; its text has no ids where it has no run
 pub record IsShownReport (report : Report) : Type 0 where
-  pub dag_id : is_id report.dag_id ≡ true
-  pub ids : AllByRecursion (λ id. is_id id ≡ true) report.tasks
+  pub dag_id : is_id_in report.dag_id ≡ true
+  pub ids : AllByRecursion (λ id. is_id_in id ≡ true) report.tasks
   pub distinct : AreDistinct report.tasks
   pub few_tasks : length report.tasks ≤ 2_000
   pub runs : AllByRecursion (IsShownRun report.version (length report.tasks)) report.runs
@@ -91,10 +91,10 @@ IsOpenRun version None = Unit {0}
 IsOpenRun version (Some open_run) = IsRunInterval open_run.run.interval × AllByRecursion (IsShownTask version) open_run.run.tasks × IsOpenTask version open_run.task
 
 pub record IsRuled (beginning : Beginning) : Type 0 where
-  pub dag_id : is_id beginning.dag_id ≡ true
-  pub ids : AllByRecursion (λ id. is_id id ≡ true) beginning.tasks
+  pub dag_id : is_id_in beginning.dag_id ≡ true
+  pub ids : AllByRecursion (λ id. is_id_in id ≡ true) beginning.tasks
   pub distinct : AreDistinct beginning.tasks
   pub runs : AllByRecursion (IsShownRun beginning.version (length beginning.tasks)) beginning.runs
   pub last : IsOpenRun beginning.version beginning.run
-  pub few_runs : run_count beginning ≤ 4_096
+  pub few_runs : run_count_of beginning ≤ 4_096
   pub rise : Rise (runs_of beginning)

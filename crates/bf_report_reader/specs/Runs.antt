@@ -5,7 +5,7 @@ use Rattle.bf_interval.specs.declared.interval.Interval.{Interval}
 use Rattle.bf_interval.specs.Years.{IsInYears}
 use Rattle.bf_moment.specs.Moment.{moment_text, IsShown, IsWhole}
 use Rattle.bf_xcom.specs.declared.values.RunState.{RunState}
-use Rattle.bf_report.specs.Report.{run_state_word}
+use Rattle.bf_report.specs.Report.{run_state_word_of}
 
 -- a moment of whole seconds from 1970 to 2208
 pub record IsReportMoment (moment : Timestamp) : Type 0 where
@@ -26,7 +26,7 @@ pub record IsRunInterval (interval : Interval) : Type 0 where
 
 -- start, end and state, separated by one space
 abbrev pub run_words : Interval × RunState → List ℕ
-run_words words = moment_text words.0.start.nanosecond ++ 32 ∷ (moment_text words.0.end.nanosecond ++ 32 ∷ run_state_word words.1)
+run_words words = moment_text words.0.start.nanosecond ++ 32 ∷ (moment_text words.0.end.nanosecond ++ 32 ∷ run_state_word_of words.1)
 
 abbrev pub IsRunWords : Interval × RunState → Type 0
 IsRunWords words = IsRunInterval words.0

@@ -10,7 +10,7 @@ use Rattle.bf_report_reader.specs.Entries.{IsEntry, entry_text}
 use Rattle.bf_report_reader.specs.Parts.{IsPart, part_text}
 use Rattle.bf_report_reader.specs.Runs.{IsRunInterval, run_words}
 use Rattle.bf_report_reader.specs.Rules.{IsRuled}
-use Rattle.bf_report_reader.specs.Beginning.{IsCounted, IsSmall, is_whole, room, opening_text, so_far, runs_of, with_entry, with_run, with_part}
+use Rattle.bf_report_reader.specs.Beginning.{IsCounted, IsSmall, is_whole_at, room, opening_text, so_far, runs_of, with_entry, with_run, with_part}
 
 -- the line is that of a task which may stand next, and the other is the report with it
 pub record AddsEntry (old : Beginning) (text : List ℕ) (new : Beginning) : Type 0 where
@@ -41,7 +41,7 @@ Follows old text new = AddsEntry old text new ⊎ (AddsRun old text new ⊎ Adds
 
 -- the line is the end of the report
 abbrev pub MayEnd : Beginning → List ℕ → Type 0
-MayEnd beginning text = (text ≡ codes "@end" ++ 32 ∷ decimal (length (runs_of beginning))) × (is_whole beginning ≡ true)
+MayEnd beginning text = (text ≡ codes "@end" ++ 32 ∷ decimal (length (runs_of beginning))) × (is_whole_at beginning ≡ true)
 
 -- the line may stand next
 abbrev pub MayStand : Beginning → List ℕ → Type 0

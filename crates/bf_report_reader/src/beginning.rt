@@ -1,6 +1,6 @@
 //! A report as far as it was read.
 ghost use Rattle.std.specs.Prelude.{◌≡◌, ◌∷◌, ◌++◌, [], if◌then◌else◌, true, IfOk, OnOk, Some, None};
-ghost use Rattle.bf_report_reader.specs.Beginning.{so_far, last_run, never_report, opened_by, run_count as counted_runs, is_given as is_given_by, is_whole_in, is_whole as is_whole_by, may_begin as begins, with_run, is_new as is_new_in, is_next as is_next_by, ids_with, with_task, with_open, goes_on as continues, with_further, takes_in, with_part, with_entry};
+ghost use Rattle.bf_report_reader.specs.Beginning.{so_far, last_run, never_report, opened_by, run_count_of, is_given_at, is_whole_in, is_whole_at, may_begin_in, with_run, is_new_in, is_next_at, ids_with, with_task, with_open, goes_on_at, with_further, takes_in, with_part, with_entry};
 
 use crate::entry::{Entry, Untried};
 use crate::ids::TaskIds;
@@ -57,7 +57,7 @@ impl Beginning {
 
     /// How many runs were read.
     pub fn run_count(&self) -> usize
-        ensures { result ≡ counted_runs self.now }
+        ensures { result ≡ run_count_of self.now }
     {
         // a slice has so few items that one more can be counted
         match self.run {
@@ -68,7 +68,7 @@ impl Beginning {
 
     /// Whether the instance that was read last has its item, where the version tells one.
     fn is_given(&self) -> bool
-        ensures { result ≡ is_given_by self.now }
+        ensures { result ≡ is_given_at self.now }
     {
         match &self.run {
             Some(open) => open.is_given(self.version),
@@ -88,14 +88,14 @@ impl Beginning {
 
     /// Whether each run has all tasks, with all that is told of them.
     pub fn is_whole(&self) -> bool
-        ensures { result ≡ is_whole_by self.now }
+        ensures { result ≡ is_whole_at self.now }
     {
         self.is_given() && self.has_all_tasks()
     }
 
     /// Whether a run with this data interval may stand next.
     fn may_begin(&self, interval: Interval) -> bool
-        ensures { result ≡ begins self.now interval }
+        ensures { result ≡ may_begin_in self.now interval }
     {
         if !self.is_whole() || self.run_count() >= MOST_RUNS {
             return false;
@@ -131,7 +131,7 @@ impl Beginning {
 
     /// Whether a task with this id may stand next: in the first run any that isn't there yet, in the others the next one.
     fn is_next(&self, id: &[u8]) -> bool
-        ensures { result ≡ is_next_by self.now id.now }
+        ensures { result ≡ is_next_at self.now id.now }
     {
         let Some(open) = &self.run else {
             return false;
@@ -146,7 +146,7 @@ impl Beginning {
     }
 
     fn add_id(&mut self, alloc: Global, id: &[u8]) -> Result<(), OutOfMemory>
-        requires { is_next_by self.old id.now ≡ true }
+        requires { is_next_at self.old id.now ≡ true }
         ensures { OnOk result (self.new ≡ record self.old {
           tasks = ids_with self.old.runs self.old.tasks id.now;
         }) }
@@ -199,7 +199,7 @@ impl Beginning {
 
     /// Whether an instance with this index is the next of the task that stands last.
     fn goes_on(&self, id: &[u8], index: u32) -> bool
-        ensures { result ≡ continues self.now id.now index }
+        ensures { result ≡ goes_on_at self.now id.now index }
     {
         let Some(open) = &self.run else {
             return false;

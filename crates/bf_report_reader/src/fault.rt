@@ -54,9 +54,9 @@ impl fmt::Display for ReportFault {
 impl Error for ReportFault {}
 
 impl From<OutOfMemory> for ReportFault {
-    ghost use Rattle.bf_report_reader.specs.declared.fault.ReportFault.TheVariants.{OutOfMemory as NoMemory};
+    ghost use Rattle.bf_report_reader.specs.declared.fault.ReportFault.TheVariants.{OutOfMemory};
 
-    ghost from_gives = { λ _ e. e ≡ NoMemory };
+    ghost from_gives = { λ _ e. e ≡ OutOfMemory };
 
     fn from(_e: OutOfMemory) -> ReportFault {
         ReportFault::OutOfMemory
@@ -68,9 +68,9 @@ impl From<OutOfMemory> for ReportFault {
 pub(crate) struct Halted;
 
 impl From<Halted> for ReportFault {
-    ghost use Rattle.bf_report_reader.specs.declared.fault.ReportFault.TheVariants.{Io as NoBytes};
+    ghost use Rattle.bf_report_reader.specs.declared.fault.ReportFault.TheVariants.{Io};
 
-    ghost from_gives = { λ _ e. e ≡ NoBytes };
+    ghost from_gives = { λ _ e. e ≡ Io };
 
     fn from(_e: Halted) -> ReportFault {
         ReportFault::Io

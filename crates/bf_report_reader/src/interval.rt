@@ -1,6 +1,6 @@
 //! What the line of a run says.
 ghost use Rattle.std.specs.Prelude.{◌≡◌, IfSome};
-ghost use Rattle.bf_report.specs.Report.{run_state_word};
+ghost use Rattle.bf_report.specs.Report.{run_state_word_of};
 ghost use Rattle.bf_report_reader.specs.Reads.{Spells, Finds};
 ghost use Rattle.bf_report_reader.specs.Runs.{IsReportMoment, spelled_moment, IsRunWords, run_words};
 
@@ -35,8 +35,8 @@ fn report_moment_in(text: &[u8]) -> Option<Timestamp>
 }
 
 fn run_state_in(text: &[u8]) -> Option<RunState>
-    ensures some { IfSome result (λ state. text.now ≡ run_state_word state) }
-    ensures every { Finds (λ state. text.now ≡ run_state_word state) result }
+    ensures some { IfSome result (λ state. text.now ≡ run_state_word_of state) }
+    ensures every { Finds (λ state. text.now ≡ run_state_word_of state) result }
 {
     if text == b"success".as_slice() {
         Some(RunState::Success)

@@ -6,7 +6,7 @@ ghost use Rattle.std.specs.List.{list_any};
 ghost use Rattle.std.specs.Str.{bytes_eq};
 ghost use Rattle.bf_report_reader.specs.Parting.{open_by};
 ghost use Rattle.bf_report_reader.specs.Lasts.{told_instances, told_task, further_task, at_last};
-ghost use Rattle.bf_report_reader.specs.Beginning.{never_report, opened_by, count as counted, closed, most_told, with_told, is_further_task, is_given_task, takes as may_take, takes_task, put_task, put_open, put_further, put_part};
+ghost use Rattle.bf_report_reader.specs.Beginning.{never_report, opened_by, count_of, closed, most_told, with_told, is_further_task, is_given_task, takes_at, takes_task, put_task, put_open, put_further, put_part};
 
 use crate::entry::Untried;
 use crate::part::GivenPart;
@@ -50,7 +50,7 @@ fn has_pull(instance: &InstanceReport, id: &str) -> bool
 
 /// Whether a part of what an instance was given may stand next, behind its item, where it has one, or in its place.
 fn takes_part(version: Version, is_given: bool, instance: &InstanceReport, part: &GivenPart) -> bool
-    ensures { result ≡ may_take version is_given instance.now part.now }
+    ensures { result ≡ takes_at version is_given instance.now part.now }
 {
     match part {
         GivenPart::Item(_) => !is_given,
@@ -238,13 +238,13 @@ pub(crate) struct OpenRun {
 
 impl Model for OpenRun {
     ghost use Rattle.std.specs.Coded.{codes};
-    ghost use Rattle.bf_report.specs.contracts.report.InstanceReport as i;
-    ghost use Rattle.bf_report.specs.contracts.report.RunReport as r;
+    ghost use Rattle.bf_report.specs.contracts.report.InstanceReport;
+    ghost use Rattle.bf_report.specs.contracts.report.RunReport;
     ghost use Rattle.bf_report_reader.specs.Open.{RunSoFar};
 
     ghost Value = { RunSoFar };
 
-    ghost coded = { Prim.hlevel (codes, i.the_row.coded, r.the_row.coded) };
+    ghost coded = { Prim.hlevel (codes, InstanceReport.the_row.coded, RunReport.the_row.coded) };
 
     ghost use Rattle.bf_report_reader.specs.Parting.{run_so_far};
 
@@ -269,7 +269,7 @@ impl OpenRun {
 
     /// How many tasks were read.
     pub fn count(&self) -> usize
-        ensures { result ≡ counted self.now }
+        ensures { result ≡ count_of self.now }
     {
         self.run.tasks.len()
     }

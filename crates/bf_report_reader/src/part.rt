@@ -1,6 +1,6 @@
 //! What the lines behind that of an instance tell of what its tries were given.
 ghost use Rattle.std.specs.Prelude.{◌≡◌, ◌++◌, ◌∷◌, IfOk, IfSome};
-ghost use Rattle.bf_value.specs.Json.{text_of as text_by};
+ghost use Rattle.bf_value.specs.Json.{json_of};
 ghost use Rattle.bf_report.specs.Report.{pulled_word};
 ghost use Rattle.bf_report_reader.specs.Reads.{Spells, Finds};
 ghost use Rattle.bf_report_reader.specs.Parts.{IsToldValue, IsToldItem, IsToldPulled, IsToldPull, pull_words};
@@ -36,8 +36,8 @@ fn told_in(
     longest: usize,
 ) -> Result<Option<Xval>, OutOfMemory>
     ensures some { IfOk result (λ o. IfSome o
-        (Spells (IsToldValue deepest longest) text_by text.now)) }
-    ensures every { IfOk result (Finds (Spells (IsToldValue deepest longest) text_by text.now)) }
+        (Spells (IsToldValue deepest longest) json_of text.now)) }
+    ensures every { IfOk result (Finds (Spells (IsToldValue deepest longest) json_of text.now)) }
 {
     if text.len() > longest {
         return Ok(None);
@@ -53,8 +53,8 @@ fn told_in(
 
 /// The item that a line tells.
 pub(crate) fn item_in(alloc: Global, text: &[u8]) -> Result<Option<Xval>, OutOfMemory>
-    ensures some { IfOk result (λ o. IfSome o (Spells IsToldItem text_by text.now)) }
-    ensures every { IfOk result (Finds (Spells IsToldItem text_by text.now)) }
+    ensures some { IfOk result (λ o. IfSome o (Spells IsToldItem json_of text.now)) }
+    ensures every { IfOk result (Finds (Spells IsToldItem json_of text.now)) }
 {
     told_in(alloc, text, DEEPEST, LONGEST_VALUE)
 }

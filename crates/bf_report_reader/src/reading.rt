@@ -2,7 +2,7 @@
 ghost use Rattle.std.specs.Prelude.{◌≡◌, ◌≢◌, ◌<◌, ◌≤◌, ◌+◌, ◌++◌, ◌∷◌, [], List, ℕ, length, IfOk, OnOk, IfErr, IfSome, IfNone, codes, if◌then◌else◌};
 ghost use Rattle.std.specs.Io.KnownBytes.{Consumes, IsAtEnd};
 ghost use Rattle.bf_device.specs.Device.{HasHalted, HasGoneOn};
-ghost use Rattle.bf_report.specs.Report.{version_word, report_text};
+ghost use Rattle.bf_report.specs.Report.{version_word_of, report_text};
 ghost use Rattle.bf_report_reader.specs.Reads.{IsWord, Finds};
 ghost use Rattle.bf_report_reader.specs.Held.{held_bytes, ahead, Tallies, Breaks};
 ghost use Rattle.bf_report_reader.specs.Lines.{line_in};
@@ -105,8 +105,8 @@ fn after_word<'a>(text: &'a [u8], word: &[u8]) -> Option<&'a [u8]>
 
 /// The version that a word says.
 fn version_in(word: &[u8]) -> Option<Version>
-    ensures some { IfSome result (λ version. word.now ≡ version_word version) }
-    ensures every { Finds (λ version. word.now ≡ version_word version) result }
+    ensures some { IfSome result (λ version. word.now ≡ version_word_of version) }
+    ensures every { Finds (λ version. word.now ≡ version_word_of version) result }
 {
     match word {
         b"1" => Some(Version::One),

@@ -1,6 +1,6 @@
 //! What a line says of how an instance ended.
 ghost use Rattle.std.specs.Prelude.{◌≡◌, ◌≢◌, IfOk, IfSome, IfNone, codes};
-ghost use Rattle.bf_value.specs.Json.{text_of as text_by};
+ghost use Rattle.bf_value.specs.Json.{json_of};
 ghost use Rattle.bf_report_reader.specs.Reads.{Spells, Finds};
 ghost use Rattle.bf_report_reader.specs.Entries.{IsShownValue, SaysOutcome};
 
@@ -16,8 +16,8 @@ pub(crate) fn if_spelled(
     value: Xval,
 ) -> Result<Option<Xval>, OutOfMemory>
     ensures some { IfOk result (λ o.
-        IfSome o (λ same. (same ≡ value) × (text.now ≡ text_by value))) }
-    ensures none { IfOk result (λ o. IfNone o (text.now ≢ text_by value)) }
+        IfSome o (λ same. (same ≡ value) × (text.now ≡ json_of value))) }
+    ensures none { IfOk result (λ o. IfNone o (text.now ≢ json_of value)) }
 {
     if text_of(alloc, &value)?.as_bytes() == text {
         Ok(Some(value))
@@ -28,8 +28,8 @@ pub(crate) fn if_spelled(
 
 /// The value that has this compact JSON text.
 fn value_in(alloc: Global, text: &[u8]) -> Result<Option<Xval>, OutOfMemory>
-    ensures some { IfOk result (λ o. IfSome o (Spells IsShownValue text_by text.now)) }
-    ensures every { IfOk result (Finds (Spells IsShownValue text_by text.now)) }
+    ensures some { IfOk result (λ o. IfSome o (Spells IsShownValue json_of text.now)) }
+    ensures every { IfOk result (Finds (Spells IsShownValue json_of text.now)) }
 {
     if text.len() > LONGEST_VALUE {
         return Ok(None);

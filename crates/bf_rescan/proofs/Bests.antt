@@ -15,7 +15,7 @@ use Rattle.bf_core.specs.Checks.{HasRows}
 use Rattle.bf_core.specs.Cores.{Backfill, IsReplay, MayCome}
 use Rattle.bf_core.proofs.Enabling.{present-there}
 use Rattle.bf_waiting.specs.Choices.{IsPreferred, NameComesBefore, IsNextTry}
-use Rattle.bf_rescan.specs.Looks.{AreWeights, IsBest, IsTryAt, IsTryBefore, IsTryOf, better_of, instances_in}
+use Rattle.bf_rescan.specs.Looks.{AreWeights, IsBest, IsTryAt, IsTryBefore, IsTryOf, better_of, instances_of}
 use Rattle.bf_rescan.proofs.Present.{IsTryBelow, one-named, named-so, below-count, last-task, one-more-task, last-run, one-more-run}
 
 -- the best of some tries is the best of others, where all that may begin of the one are of the other
@@ -96,5 +96,5 @@ module _ (b : Backfill) (replayed : IsReplay b) (k t i : ℕ) (x : Instance) (is
   pub none-begins : ¬ (MayCome b (Event.Begin n)) → IsBest b (IsTryAt b.dag k t i) None
   none-begins not_able = λ m is may. let same : m ≡ n = named-so b replayed k t i x is_held m is Phase.Waiting may.0.0 ∙ sym named in not_able (rw same at may)
 
-pub none-of : (b : Backfill) (k t i : ℕ) → length (instances_in (cell_at b.state k t)) ≤ i → IsBest b (IsTryBelow b.dag k t i) None → IsBest b (IsTryOf k t) None
+pub none-of : (b : Backfill) (k t i : ℕ) → length (instances_of (cell_at b.state k t)) ≤ i → IsBest b (IsTryBelow b.dag k t i) None → IsBest b (IsTryOf k t) None
 none-of b k t i end none = λ m is may. let x : _ = below-count b.dag b.state k t m is Phase.Waiting may.0.0 in none m (is, omega (arith, x.1, end)) may

@@ -12,7 +12,7 @@ use Rattle.bf_core.specs.Events.{IsPresent, cell_at, instance_of, place_in}
 use Rattle.bf_core.specs.Cores.{Backfill, IsReplay}
 use Rattle.bf_core.proofs.Named.{place-named}
 use Rattle.bf_waiting.proofs.Taking.{held-in}
-use Rattle.bf_rescan.specs.Looks.{IsTryAt, IsTryBefore, IsTryOf, instances_in}
+use Rattle.bf_rescan.specs.Looks.{IsTryAt, IsTryBefore, IsTryOf, instances_of}
 
 -- the same, of an instance before place i
 abbrev pub IsTryBelow : Dag → ℕ → ℕ → ℕ → JobName → Type 0
@@ -45,8 +45,8 @@ module _ (b : Backfill) (replayed : IsReplay b) (k t i : ℕ) (x : Instance) (is
 -- ---- places
 
 -- a try of the task is one of an instance that its cell has
-pub below-count : (dag : Dag) (s : State) (k t : ℕ) (m : JobName) → IsTryOf k t m → (p : Phase) → IsPresent dag s m p → IsTryBelow dag k t (length (instances_in (cell_at s k t))) m
-below-count dag s k t m is p at = (is, slice_get_within (instances_in (cell_at s k t)) (place_in dag m) at.held (held-in (cell_at s k t) (place_in dag m) at.held held))
+pub below-count : (dag : Dag) (s : State) (k t : ℕ) (m : JobName) → IsTryOf k t m → (p : Phase) → IsPresent dag s m p → IsTryBelow dag k t (length (instances_of (cell_at s k t))) m
+below-count dag s k t m is p at = (is, slice_get_within (instances_of (cell_at s k t)) (place_in dag m) at.held (held-in (cell_at s k t) (place_in dag m) at.held held))
   where
     held : instance_of (cell_at s k t) (place_in dag m) ≡ Some at.held
     held = (λ j. instance_of (cell_at s (sym is.0 j) (sym is.1 j)) (place_in dag m)) ∙ at.is_held

@@ -14,7 +14,7 @@ use Rattle.bf_core.specs.Cores.{Backfill, IsReplay, MayCome, WaitsLater}
 use Rattle.bf_core.proofs.Enabling.{present-there}
 use Rattle.bf_waiting.proofs.Soonest.{min-left, min-right}
 use Rattle.bf_waiting.specs.Choices.{IsNextMoment}
-use Rattle.bf_rescan.specs.Looks.{IsLeast, IsSoonest, IsTryAt, IsTryBefore, IsTryOf, sooner_of, instances_in}
+use Rattle.bf_rescan.specs.Looks.{IsLeast, IsSoonest, IsTryAt, IsTryBefore, IsTryOf, sooner_of, instances_of}
 use Rattle.bf_core.proofs.Named.{present-named}
 use Rattle.bf_rescan.proofs.Present.{IsTryBelow, one-named, named-so, phase-at, below-count, last-place, one-more-place, last-task, one-more-task, last-run, one-more-run}
 
@@ -63,7 +63,7 @@ place-more b k t i one two is here =
     (soonest-joined b (IsTryBelow b.dag k t i) (IsTryAt b.dag k t i) one two is here)
 
 -- after the last place the task is passed
-pub task-passed : (b : Backfill) (k t i : ℕ) → i ≡ length (instances_in (cell_at b.state k t)) → (one : Option ℤ) → IsSoonest b (IsTryBelow b.dag k t i) one → IsSoonest b (IsTryOf k t) one
+pub task-passed : (b : Backfill) (k t i : ℕ) → i ≡ length (instances_of (cell_at b.state k t)) → (one : Option ℤ) → IsSoonest b (IsTryBelow b.dag k t i) one → IsSoonest b (IsTryOf k t) one
 task-passed b k t i end one is =
     soonest-of b (IsTryBelow b.dag k t i) (IsTryOf k t) (λ n h. h.0)
     (λ n h w. let x : _ = below-count b.dag b.state k t n h Phase.Waiting w.waits in (h, omega (arith, x.1, end))) one is

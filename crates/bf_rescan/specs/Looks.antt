@@ -6,7 +6,7 @@ use Rattle.bf_core.specs.declared.event.Event.{Event}
 use Rattle.bf_core.specs.Cores.{Backfill, MayCome, WaitsLater}
 use Rattle.bf_core.specs.Events.{place_in}
 pub use Rattle.bf_waiting.specs.Choices.{AreWeights}
-pub use Rattle.bf_waiting.specs.Standings.{instances_in}
+pub use Rattle.bf_waiting.specs.Standings.{instances_of}
 pub use Rattle.bf_waiting.specs.Looks.{sooner_of}
 use Rattle.bf_waiting.specs.Choices.{IsPreferred}
 

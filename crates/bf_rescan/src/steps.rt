@@ -3,7 +3,7 @@ ghost use Rattle.std.specs.Prelude.{◌≡◌, ◌≤◌, ℕ, IfSome, IfNone};
 ghost use Rattle.bf_graph.specs.Order.{IsByRank};
 ghost use Rattle.bf_plan.specs.Plans.{shape_of};
 ghost use Rattle.bf_core.specs.Cores.{MayCome, deciding};
-ghost use Rattle.bf_core.specs.declared.event.Event.{Event as EventTerm};
+ghost use Rattle.bf_core.specs.declared.event.Event.{Event};
 ghost use Rattle.bf_due.specs.Steps.{IsEarlier, IsNextStep, StandsBefore};
 
 use bf_core::{Core, Event};
@@ -11,9 +11,9 @@ use bf_due::may_decide;
 
 /// The first run that may be closed.
 fn first_close(core: &Core<'_>) -> Option<u32>
-    ensures may_come { IfSome result (λ k. MayCome core.now (EventTerm.Close k)) }
-    ensures first { IfSome result (λ k. (j : ℕ) → MayCome core.now (EventTerm.Close j) → k ≤ j) }
-    ensures none { IfNone result ((j : ℕ) → ¬ (MayCome core.now (EventTerm.Close j))) }
+    ensures may_come { IfSome result (λ k. MayCome core.now (Event.Close k)) }
+    ensures first { IfSome result (λ k. (j : ℕ) → MayCome core.now (Event.Close j) → k ≤ j) }
+    ensures none { IfNone result ((j : ℕ) → ¬ (MayCome core.now (Event.Close j))) }
 {
     for run in 0..core.runs() {
         if core.may_close(run) {

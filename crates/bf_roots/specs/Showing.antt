@@ -3,7 +3,7 @@ use Rattle.std.specs.Prelude.{◌≡◌, ◌≤◌, ◌+◌, List, ◌++◌, len
 use Rattle.bf_core.specs.Terms.{Dag}
 use Rattle.bf_report.specs.declared.report.TaskReport.{TaskReport}
 use Rattle.bf_report.specs.declared.report.Report.{Report}
-use Rattle.bf_reason.specs.Runs.{tasks_at, tasks_before}
+use Rattle.bf_reason.specs.Runs.{tasks_in, tasks_before}
 use Rattle.bf_roots.specs.declared.step.WalkStep.{WalkStep}
 use Rattle.bf_roots.specs.declared.walk.Trail.{Trail}
 use Rattle.bf_roots.specs.declared.window.Window.{Window}
@@ -12,7 +12,7 @@ use Rattle.bf_roots.specs.Walks.{with_seen}
 
 -- it shows the tasks of the run, and of the run before
 pub record IsShowing (report : Report) (window : Window) : Type 0 where
-  pub tasks : window.settled.items ≡ tasks_at report window.run
+  pub tasks : window.settled.items ≡ tasks_in report window.run
   pub before : window.before.items ≡ tasks_before report window.run
 
 -- a place where it hasn't been is looked at, by the tasks of its run and of the run before

@@ -2,12 +2,12 @@
 ghost use Rattle.std.specs.Prelude.{ℕ, Contains, List};
 ghost use Rattle.bf_core.specs.Terms.{Dag};
 ghost use Rattle.bf_report.specs.declared.report.Report.{Report};
-ghost use Rattle.bf_roots.specs.declared.step.Root.{Root as RootTerm};
+ghost use Rattle.bf_roots.specs.declared.step.Root.{Root};
 ghost use Rattle.bf_roots.specs.Walks.{AreRootsOf, IsRootOf};
 
 /// The walk comes to each root that it finds, and that began there.
 pub fn each_root_is_come_to()
-    ensures { (dag : Dag) (report : Report) (run task : ℕ) (roots : List RootTerm)
+    ensures { (dag : Dag) (report : Report) (run task : ℕ) (roots : List Root)
         → AreRootsOf dag report run task roots →
-        (root : RootTerm) → Contains roots root → IsRootOf dag report run task root }
+        (root : Root) → Contains roots root → IsRootOf dag report run task root }
 {}

@@ -1,6 +1,6 @@
 //! What began at a place, and where the walk goes on from there.
 ghost use Rattle.std.specs.Prelude.{◌≡◌, ◌≤◌, ◌<◌, ◌++◌, IfOk, OnOk, length, map, slice_get};
-ghost use Rattle.bf_roots.specs.Onward.{alone as alone_in, began_at as began_among, ended_as as ended_among, ends_with as ends_by, goes_on as goes_on_by, is_tried as tried, next_run as next_run_by, next_tasks as next_tasks_in, onward_among, onward_for as onward_by, onward_if_told, roots_among, skipped_among, skips_for_skipped as skips_by, step_by};
+ghost use Rattle.bf_roots.specs.Onward.{alone_of, began_in, ended_as_in, ends_with_in, goes_on_in, is_tried_in, next_run_of, next_tasks_of, onward_among, onward_of, onward_if_told, roots_among, skipped_among, skips_for_skipped_in, step_by};
 
 use crate::step::{Began, Root, WalkStep};
 use crate::upstreams::{blocked_branches, blocked_tasks, branches_that_skip, tasks_in};
@@ -14,14 +14,14 @@ use std::alloc::Global;
 
 /// Whether a task has a try.
 pub fn is_tried(told: &Settled<'_>) -> bool
-    ensures { result ≡ tried told.now }
+    ensures { result ≡ is_tried_in told.now }
 {
     matches!(told.told(), TaskReport::Ran(_) | TaskReport::Mapped(_))
 }
 
 /// How a task that ran ended, where something began there.
 fn ended_as(settled: &[Settled<'_>], task: u32) -> Option<Began>
-    ensures { result ≡ ended_among settled.now task }
+    ensures { result ≡ ended_as_in settled.now task }
 {
     if has_in(settled, States::FAILURES, task) {
         Some(Began::Failed)
@@ -33,7 +33,7 @@ fn ended_as(settled: &[Settled<'_>], task: u32) -> Option<Began>
 }
 
 fn began_at(settled: &[Settled<'_>], task: u32, began: Option<Began>) -> Option<Began>
-    ensures { result ≡ began_among settled.now task began }
+    ensures { result ≡ began_in settled.now task began }
 {
     match (began, settled.get(task as usize)) {
         (Some(began), _) => Some(began),
@@ -62,7 +62,7 @@ pub(crate) fn add_root(
 
 /// Whether a rule skips a task where an upstream is skipped.
 fn skips_for_skipped(rule: Rule) -> bool
-    ensures { result ≡ skips_by rule }
+    ensures { result ≡ skips_for_skipped_in rule }
 {
     matches!(
         rule,
@@ -71,7 +71,7 @@ fn skips_for_skipped(rule: Rule) -> bool
 }
 
 fn alone(alloc: Global, task: Option<u32>) -> Result<Vec<u32>, OutOfMemory>
-    ensures { IfOk result (λ tasks. tasks.items ≡ alone_in task) }
+    ensures { IfOk result (λ tasks. tasks.items ≡ alone_of task) }
 {
     let mut tasks = Vec::new(alloc);
     if let Some(task) = task {
@@ -105,7 +105,7 @@ fn next_tasks(
 ) -> Result<Vec<u32>, OutOfMemory>
     requires { task < length plan.now.dag.tasks }
     ensures { IfOk result (λ tasks. tasks.items
-        ≡ next_tasks_in plan.now.dag settled.now task cause) }
+        ≡ next_tasks_of plan.now.dag settled.now task cause) }
 {
     let dag = plan.dag();
     let made = dag.task(task);
@@ -123,7 +123,7 @@ fn next_tasks(
 }
 
 fn next_run(run: u32, cause: StateCause) -> u32
-    ensures { result ≡ next_run_by run cause }
+    ensures { result ≡ next_run_of run cause }
 {
     match cause {
         StateCause::PastHasNotPassed => run.saturating_sub(1),
@@ -133,7 +133,7 @@ fn next_run(run: u32, cause: StateCause) -> u32
 
 /// What began where the walk ends for this cause.
 fn ends_with(cause: StateCause) -> Option<Began>
-    ensures { result ≡ ends_by cause }
+    ensures { result ≡ ends_with_in cause }
 {
     match cause {
         StateCause::NotFollowed => Some(Began::Pushed),
@@ -161,7 +161,7 @@ fn steps_to(
 }
 
 fn goes_on(is_expanded: bool, cause: StateCause, told: &Settled<'_>) -> bool
-    ensures { result ≡ goes_on_by is_expanded cause told.now }
+    ensures { result ≡ goes_on_in is_expanded cause told.now }
 {
     !is_tried(told) && !is_foreign(is_expanded, cause, told)
 }
@@ -178,7 +178,7 @@ fn onward_for(
 ) -> Result<Vec<WalkStep>, OutOfMemory>
     requires { task < length plan.now.dag.tasks }
     ensures { IfOk result (λ steps. steps.items
-        ≡ onward_by plan.now.dag settled.now run task cause told.now) }
+        ≡ onward_of plan.now.dag settled.now run task cause told.now) }
 {
     if goes_on(is_expanded(plan.dag(), task), cause, told) {
         let tasks = next_tasks(alloc, plan, settled, task, cause)?;

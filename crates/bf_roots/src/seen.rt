@@ -1,6 +1,6 @@
 //! Where the walk has been.
 ghost use Rattle.std.specs.Prelude.{◌≡◌, false, true, IfOk, slice_index_or};
-ghost use Rattle.bf_roots.specs.Walks.{is_seen as seen_in, nothing_seen, with_seen};
+ghost use Rattle.bf_roots.specs.Walks.{is_seen_in, nothing_seen, with_seen};
 
 use bf_value::{OutOfMemory, Sequence};
 use std::alloc::Global;
@@ -22,7 +22,7 @@ pub(crate) fn unseen(
 
 /// Whether a task in a run is seen, as is each that isn't there.
 pub(crate) fn is_seen(seen: &[Sequence<bool>], run: u32, task: u32) -> bool
-    ensures { result ≡ seen_in seen.now run task }
+    ensures { result ≡ is_seen_in seen.now run task }
 {
     match seen.get(run as usize) {
         Some(row) => is_seen_in(row.as_slice(), task),
@@ -41,7 +41,7 @@ fn is_seen_in(row: &[bool], task: u32) -> bool
 
 /// Marks a task in a run.
 pub(crate) fn see(seen: &mut Vec<Sequence<bool>>, run: u32, task: u32)
-    requires { seen_in seen.old.items run task ≡ false }
+    requires { is_seen_in seen.old.items run task ≡ false }
     ensures { seen.new.items ≡ with_seen seen.old.items run task }
 {
     let row = &mut seen[run as usize];

@@ -1,8 +1,8 @@
 //! The upstreams that made the state of a task so.
 ghost use Rattle.std.specs.Prelude.{◌≡◌, ◌<◌, IfOk, Some, filter, length};
-ghost use Rattle.bf_core.specs.Deciding.{branch_is, branch_skips, is_blocked as blocked};
+ghost use Rattle.bf_core.specs.Deciding.{branch_is, branch_skips, is_blocked_in};
 ghost use Rattle.bf_reason.specs.Settled.{value_among};
-ghost use Rattle.bf_why.specs.Since.{has_in as has_within};
+ghost use Rattle.bf_why.specs.Since.{has_of};
 
 use bf_plan::{Dag, Plan};
 use bf_reason::{Settled, is_blocked, is_blocked_branch, skips};
@@ -34,7 +34,7 @@ pub(crate) fn blocked_branches(
     settled: &[Settled<'_>],
     upstreams: &[u32],
 ) -> Result<Vec<u32>, AllocError>
-    ensures { IfOk result (λ found. found.items ≡ filter (λ u. branch_is dag.now blocked u
+    ensures { IfOk result (λ found. found.items ≡ filter (λ u. branch_is dag.now is_blocked_in u
         (Some (value_among settled.now u))) upstreams.now) }
 {
     upstreams
@@ -50,7 +50,7 @@ pub(crate) fn blocked_tasks(
     upstreams: &[u32],
 ) -> Result<Vec<u32>, AllocError>
     ensures { IfOk result (λ found. found.items
-        ≡ filter (λ u. blocked (value_among settled.now u)) upstreams.now) }
+        ≡ filter (λ u. is_blocked_in (value_among settled.now u)) upstreams.now) }
 {
     upstreams
         .iter()
@@ -67,7 +67,7 @@ pub(crate) fn tasks_in(
     states: States,
 ) -> Result<Vec<u32>, AllocError>
     ensures { IfOk result (λ found. found.items
-        ≡ filter (has_within settled.now states) upstreams.now) }
+        ≡ filter (has_of settled.now states) upstreams.now) }
 {
     upstreams
         .iter()

@@ -2,7 +2,7 @@
 ghost use Rattle.std.specs.Prelude.{◌≡◌, ◌≤◌, ◌∷◌, [], All, IfOk, OnOk, false, length};
 ghost use Rattle.bf_reason.specs.Settled.{IsFewTask};
 ghost use Rattle.bf_roots.specs.Showing.{LooksAt};
-ghost use Rattle.bf_roots.specs.Walks.{AreRootsOf, first_step as first, is_seen as seen_in, nothing_seen};
+ghost use Rattle.bf_roots.specs.Walks.{AreRootsOf, first_step_of, is_seen_in, nothing_seen};
 
 use crate::onward::{add_root, onward};
 use crate::seen::{is_seen, see, unseen};
@@ -22,7 +22,7 @@ struct Trail {
 }
 
 fn first_step(run: u32, task: u32) -> WalkStep
-    ensures { result ≡ first run task }
+    ensures { result ≡ first_step_of run task }
 {
     WalkStep {
         run,
@@ -52,7 +52,7 @@ impl Trail {
         window: &Window<'_>,
         step: WalkStep,
     ) -> Result<(), OutOfMemory>
-        requires unseen { seen_in self.old.seen.items step.run step.task ≡ false }
+        requires unseen { is_seen_in self.old.seen.items step.run step.task ≡ false }
         requires within { length window.now.settled.items ≤ length plan.now.dag.tasks }
         ensures { OnOk result (LooksAt plan.now.dag window.now.settled.items window.now.before.items
             step self.old self.new) }

@@ -1,6 +1,6 @@
 //! What a report has of the tasks of a run and of the run before.
 ghost use Rattle.std.specs.Prelude.{◌≡◌, All, IfOk};
-ghost use Rattle.bf_reason.specs.Runs.{tasks_at, tasks_before};
+ghost use Rattle.bf_reason.specs.Runs.{tasks_in, tasks_before};
 ghost use Rattle.bf_reason.specs.Settled.{IsFewTask};
 ghost use Rattle.bf_roots.specs.Showing.{IsShowing};
 
@@ -19,7 +19,7 @@ pub(crate) struct Window<'a> {
 
 fn tasks_of(report: &Report, run: usize) -> &[TaskReport]
     requires { All (λ run. All IsFewTask run.tasks) report.now.runs }
-    ensures tasks { result.now ≡ tasks_at report.now run }
+    ensures tasks { result.now ≡ tasks_in report.now run }
     ensures few { All IsFewTask result.now }
 {
     match report.runs.get(run) {

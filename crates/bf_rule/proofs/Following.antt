@@ -17,7 +17,7 @@ use Rattle.bf_graph.specs.Reach.{IsPath, Reaches}
 use Rattle.bf_value.specs.Distinct.{AreDistinct}
 use Rattle.bf_graph.specs.Shape.{Shape}
 use Rattle.bf_graph.proofs.PathLemmas.{task_within}
-use Rattle.bf_rule.specs.Branches.{name_in, names_in, id_of, is_direct_downstream, is_named, followed_to, followed, followed_by_name, IsNamedOrReached}
+use Rattle.bf_rule.specs.Branches.{name_in, names_in, id_of, is_direct_downstream_in, is_named, followed_to, followed_at, followed_by_name, IsNamedOrReached}
 
 -- ---- booleans
 
@@ -99,32 +99,32 @@ module _ (shape : Shape) (branch : ℕ) (value : Option Xval) where
       or-right (is_named shape branch value t) _
       (list_any-from_Any (followed_to shape branch value depth) (upstreams_of shape.upstreams t) (k, u, within, at, from-path depth u n m named path (omega arith)))
 
-  pub followed-led : (t : ℕ) → followed shape branch value t ≡ true → IsLed t
-  unfolding followed
+  pub followed-led : (t : ℕ) → followed_at shape branch value t ≡ true → IsLed t
+  unfolding followed_at
   followed-led t e = to-led (length shape.ids) t e
 
-  pub led-followed : Ranking shape.upstreams → length shape.ids ≡ length shape.upstreams → (t n : ℕ) → is_named shape branch value n ≡ true → Leads shape n t → followed shape branch value t ≡ true
-  unfolding followed
+  pub led-followed : Ranking shape.upstreams → length shape.ids ≡ length shape.upstreams → (t n : ℕ) → is_named shape branch value n ≡ true → Leads shape n t → followed_at shape branch value t ≡ true
+  unfolding followed_at
   led-followed r same t n named (inl here) = from-path (length shape.ids) t n zero named here (omega arith)
   led-followed r same t n named (inr (m, path)) =
       from-path (length shape.ids) t n (suc m) named path (omega (arith, path-bounded shape.upstreams r n (suc m) t path, r.bounded t, same))
 
   -- a value that names nothing follows nothing
-  pub nothing-followed : names_in value ≡ [] → (t : ℕ) → followed shape branch value t ≡ false
-  nothing-followed none t = same-bool (followed shape branch value t) false (λ e. let led = followed-led t e in
-      sym (ap (λ names. is_direct_downstream shape branch led.0 && list_any (λ name. bytes_eq name (id_of shape led.0)) names) none ∙ and-false _) ∙ led.1) (λ e. absurd (cc))
+  pub nothing-followed : names_in value ≡ [] → (t : ℕ) → followed_at shape branch value t ≡ false
+  nothing-followed none t = same-bool (followed_at shape branch value t) false (λ e. let led = followed-led t e in
+      sym (ap (λ names. is_direct_downstream_in shape branch led.0 && list_any (λ name. bytes_eq name (id_of shape led.0)) names) none ∙ and-false _) ∙ led.1) (λ e. absurd (cc))
 
 -- neither a text nor a list
-pub no-text-follows-nothing : (shape : Shape) (branch t : ℕ) (v : Xval) → ((b : Bool) × (v ≡ Flag b)) ⊎ (((n : ℤ) × (v ≡ Int n)) ⊎ (v ≡ Nil)) → false ≡ followed shape branch (Some v) t
-no-text-follows-nothing shape branch t v (inl (b, is)) = sym (ap (λ (v : Xval). followed shape branch (Some v) t) is ∙ nothing-followed shape branch (Some (Flag b)) refl t)
-no-text-follows-nothing shape branch t v (inr (inl (n, is))) = sym (ap (λ (v : Xval). followed shape branch (Some v) t) is ∙ nothing-followed shape branch (Some (Int n)) refl t)
-no-text-follows-nothing shape branch t v (inr (inr is)) = sym (ap (λ (v : Xval). followed shape branch (Some v) t) is ∙ nothing-followed shape branch (Some Nil) refl t)
+pub no-text-follows-nothing : (shape : Shape) (branch t : ℕ) (v : Xval) → ((b : Bool) × (v ≡ Flag b)) ⊎ (((n : ℤ) × (v ≡ Int n)) ⊎ (v ≡ Nil)) → false ≡ followed_at shape branch (Some v) t
+no-text-follows-nothing shape branch t v (inl (b, is)) = sym (ap (λ (v : Xval). followed_at shape branch (Some v) t) is ∙ nothing-followed shape branch (Some (Flag b)) refl t)
+no-text-follows-nothing shape branch t v (inr (inl (n, is))) = sym (ap (λ (v : Xval). followed_at shape branch (Some v) t) is ∙ nothing-followed shape branch (Some (Int n)) refl t)
+no-text-follows-nothing shape branch t v (inr (inr is)) = sym (ap (λ (v : Xval). followed_at shape branch (Some v) t) is ∙ nothing-followed shape branch (Some Nil) refl t)
 
 -- ---- one name
 
 module _ (shape : Shape) (r : Ranking shape.upstreams) (same : length shape.ids ≡ length shape.upstreams) (branch t : ℕ) where
   abbrev is_direct : ℕ → Bool
-  is_direct n = is_direct_downstream shape branch n
+  is_direct n = is_direct_downstream_in shape branch n
 
   -- what is named is a task
   named-within : (value : Option Xval) (n : ℕ) → is_named shape branch value n ≡ true → n < length shape.ids
@@ -139,8 +139,8 @@ module _ (shape : Shape) (r : Ranking shape.upstreams) (same : length shape.ids 
   names : (name : List ℕ) (n : ℕ) → is_direct n ≡ true → bytes_eq name (id_of shape n) ≡ true → is_named shape branch (Some (Text name)) n ≡ true
   names name n direct is = rw (direct, is)
 
-  pub unknown-name : (name : List ℕ) → position (bytes_eq name) shape.ids ≡ None → followed shape branch (Some (Text name)) t ≡ false
-  unknown-name name none = same-bool (followed shape branch (Some (Text name)) t) false (λ e.
+  pub unknown-name : (name : List ℕ) → position (bytes_eq name) shape.ids ≡ None → followed_at shape branch (Some (Text name)) t ≡ false
+  unknown-name name none = same-bool (followed_at shape branch (Some (Text name)) t) false (λ e.
       let led = followed-led shape branch (Some (Text name)) t e in
       let l = named-within (Some (Text name)) led.0 led.1 in
       sym (sym (has-name name led.0 led.1) ∙ no-position (bytes_eq name) shape.ids [] none led.0 l)) (λ e. absurd (cc))
@@ -156,16 +156,16 @@ module _ (shape : Shape) (r : Ranking shape.upstreams) (same : length shape.ids 
 
   -- a name follows the task by the one task of that name
   pub known-name : AreDistinct shape.ids → (name : List ℕ) (n : ℕ) → position (bytes_eq name) shape.ids ≡ Some n → (way : Bool) → (way ≡ true → Leads shape n t) → (Leads shape n t → way ≡ true) →
-      (is_direct n && way) ≡ followed shape branch (Some (Text name)) t
-  known-name distinct name n at way to from = same-bool (is_direct n && way) (followed shape branch (Some (Text name)) t)
+      (is_direct n && way) ≡ followed_at shape branch (Some (Text name)) t
+  known-name distinct name n at way to from = same-bool (is_direct n && way) (followed_at shape branch (Some (Text name)) t)
       (λ e. led-followed shape branch (Some (Text name)) r same t n (names name n (and-left (is_direct n) way e) (position-Some (bytes_eq name) shape.ids n [] at).1) (to (and-right (is_direct n) way e)))
       (λ e.
       let led = followed-led shape branch (Some (Text name)) t e in
       let here : led.0 ≡ n = one-named distinct name n led.0 at (named-within (Some (Text name)) led.0 led.1) (has-name name led.0 led.1) in
       and-both (is_direct n) way (ap is_direct (sym here) ∙ and-left (is_direct led.0) _ led.1) (from (subst (λ (x : ℕ). Leads shape x t) here led.2)))
 
-  pub other-name : AreDistinct shape.ids → (name : List ℕ) (n : ℕ) → position (bytes_eq name) shape.ids ≡ Some n → is_direct n ≡ false → followed shape branch (Some (Text name)) t ≡ false
-  other-name distinct name n at not_direct = same-bool (followed shape branch (Some (Text name)) t) false (λ e.
+  pub other-name : AreDistinct shape.ids → (name : List ℕ) (n : ℕ) → position (bytes_eq name) shape.ids ≡ Some n → is_direct n ≡ false → followed_at shape branch (Some (Text name)) t ≡ false
+  other-name distinct name n at not_direct = same-bool (followed_at shape branch (Some (Text name)) t) false (λ e.
       let led = followed-led shape branch (Some (Text name)) t e in
       let here : led.0 ≡ n = one-named distinct name n led.0 at (named-within (Some (Text name)) led.0 led.1) (has-name name led.0 led.1) in
       sym not_direct ∙ ap is_direct (sym here) ∙ and-left (is_direct led.0) _ led.1) (λ e. absurd (cc))
@@ -198,12 +198,12 @@ module _ (shape : Shape) (r : Ranking shape.upstreams) (same : length shape.ids 
 
   -- what one of the names follows, the list of them follows
   name-of-list : (vs : List Xval) → list_any (λ v. followed_by_name shape branch t (name_in v)) vs ≡ true →
-      (name : List ℕ) × (followed shape branch (Some (Text name)) t ≡ true) × ((p : List ℕ → Bool) → p name ≡ true → list_any p (filter_map name_in vs) ≡ true)
+      (name : List ℕ) × (followed_at shape branch (Some (Text name)) t ≡ true) × ((p : List ℕ → Bool) → p name ≡ true → list_any p (filter_map name_in vs) ≡ true)
   name-of-list [] e = cc
   name-of-list (v ∷ vs) e = go (name-of-list vs) (name_in v) refl (followed_by_name shape branch t (name_in v)) refl e
     where
       IsOne : List (List ℕ) → Type 0
-      IsOne found = (name : List ℕ) × (followed shape branch (Some (Text name)) t ≡ true) × ((p : List ℕ → Bool) → p name ≡ true → list_any p found ≡ true)
+      IsOne found = (name : List ℕ) × (followed_at shape branch (Some (Text name)) t ≡ true) × ((p : List ℕ → Bool) → p name ≡ true → list_any p found ≡ true)
 
       Rest : Type 0
       Rest = list_any (λ v. followed_by_name shape branch t (name_in v)) vs ≡ true → IsOne (filter_map name_in vs)
@@ -219,8 +219,8 @@ module _ (shape : Shape) (r : Ranking shape.upstreams) (same : length shape.ids 
           let later = rest e in
           (later.0, later.1, λ p h. ap (λ o. list_any p (cons_option o (filter_map name_in vs))) is ∙ or-right (p name) _ (later.2 p h))
 
-  pub list-follows : (list : Plains) → list_any (λ v. followed_by_name shape branch t (name_in v)) (xvals_of list) ≡ followed shape branch (Some (ListOf list)) t
-  list-follows list = same-bool (list_any (λ v. followed_by_name shape branch t (name_in v)) (xvals_of list)) (followed shape branch (Some (ListOf list)) t)
+  pub list-follows : (list : Plains) → list_any (λ v. followed_by_name shape branch t (name_in v)) (xvals_of list) ≡ followed_at shape branch (Some (ListOf list)) t
+  list-follows list = same-bool (list_any (λ v. followed_by_name shape branch t (name_in v)) (xvals_of list)) (followed_at shape branch (Some (ListOf list)) t)
       (λ e.
       let one = name-of-list (xvals_of list) e in
       let led = followed-led shape branch (Some (Text one.0)) t one.1 in

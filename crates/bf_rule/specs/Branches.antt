@@ -22,12 +22,12 @@ names_in _ = []
 abbrev pub id_of : Shape → ℕ → List ℕ
 id_of shape task = slice_index_or shape.ids task []
 
-abbrev pub is_direct_downstream : Shape → ℕ → ℕ → Bool
-is_direct_downstream shape branch task = list_any (λ upstream. upstream == branch) (upstreams_of shape.upstreams task)
+abbrev pub is_direct_downstream_in : Shape → ℕ → ℕ → Bool
+is_direct_downstream_in shape branch task = list_any (λ upstream. upstream == branch) (upstreams_of shape.upstreams task)
 
 -- the task is a direct downstream of the branch, and its id is among the names
 abbrev pub is_named : Shape → ℕ → Option Xval → ℕ → Bool
-is_named shape branch value task = is_direct_downstream shape branch task && list_any (λ name. bytes_eq name (id_of shape task)) (names_in value)
+is_named shape branch value task = is_direct_downstream_in shape branch task && list_any (λ name. bytes_eq name (id_of shape task)) (names_in value)
 
 -- the task is named, or one of its upstreams is followed; over paths of at most `depth` edges
 abbrev pub followed_to : Shape → ℕ → Option Xval → ℕ → ℕ → Bool
@@ -36,8 +36,8 @@ followed_to shape branch value (suc depth) task =
     is_named shape branch value task || list_any (followed_to shape branch value depth) (upstreams_of shape.upstreams task)
 
 -- a direct downstream of a branch is followed: it is named, or is a descendant of one that is
-unfoldable pub followed : Shape → ℕ → Option Xval → ℕ → Bool
-followed shape branch value task = followed_to shape branch value (length shape.ids) task
+unfoldable pub followed_at : Shape → ℕ → Option Xval → ℕ → Bool
+followed_at shape branch value task = followed_to shape branch value (length shape.ids) task
 
 -- the value names the task, or one that reaches it
 abbrev pub IsNamedOrReached : Shape → ℕ → Option Xval → ℕ → Type 0
@@ -47,22 +47,22 @@ IsNamedOrReached shape branch value task =
 -- the same of a branch that names one task or nothing
 abbrev pub followed_by_name : Shape → ℕ → ℕ → Option (List ℕ) → Bool
 followed_by_name shape branch task None = false
-followed_by_name shape branch task (Some name) = followed shape branch (Some (Text name)) task
+followed_by_name shape branch task (Some name) = followed_at shape branch (Some (Text name)) task
 
 -- ---- what a branch may push
 
 abbrev pub is_downstream_number : Shape → ℕ → Option ℕ → Bool
 is_downstream_number shape branch None = false
-is_downstream_number shape branch (Some task) = is_direct_downstream shape branch task
+is_downstream_number shape branch (Some task) = is_direct_downstream_in shape branch task
 
 -- the id of a direct downstream of the branch
-abbrev pub is_downstream_name : Shape → ℕ → Option (List ℕ) → Bool
-is_downstream_name shape branch None = false
-is_downstream_name shape branch (Some name) = is_downstream_number shape branch (position (bytes_eq name) shape.ids)
+abbrev pub is_downstream_name_in : Shape → ℕ → Option (List ℕ) → Bool
+is_downstream_name_in shape branch None = false
+is_downstream_name_in shape branch (Some name) = is_downstream_number shape branch (position (bytes_eq name) shape.ids)
 
 -- a branch may push nothing, the id of a direct downstream, or a list of such ids
-abbrev pub names_downstreams : Shape → ℕ → Option Xval → Bool
-names_downstreams shape branch None = true
-names_downstreams shape branch (Some (Text name)) = is_downstream_name shape branch (Some name)
-names_downstreams shape branch (Some (ListOf values)) = list_all (λ value. is_downstream_name shape branch (name_in value)) (xvals_of values)
-names_downstreams shape branch (Some _) = false
+abbrev pub names_downstreams_in : Shape → ℕ → Option Xval → Bool
+names_downstreams_in shape branch None = true
+names_downstreams_in shape branch (Some (Text name)) = is_downstream_name_in shape branch (Some name)
+names_downstreams_in shape branch (Some (ListOf values)) = list_all (λ value. is_downstream_name_in shape branch (name_in value)) (xvals_of values)
+names_downstreams_in shape branch (Some _) = false

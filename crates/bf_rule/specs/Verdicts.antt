@@ -23,14 +23,14 @@ add one other = record {
 }
 
 -- failed, whether they ran or their upstreams had failed
-abbrev pub failures : Counts → ℕ
-failures counts = counts.failed + counts.upstream_failed
+abbrev pub failures_of : Counts → ℕ
+failures_of counts = counts.failed + counts.upstream_failed
 
-abbrev pub finished : Counts → ℕ
-finished counts = counts.success + failures counts + counts.skipped
+abbrev pub finished_of : Counts → ℕ
+finished_of counts = counts.success + failures_of counts + counts.skipped
 
-abbrev pub total : Counts → ℕ
-total counts = finished counts + counts.blocked + counts.unfinished
+abbrev pub total_of : Counts → ℕ
+total_of counts = finished_of counts + counts.blocked + counts.unfinished
 
 -- ---- rules
 
@@ -43,34 +43,34 @@ is_waiting Always = false
 is_waiting _ = true
 
 -- what the rule looks for is among the instances finished so far
-abbrev pub fires : Rule → Counts → Bool
-fires OneSuccess counts = nat_lt 0 counts.success
-fires OneFailed counts = nat_lt 0 (failures counts)
-fires OneDone counts = nat_lt 0 (counts.success + counts.failed)
-fires Always counts = true
-fires _ counts = false
+abbrev pub fires_in : Rule → Counts → Bool
+fires_in OneSuccess counts = nat_lt 0 counts.success
+fires_in OneFailed counts = nat_lt 0 (failures_of counts)
+fires_in OneDone counts = nat_lt 0 (counts.success + counts.failed)
+fires_in Always counts = true
+fires_in _ counts = false
 
 -- the table of the rules, over upstreams that have all finished
-abbrev pub table : Rule → Counts → Verdict
-table AllSuccess counts = if nat_lt 0 (failures counts) then UpstreamFailed else (if nat_lt 0 counts.skipped then Skip else Run)
-table AllFailed counts = if failures counts == finished counts then Run else Skip
-table AllSkipped counts = if counts.skipped == finished counts then Run else Skip
-table AllDone counts = Run
-table OneSuccess counts = if nat_lt 0 counts.success then Run else (if counts.skipped == finished counts then Skip else UpstreamFailed)
-table OneFailed counts = if nat_lt 0 (failures counts) then Run else Skip
-table OneDone counts = if nat_lt 0 (counts.success + counts.failed) then Run else Skip
-table NoneFailed counts = if nat_lt 0 (failures counts) then UpstreamFailed else Run
-table NoneFailedMinOneSuccess counts = if nat_lt 0 (failures counts) then UpstreamFailed else (if nat_lt 0 counts.success then Run else Skip)
-table NoneSkipped counts = if nat_lt 0 counts.skipped then Skip else Run
-table Always counts = Run
+abbrev pub table_of : Rule → Counts → Verdict
+table_of AllSuccess counts = if nat_lt 0 (failures_of counts) then UpstreamFailed else (if nat_lt 0 counts.skipped then Skip else Run)
+table_of AllFailed counts = if failures_of counts == finished_of counts then Run else Skip
+table_of AllSkipped counts = if counts.skipped == finished_of counts then Run else Skip
+table_of AllDone counts = Run
+table_of OneSuccess counts = if nat_lt 0 counts.success then Run else (if counts.skipped == finished_of counts then Skip else UpstreamFailed)
+table_of OneFailed counts = if nat_lt 0 (failures_of counts) then Run else Skip
+table_of OneDone counts = if nat_lt 0 (counts.success + counts.failed) then Run else Skip
+table_of NoneFailed counts = if nat_lt 0 (failures_of counts) then UpstreamFailed else Run
+table_of NoneFailedMinOneSuccess counts = if nat_lt 0 (failures_of counts) then UpstreamFailed else (if nat_lt 0 counts.success then Run else Skip)
+table_of NoneSkipped counts = if nat_lt 0 counts.skipped then Skip else Run
+table_of Always counts = Run
 
 -- no upstreams, or the rule fires early: run. Else an unfinished upstream: wait. Else a blocked one: block. Else the table
 unfoldable pub verdict_of : Rule → Counts → Verdict
 verdict_of rule counts =
-    if (total counts == 0) || fires rule counts then Run
+    if (total_of counts == 0) || fires_in rule counts then Run
     else (if nat_lt 0 counts.unfinished then Wait
     else (if nat_lt 0 counts.blocked then Blocked
-    else table rule counts))
+    else table_of rule counts))
 
 -- ---- what finishes later
 

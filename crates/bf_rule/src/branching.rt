@@ -1,7 +1,7 @@
 //! Branches.
 ghost use Rattle.std.specs.Prelude.{◌≡◌, ◌⊎◌, ◌↔◌, ◌<◌, length, IsTrue, Some, option_map};
 ghost use Rattle.bf_graph.specs.Reach.{Reaches};
-ghost use Rattle.bf_rule.specs.Branches.{is_direct_downstream as direct, is_downstream_name as downstream_name, name_in, names_downstreams as downstreams, followed as followed_at, followed_by_name};
+ghost use Rattle.bf_rule.specs.Branches.{is_direct_downstream_in, is_downstream_name_in, name_in, names_downstreams_in, followed_at, followed_by_name};
 ghost use Rattle.std.specs.List.{list_all, list_any};
 
 use bf_graph::Graph;
@@ -9,7 +9,7 @@ use bf_value::Xval;
 
 fn is_direct_downstream(graph: &Graph, branch: u32, task: u32) -> bool
     requires { task < length graph.now.upstreams }
-    ensures { result ≡ direct graph.now branch task }
+    ensures { result ≡ is_direct_downstream_in graph.now branch task }
 {
     graph
         .upstreams(task)
@@ -18,7 +18,7 @@ fn is_direct_downstream(graph: &Graph, branch: u32, task: u32) -> bool
 }
 
 fn is_downstream_name(graph: &Graph, branch: u32, name: &str) -> bool
-    ensures { result ≡ downstream_name graph.now branch (Some name.now) }
+    ensures { result ≡ is_downstream_name_in graph.now branch (Some name.now) }
 {
     let _tasks = graph.len();
     match graph.number_of(name) {
@@ -28,7 +28,7 @@ fn is_downstream_name(graph: &Graph, branch: u32, name: &str) -> bool
 }
 
 fn is_downstream_value(graph: &Graph, branch: u32, value: &Xval) -> bool
-    ensures { result ≡ downstream_name graph.now branch (name_in value.now) }
+    ensures { result ≡ is_downstream_name_in graph.now branch (name_in value.now) }
 {
     match value {
         Xval::Text(name) => is_downstream_name(graph, branch, name.as_str()),
@@ -37,7 +37,7 @@ fn is_downstream_value(graph: &Graph, branch: u32, value: &Xval) -> bool
 }
 
 fn are_downstream_values(graph: &Graph, branch: u32, values: &[Xval]) -> bool
-    ensures { result ≡ list_all (λ v. downstream_name graph.now branch (name_in v)) values.now }
+    ensures { result ≡ list_all (λ v. is_downstream_name_in graph.now branch (name_in v)) values.now }
 {
     values
         .iter()
@@ -47,7 +47,7 @@ fn are_downstream_values(graph: &Graph, branch: u32, values: &[Xval]) -> bool
 /// Whether a branch may push this: nothing, the id of one of its direct downstreams, or a list of such ids (Airflow's
 /// "Branching"; that any other value is refused is this project's own).
 pub fn names_downstreams(graph: &Graph, branch: u32, value: Option<&Xval>) -> bool
-    ensures { result ≡ downstreams graph.now branch (option_map (λ v. v.now) value.entry) }
+    ensures { result ≡ names_downstreams_in graph.now branch (option_map (λ v. v.now) value.entry) }
 {
     match value {
         None => true,

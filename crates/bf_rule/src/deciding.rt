@@ -1,6 +1,6 @@
 //! Verdicts.
 ghost use Rattle.std.specs.Prelude.{◌≡◌, ◌+◌, ◌<◌, ◌^◌, if◌then◌else◌};
-ghost use Rattle.bf_rule.specs.Verdicts.{verdict_of, add, failures as failures_of, finished as finished_of, total as total_of, fires as fires_by, table as table_of};
+ghost use Rattle.bf_rule.specs.Verdicts.{verdict_of, add, failures_of, finished_of, total_of, fires_in, table_of};
 
 use crate::rule::{Counts, Rule, Verdict};
 
@@ -51,7 +51,7 @@ impl Counts {
 
 /// Whether a rule finds what it looks for among these, whatever comes of others.
 pub fn fires(rule: Rule, counts: &Counts) -> bool
-    ensures { result ≡ fires_by rule counts.now }
+    ensures { result ≡ fires_in rule counts.now }
 {
     match rule {
         Rule::OneSuccess => counts.success > 0,

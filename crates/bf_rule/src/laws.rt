@@ -1,7 +1,7 @@
 //! What holds of the definitions. These functions do nothing: their contracts are the laws.
 ghost use Rattle.std.specs.Prelude.{◌≡◌, ◌≢◌, ◌↔◌, ℕ, true, Option};
 ghost use Rattle.bf_value.specs.declared.xval.Xval.{Xval};
-ghost use Rattle.bf_rule.specs.Branches.{followed, IsNamedOrReached};
+ghost use Rattle.bf_rule.specs.Branches.{followed_at, IsNamedOrReached};
 ghost use Rattle.bf_rule.specs.Verdicts.{verdict_of, IsLater};
 ghost use Rattle.bf_rule.specs.declared.rule.Counts.{Counts};
 ghost use Rattle.bf_rule.specs.declared.rule.Rule.{Rule};
@@ -19,7 +19,7 @@ pub fn verdicts_stay()
 /// than `followed` looks.
 pub fn followed_tasks_are_named_or_reached(graph: &Graph)
     ensures { (branch : ℕ) (value : Option Xval) (task : ℕ) →
-        (followed graph.now branch value task ≡ true) ↔ IsNamedOrReached graph.now branch value task }
+        (followed_at graph.now branch value task ≡ true) ↔ IsNamedOrReached graph.now branch value task }
 {
     let _tasks = graph.len();
     graph.ranks();

@@ -3,7 +3,7 @@ ghost use Rattle.std.specs.Prelude.{◌≡◌, Some, IfOk, IfErr, OnOk, OnErr, o
 ghost use Rattle.bf_core.specs.Events.{HasEnded};
 ghost use Rattle.bf_core.specs.Cores.{Backfill, HasCome, IsRefusal, IsReplay, MayCome, moved};
 ghost use Rattle.bf_core.specs.Endings.{ending_of};
-ghost use Rattle.bf_core.specs.declared.event.Event.{Event as EventTerm};
+ghost use Rattle.bf_core.specs.declared.event.Event.{Event};
 ghost use Rattle.bf_sched.specs.Choices.{IsNextMoment, IsNextStep, IsNextTry};
 
 use bf_core::{Core, Ended, Event, Illegal};
@@ -24,11 +24,11 @@ pub struct Ready<'a> {
 }
 
 impl<'a> Model for Ready<'a> {
-    ghost use Rattle.bf_plan.specs.contracts.plan.Dag as d;
-    ghost use Rattle.bf_plan.specs.contracts.plan.Limits as l;
-    ghost use Rattle.bf_core.specs.contracts.state.State as s;
-    ghost use Rattle.bf_core.specs.contracts.clock.Clock as k;
-    ghost use Rattle.bf_core.specs.contracts.event.Event as e;
+    ghost use Rattle.bf_plan.specs.contracts.plan.Dag;
+    ghost use Rattle.bf_plan.specs.contracts.plan.Limits;
+    ghost use Rattle.bf_core.specs.contracts.state.State;
+    ghost use Rattle.bf_core.specs.contracts.clock.Clock;
+    ghost use Rattle.bf_core.specs.contracts.event.Event;
     ghost use Rattle.bf_core.specs.Cores.{Backfill};
     ghost use Rattle.bf_due.specs.Dues.{IsUpToDate};
     ghost use Rattle.bf_waiting.specs.Kept.{KeepsTries};
@@ -36,7 +36,7 @@ impl<'a> Model for Ready<'a> {
 
     ghost Value = { Backfill };
 
-    ghost coded = { Prim.hlevel (codes, d.the_row.coded, l.the_row.coded, s.the_row.coded, k.the_row.coded, e.the_row.coded) };
+    ghost coded = { Prim.hlevel (codes, Dag.the_row.coded, Limits.the_row.coded, State.the_row.coded, Clock.the_row.coded, Event.the_row.coded) };
 
     ghost view = { λ r. r.core };
 
@@ -45,7 +45,7 @@ impl<'a> Model for Ready<'a> {
 
 /// The event that came last.
 fn last_event<'c>(core: &'c Core<'_>) -> Option<&'c Event>
-    ensures { (b : Backfill) (e : EventTerm) → core.now ≡ moved b e → option_copied result
+    ensures { (b : Backfill) (e : Event) → core.now ≡ moved b e → option_copied result
         ≡ Some e }
 {
     core.journal().last()

@@ -5,7 +5,7 @@ ghost use Rattle.bf_core.specs.Events.{HasEnded};
 ghost use Rattle.bf_core.specs.Cores.{IsRefusal, IsReplay, MayCome, moved};
 ghost use Rattle.bf_core.specs.Endings.{ending_of};
 ghost use Rattle.bf_core.specs.Running.{running_now};
-ghost use Rattle.bf_core.specs.declared.event.Event.{Event as EventTerm};
+ghost use Rattle.bf_core.specs.declared.event.Event.{Event};
 ghost use Rattle.bf_sched.specs.Choices.{IsNextMoment};
 ghost use Rattle.bf_sched.specs.Scheduling.{HasComeTo, HasFinished, HasTicked, IsNext, IsRefused, IsSameGiven, IsTicketOf, MayFinish, moved_on};
 
@@ -30,16 +30,16 @@ pub struct Scheduler<'a> {
 
 impl<'a> Model for Scheduler<'a> {
     ghost use Rattle.bf_sched.specs.Scheduling.{Schedule, IsScheduler};
-    ghost use Rattle.bf_plan.specs.contracts.plan.Dag as d;
-    ghost use Rattle.bf_plan.specs.contracts.plan.Limits as l;
-    ghost use Rattle.bf_core.specs.contracts.state.State as s;
-    ghost use Rattle.bf_core.specs.contracts.clock.Clock as k;
-    ghost use Rattle.bf_core.specs.contracts.event.Event as e;
+    ghost use Rattle.bf_plan.specs.contracts.plan.Dag;
+    ghost use Rattle.bf_plan.specs.contracts.plan.Limits;
+    ghost use Rattle.bf_core.specs.contracts.state.State;
+    ghost use Rattle.bf_core.specs.contracts.clock.Clock;
+    ghost use Rattle.bf_core.specs.contracts.event.Event;
     ghost use Rattle.std.specs.Coded.{codes};
 
     ghost Value = { Schedule };
 
-    ghost coded = { Prim.hlevel (codes, d.the_row.coded, l.the_row.coded, s.the_row.coded, k.the_row.coded, e.the_row.coded) };
+    ghost coded = { Prim.hlevel (codes, Dag.the_row.coded, Limits.the_row.coded, State.the_row.coded, Clock.the_row.coded, Event.the_row.coded) };
 
     ghost view = { λ s. record { backfill = s.ready; workers = s.workers } };
 
@@ -73,9 +73,9 @@ fn come_to(ready: &mut Ready<'_>, moment: i64) -> Result<bool, OutOfMemory>
 
 /// Begins a try that may begin.
 fn begin(alloc: Global, ready: &mut Ready<'_>, name: JobName) -> Result<Ticket, OutOfMemory>
-    requires { MayCome ready.old (EventTerm.Begin name) }
+    requires { MayCome ready.old (Event.Begin name) }
     ensures ticket { IfOk result (λ ticket. IsTicketOf ready.old name ticket) }
-    ensures ok { OnOk result (ready.new ≡ moved ready.old (EventTerm.Begin name)) }
+    ensures ok { OnOk result (ready.new ≡ moved ready.old (Event.Begin name)) }
     ensures same { OnErr result (ready.new ≡ ready.old) }
 {
     match ready.core().instance(name) {
@@ -184,10 +184,10 @@ impl<'a> Scheduler<'a> {
 
     /// Ends a try.
     fn end(&mut self, name: JobName, outcome: Outcome) -> Result<(), Illegal>
-        ensures ok { OnOk result (MayCome self.old.backfill (EventTerm.End name outcome)
-            × (self.new ≡ moved_on self.old (EventTerm.End name outcome))) }
-        ensures err { IfErr result (IsRefusal self.old.backfill (EventTerm.End name outcome)) }
-        ensures memory { MayCome self.old.backfill (EventTerm.End name outcome)
+        ensures ok { OnOk result (MayCome self.old.backfill (Event.End name outcome)
+            × (self.new ≡ moved_on self.old (Event.End name outcome))) }
+        ensures err { IfErr result (IsRefusal self.old.backfill (Event.End name outcome)) }
+        ensures memory { MayCome self.old.backfill (Event.End name outcome)
             → IfErr result (λ fault. fault ≡ Illegal.OutOfMemory) }
         ensures same { OnErr result (self.new ≡ self.old) }
     {

@@ -51,9 +51,9 @@ impl fmt::Display for SeedsFault {
 impl Error for SeedsFault {}
 
 impl From<OutOfMemory> for SeedsFault {
-    ghost use Rattle.bf_seeds.specs.declared.fault.SeedsFault.TheVariants.{OutOfMemory as NoMemory};
+    ghost use Rattle.bf_seeds.specs.declared.fault.SeedsFault.TheVariants.{OutOfMemory};
 
-    ghost from_gives = { λ _ e. e ≡ NoMemory };
+    ghost from_gives = { λ _ e. e ≡ OutOfMemory };
 
     fn from(_e: OutOfMemory) -> SeedsFault {
         SeedsFault::OutOfMemory

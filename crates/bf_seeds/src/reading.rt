@@ -1,7 +1,7 @@
 //! Seeds files.
 ghost use Rattle.std.specs.Prelude.{◌≡◌, ◌⊎◌, ◌∷◌, ◌++◌, [], map, None, IfOk, IfErr, OnOk};
 ghost use Rattle.bf_dependents.specs.Seeds.{seed_fault};
-ghost use Rattle.bf_seeds.specs.declared.fault.SeedsFault.TheVariants as fault;
+ghost use Rattle.bf_seeds.specs.declared.fault.SeedsFault.TheVariants;
 ghost use Rattle.bf_seeds.specs.Seeds.{AreSeeds, IsFaultOfLine, IsFaultOfSeed, IsFirstFault, IsSeedOf, lines_in};
 
 use crate::fault::SeedsFault;
@@ -21,7 +21,7 @@ fn lines_of(alloc: Global, text: &str) -> Result<Vec<&str>, AllocError>
 }
 
 fn bad_seed(alloc: Global, line: &str) -> SeedsFault
-    ensures { (result ≡ fault.BadSeed line.now) ⊎ (result ≡ fault.OutOfMemory) }
+    ensures { (result ≡ TheVariants.BadSeed line.now) ⊎ (result ≡ TheVariants.OutOfMemory) }
 {
     match Text::copied(alloc, line) {
         Ok(line) => SeedsFault::BadSeed(line),

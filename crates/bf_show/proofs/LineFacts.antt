@@ -8,7 +8,7 @@ use Rattle.json.proofs.OnLiterals.{json_on_literals}
 use Rattle.serde_json.specs.Data.{Data, number, string, object, Num, unsigned, negative, Members, no_members, member}
 use Rattle.serde_json.specs.Written.{compact_text, members_text, number_text}
 use Rattle.bf_value.specs.declared.xval.Xval.{Xval}
-use Rattle.bf_value.specs.Json.{text_of}
+use Rattle.bf_value.specs.Json.{json_of}
 use Rattle.bf_moment.specs.Moment.{moment_text}
 use Rattle.bf_xcom.specs.declared.values.TaskResult.{TaskResult}
 use Rattle.bf_xcom.specs.Pulls.{pushed_by}
@@ -16,7 +16,7 @@ use Rattle.bf_report.specs.declared.report.Pull.{Pull}
 use Rattle.bf_report.specs.declared.report.InstanceReport.{InstanceReport}
 use Rattle.bf_report.specs.declared.report.TaskReport.{TaskReport}
 use Rattle.bf_report.specs.declared.report.RunReport.{RunReport}
-use Rattle.bf_report.specs.Report.{state_word, run_state_word}
+use Rattle.bf_report.specs.Report.{state_word, run_state_word_of}
 use Rattle.bf_report.proofs.ReportFacts.{numbered_more}
 use Rattle.bf_show.specs.declared.key.Key.{Key}
 use Rattle.bf_show.specs.declared.key.Key.TheVariants.{End, RunState, Task, Index, State, Tries, Value, Item, Pulls}
@@ -53,7 +53,7 @@ first_members a s e t r w m z = simp append_assoc
 start_end : (run : RunReport) (ms : Members) → line (run_members run ms) ≡ run_start run ++ line_end ms
 unfolding key_text line_end run_start
 start_end run ms =
-    first_members (quoted (codes "run")) (quoted (moment_text run.interval.start.nanosecond)) (quoted (codes "end")) (quoted (moment_text run.interval.end.nanosecond)) (quoted (codes "run_state")) (quoted (run_state_word run.state)) (members_text true ms) (10 ∷ [])
+    first_members (quoted (codes "run")) (quoted (moment_text run.interval.start.nanosecond)) (quoted (codes "end")) (quoted (moment_text run.interval.end.nanosecond)) (quoted (codes "run_state")) (quoted (run_state_word_of run.state)) (members_text true ms) (10 ∷ [])
 
 opening : codes "{\"run\":" ≡ 123 ∷ (quoted (codes "run") ++ 58 ∷ [])
 unfolding json_on_literals
@@ -63,11 +63,11 @@ six_in_a_row : (q a b c d e : List ℕ) → (((((123 ∷ (q ++ 58 ∷ [])) ++ a)
 six_in_a_row q a b c d e = simp append_assoc
 
 -- what the lines of a run begin with
-pub start_made : (run : RunReport) → ((((codes "{\"run\":" ++ quoted (moment_text run.interval.start.nanosecond)) ++ key_text End) ++ quoted (moment_text run.interval.end.nanosecond)) ++ key_text RunState) ++ quoted (run_state_word run.state) ≡ run_start run
+pub start_made : (run : RunReport) → ((((codes "{\"run\":" ++ quoted (moment_text run.interval.start.nanosecond)) ++ key_text End) ++ quoted (moment_text run.interval.end.nanosecond)) ++ key_text RunState) ++ quoted (run_state_word_of run.state) ≡ run_start run
 unfolding run_start
 start_made run =
-    ap (λ s. ((((s ++ quoted (moment_text run.interval.start.nanosecond)) ++ key_text End) ++ quoted (moment_text run.interval.end.nanosecond)) ++ key_text RunState) ++ quoted (run_state_word run.state)) opening
-    ∙ six_in_a_row (quoted (codes "run")) (quoted (moment_text run.interval.start.nanosecond)) (key_text End) (quoted (moment_text run.interval.end.nanosecond)) (key_text RunState) (quoted (run_state_word run.state))
+    ap (λ s. ((((s ++ quoted (moment_text run.interval.start.nanosecond)) ++ key_text End) ++ quoted (moment_text run.interval.end.nanosecond)) ++ key_text RunState) ++ quoted (run_state_word_of run.state)) opening
+    ∙ six_in_a_row (quoted (codes "run")) (quoted (moment_text run.interval.start.nanosecond)) (key_text End) (quoted (moment_text run.interval.end.nanosecond)) (key_text RunState) (quoted (run_state_word_of run.state))
 
 -- words without a character that is escaped
 pub no_status_string : codes "\"no_status\"" ≡ quoted (codes "no_status")
@@ -91,7 +91,7 @@ three_in_a_row t a b c = append_assoc (t ++ a) b c ∙ append_assoc t a (b ++ c)
 member_more : (t : List ℕ) (key : Key) (d : Data) (ms : Members) → ((t ++ key_text key) ++ compact_text d) ++ line_end ms ≡ t ++ line_end (member (key_word key) d ms)
 member_more t key d ms = three_in_a_row t (key_text key) (compact_text d) (line_end ms) ∙ ap (λ s. t ++ s) (sym (member_end key d ms))
 
-pub value_more : (t : List ℕ) (key : Key) (value : Xval) (ms : Members) → ((t ++ key_text key) ++ text_of value) ++ line_end ms ≡ t ++ line_end (value_members (key_word key) (Some value) ms)
+pub value_more : (t : List ℕ) (key : Key) (value : Xval) (ms : Members) → ((t ++ key_text key) ++ json_of value) ++ line_end ms ≡ t ++ line_end (value_members (key_word key) (Some value) ms)
 value_more t key value ms = member_more t key _ ms
 
 -- how an instance ended, and its tries

@@ -13,7 +13,7 @@ use Rattle.bf_report.specs.declared.report.InstanceReport.{InstanceReport}
 use Rattle.bf_report.specs.declared.report.TaskReport.{TaskReport}
 use Rattle.bf_report.specs.declared.report.RunReport.{RunReport}
 use Rattle.bf_report.specs.declared.report.Report.{Report}
-use Rattle.bf_report.specs.Report.{state_word, run_state_word}
+use Rattle.bf_report.specs.Report.{state_word, run_state_word_of}
 
 -- the line of an object with these members
 abbrev pub line : Members → List ℕ
@@ -24,7 +24,7 @@ abbrev pub run_members : RunReport → Members → Members
 run_members run members =
     member (codes "run") (string (moment_text run.interval.start.nanosecond))
     (member (codes "end") (string (moment_text run.interval.end.nanosecond))
-    (member (codes "run_state") (string (run_state_word run.state)) members))
+    (member (codes "run_state") (string (run_state_word_of run.state)) members))
 
 -- a value, where there is one, before these members
 abbrev pub value_members : List ℕ → Option Xval → Members → Members

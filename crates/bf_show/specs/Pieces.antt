@@ -5,7 +5,7 @@ use Rattle.serde_json.specs.Data.{Members}
 use Rattle.serde_json.specs.Written.{members_text}
 use Rattle.bf_moment.specs.Moment.{moment_text}
 use Rattle.bf_report.specs.declared.report.RunReport.{RunReport}
-use Rattle.bf_report.specs.Report.{run_state_word}
+use Rattle.bf_report.specs.Report.{run_state_word_of}
 use Rattle.bf_show.specs.declared.key.Key.{Key}
 use Rattle.bf_show.specs.declared.key.Key.TheVariants.{End, RunState, Task, Index, State, Tries, Value, Item, Pulls}
 
@@ -30,7 +30,7 @@ unfoldable pub run_start : RunReport → List ℕ
 run_start run =
     123 ∷ (quoted (codes "run") ++ 58 ∷ (quoted (moment_text run.interval.start.nanosecond)
     ++ (key_text End ++ (quoted (moment_text run.interval.end.nanosecond)
-    ++ (key_text RunState ++ quoted (run_state_word run.state))))))
+    ++ (key_text RunState ++ quoted (run_state_word_of run.state))))))
 
 -- further members, the bracket and the line feed
 unfoldable pub line_end : Members → List ℕ

@@ -5,13 +5,13 @@ ghost use Rattle.json.specs.Tree.{depth};
 ghost use Rattle.serde_json.specs.Data.{object, unsigned};
 ghost use Rattle.serde_json.specs.Written.{compact_text, outline};
 ghost use Rattle.bf_report.specs.Values.{IsSoundInstance};
-ghost use Rattle.bf_report.specs.declared.report.InstanceReport.{InstanceReport as Instance};
-ghost use Rattle.bf_report.specs.declared.report.RunReport.{RunReport as Run};
+ghost use Rattle.bf_report.specs.declared.report.InstanceReport.{InstanceReport};
+ghost use Rattle.bf_report.specs.declared.report.RunReport.{RunReport};
 ghost use Rattle.bf_show.specs.JsonLines.{instance_members, untried_members};
 
 /// The line of an instance of an expanded task is read as JSON with just its members, in their order.
 pub fn instances_are_read_back()
-    ensures { (run : Run) (id : List ℕ) (index : ℕ) (instance : Instance) → index < 2 ^ 64
+    ensures { (run : RunReport) (id : List ℕ) (index : ℕ) (instance : InstanceReport) → index < 2 ^ 64
         → instance.result.tries < 2 ^ 64 → IsSoundInstance instance
         → depth (outline (object (instance_members run id (unsigned index) instance))) ≤ max_depth
         → document (compact_text (object (instance_members run id (unsigned index) instance)))
@@ -20,7 +20,7 @@ pub fn instances_are_read_back()
 
 /// So is that of a task that was decided without a try.
 pub fn untried_tasks_are_read_back()
-    ensures { (run : Run) (id state : List ℕ)
+    ensures { (run : RunReport) (id state : List ℕ)
         → document (compact_text (object (untried_members run id state)))
         ≡ Some (outline (object (untried_members run id state))) }
 {}

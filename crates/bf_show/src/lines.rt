@@ -4,7 +4,7 @@ ghost use Rattle.std.specs.List.{flat_map, zip};
 ghost use Rattle.json.specs.Print.{quoted};
 ghost use Rattle.serde_json.specs.Data.{unsigned, negative};
 ghost use Rattle.bf_moment.specs.Moment.{moment_text};
-ghost use Rattle.bf_report.specs.Report.{run_state_word as run_state};
+ghost use Rattle.bf_report.specs.Report.{run_state_word_of};
 ghost use Rattle.bf_show.specs.JsonLines.{instance_members, untried_members, line, mapped_lines, task_lines, tasks_lines, run_lines, json_lines};
 ghost use Rattle.bf_show.specs.Pieces.{key_text, run_start};
 
@@ -27,7 +27,7 @@ fn push_moment(alloc: Global, text: &mut String, moment: Moment) -> Result<(), O
 
 /// The word for the state of a run, as a string of JSON.
 fn run_state_string(state: RunState) -> &'static str
-    ensures { result.now ≡ quoted (run_state state) }
+    ensures { result.now ≡ quoted (run_state_word_of state) }
 {
     match state {
         RunState::Success => "\"success\"",

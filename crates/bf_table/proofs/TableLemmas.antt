@@ -12,11 +12,11 @@ use Rattle.serde_json.specs.declared.value.Value.{Value}
 use Rattle.bf_value.proofs.ReadLemmas.{drop-item}
 use Rattle.bf_table.specs.declared.table.TableEntry.{TableEntry}
 use Rattle.bf_table.specs.declared.table.TableFault.{TableFault}
-use Rattle.bf_table.specs.Tables.{is_key, has_known_keys, entry_of, entries_of, entries_from, longest_table, json_of_file}
+use Rattle.bf_table.specs.Tables.{is_key_in, has_known_keys_in, entry_of, entries_of, entries_from, longest_table, json_of_file}
 
-pub known_by_keys : (es : List (String Global × Value)) → list_all (λ name. is_key (string_bytes name)) (keys_of es) ≡ has_known_keys (members_view es)
+pub known_by_keys : (es : List (String Global × Value)) → list_all (λ name. is_key_in (string_bytes name)) (keys_of es) ≡ has_known_keys_in (members_view es)
 known_by_keys [] = refl
-known_by_keys (e ∷ es) = ap (λ b. is_key (string_bytes e.0) && b) (known_by_keys es)
+known_by_keys (e ∷ es) = ap (λ b. is_key_in (string_bytes e.0) && b) (known_by_keys es)
 
 -- ---- entries, one after another
 

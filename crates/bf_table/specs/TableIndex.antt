@@ -11,10 +11,10 @@ use Rattle.bf_table.specs.declared.table.TableEntry.{TableEntry}
 use Rattle.bf_table.specs.declared.table_index.Pattern.{Pattern}
 
 -- the less of two numbers, where there are two
-abbrev pub earlier : Option ℕ → Option ℕ → Option ℕ
-earlier (Some a) (Some b) = Some (min a b)
-earlier (Some a) None = Some a
-earlier None b = b
+abbrev pub earlier_of : Option ℕ → Option ℕ → Option ℕ
+earlier_of (Some a) (Some b) = Some (min a b)
+earlier_of (Some a) None = Some a
+earlier_of None b = b
 
 -- the order of patterns: by task, date, index and try number
 abbrev pub pattern_cmp : Pattern → Pattern → Ordering
@@ -49,7 +49,7 @@ IsIndexOf ids entries firsts = (key : Pattern) → tree.get pattern_cmp firsts k
 -- the earliest of what is found for these keys
 abbrev pub first_of_keys : (Pattern → Option ℕ) → List Pattern → Option ℕ
 first_of_keys get [] = None
-first_of_keys get (key ∷ keys) = earlier (get key) (first_of_keys get keys)
+first_of_keys get (key ∷ keys) = earlier_of (get key) (first_of_keys get keys)
 
 -- what a try has of all that an entry may name
 abbrev pub pattern_of_try : ℕ → List ℕ → JobName → Pattern
@@ -65,5 +65,5 @@ keys_with_date asked task date = keys_with_index asked task date None ++ keys_wi
 abbrev pub keys_with_task : Pattern → Option ℕ → List Pattern
 keys_with_task asked task = keys_with_date asked task None ++ keys_with_date asked task asked.date
 
-abbrev pub keys_for : Pattern → List Pattern
-keys_for asked = keys_with_task asked None ++ keys_with_task asked asked.task
+abbrev pub keys_of : Pattern → List Pattern
+keys_of asked = keys_with_task asked None ++ keys_with_task asked asked.task

@@ -7,7 +7,7 @@ use Rattle.serde_json.specs.Data.{Data, object, Items, no_items, item, Members, 
 use Rattle.serde_json.specs.Find.{get, as_number, as_i64, as_str, as_array}
 use Rattle.serde_json.specs.Read.{read}
 use Rattle.jiff.specs.declared.timestamp.Timestamp.{Timestamp}
-use Rattle.bf_value.specs.Line.{last_line}
+use Rattle.bf_value.specs.Line.{last_line_of}
 use Rattle.bf_value.specs.declared.name.JobName.{JobName}
 use Rattle.bf_moment.specs.Long.{is_long}
 use Rattle.bf_moment.specs.Moment.{moment_text}
@@ -22,17 +22,17 @@ use Rattle.bf_table.specs.declared.table.TableFault.TheVariants.{BadTable, OutOf
 
 -- ---- an entry
 
-abbrev pub is_key : List ℕ → Bool
-is_key k = list_any (bytes_eq k) (codes "task" ∷ codes "index" ∷ codes "run" ∷ codes "try" ∷ codes "status" ∷ codes "out" ∷ [])
+abbrev pub is_key_in : List ℕ → Bool
+is_key_in k = list_any (bytes_eq k) (codes "task" ∷ codes "index" ∷ codes "run" ∷ codes "try" ∷ codes "status" ∷ codes "out" ∷ [])
 
-abbrev pub has_known_keys : Members → Bool
-has_known_keys no_members = true
-has_known_keys (member k d ms) = is_key k && has_known_keys ms
+abbrev pub has_known_keys_in : Members → Bool
+has_known_keys_in no_members = true
+has_known_keys_in (member k d ms) = is_key_in k && has_known_keys_in ms
 
 -- an object without an unknown key
-abbrev pub is_entry : Data → Bool
-is_entry (object ms) = has_known_keys ms
-is_entry _ = false
+abbrev pub is_entry_in : Data → Bool
+is_entry_in (object ms) = has_known_keys_in ms
+is_entry_in _ = false
 
 -- a key that need not be there
 abbrev pub if_there : {A : Type 0} → (Data → Option A) → Option Data → Option (Option A)
@@ -62,7 +62,7 @@ status_in (Some d) = option_and_then status_from (number_of d)
 -- the last line of an output, which is empty where the key is not there
 abbrev pub line_in : Option Data → Option (List ℕ)
 line_in None = Some []
-line_in (Some d) = option_map last_line (as_str d)
+line_in (Some d) = option_map last_line_of (as_str d)
 
 infixl 10 ◌>>=◌
 abbrev ◌>>=◌ : {A B : Type 0} → Option A → (A → Option B) → Option B
@@ -81,7 +81,7 @@ entry_with d = do
 
 -- the entry that JSON data is, where it is one
 unfoldable pub entry_of : Data → Option TableEntry
-entry_of d = if is_entry d then entry_with d else None
+entry_of d = if is_entry_in d then entry_with d else None
 
 -- ---- a table
 
@@ -112,8 +112,8 @@ table_with None = Err (BadTable None)
 table_with (Some ds) = entries_from 0 (entries_of ds)
 
 -- the entries of a file; or the number of the first that is bad, or none where the whole is no JSON list or is too long
-unfoldable pub table_of : List ℕ → Result (List TableEntry) TableFault
-table_of bytes = table_with (option_and_then as_array (json_of_file bytes))
+unfoldable pub table_in : List ℕ → Result (List TableEntry) TableFault
+table_in bytes = table_with (option_and_then as_array (json_of_file bytes))
 
 -- the number of the refusal, which want of memory doesn't have
 abbrev pub fault_number : TableFault → Option ℕ
@@ -143,27 +143,27 @@ Gives view (Err OutOfMemory) given = Unit {0}
 -- ---- what a table answers
 
 -- an entry that names none answers for each
-abbrev pub is_text : Option (List ℕ) → List ℕ → Bool
-is_text None text = true
-is_text (Some named) text = bytes_eq named text
+abbrev pub is_text_in : Option (List ℕ) → List ℕ → Bool
+is_text_in None text = true
+is_text_in (Some named) text = bytes_eq named text
 
-abbrev pub is_number : Option ℤ → ℤ → Bool
-is_number None n = true
-is_number (Some named) n = int_eq named n
+abbrev pub is_number_in : Option ℤ → ℤ → Bool
+is_number_in None n = true
+is_number_in (Some named) n = int_eq named n
 
 -- the entry answers for this try of a task with this id, in a run of this logical date
-abbrev pub answers_for : List ℕ → List ℕ → JobName → TableEntry → Bool
-answers_for id date name entry =
-    is_text entry.task id && is_text entry.run date && is_number entry.index name.index && is_number entry.attempt (pos name.attempt)
+abbrev pub answers_for_in : List ℕ → List ℕ → JobName → TableEntry → Bool
+answers_for_in id date name entry =
+    is_text_in entry.task id && is_text_in entry.run date && is_number_in entry.index name.index && is_number_in entry.attempt (pos name.attempt)
 
 -- status 0 and an empty line, where no entry answers
-abbrev pub raw_of : Option TableEntry → Raw
-raw_of None = record { exit = Exit.Code (pos 0); line = Line.Bytes [] }
-raw_of (Some entry) = record { exit = Exit.Code (pos entry.status); line = Line.Bytes entry.line }
+abbrev pub raw_in : Option TableEntry → Raw
+raw_in None = record { exit = Exit.Code (pos 0); line = Line.Bytes [] }
+raw_in (Some entry) = record { exit = Exit.Code (pos entry.status); line = Line.Bytes entry.line }
 
 -- the logical dates of runs, as reports spell them
-abbrev pub dates_of : List Timestamp → List (List ℕ)
-dates_of starts = map (λ start. moment_text start.nanosecond) starts
+abbrev pub dates_in : List Timestamp → List (List ℕ)
+dates_in starts = map (λ start. moment_text start.nanosecond) starts
 
 -- what contracts see of a table's runner: the tasks, the logical dates of the runs, and the table
 pub record Answering : Type 0 where
@@ -173,4 +173,4 @@ pub record Answering : Type 0 where
 
 -- the answer of the first entry that answers for the try
 unfoldable pub answer_of : Answering → JobName → Raw
-answer_of over name = raw_of (find (answers_for (task_of over.dag name.task).id (slice_index_or over.dates name.run []) name) over.entries)
+answer_of over name = raw_in (find (answers_for_in (task_of over.dag name.task).id (slice_index_or over.dates name.run []) name) over.entries)

@@ -1,6 +1,6 @@
 //! Tables of answers.
 ghost use Rattle.std.specs.Prelude.{◌≡◌, ◌≢◌, IfOk, IfErr, Ok, Err};
-ghost use Rattle.bf_table.specs.Tables.{fault_number, table_of};
+ghost use Rattle.bf_table.specs.Tables.{fault_number, table_in};
 
 use crate::table_reader::entries_of_file;
 use bf_value::{OutOfMemory, Sequence, Text};
@@ -78,9 +78,9 @@ impl fmt::Display for TableFault {
 impl Error for TableFault {}
 
 impl From<OutOfMemory> for TableFault {
-    ghost use Rattle.bf_table.specs.declared.table.TableFault.TheVariants.{OutOfMemory as NoMemory};
+    ghost use Rattle.bf_table.specs.declared.table.TableFault.TheVariants.{OutOfMemory};
 
-    ghost from_gives = { λ _ e. e ≡ NoMemory };
+    ghost from_gives = { λ _ e. e ≡ OutOfMemory };
 
     fn from(_e: OutOfMemory) -> TableFault {
         TableFault::OutOfMemory
@@ -88,9 +88,9 @@ impl From<OutOfMemory> for TableFault {
 }
 
 impl<T: Drop> From<AllocFailed<T>> for TableFault {
-    ghost use Rattle.bf_table.specs.declared.table.TableFault.TheVariants.{OutOfMemory as NoMemory};
+    ghost use Rattle.bf_table.specs.declared.table.TableFault.TheVariants.{OutOfMemory};
 
-    ghost from_gives = { λ _ e. e ≡ NoMemory };
+    ghost from_gives = { λ _ e. e ≡ OutOfMemory };
 
     fn from(_e: AllocFailed<T>) -> TableFault {
         TableFault::OutOfMemory
@@ -103,8 +103,8 @@ impl Table {
     /// tries it answers for, `status` (a whole number from 0 to 255, by default 0) and `out` (a text, by default empty, of which
     /// the last line counts) what it answers.
     pub fn read(alloc: Global, bytes: &[u8]) -> Result<Table, TableFault>
-        ensures ok { IfOk result (λ table. table_of bytes.now ≡ Ok table) }
-        ensures bad { IfErr result (λ fault. fault ≢ TableFault.OutOfMemory → table_of bytes.now
+        ensures ok { IfOk result (λ table. table_in bytes.now ≡ Ok table) }
+        ensures bad { IfErr result (λ fault. fault ≢ TableFault.OutOfMemory → table_in bytes.now
             ≡ Err fault) }
     {
         let entries = entries_of_file(alloc, bytes)?;

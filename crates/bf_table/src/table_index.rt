@@ -1,7 +1,7 @@
 //! Which entry of a table comes first of those that name the same.
 ghost use Rattle.std.specs.Prelude.{◌≡◌, ◌≤◌, ◌<◌, None, Some, IfOk};
-ghost use Rattle.std.specs.BTreeMap as tree;
-ghost use Rattle.bf_table.specs.TableIndex.{date_named, keys_with_date, keys_with_index, keys_with_task, earlier as earlier_of, first_of_keys, keys_for as keys_of, number_named, pattern_cmp, pattern_in, pattern_of_try, IsIndexOf};
+ghost use Rattle.std.specs.BTreeMap;
+ghost use Rattle.bf_table.specs.TableIndex.{date_named, keys_with_date, keys_with_index, keys_with_task, earlier_of, first_of_keys, keys_of, number_named, pattern_cmp, pattern_in, pattern_of_try, IsIndexOf};
 
 use crate::table::TableEntry;
 use bf_graph::Graph;
@@ -98,7 +98,7 @@ fn earlier(one: Option<usize>, other: Option<usize>) -> Option<usize>
 }
 
 fn first_of(firsts: &Firsts, pattern: Pattern) -> Option<usize>
-    ensures { result ≡ tree.get pattern_cmp firsts.now pattern }
+    ensures { result ≡ BTreeMap.get pattern_cmp firsts.now pattern }
 {
     firsts.get(&pattern).copied()
 }
@@ -111,7 +111,7 @@ fn first_with_index(
     date: Option<[u8; 20]>,
     index: Option<i64>,
 ) -> Option<usize>
-    ensures { result ≡ first_of_keys (tree.get pattern_cmp firsts.now)
+    ensures { result ≡ first_of_keys (BTreeMap.get pattern_cmp firsts.now)
         (keys_with_index asked task date index) }
 {
     let any = Pattern {
@@ -134,7 +134,7 @@ fn first_with_date(
     task: Option<u32>,
     date: Option<[u8; 20]>,
 ) -> Option<usize>
-    ensures { result ≡ first_of_keys (tree.get pattern_cmp firsts.now)
+    ensures { result ≡ first_of_keys (BTreeMap.get pattern_cmp firsts.now)
         (keys_with_date asked task date) }
 {
     let any = first_with_index(firsts, asked, task, date, None);
@@ -144,7 +144,7 @@ fn first_with_date(
 
 #[tactic(auto, using(crate::proofs::IndexLemmas::two_groups))]
 fn first_with_task(firsts: &Firsts, asked: Pattern, task: Option<u32>) -> Option<usize>
-    ensures { result ≡ first_of_keys (tree.get pattern_cmp firsts.now) (keys_with_task asked task) }
+    ensures { result ≡ first_of_keys (BTreeMap.get pattern_cmp firsts.now) (keys_with_task asked task) }
 {
     let any = first_with_date(firsts, asked, task, None);
     let same = first_with_date(firsts, asked, task, asked.date);
@@ -153,7 +153,7 @@ fn first_with_task(firsts: &Firsts, asked: Pattern, task: Option<u32>) -> Option
 
 /// The number of the first entry that answers for a try. Each of what a try has is named by the entry, or none is.
 pub(crate) fn first_for(firsts: &Firsts, asked: Pattern) -> Option<usize>
-    ensures { result ≡ first_of_keys (tree.get pattern_cmp firsts.now) (keys_of asked) }
+    ensures { result ≡ first_of_keys (BTreeMap.get pattern_cmp firsts.now) (keys_of asked) }
 {
     let any = first_with_task(firsts, asked, None);
     let same = first_with_task(firsts, asked, asked.task);

@@ -6,7 +6,7 @@ ghost use Rattle.std.specs.Option.{ForSome};
 ghost use Rattle.serde_json.specs.Events.{items_len};
 ghost use Rattle.serde_json.specs.Find.{as_array, as_str};
 ghost use Rattle.serde_json.specs.View.{view, items_view, members_view};
-ghost use Rattle.bf_table.specs.Tables.{is_key as key, has_known_keys as known_keys, is_entry as entry, if_there, number_of, date_in, status_in, line_in, entry_of, entries_of, entries_from, json_of_file, table_of, table_with, Gives, Reads};
+ghost use Rattle.bf_table.specs.Tables.{is_key_in, has_known_keys_in, is_entry_in, if_there, number_of, date_in, status_in, line_in, entry_of, entries_of, entries_from, json_of_file, table_in, table_with, Gives, Reads};
 
 use crate::table::{TableEntry, TableFault};
 use bf_moment::is_long_moment;
@@ -19,25 +19,25 @@ use std::alloc::Global;
 pub const LONGEST_TABLE: usize = 8_388_608;
 
 fn is_key(name: &str) -> bool
-    ensures { result ≡ key name.now }
+    ensures { result ≡ is_key_in name.now }
 {
     matches!(name, "task" | "index" | "run" | "try" | "status" | "out")
 }
 
 fn are_keys(members: &Map<String, Value>) -> bool
-    ensures { result ≡ list_all (λ name. key (string_bytes name)) (keys members.now) }
+    ensures { result ≡ list_all (λ name. is_key_in (string_bytes name)) (keys members.now) }
 {
     members.keys().all(|name| is_key(name.as_str()))
 }
 
 fn has_known_keys(members: &Map<String, Value>) -> bool
-    ensures { result ≡ known_keys (members_view members.now.entries) }
+    ensures { result ≡ has_known_keys_in (members_view members.now.entries) }
 {
     are_keys(members)
 }
 
 fn is_entry(value: &Value) -> bool
-    ensures { result ≡ entry (view value.now) }
+    ensures { result ≡ is_entry_in (view value.now) }
 {
     match value.as_object() {
         Some(members) => has_known_keys(members),
@@ -47,7 +47,7 @@ fn is_entry(value: &Value) -> bool
 
 fn object_at(number: u32, value: &Value) -> Result<(), TableFault>
     ensures { Reads (Some number) (λ u. u) result
-        (if entry (view value.now) then Some tt else None) }
+        (if is_entry_in (view value.now) then Some tt else None) }
 {
     if is_entry(value) {
         Ok(())
@@ -197,7 +197,7 @@ fn entries_of_json(alloc: Global, json: &Value) -> Result<Vec<TableEntry>, Table
 
 #[tactic(auto, unfolding(crate::specs::Tables::table_of))]
 pub(crate) fn entries_of_file(alloc: Global, bytes: &[u8]) -> Result<Vec<TableEntry>, TableFault>
-    ensures { Gives (λ v. v.items) result (table_of bytes.now) }
+    ensures { Gives (λ v. v.items) result (table_in bytes.now) }
 {
     let json = json_of(alloc, bytes)?;
     entries_of_json(alloc, &json)

@@ -1,10 +1,10 @@
 //! A runner that answers by a table.
 ghost use Rattle.std.specs.Prelude.{◌≡◌, [], All, IfOk, find, option_and_then, option_copied, slice_get, slice_index_or, length, IfNone, IfSome};
-ghost use Rattle.std.specs.BTreeMap as tree;
-ghost use Rattle.bf_table.specs.TableIndex.{first_of_keys, keys_for, pattern_cmp, IsIndexOf};
+ghost use Rattle.std.specs.BTreeMap;
+ghost use Rattle.bf_table.specs.TableIndex.{first_of_keys, keys_of, pattern_cmp, IsIndexOf};
 ghost use Rattle.bf_plan.specs.Plans.{task_of};
 ghost use Rattle.bf_moment.specs.Moment.{IsShown};
-ghost use Rattle.bf_table.specs.Tables.{answer_of, answers_for as is_for, dates_of as dates_in, is_number as number_is, is_text as text_is, raw_of as raw_in};
+ghost use Rattle.bf_table.specs.Tables.{answer_of, answers_for_in, dates_in, is_number_in, is_text_in, raw_in};
 
 use crate::table::{Table, TableEntry};
 use crate::table_index::{Firsts, Pattern, first_for, firsts_of};
@@ -33,14 +33,14 @@ pub struct TableRunner<'a> {
 impl<'a> Model for TableRunner<'a> {
     ghost use Rattle.std.specs.Coded.{codes};
     ghost use Rattle.bf_plan.specs.Plans.{shape_of};
-    ghost use Rattle.bf_plan.specs.contracts.plan.Dag as d;
-    ghost use Rattle.bf_table.specs.contracts.table.TableEntry as e;
+    ghost use Rattle.bf_plan.specs.contracts.plan.Dag;
+    ghost use Rattle.bf_table.specs.contracts.table.TableEntry;
     ghost use Rattle.bf_table.specs.Tables.{Answering};
     ghost use Rattle.bf_table.specs.TableIndex.{IsIndexOf};
 
     ghost Value = { Answering };
 
-    ghost coded = { Prim.hlevel (codes, d.the_row.coded, e.the_row.coded) };
+    ghost coded = { Prim.hlevel (codes, Dag.the_row.coded, TableEntry.the_row.coded) };
 
     ghost view = { λ r. record { dag = r.plan.now.dag; dates = r.dates.items; entries = r.table } };
 
@@ -48,7 +48,7 @@ impl<'a> Model for TableRunner<'a> {
 }
 
 fn is_text(named: &Option<Text>, text: &[u8]) -> bool
-    ensures { result ≡ text_is named.now text.now }
+    ensures { result ≡ is_text_in named.now text.now }
 {
     match named {
         Some(named) => named.as_str().as_bytes() == text,
@@ -57,7 +57,7 @@ fn is_text(named: &Option<Text>, text: &[u8]) -> bool
 }
 
 fn is_number(named: Option<i64>, number: i64) -> bool
-    ensures { result ≡ number_is named number }
+    ensures { result ≡ is_number_in named number }
 {
     match named {
         Some(named) => named == number,
@@ -66,7 +66,7 @@ fn is_number(named: Option<i64>, number: i64) -> bool
 }
 
 fn answers_for(id: &[u8], date: &[u8], name: JobName, entry: &TableEntry) -> bool
-    ensures { result ≡ is_for id.now date.now name entry.now }
+    ensures { result ≡ answers_for_in id.now date.now name entry.now }
 {
     is_text(&entry.task, id)
         && is_text(&entry.run, date)
@@ -81,7 +81,7 @@ fn scanned<'a>(
     date: &[u8],
     name: JobName,
 ) -> Option<&'a TableEntry>
-    ensures { option_copied result ≡ find (is_for id.now date.now name) entries.entry.now }
+    ensures { option_copied result ≡ find (answers_for_in id.now date.now name) entries.entry.now }
 {
     entries
         .iter()
@@ -91,7 +91,7 @@ fn scanned<'a>(
 fn indexed<'a>(entries: &'a [TableEntry], firsts: &Firsts, asked: Pattern) -> Option<&'a TableEntry>
     ensures { option_copied result
         ≡ option_and_then (slice_get entries.entry.now)
-        (first_of_keys (tree.get pattern_cmp firsts.now) (keys_for asked)) }
+        (first_of_keys (BTreeMap.get pattern_cmp firsts.now) (keys_of asked)) }
 {
     match first_for(firsts, asked) {
         Some(number) => entries.get(number),
@@ -109,7 +109,7 @@ fn entry_in_run<'a>(
 ) -> Option<&'a TableEntry>
     requires index { IsIndexOf graph.now.ids entries.now firsts.now }
     requires long { length date ≡ 20 }
-    ensures { option_copied result ≡ find (is_for id.now date name) entries.entry.now }
+    ensures { option_copied result ≡ find (answers_for_in id.now date name) entries.entry.now }
 {
     match graph.number_of(id) {
         Some(task) => indexed(entries, firsts, Pattern::of_try(task, date, name)),
@@ -191,7 +191,7 @@ impl<'a> TableRunner<'a> {
 
     fn entry_for(&self, name: JobName) -> Option<&TableEntry>
         ensures { option_copied result
-            ≡ find (is_for (task_of self.now.dag name.task).id
+            ≡ find (answers_for_in (task_of self.now.dag name.task).id
             (slice_index_or self.now.dates name.run []) name) self.now.entries }
     {
         let id = id_of(self.plan, name.task);

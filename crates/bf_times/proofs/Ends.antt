@@ -6,7 +6,7 @@ use Rattle.std.proofs.lemmas.List.{take-append-drop}
 use Rattle.bf_plan.specs.declared.plan.Dag.{Dag}
 use Rattle.bf_plan.proofs.ListLemmas.{some_same}
 use Rattle.bf_interval.specs.declared.interval.Interval.{Interval}
-use Rattle.bf_try.specs.Tries.{Look}
+use Rattle.bf_try.specs.Tries.{Ledger}
 use Rattle.bf_journal.specs.declared.fault.JournalFault.{JournalFault}
 use Rattle.bf_journal.specs.declared.fault.JournalFault.TheVariants.{BadRecord, Mismatch, OutOfMemory}
 use Rattle.bf_journal.specs.Found.{IsCutHead, IsFault, IsGoneOnWith}
@@ -31,7 +31,7 @@ module _ (dag : Dag) (intervals : List Interval) (bytes head : List ℕ) where
   passed_up has (Err f) fault up is = subst (IsTimesFault dag intervals bytes) (sym up) (fault_of has fault is)
 
   -- nothing is whole, or the whole lines behind the head tell tries
-  pub is_found : (whole : ℕ) (tries : Look) → (whole < length head → IsCutHead head bytes whole tries) → (length head ≤ whole → IsGoneOnWith dag intervals head bytes whole tries) → IsFoundIn dag intervals head bytes whole tries
+  pub is_found : (whole : ℕ) (tries : Ledger) → (whole < length head → IsCutHead head bytes whole tries) → (length head ≤ whole → IsGoneOnWith dag intervals head bytes whole tries) → IsFoundIn dag intervals head bytes whole tries
   is_found whole tries begun gone_on = elim (cases_Bool (nat_lt whole (length head))) as (λ _. IsFoundIn dag intervals head bytes whole tries) [
     | inl low ↦ inl (begun (grind (arith, nat_tests, low)))
     | inr high ↦ inr (gone_on (grind (arith, nat_tests, high)))

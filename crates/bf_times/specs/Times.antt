@@ -11,7 +11,7 @@ use Rattle.bf_value.specs.Views.{xvals_of}
 use Rattle.bf_plan.specs.declared.plan.Dag.{Dag}
 use Rattle.bf_interval.specs.declared.interval.Interval.{Interval}
 use Rattle.bf_report.specs.Report.{line}
-use Rattle.bf_try.specs.Tries.{Look}
+use Rattle.bf_try.specs.Tries.{Ledger}
 use Rattle.bf_journal.specs.declared.fault.JournalFault.{JournalFault}
 use Rattle.bf_journal.specs.declared.fault.JournalFault.TheVariants.{BadRecord, Mismatch, OutOfMemory}
 use Rattle.bf_journal.specs.Heads.{head_text}
@@ -61,8 +61,8 @@ abbrev pub IsTextOf : List ℕ → List ℕ → Type 0
 IsTextOf records text = (IsUtf8 records × (text ≡ times_text (lines records))) ⊎ (¬ (IsUtf8 records) × (text ≡ times_text []))
 
 -- the first line, with its line feed
-abbrev pub first_line : List ℕ → Option (List ℕ)
-first_line bytes = option_map (λ at. take (at + 1) bytes) (position (λ b. b == 10) bytes)
+abbrev pub first_line_of : List ℕ → Option (List ℕ)
+first_line_of bytes = option_map (λ at. take (at + 1) bytes) (position (λ b. b == 10) bytes)
 
 abbrev pub is_like_up_to : ℕ → List ℕ → List ℕ → Bool
 is_like_up_to front head line =
@@ -75,7 +75,7 @@ is_head_like head line = is_like_up_to (length head - 2) head line
 
 -- the bytes begin with the head of a journal of the graph and the runs
 pub record HasHead (dag : Dag) (intervals : List Interval) (bytes head : List ℕ) : Type 0 where
-  pub is_first : first_line bytes ≡ Some head
+  pub is_first : first_line_of bytes ≡ Some head
   pub is_own : is_head_like (head_text dag intervals []) head ≡ true
 
 -- the whole lines behind the head tell tries, and the text their times
@@ -83,7 +83,7 @@ pub record AreTimesOf (dag : Dag) (intervals : List Interval) (bytes text : List
   pub head : List ℕ
   pub has_head : HasHead dag intervals bytes head
   pub whole : ℕ
-  pub tries : Look
+  pub tries : Ledger
   pub found : IsFoundIn dag intervals head bytes whole tries
   pub is : IsTextOf (take (whole - length head) (drop (length head) bytes)) text
 

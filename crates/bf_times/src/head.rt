@@ -1,7 +1,7 @@
 //! The head of a journal that a backfill of a graph and of these runs began, whatever it cleared.
 ghost use Rattle.std.specs.Prelude.{◌≡◌, ◌==◌, [], IfOk, option_map, position};
 ghost use Rattle.bf_journal.specs.Heads.{head_text};
-ghost use Rattle.bf_times.specs.Times.{first_line as first_line_of, is_head_like};
+ghost use Rattle.bf_times.specs.Times.{first_line_of, is_head_like};
 
 use bf_interval::Runs;
 use bf_journal::head_of;

@@ -6,7 +6,7 @@ use Rattle.std.proofs.lemmas.Str.{is_utf8-from_IsUtf8, IsUtf8-nil}
 use Rattle.serde_json.specs.Data.{Data, null, boolean, number, string, array, object, Items, no_items, item}
 use Rattle.serde_json.specs.Find.{as_i64}
 use Rattle.serde_json.specs.Read.{read}
-use Rattle.bf_value.specs.Json.{deepest, plain_in, plains_in, pushed_by, text_of, value_of_line, value_or_text}
+use Rattle.bf_value.specs.Json.{deepest, plain_in, plains_in, pushed_of, json_of, value_of_line, value_or_text}
 use Rattle.bf_value.specs.Plain.{Plain, flag, int, text, list, nil, Plains, none, more, plain_depth, plains_depth}
 use Rattle.bf_value.specs.Views.{plain_of}
 use Rattle.bf_value.proofs.TextLemmas.{IsUtf8-text_of, value_of_line-text_of}
@@ -17,7 +17,7 @@ use Rattle.bf_xcom.specs.declared.values.Outcome.{Outcome}
 use Rattle.bf_try.specs.declared.answers.Exit.{Exit}
 use Rattle.bf_try.specs.declared.answers.Line.{Line}
 use Rattle.bf_try.specs.declared.answers.Raw.{Raw}
-use Rattle.bf_try.specs.Grades.{HasSoundValue, fits, grade_of, grade_answer, grade_line, grade_status, grade_value, is_status, is_value_of_lines, may_push}
+use Rattle.bf_try.specs.Grades.{HasSoundValue, fits_in, grade_of, grade_answer, grade_line_of, grade_status, grade_value, is_status, is_value_of_lines_in, may_push_in}
 
 int-some : (o : Option ℤ) (p : Plain) → option_map int o ≡ Some p → plain_depth p ≤ 0
 int-some None p e = cc
@@ -70,10 +70,10 @@ not-nil (suc n) (array ds) other e = none_in (plains_in n ds) e
     none_in (Some ps) h = cc
 not-nil n (object ms) other e = cc
 
-read-values : (line : List ℕ) (d : Data) → d ≢ null → is_value_of_lines (Some (value_or_text line (plain_in deepest d))) ≡ true
+read-values : (line : List ℕ) (d : Data) → d ≢ null → is_value_of_lines_in (Some (value_or_text line (plain_in deepest d))) ≡ true
 read-values line d other = by (plain_in deepest d) refl
   where
-    by : (o : Option Plain) → plain_in deepest d ≡ o → is_value_of_lines (Some (value_or_text line o)) ≡ true
+    by : (o : Option Plain) → plain_in deepest d ≡ o → is_value_of_lines_in (Some (value_or_text line o)) ≡ true
     by None e = refl
     by (Some (flag b)) e = refl
     by (Some (int z)) e = refl
@@ -81,7 +81,7 @@ read-values line d other = by (plain_in deepest d) refl
     by (Some (list ps)) e = let low : plain_depth (list ps) ≤ deepest = depth-read deepest d (list ps) e in le-leb _ _ low
     by (Some nil) e = absurd (not-nil deepest d other e)
 
-pushed-values : (line : List ℕ) (o : Option Data) → is_value_of_lines (pushed_by line o) ≡ true
+pushed-values : (line : List ℕ) (o : Option Data) → is_value_of_lines_in (pushed_of line o) ≡ true
 pushed-values line None = refl
 pushed-values line (Some null) = refl
 pushed-values line (Some (boolean b)) = read-values line (boolean b) (λ e. cc)
@@ -91,48 +91,48 @@ pushed-values line (Some (array ds)) = read-values line (array ds) (λ e. cc)
 pushed-values line (Some (object ms)) = read-values line (object ms) (λ e. cc)
 
 -- a line pushes nothing or a value of lines
-lines-values : (line : List ℕ) → is_value_of_lines (value_of_line line) ≡ true
+lines-values : (line : List ℕ) → is_value_of_lines_in (value_of_line line) ≡ true
 lines-values [] = refl
 lines-values (b ∷ bs) = pushed-values (b ∷ bs) (read (b ∷ bs))
 
-value-fits : (dag : Dag) (t : ℕ) (v : Option Xval) → is_value_of_lines v ≡ true → fits dag t (grade_value dag t v) ≡ true
-unfolding fits
-value-fits dag t v ok = by (may_push dag t v) refl
+value-fits : (dag : Dag) (t : ℕ) (v : Option Xval) → is_value_of_lines_in v ≡ true → fits_in dag t (grade_value dag t v) ≡ true
+unfolding fits_in
+value-fits dag t v ok = by (may_push_in dag t v) refl
   where
-    by : (b : Bool) → may_push dag t v ≡ b → fits dag t (if b then Outcome.Success v else Outcome.Failed) ≡ true
+    by : (b : Bool) → may_push_in dag t v ≡ b → fits_in dag t (if b then Outcome.Success v else Outcome.Failed) ≡ true
     by true e = rw (ok, e) refl
     by false e = refl
 
-line-fits : (dag : Dag) (t : ℕ) (line : List ℕ) → fits dag t (grade_line dag t line) ≡ true
-unfolding fits
+line-fits : (dag : Dag) (t : ℕ) (line : List ℕ) → fits_in dag t (grade_line_of dag t line) ≡ true
+unfolding fits_in
 line-fits dag t line = by (is_utf8 line)
   where
-    by : (b : Bool) → fits dag t (if b then grade_value dag t (value_of_line line) else Outcome.Failed) ≡ true
+    by : (b : Bool) → fits_in dag t (if b then grade_value dag t (value_of_line line) else Outcome.Failed) ≡ true
     by true = value-fits dag t (value_of_line line) (lines-values line)
     by false = refl
 
-status-fits : (dag : Dag) (t : ℕ) (status : ℤ) (line : List ℕ) → fits dag t (grade_status dag t status line) ≡ true
-unfolding fits
+status-fits : (dag : Dag) (t : ℕ) (status : ℤ) (line : List ℕ) → fits_in dag t (grade_status dag t status line) ≡ true
+unfolding fits_in
 status-fits dag t status line = by (is_status 99 status) (is_status 0 status)
   where
-    by : (skips succeeds : Bool) → fits dag t (if skips then Outcome.Skipped else (if succeeds then grade_line dag t line else Outcome.Failed)) ≡ true
+    by : (skips succeeds : Bool) → fits_in dag t (if skips then Outcome.Skipped else (if succeeds then grade_line_of dag t line else Outcome.Failed)) ≡ true
     by true b = refl
     by false true = line-fits dag t line
     by false false = refl
 
-answer-fits : (dag : Dag) (t : ℕ) (exit : Exit) (line : Line) → fits dag t (grade_answer dag t exit line) ≡ true
-unfolding fits
+answer-fits : (dag : Dag) (t : ℕ) (exit : Exit) (line : Line) → fits_in dag t (grade_answer dag t exit line) ≡ true
+unfolding fits_in
 answer-fits dag t (Exit.Code status) (Line.Bytes line) = status-fits dag t status line
 answer-fits dag t _ _ = refl
 
 -- a grade fits
-pub grade_fits : (dag : Dag) (t : ℕ) (raw : Raw) → fits dag t (grade_of dag t raw) ≡ true
+pub grade_fits : (dag : Dag) (t : ℕ) (raw : Raw) → fits_in dag t (grade_of dag t raw) ≡ true
 unfolding grade_of
 grade_fits dag t raw = answer-fits dag t raw.exit raw.line
 
 -- ---- and what fits is a grade
 
-value-fact : (x : Xval) → is_value_of_lines (Some x) ≡ true → (x ≢ Nil) × (plain_depth (plain_of x) ≤ deepest)
+value-fact : (x : Xval) → is_value_of_lines_in (Some x) ≡ true → (x ≢ Nil) × (plain_depth (plain_of x) ≤ deepest)
 value-fact (Flag b) e = (λ h. cc, omega arith)
 value-fact (Int z) e = (λ h. cc, omega arith)
 value-fact (Text s) e = (λ h. cc, omega arith)
@@ -140,15 +140,15 @@ value-fact (ListOf ps) e = (λ h. cc, leb-true _ _ e)
 value-fact Nil e = cc
 
 -- the text of a value that lines may have is a line with this value
-pub line_reads_back : (x : Xval) (line : List ℕ) → (x ≢ Nil → plain_depth (plain_of x) ≤ deepest → value_of_line line ≡ Some x) → is_value_of_lines (Some x) ≡ true → value_of_line line ≡ Some x
+pub line_reads_back : (x : Xval) (line : List ℕ) → (x ≢ Nil → plain_depth (plain_of x) ≤ deepest → value_of_line line ≡ Some x) → is_value_of_lines_in (Some x) ≡ true → value_of_line line ≡ Some x
 line_reads_back x line back e = let fact = value-fact x e in back fact.0 fact.1
 
-success_parts : (dag : Dag) (t : ℕ) (v : Option Xval) → fits dag t (Outcome.Success v) ≡ true → (is_value_of_lines v ≡ true) × (may_push dag t v ≡ true)
-unfolding fits
+success_parts : (dag : Dag) (t : ℕ) (v : Option Xval) → fits_in dag t (Outcome.Success v) ≡ true → (is_value_of_lines_in v ≡ true) × (may_push_in dag t v ≡ true)
+unfolding fits_in
 success_parts dag t v e = and_parts _ _ e
 
 -- a line that reads as what a task may push is graded as a success that pushes it
-pub success_graded : (dag : Dag) (t : ℕ) (v : Option Xval) (line : List ℕ) → IsUtf8 line → (is_value_of_lines v ≡ true → value_of_line line ≡ v) → fits dag t (Outcome.Success v) ≡ true
+pub success_graded : (dag : Dag) (t : ℕ) (v : Option Xval) (line : List ℕ) → IsUtf8 line → (is_value_of_lines_in v ≡ true → value_of_line line ≡ v) → fits_in dag t (Outcome.Success v) ≡ true
     → grade_of dag t (record { exit = Exit.Code (pos 0); line = Line.Bytes line }) ≡ Outcome.Success v
 unfolding grade_of
 success_graded dag t v line utf8 reads e =
@@ -156,10 +156,10 @@ success_graded dag t v line utf8 reads e =
     rw (is_utf8-from_IsUtf8 line utf8) (ap (grade_value dag t) (reads parts.0) ∙ ap (λ b. if b then Outcome.Success v else Outcome.Failed) parts.1)
 
 -- the same of an answer and an outcome that are equal to these
-pub success_answered : (o : Outcome) (raw : Raw) (v : Option Xval) (line : List ℕ) → o ≡ Outcome.Success v → raw ≡ record { exit = Exit.Code (pos 0); line = Line.Bytes line } → IsUtf8 line → (is_value_of_lines v ≡ true → value_of_line line ≡ v)
-    → (dag : Dag) (t : ℕ) → fits dag t o ≡ true → grade_of dag t raw ≡ o
+pub success_answered : (o : Outcome) (raw : Raw) (v : Option Xval) (line : List ℕ) → o ≡ Outcome.Success v → raw ≡ record { exit = Exit.Code (pos 0); line = Line.Bytes line } → IsUtf8 line → (is_value_of_lines_in v ≡ true → value_of_line line ≡ v)
+    → (dag : Dag) (t : ℕ) → fits_in dag t o ≡ true → grade_of dag t raw ≡ o
 success_answered o raw v line is answer utf8 reads dag t e =
-    ap (grade_of dag t) answer ∙ success_graded dag t v line utf8 reads (subst (λ (x : Outcome). fits dag t x ≡ true) is e) ∙ sym is
+    ap (grade_of dag t) answer ∙ success_graded dag t v line utf8 reads (subst (λ (x : Outcome). fits_in dag t x ≡ true) is e) ∙ sym is
 
 pub failed_answered : (o : Outcome) (raw : Raw) (line : List ℕ) → o ≡ Outcome.Failed → raw ≡ record { exit = Exit.Code (pos 1); line = Line.Bytes line } → (dag : Dag) (t : ℕ) → grade_of dag t raw ≡ o
 unfolding grade_of
@@ -174,9 +174,9 @@ abbrev coded : ℕ → List ℕ → Raw
 coded status line = record { exit = Exit.Code (pos status); line = Line.Bytes line }
 
 -- each outcome that fits is the grade of an answer
-pub fit_graded : (dag : Dag) (t : ℕ) (o : Outcome) → HasSoundValue o → fits dag t o ≡ true → (raw : Raw) × (grade_of dag t raw ≡ o)
+pub fit_graded : (dag : Dag) (t : ℕ) (o : Outcome) → HasSoundValue o → fits_in dag t o ≡ true → (raw : Raw) × (grade_of dag t raw ≡ o)
 fit_graded dag t (Outcome.Success None) sound e = (coded 0 [], success_graded dag t None [] IsUtf8-nil (λ _. refl) e)
 fit_graded dag t (Outcome.Success (Some x)) sound e =
-    (coded 0 (text_of x), success_graded dag t (Some x) (text_of x) (IsUtf8-text_of x sound) (line_reads_back x (text_of x) (λ some deep. value_of_line-text_of x sound deep some)) e)
+    (coded 0 (json_of x), success_graded dag t (Some x) (json_of x) (IsUtf8-text_of x sound) (line_reads_back x (json_of x) (λ some deep. value_of_line-text_of x sound deep some)) e)
 fit_graded dag t Outcome.Failed sound e = (coded 1 [], failed_answered Outcome.Failed (coded 1 []) [] refl refl dag t)
 fit_graded dag t Outcome.Skipped sound e = (coded 99 [], skipped_answered Outcome.Skipped (coded 99 []) [] refl refl dag t)

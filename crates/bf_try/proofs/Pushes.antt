@@ -17,7 +17,7 @@ use Rattle.bf_plan.specs.Sound.{IsSound}
 use Rattle.bf_plan.proofs.PlanLemmas.{is_upstream}
 use Rattle.bf_plan.proofs.ListLemmas.{any_contained}
 use Rattle.bf_xcom.specs.declared.values.Outcome.{Outcome}
-use Rattle.bf_try.specs.Grades.{grade_line, grade_value, is_source, may_push}
+use Rattle.bf_try.specs.Grades.{grade_line_of, grade_value, is_source, may_push_in}
 
 -- ---- whether one of a list passes
 
@@ -73,11 +73,11 @@ module _ (dag : Dag) (sound : IsSound dag) (source : ℕ) (downstreams : List �
 
 -- ---- the grade of a line
 
-pub graded_pushed : (dag : Dag) (t : ℕ) (line : List ℕ) (v : Option Xval) → IsUtf8 line → v ≡ value_of_line line → true ≡ may_push dag t v → Outcome.Success v ≡ grade_line dag t line
+pub graded_pushed : (dag : Dag) (t : ℕ) (line : List ℕ) (v : Option Xval) → IsUtf8 line → v ≡ value_of_line line → true ≡ may_push_in dag t v → Outcome.Success v ≡ grade_line_of dag t line
 graded_pushed dag t line v text same may =
     rw (is_utf8-from_IsUtf8 line text) (ap (λ b. if b then Outcome.Success v else Outcome.Failed) may ∙ ap (grade_value dag t) same)
 
-pub graded_not_utf8 : (dag : Dag) (t : ℕ) (line : List ℕ) → ¬ (IsUtf8 line) → Outcome.Failed ≡ grade_line dag t line
+pub graded_not_utf8 : (dag : Dag) (t : ℕ) (line : List ℕ) → ¬ (IsUtf8 line) → Outcome.Failed ≡ grade_line_of dag t line
 graded_not_utf8 dag t line not_text = rw (is_false (is_utf8 line) (λ e. not_text (IsUtf8-from_is_utf8 line e)))
   where
     is_false : (b : Bool) → (b ≡ true → ⊥) → b ≡ false

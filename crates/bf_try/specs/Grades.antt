@@ -2,13 +2,13 @@
 use Rattle.std.specs.Prelude.{ℕ, ◌==◌, ◌≡◌, ℤ, pos, negsuc, nat_le, length, Bool, true, false, not, ◌&&◌, ◌||◌, if◌then◌else◌, List, Option, None, Some, is_some}
 use Rattle.std.specs.List.{list_any}
 use Rattle.std.specs.Str.{is_utf8}
-use Rattle.bf_value.specs.Json.{deepest, text_of, value_of_line}
+use Rattle.bf_value.specs.Json.{deepest, json_of, value_of_line}
 use Rattle.bf_value.specs.Plain.{plains_depth, IsSound}
 use Rattle.bf_value.specs.Views.{plain_of, xvals_of}
 use Rattle.bf_value.specs.declared.xval.Xval.{Xval}
 use Rattle.bf_value.specs.declared.xval.Xval.TheVariants.{Nil, List as ListOf}
-use Rattle.bf_rule.specs.Branches.{names_downstreams}
-use Rattle.bf_plan.specs.Plans.{task_of, shape_of, is_branch}
+use Rattle.bf_rule.specs.Branches.{names_downstreams_in}
+use Rattle.bf_plan.specs.Plans.{task_of, shape_of, is_branch_in}
 use Rattle.bf_plan.specs.declared.plan.Dag.{Dag}
 use Rattle.bf_xcom.specs.declared.values.Outcome.{Outcome}
 use Rattle.bf_try.specs.declared.answers.Exit.{Exit}
@@ -24,36 +24,36 @@ longest_text = 65_536
 abbrev pub most_items : ℕ
 most_items = 1_024
 
-abbrev pub is_short : Option Xval → Bool
-is_short None = true
-is_short (Some value) = nat_le (length (text_of value)) longest_text
+abbrev pub is_short_in : Option Xval → Bool
+is_short_in None = true
+is_short_in (Some value) = nat_le (length (json_of value)) longest_text
 
-abbrev pub is_list_of_items : Option Xval → Bool
-is_list_of_items (Some (ListOf values)) = nat_le (length (xvals_of values)) most_items
-is_list_of_items _ = false
+abbrev pub is_list_of_items_in : Option Xval → Bool
+is_list_of_items_in (Some (ListOf values)) = nat_le (length (xvals_of values)) most_items
+is_list_of_items_in _ = false
 
 abbrev pub is_source : Option ℕ → ℕ → Bool
 is_source None task = false
 is_source (Some source) task = source == task
 
 -- an unmapped task that some task is expanded over
-abbrev pub gives_items : Dag → ℕ → Bool
-gives_items dag task = not (is_some (task_of dag task).expand) && list_any (λ other. is_source other.expand task) dag.tasks
+abbrev pub gives_items_in : Dag → ℕ → Bool
+gives_items_in dag task = not (is_some (task_of dag task).expand) && list_any (λ other. is_source other.expand task) dag.tasks
 
 -- its text is short; of a branch it names direct downstreams; of a task that gives items it is a list of few
-abbrev pub may_push : Dag → ℕ → Option Xval → Bool
-may_push dag task value =
-    is_short value
-    && ((not (is_branch (task_of dag task)) || names_downstreams (shape_of dag) task value)
-    && (not (gives_items dag task) || is_list_of_items value))
+abbrev pub may_push_in : Dag → ℕ → Option Xval → Bool
+may_push_in dag task value =
+    is_short_in value
+    && ((not (is_branch_in (task_of dag task)) || names_downstreams_in (shape_of dag) task value)
+    && (not (gives_items_in dag task) || is_list_of_items_in value))
 
 -- ---- grades
 
 abbrev pub grade_value : Dag → ℕ → Option Xval → Outcome
-grade_value dag task value = if may_push dag task value then Outcome.Success value else Outcome.Failed
+grade_value dag task value = if may_push_in dag task value then Outcome.Success value else Outcome.Failed
 
-abbrev pub grade_line : Dag → ℕ → List ℕ → Outcome
-grade_line dag task line = if is_utf8 line then grade_value dag task (value_of_line line) else Outcome.Failed
+abbrev pub grade_line_of : Dag → ℕ → List ℕ → Outcome
+grade_line_of dag task line = if is_utf8 line then grade_value dag task (value_of_line line) else Outcome.Failed
 
 abbrev pub is_status : ℕ → ℤ → Bool
 is_status status (pos number) = number == status
@@ -63,7 +63,7 @@ is_status status (negsuc number) = false
 abbrev pub grade_status : Dag → ℕ → ℤ → List ℕ → Outcome
 grade_status dag task status line =
     if is_status 99 status then Outcome.Skipped
-    else (if is_status 0 status then grade_line dag task line
+    else (if is_status 0 status then grade_line_of dag task line
     else Outcome.Failed)
 
 abbrev pub grade_answer : Dag → ℕ → Exit → Line → Outcome
@@ -83,16 +83,16 @@ HasSoundValue (Outcome.Success (Some value)) = IsSound (plain_of value)
 HasSoundValue _ = Unit {0}
 
 -- a line may have this value: never null, with lists that are not nested too deep
-abbrev pub is_value_of_lines : Option Xval → Bool
-is_value_of_lines (Some Nil) = false
-is_value_of_lines (Some (ListOf values)) = nat_le (plains_depth values) deepest
-is_value_of_lines _ = true
+abbrev pub is_value_of_lines_in : Option Xval → Bool
+is_value_of_lines_in (Some Nil) = false
+is_value_of_lines_in (Some (ListOf values)) = nat_le (plains_depth values) deepest
+is_value_of_lines_in _ = true
 
-unfoldable pub fits : Dag → ℕ → Outcome → Bool
-fits dag task (Outcome.Success value) = is_value_of_lines value && may_push dag task value
-fits dag task Outcome.Failed = true
-fits dag task Outcome.Skipped = true
+unfoldable pub fits_in : Dag → ℕ → Outcome → Bool
+fits_in dag task (Outcome.Success value) = is_value_of_lines_in value && may_push_in dag task value
+fits_in dag task Outcome.Failed = true
+fits_in dag task Outcome.Skipped = true
 
 -- wherever the outcome fits, it is the grade of the answer
 abbrev pub GradesTo : Raw → Outcome → Type 0
-GradesTo raw outcome = (dag : Dag) (task : ℕ) → fits dag task outcome ≡ true → grade_of dag task raw ≡ outcome
+GradesTo raw outcome = (dag : Dag) (task : ℕ) → fits_in dag task outcome ≡ true → grade_of dag task raw ≡ outcome

@@ -10,8 +10,8 @@ use Rattle.bf_xcom.specs.declared.values.TaskResult.{TaskResult}
 use Rattle.bf_try.specs.declared.ledger.Entry.{Entry}
 
 -- a ledger of tries, by its look-up
-abbrev pub Look : Type 0
-Look = JobName → Option Entry
+abbrev pub Ledger : Type 0
+Ledger = JobName → Option Entry
 
 -- the index of an instance: -1 for an unmapped task
 abbrev pub map_index : Task → ℕ → ℤ
@@ -34,7 +34,7 @@ abbrev pub outcome_of : Option Entry → Outcome
 outcome_of None = Failed
 outcome_of (Some entry) = entry.outcome
 
-abbrev pub outcome_at : Dag → Look → ℕ → ℕ → ℕ → ℕ → Outcome
+abbrev pub outcome_at : Dag → Ledger → ℕ → ℕ → ℕ → ℕ → Outcome
 outcome_at dag ledger run task place attempt = outcome_of (ledger (name_of dag run task place attempt))
 
 -- from this attempt on, the first that isn't failed; the last of all, where none of the `left` before it is
@@ -43,7 +43,7 @@ last_try outcome attempt zero = attempt
 last_try outcome attempt (suc left) = if is_failed (outcome attempt) then last_try outcome (suc attempt) left else attempt
 
 -- the result of an instance: the outcome of its last try, and that try's number
-unfoldable pub result_of : Dag → Look → ℕ → ℕ → ℕ → TaskResult
+unfoldable pub result_of : Dag → Ledger → ℕ → ℕ → ℕ → TaskResult
 result_of dag ledger run task place =
     let attempt = last_try (outcome_at dag ledger run task place) 1 (task_of dag task).retries in
     record { outcome = outcome_at dag ledger run task place attempt; tries = attempt }
@@ -55,5 +55,5 @@ abbrev pub Agree : Entry → Option Entry → Type 0
 Agree entry other = (same : Entry) → other ≡ Some same → entry.given ≡ same.given → entry.outcome ≡ same.outcome
 
 -- equal outcomes wherever name and Given are equal
-abbrev pub AreAlike : Look → Look → Type 0
+abbrev pub AreAlike : Ledger → Ledger → Type 0
 AreAlike one two = (name : JobName) (entry same : Entry) → one name ≡ Some entry → two name ≡ Some same → entry.given ≡ same.given → entry.outcome ≡ same.outcome

@@ -1,7 +1,7 @@
 //! What a program answers.
 ghost use Rattle.std.specs.Prelude.{◌≡◌, IfOk};
-ghost use Rattle.bf_try.specs.declared.answers.Exit.{Exit as ExitTerm};
-ghost use Rattle.bf_try.specs.declared.answers.Line.{Line as LineTerm};
+ghost use Rattle.bf_try.specs.declared.answers.Exit.{Exit};
+ghost use Rattle.bf_try.specs.declared.answers.Line.{Line};
 
 use bf_value::{OutOfMemory, Sequence};
 use std::alloc::Global;
@@ -51,7 +51,7 @@ impl Line {
 impl Raw {
     /// The answer of a program that ended with this status after this last line.
     pub fn with_code(code: i32, line: Sequence<u8>) -> Raw
-        ensures { result ≡ record { exit = ExitTerm.Code code; line = LineTerm.Bytes line } }
+        ensures { result ≡ record { exit = Exit.Code code; line = Line.Bytes line } }
     {
         Raw {
             exit: Exit::Code(code),

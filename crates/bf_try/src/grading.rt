@@ -1,13 +1,13 @@
 //! Grades.
 ghost use Rattle.std.specs.Prelude.{◌≡◌, ◌<◌, ◌||◌, ℕ, true, not, length, IfOk, IsUtf8};
 ghost use Rattle.bf_value.specs.Json.{value_of_line};
-ghost use Rattle.bf_plan.specs.declared.plan.Dag.{Dag as DagTerm};
-ghost use Rattle.bf_xcom.specs.declared.values.Outcome.{Outcome as OutcomeTerm};
-ghost use Rattle.bf_try.specs.declared.answers.Raw.{Raw as RawTerm};
+ghost use Rattle.bf_plan.specs.declared.plan.Dag.{Dag};
+ghost use Rattle.bf_xcom.specs.declared.values.Outcome.{Outcome};
+ghost use Rattle.bf_try.specs.declared.answers.Raw.{Raw};
 ghost use Rattle.std.specs.List.{list_any};
-ghost use Rattle.bf_rule.specs.Branches.{names_downstreams as names_downstreams_in};
-ghost use Rattle.bf_plan.specs.Plans.{task_of, shape_of, is_branch as branch};
-ghost use Rattle.bf_try.specs.Grades.{grade_of, grade_line as line_grade, fits as fits_in, gives_items as items_given, GradesTo, HasSoundValue, is_list_of_items as list_of_items, is_short as short, is_source, is_value_of_lines as of_lines, may_push as pushable};
+ghost use Rattle.bf_rule.specs.Branches.{names_downstreams_in};
+ghost use Rattle.bf_plan.specs.Plans.{task_of, shape_of, is_branch_in};
+ghost use Rattle.bf_try.specs.Grades.{grade_of, grade_line_of, fits_in, gives_items_in, GradesTo, HasSoundValue, is_list_of_items_in, is_short_in, is_source, is_value_of_lines_in, may_push_in};
 
 use crate::answers::{Exit, Line, Raw, copied};
 use bf_plan::{Dag, Plan};
@@ -26,7 +26,7 @@ pub const MOST_ITEMS: usize = 1_024;
 const SKIP_STATUS: i32 = 99;
 
 fn is_short(value: &Option<Xval>) -> bool
-    ensures { result ≡ short value.now }
+    ensures { result ≡ is_short_in value.now }
 {
     match value {
         Some(value) => value.has_text_within(LONGEST_VALUE),
@@ -35,7 +35,7 @@ fn is_short(value: &Option<Xval>) -> bool
 }
 
 fn is_list_of_items(value: &Option<Xval>) -> bool
-    ensures { result ≡ list_of_items value.now }
+    ensures { result ≡ is_list_of_items_in value.now }
 {
     match value {
         Some(Xval::List(values)) => values.as_slice().len() <= MOST_ITEMS,
@@ -78,14 +78,14 @@ fn is_source_of_some(plan: &Plan, task: u32) -> bool
 
 fn gives_items(plan: &Plan, task: u32) -> bool
     requires { task < length plan.now.dag.tasks }
-    ensures { result ≡ items_given plan.now.dag task }
+    ensures { result ≡ gives_items_in plan.now.dag task }
 {
     plan.dag().task(task).expand.is_none() && is_source_of_some(plan, task)
 }
 
 fn names_followed(plan: &Plan, task: u32, value: &Option<Xval>) -> bool
     requires { task < length plan.now.dag.tasks }
-    ensures { result ≡ (not (branch (task_of plan.now.dag task))
+    ensures { result ≡ (not (is_branch_in (task_of plan.now.dag task))
         || names_downstreams_in (shape_of plan.now.dag) task value.now) }
 {
     !plan.dag().is_branch(task) || names_downstreams(plan.graph(), task, value.as_ref())
@@ -93,7 +93,7 @@ fn names_followed(plan: &Plan, task: u32, value: &Option<Xval>) -> bool
 
 fn may_push(plan: &Plan, task: u32, value: &Option<Xval>) -> bool
     requires { task < length plan.now.dag.tasks }
-    ensures { result ≡ pushable plan.now.dag task value.now }
+    ensures { result ≡ may_push_in plan.now.dag task value.now }
 {
     is_short(value)
         && (names_followed(plan, task, value)
@@ -101,7 +101,7 @@ fn may_push(plan: &Plan, task: u32, value: &Option<Xval>) -> bool
 }
 
 fn is_value_of_lines(value: &Option<Xval>) -> bool
-    ensures { result ≡ of_lines value.now }
+    ensures { result ≡ is_value_of_lines_in value.now }
 {
     match value {
         Some(Xval::Nil) => false,
@@ -124,7 +124,7 @@ pub fn fits(plan: &Plan, task: u32, outcome: &Outcome) -> bool
 
 fn grade_line(alloc: Global, plan: &Plan, task: u32, line: &[u8]) -> Result<Outcome, OutOfMemory>
     requires { task < length plan.now.dag.tasks }
-    ensures { IfOk result (λ outcome. outcome ≡ line_grade plan.now.dag task line.now) }
+    ensures { IfOk result (λ outcome. outcome ≡ grade_line_of plan.now.dag task line.now) }
 {
     match read_line(alloc, line) {
         Ok(value) => {
@@ -164,21 +164,21 @@ pub fn grade(alloc: Global, plan: &Plan, task: u32, raw: &Raw) -> Result<Outcome
 
 /// A law: a grade fits.
 pub fn grades_fit()
-    ensures { (dag : DagTerm) (task : ℕ) (raw : RawTerm) → fits_in dag task (grade_of dag task raw)
+    ensures { (dag : Dag) (task : ℕ) (raw : Raw) → fits_in dag task (grade_of dag task raw)
         ≡ true }
 {}
 
 /// A law: what fits is the grade of some answer.
 pub fn each_fit_is_a_grade()
-    ensures { (dag : DagTerm) (task : ℕ) (outcome : OutcomeTerm) → HasSoundValue outcome
-        → fits_in dag task outcome ≡ true → (raw : RawTerm) × (grade_of dag task raw ≡ outcome) }
+    ensures { (dag : Dag) (task : ℕ) (outcome : Outcome) → HasSoundValue outcome
+        → fits_in dag task outcome ≡ true → (raw : Raw) × (grade_of dag task raw ≡ outcome) }
 {}
 
 /// The last line by which a program pushes this.
 fn line_for(alloc: Global, pushed: &Option<Xval>) -> Result<Sequence<u8>, OutOfMemory>
     ensures text { IfOk result (λ line. IsUtf8 line) }
     ensures reads_back { IfOk result
-        (λ line. of_lines pushed.now ≡ true → value_of_line line ≡ pushed.now) }
+        (λ line. is_value_of_lines_in pushed.now ≡ true → value_of_line line ≡ pushed.now) }
 {
     let Some(value) = pushed else {
         return Ok(Sequence::new(alloc));

@@ -1,6 +1,6 @@
 //! Ledgers of tries.
 ghost use Rattle.std.specs.Prelude.{◌≡◌, ◌↔◌, All, None, IsSome, IsTrue, IfErr, OnOk, OnErr, option_copied};
-ghost use Rattle.std.specs.FinMap as map;
+ghost use Rattle.std.specs.FinMap;
 ghost use Rattle.std.specs.BTreeMap.{IsOrdered};
 ghost use Rattle.bf_value.specs.Names.{name_cmp};
 ghost use Rattle.bf_try.specs.Tries.{Agree, AreAlike};
@@ -26,17 +26,17 @@ pub struct Ledger {
 }
 
 impl Model for Ledger {
-    ghost use Rattle.std.specs.FinMap as map;
+    ghost use Rattle.std.specs.FinMap;
     ghost use Rattle.bf_value.specs.Names.{name_cmp, name_code};
     ghost use Rattle.bf_try.specs.declared.ledger.Entry.{Entry};
-    ghost use Rattle.bf_try.specs.contracts.ledger.Entry as e;
+    ghost use Rattle.bf_try.specs.contracts.ledger.Entry;
     ghost use Rattle.std.specs.Coded.{codes};
 
-    ghost Value = { map.FinMap name_cmp Entry };
+    ghost Value = { FinMap.FinMap name_cmp Entry };
 
-    ghost coded = { map.code name_code (Prim.hlevel (codes, e.the_row.coded)) };
+    ghost coded = { FinMap.code name_code (Prim.hlevel (codes, Entry.the_row.coded)) };
 
-    ghost view = { λ l. map.from_entries l.entries.entries };
+    ghost view = { λ l. FinMap.from_entries l.entries.entries };
 }
 
 /// Why an entry was not noted.
@@ -51,7 +51,7 @@ pub enum NoteFault {
 impl Ledger {
     /// A ledger of no tries.
     pub fn new(alloc: Global) -> Self
-        ensures { result ≡ map.empty }
+        ensures { result ≡ FinMap.empty }
     {
         Ledger {
             entries: BTreeMap::new(alloc),
@@ -60,17 +60,17 @@ impl Ledger {
 
     /// What the ledger holds of a try.
     pub fn get(&self, name: JobName) -> Option<&Entry>
-        ensures { option_copied result ≡ map.get self.now name }
+        ensures { option_copied result ≡ FinMap.get self.now name }
     {
         self.entries.get(&name)
     }
 
     /// Notes a try that has ended. An entry that is not noted is handed back.
     pub fn note(&mut self, name: JobName, entry: Entry) -> Result<(), (Entry, NoteFault)>
-        ensures ok { OnOk result ((map.get self.old name ≡ None)
-            × (self.new ≡ map.insert self.old name entry)) }
+        ensures ok { OnOk result ((FinMap.get self.old name ≡ None)
+            × (self.new ≡ FinMap.insert self.old name entry)) }
         ensures recorded { IfErr result
-            (λ e. (e.1 ≡ NoteFault.AlreadyRecorded) ↔ IsSome (map.get self.old name)) }
+            (λ e. (e.1 ≡ NoteFault.AlreadyRecorded) ↔ IsSome (FinMap.get self.old name)) }
         ensures back { IfErr result (λ e. e.0 ≡ entry) }
         ensures err { OnErr result (self.new ≡ self.old) }
     {
@@ -96,7 +96,7 @@ fn agrees(entry: &Entry, other: Option<&Entry>) -> bool
 }
 
 fn all_agree(entries: &BTreeMap<JobName, Entry>, other: &Ledger) -> bool
-    ensures all { IsTrue result ↔ All (λ e. Agree e.1 (map.get other.now e.0)) entries.now.entries }
+    ensures all { IsTrue result ↔ All (λ e. Agree e.1 (FinMap.get other.now e.0)) entries.now.entries }
     ensures ordered { IsOrdered name_cmp entries.now }
 {
     for (name, entry) in entries.iter() {
@@ -109,7 +109,7 @@ fn all_agree(entries: &BTreeMap<JobName, Entry>, other: &Ledger) -> bool
 
 /// Whether tries of one name that were given the same ended alike in both ledgers.
 pub fn alike(one: &Ledger, other: &Ledger) -> bool
-    ensures { IsTrue result ↔ AreAlike (map.get one.now) (map.get other.now) }
+    ensures { IsTrue result ↔ AreAlike (FinMap.get one.now) (FinMap.get other.now) }
 {
     all_agree(&one.entries, other)
 }

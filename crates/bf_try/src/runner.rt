@@ -15,9 +15,9 @@ pub enum RunnerFault {
 }
 
 impl From<OutOfMemory> for RunnerFault {
-    ghost use Rattle.bf_try.specs.declared.runner.RunnerFault.TheVariants.{OutOfMemory as NoMemory};
+    ghost use Rattle.bf_try.specs.declared.runner.RunnerFault.TheVariants.{OutOfMemory};
 
-    ghost from_gives = { λ _ e. e ≡ NoMemory };
+    ghost from_gives = { λ _ e. e ≡ OutOfMemory };
 
     fn from(_e: OutOfMemory) -> RunnerFault {
         RunnerFault::OutOfMemory

@@ -16,12 +16,12 @@ pub struct Ticket {
 impl Model for Ticket {
     ghost use Rattle.bf_try.specs.Asked.{Asked};
     ghost use Rattle.std.specs.Coded.{codes};
-    ghost use Rattle.bf_value.specs.contracts.name.JobName as n;
-    ghost use Rattle.bf_xcom.specs.contracts.values.Given as g;
+    ghost use Rattle.bf_value.specs.contracts.name.JobName;
+    ghost use Rattle.bf_xcom.specs.contracts.values.Given;
 
     ghost Value = { Asked };
 
-    ghost coded = { Prim.hlevel (codes, n.the_row.coded, g.the_row.coded) };
+    ghost coded = { Prim.hlevel (codes, JobName.the_row.coded, Given.the_row.coded) };
 
     ghost view = { λ t. record { name = t.name; given = t.given } };
 }
@@ -37,13 +37,13 @@ pub struct Done {
 impl Model for Done {
     ghost use Rattle.bf_try.specs.Asked.{Answered};
     ghost use Rattle.std.specs.Coded.{codes};
-    ghost use Rattle.bf_value.specs.contracts.name.JobName as n;
-    ghost use Rattle.bf_xcom.specs.contracts.values.Given as g;
-    ghost use Rattle.bf_try.specs.contracts.answers.Raw as r;
+    ghost use Rattle.bf_value.specs.contracts.name.JobName;
+    ghost use Rattle.bf_xcom.specs.contracts.values.Given;
+    ghost use Rattle.bf_try.specs.contracts.answers.Raw;
 
     ghost Value = { Answered };
 
-    ghost coded = { Prim.hlevel (codes, n.the_row.coded, g.the_row.coded, r.the_row.coded) };
+    ghost coded = { Prim.hlevel (codes, JobName.the_row.coded, Given.the_row.coded, Raw.the_row.coded) };
 
     ghost view = { λ d. record { name = d.name; given = d.given; raw = d.raw } };
 }

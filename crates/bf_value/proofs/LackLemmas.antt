@@ -9,7 +9,7 @@ use Rattle.json.specs.Print.{quoted, escape, escape_byte, escape_letter}
 use Rattle.serde_json.specs.Data.{Num, unsigned, negative, float, Data, null, boolean, number, string, array, object, Items, no_items, item, Members, no_members, member}
 use Rattle.serde_json.specs.Written.{compact_text, items_text, members_text, number_text, comma_if}
 use Rattle.std.proofs.lemmas.List.Folds.{list_any-append}
-use Rattle.bf_value.specs.Json.{text_of, data_of}
+use Rattle.bf_value.specs.Json.{json_of, data_of}
 use Rattle.bf_value.specs.Views.{plain_of}
 use Rattle.bf_value.specs.declared.xval.Xval.{Xval}
 
@@ -113,5 +113,5 @@ mutual
       (lacks_append 10 (quoted k) (58 ∷ (compact_text d ++ members_text true ms)) (quoted_lacks k)
       (lacks_append 10 (compact_text d) (members_text true ms) (json_lacks d) (members_lack true ms)))
 
-pub text_lacks : (value : Xval) → Lacks 10 (text_of value)
+pub text_lacks : (value : Xval) → Lacks 10 (json_of value)
 text_lacks value = json_lacks (data_of (plain_of value))

@@ -9,7 +9,7 @@ use Rattle.std.proofs.lemmas.List.Sums.{sum_by-cons}
 use Rattle.std.proofs.Math.Nat.{pow-le-pow_right, pow-succ'}
 use Rattle.json.specs.Print.{escape, escape_byte, escape_letter, quoted}
 use Rattle.serde_json.specs.Written.{items_text}
-use Rattle.bf_value.specs.Json.{data_items, list_text, text_of}
+use Rattle.bf_value.specs.Json.{data_items, list_text, json_of}
 use Rattle.bf_value.specs.Plain.{Plains, plain_depth, plains_depth}
 use Rattle.bf_value.specs.Views.{plain_of, plains_of}
 use Rattle.bf_value.specs.declared.xval.Xval.{Xval}
@@ -70,15 +70,15 @@ all_below (x ∷ xs) n some below = omega (arith, below 0 x (omega arith), all_b
 
 -- the bytes that an item of a list takes, with the comma or the bracket that follows it
 abbrev pub item_size : Xval → ℕ
-item_size x = length (text_of x) + 1
+item_size x = length (json_of x) + 1
 
 rest-size : (xs : List Xval) → length (items_text true (data_items (plains_of xs))) ≡ 1 + sum_by item_size xs
 rest-size [] = refl
-rest-size (x ∷ xs) = omega (arith, length-append (text_of x) (items_text true (data_items (plains_of xs))), rest-size xs, sum_by-cons item_size x xs)
+rest-size (x ∷ xs) = omega (arith, length-append (json_of x) (items_text true (data_items (plains_of xs))), rest-size xs, sum_by-cons item_size x xs)
 
 length-list_text : (xs : List Xval) → (length xs == 0) ≡ false → length (list_text (plains_of xs)) ≡ 1 + sum_by item_size xs
 length-list_text [] some = cc
-length-list_text (x ∷ xs) some = omega (arith, length-append (text_of x) (items_text true (data_items (plains_of xs))), rest-size xs, sum_by-cons item_size x xs)
+length-list_text (x ∷ xs) some = omega (arith, length-append (json_of x) (items_text true (data_items (plains_of xs))), rest-size xs, sum_by-cons item_size x xs)
 
 -- the text of a list that holds these items, and not none
 pub list_size : (ps : Plains) (items : List Xval) (count : ℕ) → plains_of items ≡ ps → length items ≡ count → false ≡ (count == 0) → length (list_text ps) ≡ 1 + sum_by item_size items

@@ -3,7 +3,7 @@ ghost use Rattle.std.specs.Prelude.{◌≡◌, ◌-◌, ◌≤◌, ◌↔◌, Is
 ghost use Rattle.std.specs.Fmt.{signed_decimal};
 ghost use Rattle.std.specs.Option.{SomeIff};
 ghost use Rattle.json.specs.Print.{escape_byte, escape_letter, quoted};
-ghost use Rattle.bf_value.specs.Json.{list_text, text_of};
+ghost use Rattle.bf_value.specs.Json.{list_text, json_of};
 ghost use Rattle.bf_value.specs.Plain.{plain_depth, plains_depth};
 ghost use Rattle.bf_value.specs.Views.{plain_of};
 
@@ -12,7 +12,7 @@ use crate::xval::{Values, Xval};
 impl Xval {
     /// Whether the compact JSON text of the value, as `text_of` writes it, has at most so many bytes.
     pub fn has_text_within(&self, limit: usize) -> bool
-        ensures { IsTrue result ↔ (length (text_of self.now) ≤ limit) }
+        ensures { IsTrue result ↔ (length (json_of self.now) ≤ limit) }
     {
         room_after(limit, self).is_some()
     }
@@ -48,7 +48,7 @@ fn are_nested_within(values: &Values, deepest: usize) -> bool
 /// What is left of the room after the text of a value.
 #[cycle(room)]
 fn room_after(room: usize, value: &Xval) -> Option<usize>
-    ensures { SomeIff result (length (text_of value.now) ≤ room) (room - length (text_of value.now)) }
+    ensures { SomeIff result (length (json_of value.now) ≤ room) (room - length (json_of value.now)) }
 {
     match value {
         Xval::Flag(true) | Xval::Nil => room.checked_sub(4),

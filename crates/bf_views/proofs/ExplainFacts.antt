@@ -12,11 +12,11 @@ use Rattle.bf_plan.specs.declared.plan.Task.{Task}
 use Rattle.bf_report.specs.declared.report.TaskReport.{TaskReport}
 use Rattle.bf_report.specs.declared.report.RunReport.{RunReport}
 use Rattle.bf_report.specs.declared.report.Report.{Report}
-use Rattle.bf_marks.specs.RowOrder.{is_let_go, is_source, order_from, order_of, tasks_where}
+use Rattle.bf_marks.specs.RowOrder.{is_let_go_in, is_source_in, order_from, order_of, tasks_where}
 use Rattle.bf_command_line.specs.declared.forms.TaskAsked.{TaskAsked}
 use Rattle.bf_command_fault.specs.declared.fault.CommandFault.{CommandFault}
 use Rattle.bf_command_fault.specs.declared.fault.CommandFault.TheVariants.{UnknownIndex}
-use Rattle.bf_explain.specs.Headings.{has_index}
+use Rattle.bf_explain.specs.Headings.{has_index_in}
 use Rattle.bf_views.specs.Asked.{index_fault, is_index_of, run_number, task_fault, task_fault_by, task_number, told_in}
 use Rattle.bf_views.specs.Matching.{is_of_graph}
 use Rattle.bf_views.proofs.MatchingFacts.{all_tasks}
@@ -26,14 +26,14 @@ order_short dag zero standing left = omega arith
 order_short dag (suc n) standing [] = omega arith
 order_short dag (suc n) standing (task ∷ left) =
     let more = slice_set standing task true in
-    let rest = order_short dag n more (tasks_where dag (is_let_go dag more task) ++ left) in
+    let rest = order_short dag n more (tasks_where dag (is_let_go_in dag more task) ++ left) in
     omega arith
 
 pub order_fits : (dag : Dag) → IsSound dag → length (order_of dag) ≤ 20_000
 unfolding order_of
 order_fits dag sound =
     let few = sound.few_tasks in
-    let short = order_short dag (length dag.tasks) (replicate (length dag.tasks) false) (tasks_where dag (is_source dag)) in
+    let short = order_short dag (length dag.tasks) (replicate (length dag.tasks) false) (tasks_where dag (is_source_in dag)) in
     omega arith
 
 -- a run that was found
@@ -61,7 +61,7 @@ module _ (report : Report) (start : ℤ) (run : ℕ) (told_run : RunReport) (fou
     pub told_at : (told : TaskReport) → told ≡ get_or told_run.tasks task told → slice_get told_run.tasks task ≡ Some told
     told_at told at = slice_get-get_or told_run.tasks task told task_within ∙ ap Some (sym at)
 
-    pub is_unknown : (told : TaskReport) → told ≡ get_or told_run.tasks task told → has_index told asked.index ≡ false → task_fault dag report start asked ≡ Some UnknownIndex
+    pub is_unknown : (told : TaskReport) → told ≡ get_or told_run.tasks task told → has_index_in told asked.index ≡ false → task_fault dag report start asked ≡ Some UnknownIndex
     is_unknown told at absent =
         ap (λ (of_graph : Bool). task_fault_by of_graph report asked.index (task_number dag asked) (run_number report start)) matches
         ∙ ap (λ (t : Option ℕ). task_fault_by true report asked.index t (run_number report start)) (sym named)

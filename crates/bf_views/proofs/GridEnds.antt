@@ -18,7 +18,7 @@ use Rattle.bf_input.specs.Inputs.{IsReadOf, graph_paths}
 use Rattle.bf_views.specs.declared.bounds.Bounds.{Bounds}
 use Rattle.bf_views.specs.declared.canvas.Canvas.{Canvas}
 use Rattle.bf_views.specs.declared.planned.Planned.{Planned}
-use Rattle.bf_views.specs.Bounds.{HasNoBound, MeansBounds, is_reversed}
+use Rattle.bf_views.specs.Bounds.{HasNoBound, MeansBounds, is_reversed_in}
 use Rattle.bf_views.specs.GridFaults.{IsGridFault, IsGridFaultIn}
 use Rattle.bf_views.specs.Grids.{IsGridAnswer, view_asked}
 use Rattle.bf_views.specs.Matching.{is_of_graph}
@@ -38,10 +38,10 @@ unmeant_leaves Halted IsDue before asked fault is = subst (λ (f : CommandFault)
 abbrev pub reversed : CommandFault
 reversed = BadRange (Unlisted IntervalFault.RangeReversed)
 
-pub reversed_fault : (files : Files) (asked : ShowAsked) (bounds : Bounds) → MeansBounds asked bounds → AreReadable files (graph_paths asked.graph) → (fault : CommandFault) → (fault ≡ reversed) × (is_reversed bounds ≡ true) → IsGridFault files asked fault
+pub reversed_fault : (files : Files) (asked : ShowAsked) (bounds : Bounds) → MeansBounds asked bounds → AreReadable files (graph_paths asked.graph) → (fault : CommandFault) → (fault ≡ reversed) × (is_reversed_in bounds ≡ true) → IsGridFault files asked fault
 reversed_fault files asked bounds means readable fault is = subst (λ (f : CommandFault). IsGridFault files asked f) (sym is.0) (bounds, means, (readable, is.1))
 
-pub reversed_leaves : (Halted : Type 0) (IsDue : List ℕ → Type 0) (before : Option (List ℕ)) (bounds : Bounds) (fault : CommandFault) → (fault ≡ reversed) × (is_reversed bounds ≡ true) → Leaves Halted IsDue before before fault
+pub reversed_leaves : (Halted : Type 0) (IsDue : List ℕ → Type 0) (before : Option (List ℕ)) (bounds : Bounds) (fault : CommandFault) → (fault ≡ reversed) × (is_reversed_in bounds ≡ true) → Leaves Halted IsDue before before fault
 reversed_leaves Halted IsDue before bounds fault is = subst (λ (f : CommandFault). Leaves Halted IsDue before before f) (sym is.0) refl
 
 -- ---- the device
@@ -67,7 +67,7 @@ module _ (files : Files) (asked : ShowAsked) (bounds : Bounds) (means : MeansBou
   reported_fault fault is = (bounds, means, in_bounds fault is)
 
   -- the grid of what was read
-  pub grid_answer : (canvas : Canvas) → is_reversed bounds ≡ false → (planned : Planned) (report : Report) → IsPlanned files asked.graph planned → AreReadable files (graph_paths asked.graph) → IsReadOf (files (string_bytes asked.report)) report →
+  pub grid_answer : (canvas : Canvas) → is_reversed_in bounds ≡ false → (planned : Planned) (report : Report) → IsPlanned files asked.graph planned → AreReadable files (graph_paths asked.graph) → IsReadOf (files (string_bytes asked.report)) report →
       is_of_graph planned.plan.dag report ≡ true → (text : List ℕ) → text ≡ grid_text (view_asked asked bounds canvas) planned.plan.dag report → IsGridAnswer canvas files asked text Status.Success
   grid_answer canvas ordered planned report are readable is_read matches text is = record {
     success = refl;

@@ -10,27 +10,27 @@ use Rattle.bf_report.specs.declared.report.TaskReport.{TaskReport}
 use Rattle.bf_report.specs.declared.report.RunReport.{RunReport}
 use Rattle.bf_report.specs.declared.report.Report.{Report}
 use Rattle.bf_report_reader.specs.Rules.{IsShownReport, IsShownRun, IsShownTask}
-use Rattle.bf_clear.specs.Matching.{are_ids_of, are_runs_of, are_tasks_of, is_report_of, is_run_of, is_same_interval, is_task_of}
+use Rattle.bf_clear.specs.Matching.{are_ids_in, are_runs_in, are_tasks_in, is_report_in, is_run_in, is_same_interval_in, is_task_in}
 use Rattle.bf_reason.specs.Settled.{IsFewTask}
 use Rattle.bf_views.specs.Matching.{intervals_in, is_of_graph}
 
-each_run : (version : Version) (dag : Dag) (runs : List RunReport) → list_all (λ pair. is_run_of version dag pair.0 pair.1) (zip runs (intervals_in runs)) ≡ true →
+each_run : (version : Version) (dag : Dag) (runs : List RunReport) → list_all (λ pair. is_run_in version dag pair.0 pair.1) (zip runs (intervals_in runs)) ≡ true →
     AllByRecursion (λ run. length run.tasks ≡ length dag.tasks) runs
 each_run version dag [] e = tt
 each_run version dag (run ∷ runs) e =
-    let (first, rest) = and_parts (is_run_of version dag run run.interval) (list_all (λ pair. is_run_of version dag pair.0 pair.1) (zip runs (intervals_in runs))) e in
-    let tasks = (and_parts (is_same_interval run.interval run.interval) (are_tasks_of version dag run.tasks) first).1 in (
-      eqb-true (length run.tasks) (length dag.tasks) (and_parts (length run.tasks == length dag.tasks) (list_all (λ pair. is_task_of version dag pair.0 pair.1) (zip run.tasks dag.tasks)) tasks).0,
+    let (first, rest) = and_parts (is_run_in version dag run run.interval) (list_all (λ pair. is_run_in version dag pair.0 pair.1) (zip runs (intervals_in runs))) e in
+    let tasks = (and_parts (is_same_interval_in run.interval run.interval) (are_tasks_in version dag run.tasks) first).1 in (
+      eqb-true (length run.tasks) (length dag.tasks) (and_parts (length run.tasks == length dag.tasks) (list_all (λ pair. is_task_in version dag pair.0 pair.1) (zip run.tasks dag.tasks)) tasks).0,
       each_run version dag runs rest,
     )
 
 pub all_tasks : (dag : Dag) (report : Report) → is_of_graph dag report ≡ true → All (λ run. length run.tasks ≡ length dag.tasks) report.runs
-unfolding is_report_of
+unfolding is_report_in
 all_tasks dag report e =
     let intervals = intervals_in report.runs in
-    let behind = (and_parts (bytes_eq report.dag_id dag.id) ((length intervals == 0 || are_ids_of report.tasks dag.tasks) && are_runs_of report.version dag report.runs intervals) e).1 in
-    let runs = (and_parts (length intervals == 0 || are_ids_of report.tasks dag.tasks) (are_runs_of report.version dag report.runs intervals) behind).1 in
-    let each = (and_parts (length report.runs == length intervals) (list_all (λ pair. is_run_of report.version dag pair.0 pair.1) (zip report.runs intervals)) runs).1 in
+    let behind = (and_parts (bytes_eq report.dag_id dag.id) ((length intervals == 0 || are_ids_in report.tasks dag.tasks) && are_runs_in report.version dag report.runs intervals) e).1 in
+    let runs = (and_parts (length intervals == 0 || are_ids_in report.tasks dag.tasks) (are_runs_in report.version dag report.runs intervals) behind).1 in
+    let each = (and_parts (length report.runs == length intervals) (list_all (λ pair. is_run_in report.version dag pair.0 pair.1) (zip report.runs intervals)) runs).1 in
     All-from_recursion (λ (run : RunReport). length run.tasks ≡ length dag.tasks) report.runs (each_run report.version dag report.runs each)
 
 few_task : (version : Version) (task : TaskReport) → IsShownTask version task → IsFewTask task

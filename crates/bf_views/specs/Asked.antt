@@ -11,7 +11,7 @@ use Rattle.bf_dependents.specs.declared.fault.ClearFault.{ClearFault}
 use Rattle.bf_command_line.specs.declared.forms.TaskAsked.{TaskAsked}
 use Rattle.bf_command_fault.specs.declared.fault.CommandFault.{CommandFault}
 use Rattle.bf_command_fault.specs.declared.fault.CommandFault.TheVariants.{Clear, UnknownIndex}
-use Rattle.bf_explain.specs.Headings.{has_index}
+use Rattle.bf_explain.specs.Headings.{has_index_in}
 use Rattle.bf_views.specs.Matching.{is_of_graph}
 
 -- the task of the id
@@ -29,7 +29,7 @@ told_in (Some run) task = slice_get run.tasks task
 -- the map index is of an instance of the task
 abbrev pub is_index_of : Option ℤ → Option TaskReport → Bool
 is_index_of index None = true
-is_index_of index (Some told) = has_index told index
+is_index_of index (Some told) = has_index_in told index
 
 abbrev pub is_index_at : Report → Option ℤ → ℕ → ℕ → Bool
 is_index_at report index run task = is_index_of index (told_in (slice_get report.runs run) task)

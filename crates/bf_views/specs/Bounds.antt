@@ -28,5 +28,5 @@ abbrev pub is_behind : Option Timestamp → Option Timestamp → Bool
 is_behind (Some from) (Some to) = int_lt to.nanosecond from.nanosecond
 is_behind _ _ = false
 
-abbrev pub is_reversed : Bounds → Bool
-is_reversed bounds = is_behind bounds.from bounds.to
+abbrev pub is_reversed_in : Bounds → Bool
+is_reversed_in bounds = is_behind bounds.from bounds.to

@@ -16,6 +16,6 @@ IsWidthBy None width = width ≡ 80
 IsWidthBy (Some text) width = (SaysColumns text × (width ≡ columns_said text)) ⊎ ((SaysColumns text → ⊥) × (width ≡ 80))
 
 -- a terminal has colours where NO_COLOR is missing or empty, and TERM isn't `dumb`
-abbrev pub has_colors : Bool → Option (List ℕ) → Option (List ℕ) → Bool
-has_colors is_terminal no_color term =
+abbrev pub has_colors_in : Bool → Option (List ℕ) → Option (List ℕ) → Bool
+has_colors_in is_terminal no_color term =
     is_terminal && ((length (unwrap_or no_color []) == 0) && not (bytes_eq (unwrap_or term []) (codes "dumb")))

@@ -8,12 +8,12 @@ use Rattle.bf_command_fault.specs.declared.range.RangeFault.TheVariants.{Unliste
 use Rattle.bf_disk.specs.Files.{AreReadable, Files}
 use Rattle.bf_input.specs.Inputs.{graph_paths}
 use Rattle.bf_views.specs.declared.bounds.Bounds.{Bounds}
-use Rattle.bf_views.specs.Bounds.{HasNoBound, MeansBounds, is_reversed}
+use Rattle.bf_views.specs.Bounds.{HasNoBound, MeansBounds, is_reversed_in}
 use Rattle.bf_views.specs.Reported.{IsReportedFault}
 
 -- the fault is that the first moment lies after the last; or it is the first of the files and of what they hold
 abbrev pub IsGridFaultIn : Files → ShowAsked → Bounds → CommandFault → Type 0
-IsGridFaultIn files asked bounds (BadRange (Unlisted IntervalFault.RangeReversed)) = AreReadable files (graph_paths asked.graph) × (is_reversed bounds ≡ true)
+IsGridFaultIn files asked bounds (BadRange (Unlisted IntervalFault.RangeReversed)) = AreReadable files (graph_paths asked.graph) × (is_reversed_in bounds ≡ true)
 IsGridFaultIn files asked bounds fault = IsReportedFault files asked.graph (string_bytes asked.report) fault
 
 -- moments come first: a text is no moment; or they mean some, and the fault is the first of those and the files

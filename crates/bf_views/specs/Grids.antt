@@ -13,15 +13,15 @@ use Rattle.bf_disk.specs.Files.{Files}
 use Rattle.bf_planning.specs.Graphs.{IsGraph}
 use Rattle.bf_views.specs.declared.bounds.Bounds.{Bounds}
 use Rattle.bf_views.specs.declared.canvas.Canvas.{Canvas}
-use Rattle.bf_views.specs.Bounds.{MeansBounds, is_reversed}
+use Rattle.bf_views.specs.Bounds.{MeansBounds, is_reversed_in}
 use Rattle.bf_views.specs.Matching.{is_of_graph}
 use Rattle.bf_views.specs.Reported.{AreReportedReadable, OfReported}
 
 -- whether there are colours, where the canvas has some or has none
-abbrev pub is_colored : Color → Bool → Bool
-is_colored Color.Auto colored = colored
-is_colored Color.Always colored = true
-is_colored Color.Never colored = false
+abbrev pub is_colored_in : Color → Bool → Bool
+is_colored_in Color.Auto colored = colored
+is_colored_in Color.Always colored = true
+is_colored_in Color.Never colored = false
 
 -- what a line asks for, and the canvas where it doesn't say
 abbrev pub view_asked : ShowAsked → Bounds → Canvas → View
@@ -30,7 +30,7 @@ view_asked asked bounds canvas = record {
   to = bounds.to;
   failed = asked.failed;
   width = unwrap_or asked.width canvas.width;
-  colored = is_colored asked.color canvas.colored;
+  colored = is_colored_in asked.color canvas.colored;
 }
 
 -- the grid of a graph without a fault and of a report of it, which these bytes say
@@ -46,6 +46,6 @@ pub record IsGridAnswer (canvas : Canvas) (files : Files) (asked : ShowAsked) (t
   pub success : status ≡ Status.Success
   pub bounds : Bounds
   pub means : MeansBounds asked bounds
-  pub ordered : is_reversed bounds ≡ false
+  pub ordered : is_reversed_in bounds ≡ false
   pub readable : AreReportedReadable files asked.graph (string_bytes asked.report)
   pub text_is : OfReported files asked.graph (string_bytes asked.report) (λ graph zone held. IsGridOf (view_asked asked bounds canvas) graph zone held text)

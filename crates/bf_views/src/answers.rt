@@ -1,7 +1,7 @@
 //! The command `answers`: a report as a table of answers.
 ghost use Rattle.std.specs.Prelude.{IfOk, IfErr, string_bytes};
 ghost use Rattle.bf_command_fault.specs.Refusal.{Leaves, Sends};
-ghost use Rattle.bf_command_fault.specs.declared.status.Status.{Status as StatusTerm};
+ghost use Rattle.bf_command_fault.specs.declared.status.Status.{Status};
 ghost use Rattle.bf_device.specs.Device.{HasHalted};
 ghost use Rattle.bf_views.specs.Json.{IsLoneFault};
 ghost use Rattle.bf_views.specs.Tables.{IsTableAnswer};
@@ -26,7 +26,7 @@ pub fn answers_answered<S: Source, W: Write>(
     ensures fault { IfErr result (IsLoneFault (S.file files.old) (string_bytes path)) }
     ensures left { IfErr result (Leaves (HasHalted (W.failures out.old) (W.failures out.new)
         (W.interruptions out.old) (W.interruptions out.new))
-        (λ text. (status : StatusTerm)
+        (λ text. (status : Status)
         × IsTableAnswer (S.file files.old) (string_bytes path) text status)
         (W.written out.old) (W.written out.new)) }
 {

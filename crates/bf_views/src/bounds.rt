@@ -1,6 +1,6 @@
 //! The moments from and up to which runs are shown.
 ghost use Rattle.std.specs.Prelude.{◌≡◌, true, false, IfOk, IfErr, OnOk};
-ghost use Rattle.bf_views.specs.Bounds.{HasNoBound, IsNoMomentIfGiven, MeansBounds, MeansIfGiven, is_reversed as reversed};
+ghost use Rattle.bf_views.specs.Bounds.{HasNoBound, IsNoMomentIfGiven, MeansBounds, MeansIfGiven, is_reversed_in};
 
 use bf_command_fault::{CommandFault, RangeFault};
 use bf_command_line::ShowAsked;
@@ -40,7 +40,7 @@ impl Bounds {
     }
 
     fn is_reversed(&self) -> bool
-        ensures { result ≡ reversed self.now }
+        ensures { result ≡ is_reversed_in self.now }
     {
         match (self.from, self.to) {
             (Some(from), Some(to)) => to.as_nanosecond() < from.as_nanosecond(),
@@ -50,10 +50,10 @@ impl Bounds {
 
     /// Refuses those of which the first lies after the last.
     pub(crate) fn refuse_reversed(&self) -> Result<(), CommandFault>
-        ensures ok { OnOk result (reversed self.now ≡ false) }
+        ensures ok { OnOk result (is_reversed_in self.now ≡ false) }
         ensures err { IfErr result (λ f.
             (f ≡ CommandFault.Range (RangeFault.Unlisted IntervalFault.RangeReversed))
-            × (reversed self.now ≡ true)) }
+            × (is_reversed_in self.now ≡ true)) }
     {
         if self.is_reversed() {
             return Err(CommandFault::Range(RangeFault::Unlisted(IntervalFault::RangeReversed)));

@@ -1,6 +1,6 @@
 //! What a grid is shown on.
 ghost use Rattle.std.specs.Prelude.{◌≡◌, IfSome, IfNone, option_map};
-ghost use Rattle.bf_views.specs.Canvases.{IsWidthBy, SaysColumns, columns_said, has_colors as colors_by};
+ghost use Rattle.bf_views.specs.Canvases.{IsWidthBy, SaysColumns, columns_said, has_colors_in};
 
 /// The least and the greatest width of a grid, and the one that it has by itself.
 const LEAST_WIDTH: u32 = 20;
@@ -40,7 +40,7 @@ fn width_by(columns: Option<&str>) -> u32
 }
 
 fn has_colors(is_terminal: bool, no_color: Option<&str>, term: Option<&str>) -> bool
-    ensures { result ≡ colors_by is_terminal (option_map (λ c. c.now) no_color.entry)
+    ensures { result ≡ has_colors_in is_terminal (option_map (λ c. c.now) no_color.entry)
         (option_map (λ t. t.now) term.entry) }
 {
     is_terminal && no_color.unwrap_or("").is_empty() && term.unwrap_or("") != "dumb"
@@ -57,7 +57,7 @@ impl Canvas {
     ) -> Canvas
         ensures width { IsWidthBy (option_map (λ c. c.now) columns.entry) result.width }
         ensures colored { result.colored
-            ≡ colors_by is_terminal (option_map (λ c. c.now) no_color.entry)
+            ≡ has_colors_in is_terminal (option_map (λ c. c.now) no_color.entry)
             (option_map (λ t. t.now) term.entry) }
     {
         Canvas {

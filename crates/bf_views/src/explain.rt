@@ -1,7 +1,7 @@
 //! The command `explain`: why a run of a report, a task in it or an instance has its state.
 ghost use Rattle.std.specs.Prelude.{◌≡◌, ◌<◌, IfOk, IfErr, OnOk, Some, length, option_map, slice_get, string_bytes, true};
 ghost use Rattle.bf_command_fault.specs.Refusal.{Leaves, Sends};
-ghost use Rattle.bf_command_fault.specs.declared.status.Status.{Status as StatusTerm};
+ghost use Rattle.bf_command_fault.specs.declared.status.Status.{Status};
 ghost use Rattle.bf_device.specs.Device.{HasHalted, sent};
 ghost use Rattle.bf_report_reader.specs.Rules.{IsShownReport};
 ghost use Rattle.bf_views.specs.Asked.{run_number, task_number};
@@ -149,7 +149,7 @@ pub fn explain_answered<S: Source, W: Write>(
     ensures fault { IfErr result (IsExplainFault (S.file files.old) asked) }
     ensures left { IfErr result (Leaves (HasHalted (W.failures out.old) (W.failures out.new)
         (W.interruptions out.old) (W.interruptions out.new))
-        (λ text. (status : StatusTerm) × IsExplainAnswer (S.file files.old) asked text status)
+        (λ text. (status : Status) × IsExplainAnswer (S.file files.old) asked text status)
         (W.written out.old) (W.written out.new)) }
 {
     let start = moment_of(asked.run.as_str())?;

@@ -1,6 +1,6 @@
 //! Whether a report is one of a graph.
 ghost use Rattle.std.specs.Prelude.{◌≡◌, true, false, IfOk, IfErr, OnOk};
-ghost use Rattle.bf_dependents.specs.declared.fault.ClearFault.{ClearFault as ClearFaultTerm};
+ghost use Rattle.bf_dependents.specs.declared.fault.ClearFault.{ClearFault};
 ghost use Rattle.bf_views.specs.Matching.{intervals_in, is_of_graph};
 ghost use Rattle.bf_views.specs.Refused.{IsRefusedBy};
 

@@ -1,7 +1,7 @@
 //! The command `page`: a page that shows a report.
 ghost use Rattle.std.specs.Prelude.{◌≡◌, ◌||◌, ◌<◌, [], IfOk, IfErr, OnOk, option_map, string_bytes, true, unwrap_or};
 ghost use Rattle.bf_command_fault.specs.Refusal.{Leaves, Sends};
-ghost use Rattle.bf_command_fault.specs.declared.status.Status.{Status as StatusTerm};
+ghost use Rattle.bf_command_fault.specs.declared.status.Status.{Status};
 ghost use Rattle.bf_device.specs.Device.{HasHalted};
 ghost use Rattle.bf_report_reader.specs.Rules.{IsShownReport};
 ghost use Rattle.bf_views.specs.Matching.{is_of_graph};
@@ -139,7 +139,7 @@ pub fn page_answered<S: Source, W: Write>(
     ensures fault { IfErr result (IsPageFault (S.file files.old) asked) }
     ensures left { IfErr result (Leaves (HasHalted (W.failures out.old) (W.failures out.new)
         (W.interruptions out.old) (W.interruptions out.new))
-        (λ text. (status : StatusTerm) × IsPageAnswer (S.file files.old) asked text status)
+        (λ text. (status : Status) × IsPageAnswer (S.file files.old) asked text status)
         (W.written out.old) (W.written out.new)) }
 {
     let words = Words::of(alloc, &asked)?;

@@ -1,11 +1,11 @@
 //! The command `show`: a report as a grid.
 ghost use Rattle.std.specs.Prelude.{◌≡◌, IfOk, IfErr, OnOk};
 ghost use Rattle.bf_command_fault.specs.Refusal.{Leaves, Sends};
-ghost use Rattle.bf_command_fault.specs.declared.status.Status.{Status as StatusTerm};
+ghost use Rattle.bf_command_fault.specs.declared.status.Status.{Status};
 ghost use Rattle.bf_device.specs.Device.{HasHalted, sent};
 ghost use Rattle.bf_grid.specs.Grid.{grid_text};
 ghost use Rattle.bf_views.specs.GridFaults.{IsGridFault};
-ghost use Rattle.bf_views.specs.Grids.{IsGridAnswer, is_colored as colored_by, view_asked};
+ghost use Rattle.bf_views.specs.Grids.{IsGridAnswer, is_colored_in, view_asked};
 ghost use Rattle.bf_views.specs.Writing.{IsWritingFault};
 
 use crate::bounds::Bounds;
@@ -24,7 +24,7 @@ use bf_report::Report;
 use std::alloc::Global;
 
 fn is_colored(color: Color, canvas: Canvas) -> bool
-    ensures { result ≡ colored_by color canvas.colored }
+    ensures { result ≡ is_colored_in color canvas.colored }
 {
     match color {
         Color::Auto => canvas.colored,
@@ -79,7 +79,7 @@ pub fn show_answered<S: Source, W: Write>(
     ensures fault { IfErr result (IsGridFault (S.file files.old) asked) }
     ensures left { IfErr result (Leaves (HasHalted (W.failures out.old) (W.failures out.new)
         (W.interruptions out.old) (W.interruptions out.new))
-        (λ text. (status : StatusTerm) × IsGridAnswer canvas (S.file files.old) asked text status)
+        (λ text. (status : Status) × IsGridAnswer canvas (S.file files.old) asked text status)
         (W.written out.old) (W.written out.new)) }
 {
     let bounds = Bounds::of(&asked)?;

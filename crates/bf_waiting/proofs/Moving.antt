@@ -19,7 +19,7 @@ use Rattle.bf_core.specs.declared.state.Cell.{Cell}
 use Rattle.bf_core.specs.declared.state.Instance.{Instance}
 use Rattle.bf_core.specs.declared.state.Phase.{Phase}
 use Rattle.bf_core.specs.declared.state.RunPhase.{RunPhase}
-use Rattle.bf_core.specs.Clocks.{IsMove, IsReached, IsTimely, after_end, next_try}
+use Rattle.bf_core.specs.Clocks.{IsMove, IsReached, IsTimely, after_end, next_try_of}
 use Rattle.bf_core.specs.Cores.{Backfill, IsReplay, MayCome, moved}
 use Rattle.bf_core.specs.Events.{IsPresent, after, begun, cell_at, cell_of, change_at, change_instance, decision_in, ended, entry_in, instance_of, next_run, place_in, put}
 use Rattle.bf_core.proofs.Instances.{instance-here, new-fresh}
@@ -159,7 +159,7 @@ begun-here dag s n present k t i own x held waits = let p : Phase.Running ≡ Ph
     phase = ap (λ (y : Instance). y.phase) same ∙ waits
 
 -- the instance of a name that is the next of n is n's
-own-by-name : (b : Backfill) → IsReplay b → (k t i : ℕ) (x : Instance) → instance_of (cell_at b.state k t) i ≡ Some x → (n : JobName) → name_of b.dag k t i x.attempt ≡ next_try n →
+own-by-name : (b : Backfill) → IsReplay b → (k t i : ℕ) (x : Instance) → instance_of (cell_at b.state k t) i ≡ Some x → (n : JobName) → name_of b.dag k t i x.attempt ≡ next_try_of n →
     (k ≡ n.run) × (t ≡ n.task) × (i ≡ place_in b.dag n)
 unfolding name_of
 own-by-name b is k t i x held n e =
@@ -194,9 +194,9 @@ newly-ready b is (Event.Begin n) able k t i r = elim (own-or-same b.dag b.state 
 ]
 newly-ready b is (Event.End n o) able k t i r = elim (own-or-same b.dag b.state (Event.End n o) k t i) [
   | inl own ↦ inr own
-  | inr same ↦ elim (ended-moment b.clock (next_try n) _ _ (name_of b.dag k t i r.held.attempt)) [
+  | inr same ↦ elim (ended-moment b.clock (next_try_of n) _ _ (name_of b.dag k t i r.held.attempt)) [
     | inl next ↦ inr (own-by-name b is k t i r.held (sym same ∙ r.is_held) n next)
-    | inr kept ↦ inl (ready-by b k t i r.held (sym same ∙ r.is_held) r.waits (subst₂ IsReached (ended-time b.clock (next_try n) _ _) kept r.timely))
+    | inr kept ↦ inl (ready-by b k t i r.held (sym same ∙ r.is_held) r.waits (subst₂ IsReached (ended-time b.clock (next_try_of n) _ _) kept r.timely))
   ]
 ]
 newly-ready b is (Event.Close j) able k t i r = elim (own-or-same b.dag b.state (Event.Close j) k t i) [ inl own ↦ absurd own | inr same ↦ inl (ready-by b k t i r.held (sym same ∙ r.is_held) r.waits r.timely) ]
@@ -231,9 +231,9 @@ ready-elsewhere b (Event.Begin n) move k t i other r = elim (own-or-same b.dag b
 ]
 ready-elsewhere b (Event.End n o) move k t i other r = elim (own-or-same b.dag b.state (Event.End n o) k t i) [
   | inl own ↦ absurd (other own.1)
-  | inr same ↦ ready-by (moved b (Event.End n o)) k t i r.held (same ∙ r.is_held) r.waits (elim (ended-moment b.clock (next_try n) _ _ (name_of b.dag k t i r.held.attempt)) [
+  | inr same ↦ ready-by (moved b (Event.End n o)) k t i r.held (same ∙ r.is_held) r.waits (elim (ended-moment b.clock (next_try_of n) _ _ (name_of b.dag k t i r.held.attempt)) [
     | inl next ↦ absurd (other (ap (λ (q : JobName). q.task) next))
-    | inr kept ↦ subst₂ IsReached (sym (ended-time b.clock (next_try n) _ _)) (sym kept) r.timely
+    | inr kept ↦ subst₂ IsReached (sym (ended-time b.clock (next_try_of n) _ _)) (sym kept) r.timely
   ])
 ]
 ready-elsewhere b (Event.Close j) move k t i other r = elim (own-or-same b.dag b.state (Event.Close j) k t i) [ inl own ↦ absurd own | inr same ↦ ready-by (moved b (Event.Close j)) k t i r.held (same ∙ r.is_held) r.waits r.timely ]
@@ -274,9 +274,9 @@ newly-delayed b is (Event.Begin n) able k t i m d = elim (own-or-same b.dag b.st
 ]
 newly-delayed b is (Event.End n o) able k t i m d = elim (own-or-same b.dag b.state (Event.End n o) k t i) [
   | inl own ↦ inr own
-  | inr same ↦ elim (ended-moment b.clock (next_try n) _ _ (name_of b.dag k t i d.held.attempt)) [
+  | inr same ↦ elim (ended-moment b.clock (next_try_of n) _ _ (name_of b.dag k t i d.held.attempt)) [
     | inl next ↦ inr (own-by-name b is k t i d.held (sym same ∙ d.is_held) n next)
-    | inr kept ↦ inl (delayed-by b k t i m d.held (sym same ∙ d.is_held) d.waits (sym kept ∙ d.is_moment) (subst (λ (c : ℤ). c <ℤ m) (ended-time b.clock (next_try n) _ _) d.is_later))
+    | inr kept ↦ inl (delayed-by b k t i m d.held (sym same ∙ d.is_held) d.waits (sym kept ∙ d.is_moment) (subst (λ (c : ℤ). c <ℤ m) (ended-time b.clock (next_try_of n) _ _) d.is_later))
   ]
 ]
 newly-delayed b is (Event.Close j) able k t i m d = elim (own-or-same b.dag b.state (Event.Close j) k t i) [ inl own ↦ absurd own | inr same ↦ inl (delayed-by b k t i m d.held (sym same ∙ d.is_held) d.waits d.is_moment d.is_later) ]
@@ -331,9 +331,9 @@ stays-delayed b is (Event.Begin n) able move k t i m d = elim (own-or-same b.dag
 ]
 stays-delayed b is (Event.End n o) able move k t i m d = elim (own-or-same b.dag b.state (Event.End n o) k t i) [
   | inl own ↦ absurd (ends-not b n able.0.0 k t i own d.held d.is_held d.waits)
-  | inr same ↦ elim (ended-moment b.clock (next_try n) _ _ (name_of b.dag k t i d.held.attempt)) [
+  | inr same ↦ elim (ended-moment b.clock (next_try_of n) _ _ (name_of b.dag k t i d.held.attempt)) [
     | inl next ↦ absurd (ends-not b n able.0.0 k t i (own-by-name b is k t i d.held d.is_held n next) d.held d.is_held d.waits)
-    | inr kept ↦ delayed-by (moved b (Event.End n o)) k t i m d.held (same ∙ d.is_held) d.waits (kept ∙ d.is_moment) (subst (λ (c : ℤ). c <ℤ m) (sym (ended-time b.clock (next_try n) _ _)) d.is_later)
+    | inr kept ↦ delayed-by (moved b (Event.End n o)) k t i m d.held (same ∙ d.is_held) d.waits (kept ∙ d.is_moment) (subst (λ (c : ℤ). c <ℤ m) (sym (ended-time b.clock (next_try_of n) _ _)) d.is_later)
   ]
 ]
 stays-delayed b is (Event.Close j) able move k t i m d = elim (own-or-same b.dag b.state (Event.Close j) k t i) [ inl own ↦ absurd own | inr same ↦ delayed-by (moved b (Event.Close j)) k t i m d.held (same ∙ d.is_held) d.waits d.is_moment d.is_later ]

@@ -11,7 +11,7 @@ use Rattle.bf_core.specs.declared.state.Instance.{Instance}
 use Rattle.bf_core.specs.declared.state.Phase.{Phase}
 use Rattle.bf_core.specs.Clocks.{IsTimely}
 use Rattle.bf_core.specs.Cores.{Backfill, IsReplay, MayCome, WaitsLater}
-use Rattle.bf_core.specs.Events.{IsPresent, has_room, occupied, place_in}
+use Rattle.bf_core.specs.Events.{IsPresent, has_room_in, occupied, place_in}
 use Rattle.bf_core.proofs.Enabling.{present-there}
 use Rattle.bf_core.proofs.Kept.{replay-rows}
 use Rattle.bf_core.proofs.Named.{place-named, present-named}
@@ -57,7 +57,7 @@ module _ (b : Backfill) (is : IsReplay b) where
 -- ---- rooms
 
 -- tasks that take as many slots of the same pool have room alike
-room-alike : (b : Backfill) (t u : ℕ) → (demand_of b.limits t).pool ≡ (demand_of b.limits u).pool → (demand_of b.limits t).slots ≡ (demand_of b.limits u).slots → has_room b.limits b.state t ≡ has_room b.limits b.state u
+room-alike : (b : Backfill) (t u : ℕ) → (demand_of b.limits t).pool ≡ (demand_of b.limits u).pool → (demand_of b.limits t).slots ≡ (demand_of b.limits u).slots → has_room_in b.limits b.state t ≡ has_room_in b.limits b.state u
 room-alike b t u pool slots = λ i. nat_le (occupied b.limits b.state (pool i) + slots i) (pool_size b.limits (pool i))
 
 module _ (b : Backfill) (weights class_of : List ℕ) (classes : List Waits) (kept : AreKept b weights class_of classes) where
@@ -97,13 +97,13 @@ module _ (b : Backfill) (weights class_of : List ℕ) (classes : List Waits) (ke
       of : IsOfClass weights class_of j x
       of = (kept.kept j c there).holds.batches x (top-in c.batches.items x (sym top))
 
-      full : has_room b.limits b.state n.task ≡ true
+      full : has_room_in b.limits b.state n.task ≡ true
       full =
           let is : IsClassOf b.dag b.limits classes (slice_index class_of n.task) n.task = kept.classed n.task (task-there n Phase.Waiting present) in
           let own : slice_index class_of n.task ≡ j = ap (slice_index class_of) same_task ∙ of.belongs in
           let both : Some is.class ≡ Some c = sym is.is_there ∙ (ap (slice_get classes) own ∙ there) in
           let one : is.class ≡ c = cc in
-          sym (room-alike b is.class.task n.task is.same_pool is.as_many) ∙ (ap (λ (w : Waits). has_room b.limits b.state w.task) one ∙ may.1)
+          sym (room-alike b is.class.task n.task is.same_pool is.as_many) ∙ (ap (λ (w : Waits). has_room_in b.limits b.state w.task) one ∙ may.1)
 
   weight-is : (j : ℕ) (c : Waits) → slice_get classes j ≡ Some c → (x : Batch) → Contains c.batches.items x → (t : ℕ) → x.task.0 ≡ t → t < length b.dag.tasks → x.weight ≡ total_weight_of b.dag b.limits t
   weight-is j c there x con t is l = ((kept.kept j c there).holds.batches x con).weighs ∙ (ap (slice_index weights) is ∙ kept.weighted t l)

@@ -9,7 +9,7 @@ use Rattle.bf_core.specs.Checks.{HasRows}
 use Rattle.bf_core.specs.Cores.{Backfill, IsReplay, IsThere}
 use Rattle.bf_core.specs.Events.{cell_at, cell_in, instance_of, no_run}
 use Rattle.bf_core.proofs.Kept.{replay-rows}
-use Rattle.bf_waiting.specs.Standings.{instances_in}
+use Rattle.bf_waiting.specs.Standings.{instances_of}
 
 past-end : {X : Type 0} (xs : List X) (i : ℕ) (d : X) → length xs ≤ i → slice_index_or xs i d ≡ d
 past-end [] i d l = refl
@@ -27,8 +27,8 @@ not-there dag s rows k t away = elim (within k (length s.runs)) [
 ]
 
 -- a task or a run that is not there has no instances
-pub beyond_none : (b : Backfill) → IsReplay b → (k t : ℕ) → ¬ (IsThere b.dag b.state k t) → [] ≡ instances_in (cell_at b.state k t)
-beyond_none b is k t away = ap instances_in (sym (not-there b.dag b.state (replay-rows b is) k t away))
+pub beyond_none : (b : Backfill) → IsReplay b → (k t : ℕ) → ¬ (IsThere b.dag b.state k t) → [] ≡ instances_of (cell_at b.state k t)
+beyond_none b is k t away = ap instances_of (sym (not-there b.dag b.state (replay-rows b is) k t away))
 
 -- a task and a run of an instance are there
 pub not-beyond : (b : Backfill) → IsReplay b → (k t i : ℕ) (x : Instance) → instance_of (cell_at b.state k t) i ≡ Some x → IsThere b.dag b.state k t

@@ -12,11 +12,11 @@ use Rattle.bf_waiting.specs.declared.delays.Delay.{Delay}
 use Rattle.bf_waiting.specs.Classes.{batch_of, batch_to, delay_of}
 use Rattle.bf_waiting.specs.Filling.{Before}
 use Rattle.bf_waiting.specs.Keeping.{Anywhere, At, HasDelayed, HasTakenUp}
-use Rattle.bf_waiting.specs.Standings.{IsDelayedAt, IsReadyAt, Stands, instances_in}
+use Rattle.bf_waiting.specs.Standings.{IsDelayedAt, IsReadyAt, Stands, instances_of}
 use Rattle.bf_waiting.specs.declared.instances.Standing.{Standing}
 use Rattle.bf_waiting.proofs.HeapFacts.{HasGained, gained}
 
-pub held-in : (c : Cell) (i : ℕ) (x : Instance) → instance_of c i ≡ Some x → slice_get (instances_in c) i ≡ Some x
+pub held-in : (c : Cell) (i : ℕ) (x : Instance) → instance_of c i ≡ Some x → slice_get (instances_of c) i ≡ Some x
 held-in (Cell.Ran xs) i x e = e
 held-in Cell.Undecided i x e = cc
 held-in Cell.Blocked i x e = cc
@@ -25,7 +25,7 @@ held-in Cell.UpstreamFailed i x e = cc
 
 module _ (b : Backfill) (weights : List ℕ) (k t : ℕ) (old new : List Batch) where
   -- all of them
-  pub take-all : (xs : List Instance) → xs ≡ instances_in (cell_at b.state k t) → IsPermutation (batch_to weights k t (length xs - 1) ∷ old) new → HasTakenUp b weights k t Anywhere old new
+  pub take-all : (xs : List Instance) → xs ≡ instances_of (cell_at b.state k t) → IsPermutation (batch_to weights k t (length xs - 1) ∷ old) new → HasTakenUp b weights k t Anywhere old new
   take-all xs are added = record {
     kept = more.kept;
     no_more = λ x h. elim (more.no_more x h) [ inl same ↦ inr (rw same (refl, refl)) | inr o ↦ inl o ];
@@ -40,8 +40,8 @@ module _ (b : Backfill) (weights : List ℕ) (k t : ℕ) (old new : List Batch) 
 
       reaches : (i : ℕ) → IsReadyAt b k t i → i ≤ length xs - 1
       reaches i r =
-          let l : i < length (instances_in (cell_at b.state k t)) = slice_get_within (instances_in (cell_at b.state k t)) i r.held (held-in (cell_at b.state k t) i r.held r.is_held) in
-          let same : length xs ≡ length (instances_in (cell_at b.state k t)) = ap length are in
+          let l : i < length (instances_of (cell_at b.state k t)) = slice_get_within (instances_of (cell_at b.state k t)) i r.held (held-in (cell_at b.state k t) i r.held r.is_held) in
+          let same : length xs ≡ length (instances_of (cell_at b.state k t)) = ap length are in
           omega (arith, l, same)
 
   -- one that is ready
@@ -83,11 +83,11 @@ one-more-place b k t p old mid new one two = record {
   delayed = λ i m at d. elim (below-or i p at) [ inl less ↦ two.kept (delay_of k t i m) (one.delayed i m less d) | inr same ↦ two.delayed i m same d ];
 }
 
-pub all-places : (b : Backfill) (k t p : ℕ) (old new : List Delay) → length (instances_in (cell_at b.state k t)) ≤ p → HasDelayed b k t (Before p) old new → HasDelayed b k t Anywhere old new
+pub all-places : (b : Backfill) (k t p : ℕ) (old new : List Delay) → length (instances_of (cell_at b.state k t)) ≤ p → HasDelayed b k t (Before p) old new → HasDelayed b k t Anywhere old new
 all-places b k t p old new end is = record {
   kept = is.kept;
   no_more = is.no_more;
-  delayed = λ i m any d. is.delayed i m (omega (arith, end, slice_get_within (instances_in (cell_at b.state k t)) i d.held (held-in (cell_at b.state k t) i d.held d.is_held))) d;
+  delayed = λ i m any d. is.delayed i m (omega (arith, end, slice_get_within (instances_of (cell_at b.state k t)) i d.held (held-in (cell_at b.state k t) i d.held d.is_held))) d;
 }
 
 pub not-delayed : (b : Backfill) (k t p : ℕ) (s : Standing) → Stands b k t p s → ((m : ℤ) → s ≡ Standing.Delayed m → ⊥) → (m : ℤ) → ¬ (IsDelayedAt b k t p m)

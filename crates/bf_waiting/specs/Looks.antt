@@ -4,7 +4,7 @@ use Rattle.std.specs.Int.{int_min}
 use Rattle.bf_value.specs.declared.name.JobName.{JobName}
 use Rattle.bf_try.specs.Tries.{name_of}
 use Rattle.bf_core.specs.Cores.{Backfill}
-use Rattle.bf_core.specs.Events.{cell_at, has_room, instance_of}
+use Rattle.bf_core.specs.Events.{cell_at, has_room_in, instance_of}
 use Rattle.bf_waiting.specs.declared.batches.Batch.{Batch}
 use Rattle.bf_waiting.specs.declared.delays.Delay.{Delay}
 use Rattle.bf_waiting.specs.Classes.{Waits}
@@ -22,7 +22,7 @@ IsLeading best found (Some batch) = ((best ≡ Some batch) ⊎ (found ≡ Some b
 
 -- the class has room for a try
 abbrev pub MayTake : Backfill → Waits → Type 0
-MayTake backfill class = (class.task < length backfill.dag.tasks) × IsTrue (has_room backfill.limits backfill.state class.task)
+MayTake backfill class = (class.task < length backfill.dag.tasks) × IsTrue (has_room_in backfill.limits backfill.state class.task)
 
 -- of so many classes from the first on that have room, the batch at hand that leads all others
 abbrev pub IsBestTo : Backfill → ℕ → List Waits → Option Batch → Type 0

@@ -12,9 +12,9 @@ use Rattle.bf_core.specs.Events.{cell_at, instance_of}
 use Rattle.bf_waiting.specs.declared.instances.Standing.{Standing}
 
 -- the instances of a cell
-abbrev pub instances_in : Cell → List Instance
-instances_in (Cell.Ran instances) = instances
-instances_in cell = []
+abbrev pub instances_of : Cell → List Instance
+instances_of (Cell.Ran instances) = instances
+instances_of cell = []
 
 -- the instance at the place of the task in the run waits, and for nothing but room in its pool
 pub record IsReadyAt (backfill : Backfill) (run task place : ℕ) : Type 0 where

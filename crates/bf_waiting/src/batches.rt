@@ -2,7 +2,7 @@
 ghost use Rattle.std.specs.Prelude.{◌≡◌, ◌≤◌, ◌+◌, [], ◌∷◌, length, slice_get, Contains, IfSome, IfNone, OnOk, OnSome};
 ghost use Rattle.std.specs.List.Sorted.{IsPermutation};
 ghost use Rattle.bf_waiting.specs.Heaps.{Leads};
-ghost use Rattle.bf_waiting.specs.declared.batches.Batch.{Batch as BatchTerm};
+ghost use Rattle.bf_waiting.specs.declared.batches.Batch.{Batch};
 
 use bf_value::OutOfMemory;
 use std::alloc::Global;
@@ -30,14 +30,14 @@ pub(crate) struct Batches {
 impl Model for Batches {
     ghost use Rattle.std.specs.BinaryHeap.{heap_items, heap_capacity};
     ghost use Rattle.bf_waiting.specs.Heaps.{Heap, batch_cmp};
-    ghost use Rattle.bf_waiting.specs.declared.batches.Batch.{Batch as BatchTerm};
-    ghost use Rattle.bf_waiting.specs.contracts.batches.Batch as t;
+    ghost use Rattle.bf_waiting.specs.declared.batches.Batch.{Batch};
+    ghost use Rattle.bf_waiting.specs.contracts.batches.Batch;
     ghost use Rattle.std.specs.Coded.{codes};
     ghost use Rattle.std.specs.BinaryHeap.{IsHeap};
 
-    ghost Value = { Heap BatchTerm };
+    ghost Value = { Heap Batch };
 
-    ghost coded = { Prim.hlevel (codes, t.the_row.coded) };
+    ghost coded = { Prim.hlevel (codes, Batch.the_row.coded) };
 
     ghost view = { λ b. record { items = heap_items b.heap; room = heap_capacity b.heap } };
 
@@ -69,7 +69,7 @@ impl Batches {
         ensures top { result ≡ slice_get self.now.items 0 }
         ensures one { IfSome result (λ x. Contains self.now.items x) }
         ensures none { IfNone result (self.now.items ≡ []) }
-        ensures first { IfSome result (λ x. (y : BatchTerm) → Contains self.now.items y
+        ensures first { IfSome result (λ x. (y : Batch) → Contains self.now.items y
             → Leads x y) }
     {
         match self.heap.peek() {

@@ -1,17 +1,17 @@
 //! The tasks that wait for the same slots: what waits of them, and how that is kept over events.
 ghost use Rattle.std.specs.Prelude.{◌≡◌, ◌≤◌, ◌≤ℤ◌, ◌<ℤ◌, [], ◌∷◌, ◌<◌, Contains, slice_get, IfSome, IfNone, OnOk, ℕ, Bool, List, length, slice_index};
 ghost use Rattle.std.specs.List.Sorted.{IsPermutation};
-ghost use Rattle.bf_value.specs.declared.name.JobName.{JobName as NameTerm};
-ghost use Rattle.bf_xcom.specs.declared.values.Outcome.{Outcome as OutcomeTerm};
+ghost use Rattle.bf_value.specs.declared.name.JobName.{JobName};
+ghost use Rattle.bf_xcom.specs.declared.values.Outcome.{Outcome};
 ghost use Rattle.bf_core.specs.Cores.{deciding};
-ghost use Rattle.bf_core.specs.declared.event.Event.{Event as EventTerm};
+ghost use Rattle.bf_core.specs.declared.event.Event.{Event};
 ghost use Rattle.bf_waiting.specs.Classes.{AreReleased, HasRoom, IsRoomy, batch_of, batch_to};
 ghost use Rattle.bf_waiting.specs.Heaps.{Leads};
 ghost use Rattle.bf_waiting.specs.Keeping.{Anywhere, At, HasDelayed, HasTakenUp, IsCleaned, IsOfPlace, KeepsOver};
 ghost use Rattle.bf_waiting.specs.Standings.{IsReadyAt};
 ghost use Rattle.bf_waiting.specs.Filling.{TakesIn};
-ghost use Rattle.bf_waiting.specs.declared.batches.Batch.{Batch as BatchTerm};
-ghost use Rattle.bf_waiting.specs.declared.delays.Delay.{Delay as DelayTerm};
+ghost use Rattle.bf_waiting.specs.declared.batches.Batch.{Batch};
+ghost use Rattle.bf_waiting.specs.declared.delays.Delay.{Delay};
 
 use crate::batches::{Batch, Batches};
 use crate::delays::{Delay, Delays};
@@ -34,13 +34,13 @@ pub(crate) struct Class {
 
 impl Model for Class {
     ghost use Rattle.bf_waiting.specs.Classes.{IsRoomy, Waits};
-    ghost use Rattle.bf_waiting.specs.contracts.batches.Batch as b;
-    ghost use Rattle.bf_waiting.specs.contracts.delays.Delay as d;
+    ghost use Rattle.bf_waiting.specs.contracts.batches.Batch;
+    ghost use Rattle.bf_waiting.specs.contracts.delays.Delay;
     ghost use Rattle.std.specs.Coded.{codes};
 
     ghost Value = { Waits };
 
-    ghost coded = { Prim.hlevel (codes, b.the_row.coded, d.the_row.coded) };
+    ghost coded = { Prim.hlevel (codes, Batch.the_row.coded, Delay.the_row.coded) };
 
     ghost view = { λ c. record { task = c.task; batches = c.batches; delays = c.delays } };
 
@@ -77,7 +77,7 @@ fn release(batches: &mut Batches, delays: &mut Delays, weights: &[u32], now: i64
     ensures roomy { IsRoomy batches.new delays.new }
     ensures released { AreReleased now weights.now batches.old.items delays.old.items
         batches.new.items delays.new.items }
-    ensures later { (d : DelayTerm) → Contains delays.new.items d → now <ℤ d.moment.0 }
+    ensures later { (d : Delay) → Contains delays.new.items d → now <ℤ Delay.moment.0 }
 {
     while let Some(delay) = delays.first() {
         if now < delay.moment.0 {
@@ -144,7 +144,7 @@ impl Class {
     /// The greatest of its batches.
     pub(crate) fn first(&self) -> Option<Batch>
         ensures top { result ≡ slice_get self.now.batches.items 0 }
-        ensures first { IfSome result (λ x. (y : BatchTerm) → Contains self.now.batches.items y
+        ensures first { IfSome result (λ x. (y : Batch) → Contains self.now.batches.items y
             → Leads x y) }
     {
         self.batches.first()
@@ -152,10 +152,10 @@ impl Class {
 
     /// The earliest of the moments for which its instances wait.
     pub(crate) fn moment(&self) -> Option<i64>
-        ensures one { IfSome result (λ m. (d : DelayTerm) × Contains self.now.delays.items d
-            × (d.moment.0 ≡ m)) }
-        ensures first { IfSome result (λ m. (d : DelayTerm) → Contains self.now.delays.items d
-            → m ≤ℤ d.moment.0) }
+        ensures one { IfSome result (λ m. (d : Delay) × Contains self.now.delays.items d
+            × (Delay.moment.0 ≡ m)) }
+        ensures first { IfSome result (λ m. (d : Delay) → Contains self.now.delays.items d
+            → m ≤ℤ Delay.moment.0) }
         ensures none { IfNone result (self.now.delays.items ≡ []) }
     {
         match self.delays.first() {
@@ -200,7 +200,7 @@ impl Class {
         ensures task { self.new.task ≡ self.old.task }
         ensures released { AreReleased now weights.now self.old.batches.items self.old.delays.items
             self.new.batches.items self.new.delays.items }
-        ensures later { (d : DelayTerm) → Contains self.new.delays.items d → now <ℤ d.moment.0 }
+        ensures later { (d : Delay) → Contains self.new.delays.items d → now <ℤ Delay.moment.0 }
     {
         release(&mut self.batches, &mut self.delays, weights, now);
     }
@@ -317,8 +317,8 @@ impl Class {
     /// After a try began.
     pub(crate) fn begin(&mut self, core: &Core<'_>)
         ensures task { self.new.task ≡ self.old.task }
-        ensures keeps { (n : NameTerm) (weights class_of : List ℕ) (class : ℕ)
-            → KeepsOver (EventTerm.Begin n) core.now weights class_of class self.old self.new }
+        ensures keeps { (n : JobName) (weights class_of : List ℕ) (class : ℕ)
+            → KeepsOver (Event.Begin n) core.now weights class_of class self.old self.new }
     {
         self.clean(core);
     }
@@ -334,9 +334,9 @@ impl Class {
     )
         requires { HasRoom self.old }
         ensures task { self.new.task ≡ self.old.task }
-        ensures keeps { (n : NameTerm) (o : OutcomeTerm) (class_of : List ℕ) (class : ℕ)
+        ensures keeps { (n : JobName) (o : Outcome) (class_of : List ℕ) (class : ℕ)
             → IsOfPlace core.now.dag n run task place → slice_index class_of task ≡ class →
-            KeepsOver (EventTerm.End n o) core.now weights.now class_of class self.old self.new }
+            KeepsOver (Event.End n o) core.now weights.now class_of class self.old self.new }
     {
         self.take_up_one(core, weights, run, task, place);
         self.clean(core);
@@ -346,7 +346,7 @@ impl Class {
     pub(crate) fn tick(&mut self, core: &Core<'_>, weights: &[u32], now: i64)
         ensures task { self.new.task ≡ self.old.task }
         ensures keeps { (class_of : List ℕ) (class : ℕ)
-            → KeepsOver (EventTerm.Tick now) core.now weights.now class_of class self.old self.new }
+            → KeepsOver (Event.Tick now) core.now weights.now class_of class self.old self.new }
     {
         self.release(weights, now);
         self.clean(core);

@@ -1,7 +1,7 @@
 //! Instances that wait for a moment, the next moment at hand.
 ghost use Rattle.std.specs.Prelude.{◌≡◌, ◌<◌, ◌≤◌, ◌+◌, ◌^◌, ◌≤ℤ◌, [], ◌∷◌, length, slice_get, Contains, IfSome, IfNone, OnOk, OnSome};
 ghost use Rattle.std.specs.List.Sorted.{IsPermutation};
-ghost use Rattle.bf_waiting.specs.declared.delays.Delay.{Delay as DelayTerm};
+ghost use Rattle.bf_waiting.specs.declared.delays.Delay.{Delay};
 
 use bf_value::OutOfMemory;
 use std::alloc::Global;
@@ -27,14 +27,14 @@ pub(crate) struct Delays {
 impl Model for Delays {
     ghost use Rattle.std.specs.BinaryHeap.{heap_items, heap_capacity};
     ghost use Rattle.bf_waiting.specs.Heaps.{Heap, delay_cmp};
-    ghost use Rattle.bf_waiting.specs.declared.delays.Delay.{Delay as DelayTerm};
-    ghost use Rattle.bf_waiting.specs.contracts.delays.Delay as t;
+    ghost use Rattle.bf_waiting.specs.declared.delays.Delay.{Delay};
+    ghost use Rattle.bf_waiting.specs.contracts.delays.Delay;
     ghost use Rattle.std.specs.Coded.{codes};
     ghost use Rattle.std.specs.BinaryHeap.{IsHeap};
 
-    ghost Value = { Heap DelayTerm };
+    ghost Value = { Heap Delay };
 
-    ghost coded = { Prim.hlevel (codes, t.the_row.coded) };
+    ghost coded = { Prim.hlevel (codes, Delay.the_row.coded) };
 
     ghost view = { λ d. record { items = heap_items d.heap; room = heap_capacity d.heap } };
 
@@ -74,7 +74,7 @@ impl Delays {
         ensures top { result ≡ slice_get self.now.items 0 }
         ensures one { IfSome result (λ x. Contains self.now.items x) }
         ensures none { IfNone result (self.now.items ≡ []) }
-        ensures first { IfSome result (λ x. (y : DelayTerm) → Contains self.now.items y
+        ensures first { IfSome result (λ x. (y : Delay) → Contains self.now.items y
             → x.moment.0 ≤ℤ y.moment.0) }
     {
         match self.heap.peek() {

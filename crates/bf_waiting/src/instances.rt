@@ -2,7 +2,7 @@
 ghost use Rattle.std.specs.Prelude.{◌≡◌, ◌<◌, ◌≤◌, ◌↔◌, IsTrue, length, Some};
 ghost use Rattle.bf_core.specs.Events.{cell_at, instance_of};
 ghost use Rattle.bf_core.specs.Few.{IsFew};
-ghost use Rattle.bf_waiting.specs.Standings.{instances_in as instances_within, IsReadyAt, Stands};
+ghost use Rattle.bf_waiting.specs.Standings.{instances_of, IsReadyAt, Stands};
 
 use bf_core::{Cell, Core, Instance, Phase, name_of};
 
@@ -19,7 +19,7 @@ pub(crate) enum Standing {
 
 /// The instances of a cell.
 fn instances_in(cell: &Cell) -> &[Instance]
-    ensures instances { result.now ≡ instances_within cell.now }
+    ensures instances { result.now ≡ instances_of cell.now }
     ensures few { IsFew cell.now → length result.now ≤ 1_024 }
 {
     match cell {
@@ -31,7 +31,7 @@ fn instances_in(cell: &Cell) -> &[Instance]
 /// The instances that a task has in a run.
 #[tactic(auto, using(crate::proofs::Places::beyond_none))]
 pub fn instances_of<'c>(core: &'c Core<'_>, run: u32, task: u32) -> &'c [Instance]
-    ensures instances { result.now ≡ instances_within (cell_at core.now.state run task) }
+    ensures instances { result.now ≡ instances_of (cell_at core.now.state run task) }
     ensures few { length result.now ≤ 1_024 }
 {
     let _replayed = core.journal();

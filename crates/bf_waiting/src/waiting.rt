@@ -1,19 +1,19 @@
 //! The tries that wait, kept over the events of a backfill: which begins next, and which moment is waited for.
 ghost use Rattle.std.specs.Prelude.{◌≡◌, ◌<◌, ◌+◌, ◌↔◌, Bool, length, slice_index, IfSome, IfNone, MatchOption, OnOk, ℕ, IfOk, IsTrue, slice_get, None, Some, Contains};
-ghost use Rattle.bf_value.specs.declared.name.JobName.{JobName as NameTerm};
+ghost use Rattle.bf_value.specs.declared.name.JobName.{JobName};
 ghost use Rattle.bf_plan.specs.Sound.{demand_of};
-ghost use Rattle.bf_xcom.specs.declared.values.Outcome.{Outcome as OutcomeTerm};
-ghost use Rattle.bf_core.specs.declared.event.Event.{Event as EventTerm};
+ghost use Rattle.bf_xcom.specs.declared.values.Outcome.{Outcome};
+ghost use Rattle.bf_core.specs.declared.event.Event.{Event};
 ghost use Rattle.bf_core.specs.Cores.{Backfill, deciding};
-ghost use Rattle.bf_core.specs.Events.{has_room as has_room_now};
+ghost use Rattle.bf_core.specs.Events.{has_room_in};
 ghost use Rattle.bf_waiting.specs.Keeping.{IsOfPlace};
 ghost use Rattle.bf_waiting.specs.Kept.{HasRoomFor, HasRoomOf, KeepsTries, KeepsTriesOver, IsClassOf};
 ghost use Rattle.bf_waiting.specs.Choices.{AreWeights, IsNextMoment, IsNextTry};
 ghost use Rattle.bf_waiting.specs.Filling.{AreClassedTo, AreEmpty, AreFilled};
 ghost use Rattle.bf_waiting.specs.Heaps.{Leads};
 ghost use Rattle.bf_waiting.specs.Looks.{IsBestOf, IsLeading, IsSoonestOf, IsTryOfBatch, MayTake, sooner_of};
-ghost use Rattle.bf_waiting.specs.declared.waiting.Waiting.{Waiting as WaitingTerm};
-ghost use Rattle.bf_waiting.specs.declared.batches.Batch.{Batch as BatchTerm};
+ghost use Rattle.bf_waiting.specs.declared.waiting.Waiting.{Waiting};
+ghost use Rattle.bf_waiting.specs.declared.batches.Batch.{Batch};
 
 use crate::batches::Batch;
 use crate::class::Class;
@@ -176,7 +176,7 @@ impl Waiting {
 /// Whether a task is there, and its slots fit its pool beside those that are occupied.
 fn has_room(core: &Core<'_>, task: u32) -> bool
     ensures { IsTrue result ↔ ((task < length core.now.dag.tasks)
-        × IsTrue (has_room_now core.now.limits core.now.state task)) }
+        × IsTrue (has_room_in core.now.limits core.now.state task)) }
 {
     let tasks = core.plan().dag().tasks.len();
     (task as usize) < tasks && core.has_room(task)
@@ -197,7 +197,7 @@ fn leading(best: Option<Batch>, found: Option<Batch>) -> Option<Batch>
 fn candidate(core: &Core<'_>, class: &Class) -> Option<Batch>
     ensures some { IfSome result (λ x. MayTake core.now class.now
         × (Some x ≡ slice_get class.now.batches.items 0)) }
-    ensures first { IfSome result (λ x. (y : BatchTerm) → Contains class.now.batches.items y
+    ensures first { IfSome result (λ x. (y : Batch) → Contains class.now.batches.items y
         → Leads x y) }
     ensures none { IfNone result (MayTake core.now class.now → slice_get class.now.batches.items 0
         ≡ None) }
@@ -274,7 +274,7 @@ impl Waiting {
 
 /// The task whose instances an event may let wait.
 fn task_to_wait(event: &Event) -> Option<u32>
-    ensures { (w : WaitingTerm) → MatchOption result (HasRoomFor event.now w)
+    ensures { (w : Waiting) → MatchOption result (HasRoomFor event.now w)
         (λ t. HasRoomOf t w → HasRoomFor event.now w) }
 {
     match event {
@@ -343,8 +343,8 @@ impl Waiting {
 
     /// After a try of a task began.
     fn begin(&mut self, core: &Core<'_>, task: u32)
-        ensures { (n : NameTerm) → n.task ≡ task
-            → KeepsTriesOver (EventTerm.Begin n) core.now self.old self.new }
+        ensures { (n : JobName) → n.task ≡ task
+            → KeepsTriesOver (Event.Begin n) core.now self.old self.new }
     {
         if let Some(class) = self.class_at(task) {
             let class = &mut self.classes[class];
@@ -355,8 +355,8 @@ impl Waiting {
     /// After a try of the instance at a place ended.
     fn readmit(&mut self, core: &Core<'_>, run: u32, task: u32, place: u32)
         requires { HasRoomOf task self.old }
-        ensures { (n : NameTerm) (o : OutcomeTerm) → IsOfPlace core.now.dag n run task place
-            → KeepsTriesOver (EventTerm.End n o) core.now self.old self.new }
+        ensures { (n : JobName) (o : Outcome) → IsOfPlace core.now.dag n run task place
+            → KeepsTriesOver (Event.End n o) core.now self.old self.new }
     {
         if let Some(class) = self.class_at(task) {
             let class = &mut self.classes[class];
@@ -366,7 +366,7 @@ impl Waiting {
 
     /// After the clock moved.
     fn tick(&mut self, core: &Core<'_>, now: i64)
-        ensures { KeepsTriesOver (EventTerm.Tick now) core.now self.old self.new }
+        ensures { KeepsTriesOver (Event.Tick now) core.now self.old self.new }
     {
         for class in self.classes.iter_mut() {
             class.tick(core, self.weights.as_slice(), now);

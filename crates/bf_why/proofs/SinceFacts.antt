@@ -5,13 +5,13 @@ use Rattle.bf_report.specs.declared.report.TaskReport.{TaskReport}
 use Rattle.bf_why.specs.declared.since.Ground.{Ground}
 use Rattle.bf_why.specs.declared.states.States.{States}
 use Rattle.bf_why.specs.Grounds.{IsGround}
-use Rattle.bf_why.specs.Since.{Since, because_of, since_text, words}
+use Rattle.bf_why.specs.Since.{Since, because_of_states, since_text_of, words}
 
 module _ (dag : Dag) (tasks : List TaskReport) (task : ℕ) where
-  pub since_said : (ground : Since) (said : Bor (List ℕ)) → IsGround ground (Ground.Words said) → said.now ≡ since_text dag tasks task ground
+  pub since_said : (ground : Since) (said : Bor (List ℕ)) → IsGround ground (Ground.Words said) → said.now ≡ since_text_of dag tasks task ground
   since_said (words text) said is = is
-  since_said (because_of states) said is = absurd is
+  since_said (because_of_states states) said is = absurd is
 
-  pub since_states : (ground : Since) (states : States) → IsGround ground (Ground.States states) → since_text dag tasks task (because_of states) ≡ since_text dag tasks task ground
+  pub since_states : (ground : Since) (states : States) → IsGround ground (Ground.States states) → since_text_of dag tasks task (because_of_states states) ≡ since_text_of dag tasks task ground
   since_states (words text) states is = absurd is
-  since_states (because_of these) states is = ap (λ s. since_text dag tasks task (because_of s)) is
+  since_states (because_of_states these) states is = ap (λ s. since_text_of dag tasks task (because_of_states s)) is

@@ -1,7 +1,7 @@
 //! What came of a task in a run, in words.
 ghost use Rattle.std.specs.Prelude.{◌≡◌, ◌∷◌, [], IfOk, Some, option_map};
-ghost use Rattle.bf_why.specs.Decided.{came as came_words, came_of_outcome as outcome_words, came_to as came_to_words};
-ghost use Rattle.bf_report.specs.declared.report.InstanceReport.{InstanceReport as InstanceTerm};
+ghost use Rattle.bf_why.specs.Decided.{came_of, came_of_outcome_of, came_to_of};
+ghost use Rattle.bf_report.specs.declared.report.InstanceReport.{InstanceReport};
 
 use crate::counted::counts_text;
 use bf_reason::Settled;
@@ -13,7 +13,7 @@ use bf_xcom::{Outcome, TaskResult};
 use std::alloc::Global;
 
 fn outcome_text(outcome: &Outcome) -> &'static str
-    ensures { result.now ≡ outcome_words outcome.now }
+    ensures { result.now ≡ came_of_outcome_of outcome.now }
 {
     match outcome {
         Outcome::Success(_) => "was a success",
@@ -24,8 +24,8 @@ fn outcome_text(outcome: &Outcome) -> &'static str
 
 /// Of an unmapped task, by its one result.
 fn result_text(results: &[TaskResult]) -> &'static str
-    ensures { (instance : InstanceTerm) → results.now ≡ instance.result ∷ [] → result.now
-        ≡ outcome_words instance.result.outcome }
+    ensures { (instance : InstanceReport) → results.now ≡ instance.result ∷ [] → result.now
+        ≡ came_of_outcome_of instance.result.outcome }
 {
     match results {
         [ended, ..] => outcome_text(&ended.outcome),
@@ -35,7 +35,7 @@ fn result_text(results: &[TaskResult]) -> &'static str
 
 /// Of an expanded task.
 fn came_to(alloc: Global, instances: usize, counts: &Counts) -> Result<Text, OutOfMemory>
-    ensures { IfOk result (λ text. text ≡ came_to_words instances counts.now) }
+    ensures { IfOk result (λ text. text ≡ came_to_of instances counts.now) }
 {
     let instances = plural(alloc, instances as u64, "instance")?;
     let counts = counts_text(alloc, counts)?;
@@ -43,7 +43,7 @@ fn came_to(alloc: Global, instances: usize, counts: &Counts) -> Result<Text, Out
 }
 
 fn came_of(alloc: Global, task: &Settled<'_>) -> Result<Text, OutOfMemory>
-    ensures { IfOk result (λ text. text ≡ came_words (Some task.now)) }
+    ensures { IfOk result (λ text. text ≡ came_of (Some task.now)) }
 {
     match task.told() {
         TaskReport::NoStatus => Text::copied(alloc, "had no status"),
@@ -56,7 +56,7 @@ fn came_of(alloc: Global, task: &Settled<'_>) -> Result<Text, OutOfMemory>
 
 /// What came of a task in a run, in words; one that isn't there had no status.
 pub(crate) fn came_text(alloc: Global, task: Option<&Settled<'_>>) -> Result<Text, OutOfMemory>
-    ensures { IfOk result (λ text. text ≡ came_words (option_map (λ t. t.now) task.entry)) }
+    ensures { IfOk result (λ text. text ≡ came_of (option_map (λ t. t.now) task.entry)) }
 {
     match task {
         Some(task) => came_of(alloc, task),

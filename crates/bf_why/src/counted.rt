@@ -1,6 +1,6 @@
 //! Instances counted by state.
 ghost use Rattle.std.specs.Prelude.{◌≡◌, ◌++◌, ◌∷◌, IfOk, OnOk};
-ghost use Rattle.bf_why.specs.Counted.{counts_text as counts_words, part};
+ghost use Rattle.bf_why.specs.Counted.{counts_text_of, part};
 ghost use Rattle.bf_wording.specs.Numbers.{number_text};
 
 use bf_rule::Counts;
@@ -31,7 +31,7 @@ fn add_part(
 
 /// The states that are there, as `2 success, 1 failed`.
 pub fn counts_text(alloc: Global, counts: &Counts) -> Result<Text, OutOfMemory>
-    ensures { IfOk result (λ text. text ≡ counts_words counts.now) }
+    ensures { IfOk result (λ text. text ≡ counts_text_of counts.now) }
 {
     let mut parts = Vec::new(alloc);
     add_part(alloc, &mut parts, counts.success, "success")?;

@@ -1,9 +1,9 @@
 //! How a task was decided in a run, in sentences.
 ghost use Rattle.std.specs.Prelude.{◌≡◌, ◌<◌, ◌++◌, ◌∷◌, [], IfOk, IfSome, Option, length, option_map};
-ghost use Rattle.bf_core.specs.Terms.{task_of, Verdict as VerdictTerm};
-ghost use Rattle.bf_reason.specs.declared.cause.StateCause.{StateCause as CauseTerm};
-ghost use Rattle.bf_why.specs.Decided.{decided as decided_in, past_sentences, ruled as ruled_words, source_sentences};
-ghost use Rattle.bf_report.specs.declared.report.RunReport.{RunReport as RunTerm};
+ghost use Rattle.bf_core.specs.Terms.{task_of, Verdict};
+ghost use Rattle.bf_reason.specs.declared.cause.StateCause.{StateCause};
+ghost use Rattle.bf_why.specs.Decided.{decided_of, past_sentences, ruled_of, source_sentences};
+ghost use Rattle.bf_report.specs.declared.report.RunReport.{RunReport};
 
 use crate::past::add_past;
 use crate::rule::ruled;
@@ -33,8 +33,8 @@ fn by_branches(
     task: u32,
 ) -> Result<Vec<Text>, OutOfMemory>
     requires { task < length plan.now.dag.tasks }
-    ensures { (before : Option RunTerm) → IfOk result (λ lines.
-        lines.items ≡ decided_in plan.now.dag settled.now before task CauseTerm.NotFollowed) }
+    ensures { (before : Option RunReport) → IfOk result (λ lines.
+        lines.items ≡ decided_of plan.now.dag settled.now before task StateCause.NotFollowed) }
 {
     branch_sentences(alloc, plan, settled, upstreams_of(plan, task), task)
 }
@@ -46,8 +46,8 @@ fn by_blocked_branches(
     task: u32,
 ) -> Result<Vec<Text>, OutOfMemory>
     requires { task < length plan.now.dag.tasks }
-    ensures { (before : Option RunTerm) → IfOk result (λ lines.
-        lines.items ≡ decided_in plan.now.dag settled.now before task CauseTerm.BranchIsBlocked) }
+    ensures { (before : Option RunReport) → IfOk result (λ lines.
+        lines.items ≡ decided_of plan.now.dag settled.now before task StateCause.BranchIsBlocked) }
 {
     let names = blocked_branches(alloc, plan, settled, upstreams_of(plan, task))?;
     one_line(alloc, branches_sentence(alloc, names.as_slice())?)
@@ -60,8 +60,8 @@ fn by_blocked_tasks(
     task: u32,
 ) -> Result<Vec<Text>, OutOfMemory>
     requires { task < length plan.now.dag.tasks }
-    ensures { (before : Option RunTerm) → IfOk result (λ lines.
-        lines.items ≡ decided_in plan.now.dag settled.now before task CauseTerm.UpstreamIsBlocked) }
+    ensures { (before : Option RunReport) → IfOk result (λ lines.
+        lines.items ≡ decided_of plan.now.dag settled.now before task StateCause.UpstreamIsBlocked) }
 {
     let names = blocked_tasks(alloc, plan, settled, upstreams_of(plan, task))?;
     one_line(alloc, upstreams_sentence(alloc, names.as_slice())?)
@@ -76,7 +76,7 @@ fn by_rule(
 ) -> Result<Vec<Text>, OutOfMemory>
     requires { task < length plan.now.dag.tasks }
     ensures { IfOk result (λ lines. lines.items
-        ≡ ruled_words plan.now.dag settled.now task verdict ∷ []) }
+        ≡ ruled_of plan.now.dag settled.now task verdict ∷ []) }
 {
     one_line(alloc, ruled(alloc, plan, settled, task, verdict)?)
 }
@@ -93,7 +93,7 @@ fn by_past(
     requires task { task < length plan.now.dag.tasks }
     requires before { IfSome before (λ run. settled_before.now ≡ run.now.tasks) }
     ensures { IfOk result (λ lines. lines.items
-        ≡ ruled_words plan.now.dag settled.now task VerdictTerm.Run
+        ≡ ruled_of plan.now.dag settled.now task Verdict.Run
         ∷ past_sentences plan.now.dag (option_map (λ run. run.now) before.entry) task) }
 {
     let mut lines = by_rule(alloc, plan, settled, task, Verdict::Run)?;
@@ -114,7 +114,7 @@ fn by_source(
     requires task { task < length plan.now.dag.tasks }
     requires before { IfSome before (λ run. settled_before.now ≡ run.now.tasks) }
     ensures { IfOk result (λ lines. lines.items
-        ≡ ruled_words plan.now.dag settled.now task VerdictTerm.Run
+        ≡ ruled_of plan.now.dag settled.now task Verdict.Run
         ∷ (past_sentences plan.now.dag (option_map (λ run. run.now) before.entry) task
         ++ source_sentences plan.now.dag settled.now cause (task_of plan.now.dag task).expand)) }
 {
@@ -135,7 +135,7 @@ pub(crate) fn decided_lines(
 ) -> Result<Vec<Text>, OutOfMemory>
     requires task { task < length plan.now.dag.tasks }
     requires before { IfSome before (λ run. settled_before.now ≡ run.now.tasks) }
-    ensures { IfOk result (λ lines. lines.items ≡ decided_in plan.now.dag settled.now
+    ensures { IfOk result (λ lines. lines.items ≡ decided_of plan.now.dag settled.now
         (option_map (λ run. run.now) before.entry) task cause) }
 {
     match cause {

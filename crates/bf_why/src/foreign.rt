@@ -2,7 +2,7 @@
 ghost use Rattle.std.specs.Prelude.{◌≡◌, ◌++◌, ◌∷◌, [], IfOk, OnOk, codes};
 ghost use Rattle.std.specs.Char.{is_ascii_digit};
 ghost use Rattle.bf_reason.specs.Letters.{letter_for};
-ghost use Rattle.bf_why.specs.Why.{foreign, would_be as would_be_words, would_run as would_run_words};
+ghost use Rattle.bf_why.specs.Why.{foreign, would_be_of, would_run_of};
 
 use bf_reason::{Settled, StateCause, letter_by};
 use bf_value::{OutOfMemory, Text};
@@ -10,7 +10,7 @@ use bf_wording::{add_all, add_text, one_line, plural};
 use std::alloc::Global;
 
 fn would_run(alloc: Global, is_expanded: bool, count: usize) -> Result<Text, OutOfMemory>
-    ensures { IfOk result (λ text. text ≡ would_run_words is_expanded count) }
+    ensures { IfOk result (λ text. text ≡ would_run_of is_expanded count) }
 {
     if is_expanded {
         let instances = plural(alloc, count as u64, "instance")?;
@@ -23,7 +23,7 @@ fn would_run(alloc: Global, is_expanded: bool, count: usize) -> Result<Text, Out
 
 /// What the graph makes of a task for this cause.
 fn would_be(alloc: Global, is_expanded: bool, cause: StateCause) -> Result<Text, OutOfMemory>
-    ensures { IfOk result (λ text. text ≡ would_be_words is_expanded cause) }
+    ensures { IfOk result (λ text. text ≡ would_be_of is_expanded cause) }
 {
     match cause {
         StateCause::NotFollowed | StateCause::RuleSkips | StateCause::HasNoItems => {
@@ -56,7 +56,7 @@ fn foreign_lines(
     cause: StateCause,
 ) -> Result<Vec<Text>, OutOfMemory>
     ensures { IfOk result (λ lines. lines.items ≡ codes "What the report has doesn't follow from this graph."
-        ∷ would_be_words is_expanded cause ∷ []) }
+        ∷ would_be_of is_expanded cause ∷ []) }
 {
     let first = Text::copied(alloc, "What the report has doesn't follow from this graph.")?;
     let mut lines = one_line(alloc, first)?;

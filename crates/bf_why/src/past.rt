@@ -1,7 +1,7 @@
 //! What its past says of a task, in a sentence.
 ghost use Rattle.std.specs.Prelude.{◌≡◌, ◌<◌, ◌++◌, IfOk, IfSome, OnOk, Some, length, option_map};
 ghost use Rattle.bf_core.specs.Terms.{task_of};
-ghost use Rattle.bf_why.specs.Decided.{past_sentence as past_words, past_sentences};
+ghost use Rattle.bf_why.specs.Decided.{past_sentence_of, past_sentences};
 
 use crate::came::came_text;
 use bf_moment::Moment;
@@ -19,7 +19,7 @@ fn by_run(
     task: u32,
 ) -> Result<Text, OutOfMemory>
     requires { settled.now ≡ before.now.tasks }
-    ensures { IfOk result (λ text. text ≡ past_words (Some before.now) task) }
+    ensures { IfOk result (λ text. text ≡ past_sentence_of (Some before.now) task) }
 {
     let start = Moment::new(before.interval.start);
     let came = came_text(alloc, settled.get(task as usize))?;
@@ -35,7 +35,7 @@ fn past_sentence(
 ) -> Result<Text, OutOfMemory>
     requires { IfSome before (λ run. settled.now ≡ run.now.tasks) }
     ensures { IfOk result (λ text. text
-        ≡ past_words (option_map (λ run. run.now) before.entry) task) }
+        ≡ past_sentence_of (option_map (λ run. run.now) before.entry) task) }
 {
     match before {
         Some(before) => by_run(alloc, before, settled, task),

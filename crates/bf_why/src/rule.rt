@@ -1,8 +1,8 @@
 //! What the rule of a task says, in a sentence.
 ghost use Rattle.std.specs.Prelude.{◌≡◌, ◌<◌, IfOk, length};
 ghost use Rattle.bf_core.specs.Terms.{task_of};
-ghost use Rattle.bf_why.specs.Decided.{over_text as over_words, rule_sentence as rule_words, ruled as ruled_words};
-ghost use Rattle.bf_rule.specs.Verdicts.{total as total_of};
+ghost use Rattle.bf_why.specs.Decided.{over_text_of, rule_sentence_of, ruled_of};
+ghost use Rattle.bf_rule.specs.Verdicts.{total_of};
 
 use crate::counted::counts_text;
 use crate::since::{rule_text, since_text, verdict_text};
@@ -26,7 +26,7 @@ fn total(counts: &Counts) -> u64
 }
 
 fn over_text(alloc: Global, counts: &Counts) -> Result<Text, OutOfMemory>
-    ensures { IfOk result (λ text. text ≡ over_words counts.now) }
+    ensures { IfOk result (λ text. text ≡ over_text_of counts.now) }
 {
     let over = plural(alloc, total(counts), "upstream instance")?;
     let counts = counts_text(alloc, counts)?;
@@ -41,7 +41,7 @@ fn rule_sentence(
     verdict: Verdict,
 ) -> Result<Text, OutOfMemory>
     requires { task < length plan.now.dag.tasks }
-    ensures { IfOk result (λ text. text ≡ rule_words plan.now.dag settled.now task verdict) }
+    ensures { IfOk result (λ text. text ≡ rule_sentence_of plan.now.dag settled.now task verdict) }
 {
     let dag = plan.dag();
     let decided = dag.task(task);
@@ -62,7 +62,7 @@ pub(crate) fn ruled(
     verdict: Verdict,
 ) -> Result<Text, OutOfMemory>
     requires { task < length plan.now.dag.tasks }
-    ensures { IfOk result (λ text. text ≡ ruled_words plan.now.dag settled.now task verdict) }
+    ensures { IfOk result (λ text. text ≡ ruled_of plan.now.dag settled.now task verdict) }
 {
     if plan.dag().task(task).upstreams.len() == 0 {
         Text::copied(alloc, "It has no upstream tasks, so no rule holds it back.")

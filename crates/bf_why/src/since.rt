@@ -3,7 +3,7 @@ ghost use Rattle.std.specs.Prelude.{◌≡◌, ◌<◌, ◌++◌, IfOk, OnOk, So
 ghost use Rattle.std.specs.List.{flat_map};
 ghost use Rattle.bf_core.specs.Terms.{task_of};
 ghost use Rattle.bf_why.specs.Grounds.{IsGround};
-ghost use Rattle.bf_why.specs.Since.{because_of as because, name_where, rule_text as rule_word, shared, since, since_text as since_words, verdict_text as verdict_word, with_share};
+ghost use Rattle.bf_why.specs.Since.{because_of_states, name_where, rule_text_of, shared, since, since_text_of, verdict_text_of, with_share};
 
 use crate::looking::id_at;
 use crate::states::States;
@@ -23,7 +23,7 @@ enum Ground {
 }
 
 pub(crate) fn rule_text(rule: Rule) -> &'static str
-    ensures { result.now ≡ rule_word rule }
+    ensures { result.now ≡ rule_text_of rule }
 {
     match rule {
         Rule::AllSuccess => "all_success",
@@ -41,7 +41,7 @@ pub(crate) fn rule_text(rule: Rule) -> &'static str
 }
 
 pub(crate) fn verdict_text(verdict: Verdict) -> &'static str
-    ensures { result.now ≡ verdict_word verdict }
+    ensures { result.now ≡ verdict_text_of verdict }
 {
     match verdict {
         Verdict::Skip => "skipped",
@@ -178,7 +178,7 @@ fn because_of(
     states: States,
 ) -> Result<Text, OutOfMemory>
     requires { task < length dag.now.tasks }
-    ensures { IfOk result (λ text. text ≡ since_words dag.now settled.now task (because states)) }
+    ensures { IfOk result (λ text. text ≡ since_text_of dag.now settled.now task (because_of_states states)) }
 {
     let upstreams = dag.task(task).upstreams.as_slice();
     let names = names_in(alloc, dag, settled, upstreams, states)?;
@@ -196,7 +196,7 @@ pub(crate) fn since_text(
     verdict: Verdict,
 ) -> Result<Text, OutOfMemory>
     requires { task < length dag.now.tasks }
-    ensures { IfOk result (λ text. text ≡ since_words dag.now settled.now task
+    ensures { IfOk result (λ text. text ≡ since_text_of dag.now settled.now task
         (since (task_of dag.now task).rule verdict)) }
 {
     match ground_of(dag.task(task).rule, verdict) {

@@ -1,9 +1,9 @@
 //! What the source of its items gave a task, in a sentence.
 ghost use Rattle.std.specs.Prelude.{◌≡◌, ◌++◌, ◌<◌, Bool, IfOk, OnOk, Option, length, option_map};
 ghost use Rattle.bf_core.specs.Terms.{task_of};
-ghost use Rattle.bf_reason.specs.declared.cause.StateCause.{StateCause as CauseTerm};
-ghost use Rattle.bf_report.specs.declared.report.TaskReport.{TaskReport as TaskTerm};
-ghost use Rattle.bf_why.specs.Decided.{expanded_sentence as expanded_words, items_text as items_words, source_sentences};
+ghost use Rattle.bf_reason.specs.declared.cause.StateCause.{StateCause};
+ghost use Rattle.bf_report.specs.declared.report.TaskReport.{TaskReport};
+ghost use Rattle.bf_why.specs.Decided.{expanded_sentence_of, items_text_of, source_sentences};
 
 use crate::came::came_text;
 use crate::looking::id_at;
@@ -15,15 +15,15 @@ use std::alloc::Global;
 
 fn no_list(alloc: Global, source: Option<&Settled<'_>>) -> Result<Text, OutOfMemory>
     ensures { (each : Bool) → IfOk result (λ text.
-        text ≡ items_words each (option_map (λ t. t.now) source.entry) CauseTerm.ItemsAreMissing) }
+        text ≡ items_text_of each (option_map (λ t. t.now) source.entry) StateCause.ItemsAreMissing) }
 {
     let came = came_text(alloc, source)?;
     Ok(Text::new(format!(in alloc; ", which pushed no list: it {came}.")?))
 }
 
 fn counted_items(alloc: Global, each: bool, count: usize) -> Result<Text, OutOfMemory>
-    ensures { (source : Option TaskTerm) → IfOk result (λ text.
-        text ≡ items_words each source (CauseTerm.Runs count)) }
+    ensures { (source : Option TaskReport) → IfOk result (λ text.
+        text ≡ items_text_of each source (StateCause.Runs count)) }
 {
     if each {
         let values = plural(alloc, count as u64, "value")?;
@@ -41,7 +41,7 @@ fn items_text(
     cause: StateCause,
 ) -> Result<Text, OutOfMemory>
     ensures { IfOk result (λ text. text
-        ≡ items_words each (option_map (λ t. t.now) source.entry) cause) }
+        ≡ items_text_of each (option_map (λ t. t.now) source.entry) cause) }
 {
     match cause {
         StateCause::ItemsAreMissing => no_list(alloc, source),
@@ -58,7 +58,7 @@ fn expanded_sentence(
     cause: StateCause,
     source: u32,
 ) -> Result<Text, OutOfMemory>
-    ensures { IfOk result (λ text. text ≡ expanded_words plan.now.dag settled.now cause source) }
+    ensures { IfOk result (λ text. text ≡ expanded_sentence_of plan.now.dag settled.now cause source) }
 {
     let dag = plan.dag();
     let items = items_text(

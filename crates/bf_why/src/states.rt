@@ -1,7 +1,7 @@
 //! States of instances.
 ghost use Rattle.std.specs.Prelude.{◌≡◌, ◌≤◌, ◌+◌, if◌then◌else◌};
-ghost use Rattle.bf_why.specs.Since.{count_in as count_within, has_in as has_within};
-ghost use Rattle.bf_rule.specs.Verdicts.{total};
+ghost use Rattle.bf_why.specs.Since.{count_of, has_of};
+ghost use Rattle.bf_rule.specs.Verdicts.{total_of};
 
 use bf_reason::{Settled, counts_at};
 use bf_rule::Counts;
@@ -45,8 +45,8 @@ impl States {
 
     /// How many instances are in one of them.
     pub fn count_in(self, counts: &Counts) -> u32
-        requires { total counts.now ≤ 1_024 }
-        ensures { result ≡ count_within self counts.now }
+        requires { total_of counts.now ≤ 1_024 }
+        ensures { result ≡ count_of self counts.now }
     {
         let success = count_if(self.success, counts.success);
         let failed = count_if(self.failed, counts.failed);
@@ -58,7 +58,7 @@ impl States {
 
 /// Whether an instance of a task is in one of these states.
 pub fn has_in(settled: &[Settled<'_>], states: States, task: u32) -> bool
-    ensures { result ≡ has_within settled.now states task }
+    ensures { result ≡ has_of settled.now states task }
 {
     let counts = counts_at(settled, task);
     states.count_in(&counts) > 0

@@ -2,8 +2,8 @@
 ghost use Rattle.std.specs.Prelude.{◌≡◌, ◌<◌, ◌≤◌, ◌+◌, ◌++◌, IfOk, OnOk, length};
 ghost use Rattle.std.specs.List.{list_any};
 ghost use Rattle.bf_core.specs.Terms.{task_of};
-ghost use Rattle.bf_why.specs.Tried.{all_failed_text as all_failed_words, failed_text as failed_words, failings, later_text as later_words, not_allowed_text as not_allowed_words, skipped_text as skipped_words, succeeded_text as succeeded_words, tried as tried_in};
-ghost use Rattle.bf_try.specs.Grades.{gives_items as gives_items_by, is_source};
+ghost use Rattle.bf_why.specs.Tried.{all_failed_text_of, failed_text_of, failings, later_text_of, not_allowed_text_of, skipped_text_of, succeeded_text_of, tried_of};
+ghost use Rattle.bf_try.specs.Grades.{gives_items_in, is_source};
 
 use bf_plan::{Dag, Plan, Task};
 use bf_reason::is_expanded;
@@ -22,7 +22,7 @@ const NOT_TOLD: &str =
     "Why a try failed isn't in a report: what its program wrote to standard error says it.";
 
 fn later_text(alloc: Global, tries: u32) -> Result<Text, OutOfMemory>
-    ensures { IfOk result (λ text. text ≡ later_words tries) }
+    ensures { IfOk result (λ text. text ≡ later_text_of tries) }
 {
     let before = number(alloc, u64::from(tries.saturating_sub(1)))?;
     let tries = number(alloc, u64::from(tries))?;
@@ -31,7 +31,7 @@ fn later_text(alloc: Global, tries: u32) -> Result<Text, OutOfMemory>
 }
 
 fn succeeded_text(alloc: Global, tries: u32) -> Result<Text, OutOfMemory>
-    ensures { IfOk result (λ text. text ≡ succeeded_words tries) }
+    ensures { IfOk result (λ text. text ≡ succeeded_text_of tries) }
 {
     if tries == 1 {
         Text::copied(alloc, "Its first try succeeded.")
@@ -41,7 +41,7 @@ fn succeeded_text(alloc: Global, tries: u32) -> Result<Text, OutOfMemory>
 }
 
 fn skipped_text(alloc: Global, tries: u32) -> Result<Text, OutOfMemory>
-    ensures { IfOk result (λ text. text ≡ skipped_words tries) }
+    ensures { IfOk result (λ text. text ≡ skipped_text_of tries) }
 {
     let tries = number(alloc, u64::from(tries))?;
     let text = format!(in alloc; "Its try {tries} exited with 99, which skips it.")?;
@@ -49,7 +49,7 @@ fn skipped_text(alloc: Global, tries: u32) -> Result<Text, OutOfMemory>
 }
 
 fn all_failed_text(alloc: Global, tries: u32) -> Result<Text, OutOfMemory>
-    ensures { IfOk result (λ text. text ≡ all_failed_words tries) }
+    ensures { IfOk result (λ text. text ≡ all_failed_text_of tries) }
 {
     if tries == 1 {
         return Text::copied(alloc, "Its one try failed.");
@@ -59,7 +59,7 @@ fn all_failed_text(alloc: Global, tries: u32) -> Result<Text, OutOfMemory>
 }
 
 fn not_allowed_text(alloc: Global, tries: u32, most: u32) -> Result<Text, OutOfMemory>
-    ensures { IfOk result (λ text. text ≡ not_allowed_words tries most) }
+    ensures { IfOk result (λ text. text ≡ not_allowed_text_of tries most) }
 {
     let tries = number(alloc, u64::from(tries))?;
     let most = number(alloc, u64::from(most))?;
@@ -69,7 +69,7 @@ fn not_allowed_text(alloc: Global, tries: u32, most: u32) -> Result<Text, OutOfM
 
 /// Of one that failed, where the graph allows so many tries.
 fn failed_text(alloc: Global, tries: u32, most: u32) -> Result<Text, OutOfMemory>
-    ensures { IfOk result (λ text. text ≡ failed_words tries most) }
+    ensures { IfOk result (λ text. text ≡ failed_text_of tries most) }
 {
     if tries == most {
         all_failed_text(alloc, tries)
@@ -98,7 +98,7 @@ fn is_source_of_some(dag: &Dag, task: u32) -> bool
 
 /// Whether a task has to push a list, since another is expanded over it.
 fn gives_items(dag: &Dag, task: u32) -> bool
-    ensures { result ≡ gives_items_by dag.now task }
+    ensures { result ≡ gives_items_in dag.now task }
 {
     !is_expanded(dag, task) && is_source_of_some(dag, task)
 }
@@ -134,7 +134,7 @@ pub(crate) fn tried_lines(
     ended: &TaskResult,
 ) -> Result<Vec<Text>, OutOfMemory>
     requires { task < length plan.now.dag.tasks }
-    ensures { IfOk result (λ lines. lines.items ≡ tried_in plan.now.dag task ended.now) }
+    ensures { IfOk result (λ lines. lines.items ≡ tried_of plan.now.dag task ended.now) }
 {
     match &ended.outcome {
         Outcome::Success(_) => one_line(alloc, succeeded_text(alloc, ended.tries)?),

@@ -1,8 +1,8 @@
 //! Sentences on what stands directly upstream.
 ghost use Rattle.std.specs.Prelude.{◌≡◌, ◌<◌, ◌==◌, ◌∷◌, ◌++◌, [], IfOk, OnOk, Some, codes, if◌then◌else◌, length};
 ghost use Rattle.std.specs.List.{flat_map};
-ghost use Rattle.bf_core.specs.Deciding.{branch_is, is_blocked as blocked};
-ghost use Rattle.bf_why.specs.Decided.{branch_sentence as branch_sentence_of, branch_where, branches_sentence as branches_words, have_no_status as no_status_words, id_of, upstreams_sentence as upstreams_words};
+ghost use Rattle.bf_core.specs.Deciding.{branch_is, is_blocked_in};
+ghost use Rattle.bf_why.specs.Decided.{branch_sentence_of, branch_where, branches_sentence_of, have_no_status_of, id_of, upstreams_sentence_of};
 ghost use Rattle.bf_reason.specs.Settled.{value_among};
 
 use crate::looking::{id_at, pushed_by};
@@ -83,7 +83,7 @@ fn add_id(
 }
 
 fn is_blocked_branch_of(plan: &Plan, settled: &[Settled<'_>], upstream: u32) -> bool
-    ensures { result ≡ branch_is plan.now.dag blocked upstream
+    ensures { result ≡ branch_is plan.now.dag is_blocked_in upstream
         (Some (value_among settled.now upstream)) }
 {
     is_blocked_branch(plan.dag(), settled, upstream)
@@ -97,7 +97,7 @@ pub(crate) fn blocked_branches(
     upstreams: &[u32],
 ) -> Result<Vec<Text>, OutOfMemory>
     ensures { IfOk result (λ ids. ids.items
-        ≡ flat_map (λ u. if branch_is plan.now.dag blocked u (Some (value_among settled.now u))
+        ≡ flat_map (λ u. if branch_is plan.now.dag is_blocked_in u (Some (value_among settled.now u))
         then id_of plan.now.dag u ∷ [] else []) upstreams.now) }
 {
     let mut ids = Vec::new(alloc);
@@ -115,7 +115,7 @@ pub(crate) fn blocked_tasks(
     settled: &[Settled<'_>],
     upstreams: &[u32],
 ) -> Result<Vec<Text>, OutOfMemory>
-    ensures { IfOk result (λ ids. ids.items ≡ flat_map (λ u. if blocked (value_among settled.now u)
+    ensures { IfOk result (λ ids. ids.items ≡ flat_map (λ u. if is_blocked_in (value_among settled.now u)
         then id_of plan.now.dag u ∷ [] else []) upstreams.now) }
 {
     let mut ids = Vec::new(alloc);
@@ -144,7 +144,7 @@ fn branches(count: usize) -> &'static str
 
 /// That these have no status, as the end of a sentence.
 pub fn no_status(alloc: Global, names: &[Text]) -> Result<Text, OutOfMemory>
-    ensures { IfOk result (λ text. text ≡ no_status_words names.now) }
+    ensures { IfOk result (λ text. text ≡ have_no_status_of names.now) }
 {
     let listed = listed(alloc, names)?;
     let have = have(names.len());
@@ -152,7 +152,7 @@ pub fn no_status(alloc: Global, names: &[Text]) -> Result<Text, OutOfMemory>
 }
 
 pub(crate) fn branches_sentence(alloc: Global, names: &[Text]) -> Result<Text, OutOfMemory>
-    ensures { IfOk result (λ text. text ≡ branches_words names.now) }
+    ensures { IfOk result (λ text. text ≡ branches_sentence_of names.now) }
 {
     let branches = branches(names.len());
     let rest = no_status(alloc, names)?;
@@ -160,7 +160,7 @@ pub(crate) fn branches_sentence(alloc: Global, names: &[Text]) -> Result<Text, O
 }
 
 pub(crate) fn upstreams_sentence(alloc: Global, names: &[Text]) -> Result<Text, OutOfMemory>
-    ensures { IfOk result (λ text. text ≡ upstreams_words names.now) }
+    ensures { IfOk result (λ text. text ≡ upstreams_sentence_of names.now) }
 {
     let rest = no_status(alloc, names)?;
     Ok(Text::new(format!(in alloc; "Directly upstream, {rest}")?))

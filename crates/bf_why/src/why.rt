@@ -1,8 +1,8 @@
 //! Why a task has its state in a run, in sentences.
 ghost use Rattle.std.specs.Prelude.{◌≡◌, ◌<◌, ◌++◌, IfOk, IfSome, is_some, length, option_map, slice_get};
 ghost use Rattle.bf_core.specs.Terms.{task_of};
-ghost use Rattle.bf_core.specs.Deciding.{counts_of_results};
-ghost use Rattle.bf_why.specs.Why.{came_line as came_words, came_to_lines as came_to_in, ended as ended_in, tried_if_there, why as why_in};
+ghost use Rattle.bf_core.specs.Deciding.{counts_of_results_of};
+ghost use Rattle.bf_why.specs.Why.{came_line_of, came_to_lines_of, ended_of, tried_if_there, why_of};
 
 use crate::counted::counts_text;
 use crate::decided::decided_lines;
@@ -18,7 +18,7 @@ use bf_xcom::TaskResult;
 use std::alloc::Global;
 
 fn came_line(alloc: Global, instances: usize, counts: &Counts) -> Result<Text, OutOfMemory>
-    ensures { IfOk result (λ text. text ≡ came_words instances counts.now) }
+    ensures { IfOk result (λ text. text ≡ came_line_of instances counts.now) }
 {
     let instances = plural(alloc, instances as u64, "instance")?;
     let counts = counts_text(alloc, counts)?;
@@ -52,8 +52,8 @@ fn came_to_lines(
     index: Option<usize>,
 ) -> Result<Vec<Text>, OutOfMemory>
     requires task { task < length plan.now.dag.tasks }
-    requires counted { counts.now ≡ counts_of_results results.now }
-    ensures { IfOk result (λ lines. lines.items ≡ came_to_in plan.now.dag task results.now index) }
+    requires counted { counts.now ≡ counts_of_results_of results.now }
+    ensures { IfOk result (λ lines. lines.items ≡ came_to_lines_of plan.now.dag task results.now index) }
 {
     match index {
         Some(index) => one_of(alloc, plan, task, results, index),
@@ -70,7 +70,7 @@ fn ended_lines(
     index: Option<usize>,
 ) -> Result<Vec<Text>, OutOfMemory>
     requires { task < length plan.now.dag.tasks }
-    ensures { IfOk result (λ lines. lines.items ≡ ended_in plan.now.dag task told.now index) }
+    ensures { IfOk result (λ lines. lines.items ≡ ended_of plan.now.dag task told.now index) }
 {
     match (told.told(), told.results()) {
         (TaskReport::Ran(_), [ended, ..]) => tried_lines(alloc, plan, task, ended),
@@ -102,7 +102,7 @@ pub fn why_lines(
 ) -> Result<Vec<Text>, OutOfMemory>
     requires task { task < length plan.now.dag.tasks }
     requires before { IfSome before (λ run. settled_before.now ≡ run.now.tasks) }
-    ensures { IfOk result (λ lines. lines.items ≡ why_in plan.now.dag settled.now
+    ensures { IfOk result (λ lines. lines.items ≡ why_of plan.now.dag settled.now
         (option_map (λ run. run.now) before.entry) task cause told.now index) }
 {
     let mut lines = Vec::new(alloc);

@@ -1,7 +1,7 @@
 //! Lists of names.
 ghost use Rattle.std.specs.Prelude.{◌≡◌, ◌++◌, ◌==◌, IfOk, OnOk, codes, if◌then◌else◌, string_bytes};
 ghost use Rattle.std.specs.List.{join_by};
-ghost use Rattle.bf_wording.specs.Lists.{joined, listed, shortened as shortened_to};
+ghost use Rattle.bf_wording.specs.Lists.{joined, listed_of, shortened_of};
 ghost use Rattle.bf_wording.specs.Numbers.{number_text};
 
 use crate::numbers::push_number;
@@ -50,7 +50,7 @@ fn more(alloc: Global, count: usize) -> Result<Text, OutOfMemory>
 }
 
 fn shortened(alloc: Global, names: &[Text], most: usize) -> Result<Vec<Text>, OutOfMemory>
-    ensures { IfOk result (λ kept. kept.items ≡ shortened_to most names.now) }
+    ensures { IfOk result (λ kept. kept.items ≡ shortened_of most names.now) }
 {
     if names.len() <= most || names.len() - most == 1 {
         return copies(alloc, names);
@@ -67,7 +67,7 @@ pub fn push_listed(
     names: &[Text],
     most: usize,
 ) -> Result<(), OutOfMemory>
-    ensures { OnOk result (string_bytes text.new ≡ string_bytes text.old ++ listed most names.now) }
+    ensures { OnOk result (string_bytes text.new ≡ string_bytes text.old ++ listed_of most names.now) }
 {
     let kept = shortened(alloc, names, most)?;
     push_joined(text, kept.as_slice())

@@ -1,6 +1,6 @@
 //! Numbers, each added behind a text.
 ghost use Rattle.std.specs.Prelude.{◌≡◌, ◌++◌, ◌<◌, All, OnOk, length, string_bytes};
-ghost use Rattle.bf_wording.specs.Numbers.{number_text, plural, with_commas};
+ghost use Rattle.bf_wording.specs.Numbers.{number_text, plural_of, with_commas};
 
 use bf_value::OutOfMemory;
 use std::alloc::Global;
@@ -38,7 +38,7 @@ pub fn push_plural(
     one: &str,
 ) -> Result<(), OutOfMemory>
     ensures { OnOk result (string_bytes text.new
-        ≡ string_bytes text.old ++ plural number one.now) }
+        ≡ string_bytes text.old ++ plural_of number one.now) }
 {
     push_number(alloc, text, number)?;
     text.push_str(" ")?;

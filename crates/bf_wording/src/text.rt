@@ -1,7 +1,7 @@
 //! Pieces of sentences.
 ghost use Rattle.std.specs.Prelude.{◌≡◌, IfOk};
-ghost use Rattle.bf_wording.specs.Lists.{listed as listed_names};
-ghost use Rattle.bf_wording.specs.Numbers.{number_text, plural as plural_text};
+ghost use Rattle.bf_wording.specs.Lists.{listed_of};
+ghost use Rattle.bf_wording.specs.Numbers.{number_text, plural_of};
 
 use crate::lists::push_listed;
 use crate::numbers::{push_number, push_plural};
@@ -22,7 +22,7 @@ pub fn number(alloc: Global, count: u64) -> Result<Text, OutOfMemory>
 
 /// How many there are of what one is called so.
 pub fn plural(alloc: Global, count: u64, one: &str) -> Result<Text, OutOfMemory>
-    ensures { IfOk result (λ text. text ≡ plural_text count one.now) }
+    ensures { IfOk result (λ text. text ≡ plural_of count one.now) }
 {
     let mut text = String::new(alloc);
     push_plural(alloc, &mut text, count, one)?;
@@ -31,7 +31,7 @@ pub fn plural(alloc: Global, count: u64, one: &str) -> Result<Text, OutOfMemory>
 
 /// Names, as `a, b and c`.
 pub fn listed(alloc: Global, names: &[Text]) -> Result<Text, OutOfMemory>
-    ensures { IfOk result (λ text. text ≡ listed_names 5 names.now) }
+    ensures { IfOk result (λ text. text ≡ listed_of 5 names.now) }
 {
     let mut text = String::new(alloc);
     push_listed(alloc, &mut text, names, MOST_NAMES)?;

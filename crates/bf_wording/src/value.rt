@@ -2,7 +2,7 @@
 ghost use Rattle.std.specs.Prelude.{◌≡◌, ◌++◌, IfOk, OnOk, codes, encode_utf8, length, option_copied, string_bytes};
 ghost use Rattle.std.specs.List.{flat_map};
 ghost use Rattle.std.specs.Str.{chars};
-ghost use Rattle.bf_wording.specs.Values.{cut, long_text as long_words, value_text as value_words};
+ghost use Rattle.bf_wording.specs.Values.{cut, long_text_of, value_text_of};
 
 use crate::text::number;
 use bf_quoted::push_shown;
@@ -32,7 +32,7 @@ fn text_of_chars(alloc: Global, shown: &[char]) -> Result<Text, OutOfMemory>
 
 /// The first characters of a text, and how many it has.
 fn long_text(alloc: Global, first: &[char], count: usize) -> Result<Text, OutOfMemory>
-    ensures { IfOk result (λ text. text ≡ long_words first.now count) }
+    ensures { IfOk result (λ text. text ≡ long_text_of first.now count) }
 {
     let first = text_of_chars(alloc, first)?;
     let count = number(alloc, count as u64)?;
@@ -52,7 +52,7 @@ fn cut_text(alloc: Global, shown: &str, most: usize) -> Result<Text, OutOfMemory
 
 /// A value as JSON text that a terminal shows, or `nothing`.
 pub fn value_text(alloc: Global, value: Option<&Xval>, most: usize) -> Result<Text, OutOfMemory>
-    ensures { IfOk result (λ text. text ≡ value_words most (option_copied value.entry)) }
+    ensures { IfOk result (λ text. text ≡ value_text_of most (option_copied value.entry)) }
 {
     let Some(value) = value else {
         return Text::copied(alloc, "nothing");

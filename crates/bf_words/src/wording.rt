@@ -1,7 +1,7 @@
 //! The words of commands.
 ghost use Rattle.std.specs.Prelude.{◌≡◌, Option, Some, None, IfOk, slice_index_or, option_map, string_bytes};
 ghost use Rattle.bf_graph.specs.Shape.{texts};
-ghost use Rattle.bf_words.specs.Words.{context_word as context_text, pushed_word as pushed_text, value_word as value_text, word_of, words_of};
+ghost use Rattle.bf_words.specs.Words.{context_word_of, pushed_word_of, value_word_of, word_of, words_of};
 
 use crate::context::JobContext;
 use bf_plan::{ContextVariable, Word};
@@ -10,7 +10,7 @@ use bf_xcom::Given;
 use std::alloc::Global;
 
 fn value_word(alloc: Global, value: &Xval) -> Result<String, OutOfMemory>
-    ensures { IfOk result (λ word. string_bytes word ≡ value_text value.now) }
+    ensures { IfOk result (λ word. string_bytes word ≡ value_word_of value.now) }
 {
     match value {
         Xval::Text(text) => Ok(String::from_str(alloc, text.as_str())?),
@@ -20,7 +20,7 @@ fn value_word(alloc: Global, value: &Xval) -> Result<String, OutOfMemory>
 
 fn pushed_word(alloc: Global, value: Option<&Xval>) -> Result<String, OutOfMemory>
     ensures { IfOk result (λ word. string_bytes word
-        ≡ pushed_text (option_map (λ v. v.now) value.entry)) }
+        ≡ pushed_word_of (option_map (λ v. v.now) value.entry)) }
 {
     match value {
         Some(value) => value_word(alloc, value),
@@ -33,7 +33,7 @@ fn context_word(
     variable: ContextVariable,
     context: &JobContext<'_>,
 ) -> Result<String, OutOfMemory>
-    ensures { IfOk result (λ word. string_bytes word ≡ context_text variable context.now) }
+    ensures { IfOk result (λ word. string_bytes word ≡ context_word_of variable context.now) }
 {
     Ok(match variable {
         ContextVariable::LogicalDate | ContextVariable::DataIntervalStart => {

@@ -18,26 +18,26 @@ pushed_by (Success value) = value
 pushed_by Failed = None
 pushed_by Skipped = None
 
-abbrev pub pushed : TaskResult → Option Xval
-pushed result = pushed_by result.outcome
+abbrev pub pushed_of : TaskResult → Option Xval
+pushed_of result = pushed_by result.outcome
 
 -- the value that an unmapped task pushed
-abbrev pub pushed_alone : List TaskResult → Option Xval
-pushed_alone [] = None
-pushed_alone (result ∷ rest) = pushed result
+abbrev pub pushed_alone_in : List TaskResult → Option Xval
+pushed_alone_in [] = None
+pushed_alone_in (result ∷ rest) = pushed_of result
 
 -- the values that the instances of a task pushed, in index order
-abbrev pub all_pushed : List TaskResult → List Xval
-all_pushed results = filter_map pushed results
+abbrev pub all_pushed_in : List TaskResult → List Xval
+all_pushed_in results = filter_map pushed_of results
 
 -- what a pull from a task gives
-abbrev pub pull : Task → TaskValue → Option Xval
-pull source (Ran results) = if is_some source.expand then Some (list_of (all_pushed results)) else pushed_alone results
-pull source _ = None
+abbrev pub pull_of : Task → TaskValue → Option Xval
+pull_of source (Ran results) = if is_some source.expand then Some (list_of (all_pushed_in results)) else pushed_alone_in results
+pull_of source _ = None
 
 -- what a source has for the task that is expanded over it
 abbrev pub source_values : Task → TaskValue → SourceValues
-source_values source (Ran results) = if is_some source.expand then SourceValues.Each (map pushed results) else SourceValues.Pushed (pushed_alone results)
+source_values source (Ran results) = if is_some source.expand then SourceValues.Each (map pushed_of results) else SourceValues.Pushed (pushed_alone_in results)
 source_values source _ = SourceValues.Absent
 
 -- the items of an expansion, which may be missing

@@ -1,6 +1,6 @@
 //! What comes of pulls.
 ghost use Rattle.std.specs.Prelude.{◌≡◌, ◌↔◌, IfOk, IsTrue, None, Some, option_copied, option_map};
-ghost use Rattle.bf_value.specs.declared.xval.Xval.{Xval as XvalTerm};
+ghost use Rattle.bf_value.specs.declared.xval.Xval.{Xval};
 
 use bf_value::{OutOfMemory, Xval, is_same_option};
 use std::alloc::Global;
@@ -20,10 +20,10 @@ impl Model for Pulled {
 
     ghost Value = { Option Xval };
 
-    ghost use Rattle.bf_value.specs.contracts.xval.Xval as xval;
+    ghost use Rattle.bf_value.specs.contracts.xval.Xval;
     ghost use Rattle.std.specs.Coded.{codes};
 
-    ghost coded = { Prim.hlevel (codes, xval.the_row.coded) };
+    ghost coded = { Prim.hlevel (codes, Xval.the_row.coded) };
 
     ghost view = { λ p. option_map (λ arc. arc.value) p.value };
 }

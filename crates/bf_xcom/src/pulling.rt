@@ -1,6 +1,6 @@
 //! Pulls (Airflow's "XComs").
 ghost use Rattle.std.specs.Prelude.{◌≡◌, IfOk, option_copied};
-ghost use Rattle.bf_xcom.specs.Pulls.{all_pushed as all_of, pull as pulled_from, pushed as pushed_of, pushed_alone as alone_of};
+ghost use Rattle.bf_xcom.specs.Pulls.{all_pushed_in, pull_of, pushed_of, pushed_alone_in};
 
 use crate::values::{TaskResult, TaskValue};
 use bf_plan::Task;
@@ -14,7 +14,7 @@ fn pushed(instance: &TaskResult) -> Option<&Xval>
 }
 
 fn pushed_alone(alloc: Global, instances: &[TaskResult]) -> Result<Option<Xval>, OutOfMemory>
-    ensures { IfOk result (λ value. value ≡ alone_of instances.now) }
+    ensures { IfOk result (λ value. value ≡ pushed_alone_in instances.now) }
 {
     match instances {
         [] => Ok(None),
@@ -23,7 +23,7 @@ fn pushed_alone(alloc: Global, instances: &[TaskResult]) -> Result<Option<Xval>,
 }
 
 fn all_pushed(alloc: Global, instances: &[TaskResult]) -> Result<Vec<Xval>, OutOfMemory>
-    ensures { IfOk result (λ values. values.items ≡ all_of instances.now) }
+    ensures { IfOk result (λ values. values.items ≡ all_pushed_in instances.now) }
 {
     let mut values = Vec::new(alloc);
     for instance in instances {
@@ -38,7 +38,7 @@ fn all_pushed(alloc: Global, instances: &[TaskResult]) -> Result<Vec<Xval>, OutO
 /// pushed; of an expanded one that ran, the list of what its instances pushed, in index order and perhaps empty; of
 /// any other, nothing.
 pub fn pull(alloc: Global, source: &Task, value: &TaskValue) -> Result<Option<Xval>, OutOfMemory>
-    ensures { IfOk result (λ pulled. pulled ≡ pulled_from source.now value.now) }
+    ensures { IfOk result (λ pulled. pulled ≡ pull_of source.now value.now) }
 {
     let TaskValue::Ran(instances) = value else {
         return Ok(None);

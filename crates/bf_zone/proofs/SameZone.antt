@@ -11,7 +11,7 @@ use Rattle.std.proofs.Common.{Result, Ok}
 use Rattle.jiff.specs.Types.{TimeZone as Zone, Posix, Tzif as Tzif'}
 use Rattle.jiff_tz.specs.Zone.{ambiguous_at as zone_offsets}
 use Rattle.jiff.specs.Placed.{IsPosixZone, fixed_zone}
-use Rattle.bf_zone.specs.Zones.{Asked, utc, offset, rule, file, IsZone}
+use Rattle.bf_zone.specs.Zones.{Asked, utc, offset, rule, file_asked, IsZone}
 use Rattle.jiff.specs.Words.{instant_of, compatible_offset, picked_instant}
 use Rattle.jiff_tz.specs.PosixDay.{is_rule_day}
 use Rattle.jiff_tz.specs.declared.posix.DayTime.{DayTime}
@@ -166,7 +166,7 @@ posix_zone text (Posix x) (Posix y) dt h k = same_rule x y dt (some_injective (t
 posix_zone text (Posix x) b dt h k = absurd k
 posix_zone text a b dt h k = absurd h
 
-file_zone : (bytes : List ℕ) (a b : Zone) (dt : DateTime) → IsZone file (Some bytes) a → IsZone file (Some bytes) b → zone_offsets a dt ≡ zone_offsets b dt
+file_zone : (bytes : List ℕ) (a b : Zone) (dt : DateTime) → IsZone file_asked (Some bytes) a → IsZone file_asked (Some bytes) b → zone_offsets a dt ≡ zone_offsets b dt
 unfolding zone_offsets
 file_zone bytes (Tzif' x) (Tzif' y) dt h k = same_table x.now y.now dt (ok_injective (tzif_view x.now) (tzif_view y.now) (sym h.1 ∙ k.1))
 file_zone bytes (Tzif' x) b dt h k = absurd k

@@ -16,7 +16,7 @@ use Rattle.bf_zone.specs.declared.zone.ZoneFault.TheVariants.{Bad, OutOfMemory}
 pub data Asked : Type 0 where
   utc : Asked
   offset : ℤ → Asked
-  file : Asked
+  file_asked : Asked
   rule : List ℕ → Asked
 
 -- an offset's seconds, or a rule
@@ -26,7 +26,7 @@ offset_or_rule (Some n) text = offset n
 
 -- `UTC`, `file`, an offset, or else a rule
 abbrev pub asked : List ℕ → Asked
-asked text = if bytes_eq text (codes "UTC") then utc else (if bytes_eq text (codes "file") then file else offset_or_rule (offset_of text) text)
+asked text = if bytes_eq text (codes "UTC") then utc else (if bytes_eq text (codes "file") then file_asked else offset_or_rule (offset_of text) text)
 
 -- the zone of a file: the table that the bytes are read as, with a rule that agrees with its last row
 abbrev pub IsFileZone : List ℕ → TimeZone → Type 0

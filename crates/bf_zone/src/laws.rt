@@ -2,7 +2,7 @@
 //! alone.
 ghost use Rattle.std.specs.Prelude.{◌≡◌, ◌↔◌, List, Option, Some, ℕ, ℤ};
 ghost use Rattle.bf_zone.specs.Offsets.{offset_of, IsOffsetText};
-ghost use Rattle.jiff.specs.Types.{DateTime, TimeZone as PlainZone};
+ghost use Rattle.jiff.specs.Types.{DateTime, TimeZone};
 ghost use Rattle.jiff.specs.Words.{picked_instant};
 ghost use Rattle.bf_zone.specs.Zones.{Asked, IsZone};
 
@@ -13,6 +13,6 @@ pub fn offset_form()
 
 /// One text and one file mean one zone: of any two that they allow, the instant of every civil time is the same.
 pub fn one_zone()
-    ensures { (a : Asked) (file : Option (List ℕ)) (x y : PlainZone) → IsZone a file x → IsZone a file y →
+    ensures { (a : Asked) (file : Option (List ℕ)) (x y : TimeZone) → IsZone a file x → IsZone a file y →
         (at : DateTime) → picked_instant x at ≡ picked_instant y at }
 {}

@@ -1,8 +1,8 @@
 //! Zones, and why a text is none.
 ghost use Rattle.std.specs.Prelude.{option_map, IfSome, IfNone, Some, Option, List, ℕ};
 ghost use Rattle.jiff.specs.Words.{plain_zone};
-ghost use Rattle.jiff.specs.Types.{TimeZone as PlainZone};
-ghost use Rattle.bf_zone.specs.Zones.{asked, file as file_asked, offset_or_rule, IsZone, IsZoneRead, IsZoneOf};
+ghost use Rattle.jiff.specs.Types.{TimeZone};
+ghost use Rattle.bf_zone.specs.Zones.{asked, file_asked, offset_or_rule, IsZone, IsZoneRead, IsZoneOf};
 ghost use Rattle.bf_zone.specs.Offsets.{offset_of};
 
 use crate::offset::offset_in;
@@ -50,7 +50,7 @@ fn table_in(alloc: Global, bytes: &[u8]) -> Result<Zone, ZoneFault>
 fn rule_in(text: &str) -> Option<TimeZone<'static>>
     ensures some { IfSome result (λ tz. (file : Option (List ℕ)) →
         IsZone (offset_or_rule (offset_of text.now) text.now) file (plain_zone tz)) }
-    ensures none { IfNone result ((file : Option (List ℕ)) (z : PlainZone) →
+    ensures none { IfNone result ((file : Option (List ℕ)) (z : TimeZone) →
         IsZone (offset_or_rule (offset_of text.now) text.now) file z → ⊥) }
 {
     if let Some(offset) = offset_in(text.as_bytes()) {

@@ -1,6 +1,6 @@
 use Rattle.std.proofs.Common.{string_bytes, subst}
 use Rattle.bf_commands.proofs.Faults.{unwritten_leaves}
-use Rattle.bf_backfills.specs.Commands.{IsClearAnswer, IsLaunchable, clear_input, launcher_used, machine_of}
+use Rattle.bf_backfills.specs.Commands.{IsClearAnswer, IsLaunchable, clear_input, launcher_used_of, machine_of}
 use Rattle.bf_backfills.specs.CommandFaults.{IsFaultOfLauncher}
 use Rattle.bf_backfills.proofs.ClearInputs.{named_preparing, named_readable, preparing_leaves, read_means}
 use Rattle.bf_backfills.proofs.ClearEnds.{clear_answers, clear_faults, clear_unlaunched, clear_unmeant, of_clearing, unmeant_leaves}
@@ -19,7 +19,7 @@ returns-in_err-look_at g c =
     let is = subst (λ l. IsFaultOfLauncher startable l c.in_err-look_at.field-0.0) c.launcher_used.ensures c.in_err-look_at.ensures.fault in
     fails _ _ _ _ _ c.from_residual-in_err-look_at.ensures.1
     (clear_unlaunched (g.RT.Starter.may_lose c.args.rt.now) (g.S.Source.file c.args.files.now) (machine_of (g.J.Journals.journal c.args.journals.now) startable) c.args.asked c.in_ok-range.range c.in_ok-range.ensures.means _ is)
-    (unwritten_leaves _ _ _ (IsFaultOfLauncher startable (launcher_used c.args.asked.table c.args.asked.launcher)) (λ n written. written) _ is)
+    (unwritten_leaves _ _ _ (IsFaultOfLauncher startable (launcher_used_of c.args.asked.table c.args.asked.launcher)) (λ n written. written) _ is)
 
 pub returns-in_err-ready : goal.returns-in_err-ready
 returns-in_err-ready g c =

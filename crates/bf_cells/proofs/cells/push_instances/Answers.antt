@@ -1,13 +1,13 @@
 use Rattle.std.proofs.Common.{◌++◌, ◌∷◌, [], map, sym, ap, ◌∙◌, append_assoc, string_bytes}
 use Rattle.bf_core.specs.Terms.{TaskResult}
-use Rattle.bf_reason.specs.Letters.{ended_letter}
+use Rattle.bf_reason.specs.Letters.{ended_letter_of}
 use Rattle.bf_cells.proofs.RowFacts.{word_of}
 use Rattle.bf_cells.proofs.cells.push_instances.Goals as goal
 
 pub returns-in_ok-push_results : goal.returns-in_ok-push_results
 returns-in_ok-push_results c =
     let text = string_bytes c.args.text.now in
-    let letter = λ (ended : TaskResult). ended_letter ended.outcome ended.tries in
+    let letter = λ (ended : TaskResult). ended_letter_of ended.outcome ended.tries in
     c.in_ok-push_results.ensures
     ∙ ap (λ t. t ++ map letter c.results.result.now) c.in_ok-push_str.ensures.bytes
     ∙ ap (λ rs. (text ++ 32 ∷ []) ++ map letter rs) c.results.ensures

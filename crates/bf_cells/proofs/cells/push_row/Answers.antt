@@ -1,7 +1,7 @@
 use Rattle.std.proofs.Common.{◌++◌, ◌∷◌, [], ap, ◌∙◌, string_bytes}
 use Rattle.std.specs.List.{flat_map, filter_map, join_with_byte}
 use Rattle.bf_moment.specs.Moment.{moment_text}
-use Rattle.bf_report.specs.Report.{run_state_word}
+use Rattle.bf_report.specs.Report.{run_state_word_of}
 use Rattle.bf_cells.specs.Cells.{instances_word, letters_from}
 use Rattle.bf_cells.specs.Rows.{word_behind}
 use Rattle.bf_cells.proofs.RowFacts.{row_in_pieces}
@@ -13,7 +13,7 @@ returns c = λ report here earlier.
     let text = string_bytes c.args.text.now in
     let start = moment_text run.interval.start.nanosecond in
     let end = moment_text run.interval.end.nanosecond in
-    let state = run_state_word run.state in
+    let state = run_state_word_of run.state in
     let letters = letters_from c.args.plan.now.dag report c.args.number 0 c.args.settled.now in
     let words = flat_map word_behind c.args.settled.now in
     c.in_ok-push_str.ensures.bytes

@@ -1,5 +1,5 @@
 use Rattle.std.proofs.Common.{◌≡◌, true, sym, ◌∙◌}
-use Rattle.bf_clear.specs.Matching.{is_report_of}
+use Rattle.bf_clear.specs.Matching.{is_report_in}
 use Rattle.bf_clear.proofs.Within.{matches-within}
 use Rattle.bf_clear.proofs.clearing.clear_places.Goals as goal
 
@@ -8,6 +8,6 @@ kept_beside-requires c =
     let dag = c.args.plan.now.dag in
     let intervals = c.args.runs.now in
     let report = c.args.report in
-    let is : is_report_of dag intervals report ≡ true =
-    (λ k. is_report_of (sym c.dag.ensures.dag k) (sym c.intervals.ensures.intervals k) report) ∙ (sym c.is_report_of.ensures ∙ c.if-not-is_report_of.false) in
+    let is : is_report_in dag intervals report ≡ true =
+    (λ k. is_report_in (sym c.dag.ensures.dag k) (sym c.intervals.ensures.intervals k) report) ∙ (sym c.is_report_of.ensures ∙ c.if-not-is_report_of.false) in
     matches-within dag intervals report is

@@ -4,7 +4,7 @@ use Rattle.bf_value.specs.declared.name.JobName.{JobName}
 use Rattle.bf_xcom.specs.declared.values.Given.{Given}
 use Rattle.bf_try.specs.declared.answers.Raw.{Raw}
 use Rattle.bf_table.specs.Tables.{answer_of}
-use Rattle.bf_commands.specs.OverTable.{IsUnsent, IsWantingWorkers, is_alone}
+use Rattle.bf_commands.specs.OverTable.{IsUnsent, IsWantingWorkers, is_alone_in}
 use Rattle.bf_commands.proofs.FromKept.{end_over, fail_weaker}
 use Rattle.bf_commands.proofs.Over.{end_by_more}
 use Rattle.bf_commands.proofs.backfill.ended_over_table.Goals as goal
@@ -28,7 +28,7 @@ returns-then-is_alone-clause-end g c =
 
 pub returns-then-is_alone-clause-wanting : goal.returns-then-is_alone-clause-wanting
 returns-then-is_alone-clause-wanting g c =
-    IfErr-weaker c.ended_alone.result _ _ (λ fault is. subst (IsWantingWorkers (is_alone c.args.crew.now.progress)) (sym is) tt) c.ended_alone.ensures.memory
+    IfErr-weaker c.ended_alone.result _ _ (λ fault is. subst (IsWantingWorkers (is_alone_in c.args.crew.now.progress)) (sym is) tt) c.ended_alone.ensures.memory
 
 pub returns-then-is_alone-clause-unsent : goal.returns-then-is_alone-clause-unsent
 returns-then-is_alone-clause-unsent g c = IfErr-weaker c.ended_alone.result _ _ (λ fault is. subst IsUnsent (sym is) tt) c.ended_alone.ensures.memory

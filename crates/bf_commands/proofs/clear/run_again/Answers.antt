@@ -1,6 +1,6 @@
 use Rattle.bf_clear.specs.Keeping.{kept_in}
 use Rattle.bf_process.specs.Words.{launching_of}
-use Rattle.bf_commands.specs.OverTable.{is_alone}
+use Rattle.bf_commands.specs.OverTable.{is_alone_in}
 use Rattle.bf_planning.specs.Clocks.{clocks_in}
 use Rattle.bf_commands.specs.Programs.{with_clocks}
 use Rattle.bf_commands.proofs.ClearFaults.{again_stop_in, uncleared_again}
@@ -16,7 +16,7 @@ write_backfill-requires-sync-K g c κs = search shared depth 40 fits 20000
 pub returns-in_err-clearing-clause-fault : goal.returns-in_err-clearing-clause-fault
 returns-in_err-clearing-clause-fault g c =
     handed_on _ _ c.from_residual.ensures.1 (uncleared_again c.args.prepared.dated.plan.dag c.args.prepared.dated.runs c.args.report c.args.what
-    (is_alone c.args.crew.now.progress) (with_clocks (launching_of c.args.crew.now.launching) (clocks_in c.args.prepared.dated)) (g.RT.Starter.may_lose c.args.crew.now.rt.now)
+    (is_alone_in c.args.crew.now.progress) (with_clocks (launching_of c.args.crew.now.launching) (clocks_in c.args.prepared.dated)) (g.RT.Starter.may_lose c.args.crew.now.rt.now)
     c.args.prepared.answers _ c.in_err-clearing.ensures.fault)
 
 pub returns-clause-ok : goal.returns-clause-ok
@@ -32,6 +32,6 @@ returns-clause-left g c =
 pub returns-clause-fault : goal.returns-clause-fault
 returns-clause-fault g c =
     let stop : _ = rw (c.at-crew.ensures.machine, c.at-crew.ensures.progress, c.at-crew.ensures.launching, c.deref.ensures.value) at c.write_backfill.ensures.stop in
-    again_stop_in (is_alone c.args.crew.now.progress) (with_clocks (launching_of c.args.crew.now.launching) (clocks_in c.args.prepared.dated)) (g.RT.Starter.may_lose c.args.crew.now.rt.now)
+    again_stop_in (is_alone_in c.args.crew.now.progress) (with_clocks (launching_of c.args.crew.now.launching) (clocks_in c.args.prepared.dated)) (g.RT.Starter.may_lose c.args.crew.now.rt.now)
     c.args.prepared.dated.plan.dag c.args.prepared.dated.runs c.args.report c.args.what (kept_in c.in_ok-clearing.clearing.kept)
     c.in_ok-clearing.ensures.cleared.kept_is c.args.prepared.answers _ stop

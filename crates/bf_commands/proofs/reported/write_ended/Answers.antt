@@ -13,14 +13,14 @@ use Rattle.bf_report.specs.declared.report.Report.{Report}
 use Rattle.bf_interval.specs.Runs.{AreOfRuns}
 use Rattle.bf_report_reader.proofs.Written.{written_reports_are_shown}
 use Rattle.bf_command_fault.proofs.Leaving.{write_leaves}
-use Rattle.bf_commands.specs.Reported.{IsReportOf, is_success}
+use Rattle.bf_commands.specs.Reported.{IsReportOf, is_success_in}
 use Rattle.bf_planning.proofs.Faults.{write_wanting}
 use Rattle.bf_planning.proofs.Results.{handed_on}
 use Rattle.bf_commands.proofs.reported.write_ended.Goals as goal
 
 -- the report of a backfill that has ended keeps the rules by which reports are read
 kept : {intervals : List Interval} {ending : Ending} {report : Report} → IsSound ending.dag → IsNamed ending.dag → AreOfRuns intervals → length intervals ≡ ending.runs → IsEnd ending
-    → IsDated ending.dag intervals (entry_in ending.state.ledger) report → HasSoundValues report → (success : Bool) → success ≡ list_all (λ run. is_success run.state) report.runs
+    → IsDated ending.dag intervals (entry_in ending.state.ledger) report → HasSoundValues report → (success : Bool) → success ≡ list_all (λ run. is_success_in run.state) report.runs
     → IsReportOf ending.dag intervals (entry_in ending.state.ledger) (report_text report) success
 kept {intervals = intervals} {ending = ending} {report = report} sound named are many end dated values success succeeded =
     let by : IsJournal ending.dag ending.limits (length intervals) ending.journal ending.state = rw many end.journal in
@@ -39,6 +39,6 @@ returns-in_err-write_report-clause-left g c =
 
 pub returns-clause-ok : goal.returns-clause-ok
 returns-clause-ok g c =
-    let succeeded = c.all_succeeded.ensures ∙ ap (list_all (λ run. is_success run.state)) c.as_slice.ensures in
+    let succeeded = c.all_succeeded.ensures ∙ ap (list_all (λ run. is_success_in run.state)) c.as_slice.ensures in
     let is = kept (subst IsSound c.plan.ensures.dag c.dag-named.ensures.sound) (subst IsNamed c.plan.ensures.dag c.dag-named.ensures.named) c.intervals-of_runs.ensures.of_runs c.requires c.state-ended.ensures.end c.in_ok-report.ensures.dated c.in_ok-report.ensures.sound _ succeeded in
     (report_text c.in_ok-report.report, is, c.in_ok-write_report.ensures.ok)

@@ -1,6 +1,6 @@
 use Rattle.std.proofs.Common.{◌≡◌}
-use Rattle.bf_core.specs.Events.{undecided_cells}
+use Rattle.bf_core.specs.Events.{undecided_cells_of}
 use Rattle.bf_core.proofs.state.undecided_cells.Given as goal
 
 abbrev pub invariant-loop-made : goal.invariant-loop-made
-invariant-loop-made l = l.cells.items ≡ undecided_cells l._made
+invariant-loop-made l = l.cells.items ≡ undecided_cells_of l._made

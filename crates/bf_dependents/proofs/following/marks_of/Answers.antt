@@ -1,5 +1,5 @@
 use Rattle.std.proofs.Common.{ap, ◌∙◌, sym, subst, arith}
-use Rattle.bf_dependents.specs.Marks.{follows, AreMarksFor}
+use Rattle.bf_dependents.specs.Marks.{follows_in, AreMarksFor}
 use Rattle.bf_dependents.proofs.RightMarks.{marks-more, marks-end}
 use Rattle.bf_dependents.proofs.following.marks_of.Goals as goal
 
@@ -7,7 +7,7 @@ pub loop-task-preserved : goal.loop-task-preserved
 loop-task-preserved c =
     marks-more c.args.dag.now c.args.order.now c.requires.by_rank c.requires.behind c.args.seeded.now c.args.before.now
     c.loop-task.task-index c.loop-task-test.true c.loop-task.marks.items c.loop-task.invariant c.follows-mark.result
-    (c.follows-mark.ensures ∙ ap (follows c.args.dag.now _ c.args.seeded.now c.args.before.now) c.as_slice.ensures.value)
+    (c.follows-mark.ensures ∙ ap (follows_in c.args.dag.now _ c.args.seeded.now c.args.before.now) c.as_slice.ensures.value)
 
 pub returns : goal.returns
 returns c =

@@ -4,7 +4,7 @@ use Rattle.bf_graph.specs.Reach.{row_at}
 use Rattle.bf_graph.specs.Shape.{Shape}
 use Rattle.bf_plan.specs.declared.plan.Dag.{Dag}
 use Rattle.bf_plan.specs.Plans.{shape_of}
-use Rattle.bf_dependents.specs.Marks.{marks_before, AreSeeded, AreTouched}
+use Rattle.bf_dependents.specs.Marks.{marks_before_in, AreSeeded, AreTouched}
 use Rattle.bf_dependents.proofs.RightMarks.{behind-read, made-read, one-row-more}
 use Rattle.bf_dependents.proofs.following.touched_in.Goals as goal
 
@@ -19,7 +19,7 @@ loop-run-preserved c =
     let seeded = subst (λ (n : ℕ). AreSeeded c.args.seeds.now c.args.runs n c.in_ok-seeded.seeded.items) tasks c.in_ok-seeded.ensures in
     let there : c.loop-run.run < length c.in_ok-seeded.seeded.items = let low = c.loop-run-test.true in let len = c.in_ok-seeded.ensures.len in omega (arith, low, len) in
     let row : c.as_slice-seeded.result.now ≡ row_at c.in_ok-seeded.seeded.items c.loop-run.run = c.as_slice-seeded.ensures ∙ (c.index.ensures ∙ get_or_default _ _ _ [] there) in
-    let past : c.marks_before-before.result.now ≡ marks_before c.loop-run.rows.items c.loop-run.run = c.marks_before-before.ensures ∙ ap (λ rows. marks_before rows c.loop-run.run) c.as_slice.ensures.value in
+    let past : c.marks_before-before.result.now ≡ marks_before_in c.loop-run.rows.items c.loop-run.run = c.marks_before-before.ensures ∙ ap (λ rows. marks_before_in rows c.loop-run.run) c.as_slice.ensures.value in
     subst (AreTouched plan c.args.seeds.now _) (sym c.in_ok-push.ensures.items)
     (one-row-more plan c.args.seeds.now c.args.runs c.loop-run.run c.in_ok-seeded.seeded.items c.loop-run.rows.items c.in_ok-marks.marks seeded c.loop-run-test.true c.loop-run.invariant
     (made-read _ plan _ _ _ _ c.in_ok-marks.marks c.dag-in-loop-run.ensures.dag row past c.in_ok-marks.ensures))

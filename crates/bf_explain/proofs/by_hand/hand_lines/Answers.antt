@@ -4,7 +4,7 @@ use Rattle.std.proofs.lemmas.Int.{to_z-of_z}
 use Rattle.std.proofs.lemmas.Result.{IfOk-weaker}
 use Rattle.bf_core.specs.Terms.{task_of}
 use Rattle.bf_report.specs.declared.report.InstanceReport.{InstanceReport}
-use Rattle.bf_explain.specs.ByHand.{AreHandLines, IsHandLine, tells_words}
+use Rattle.bf_explain.specs.ByHand.{AreHandLines, IsHandLine, tells_words_in}
 use Rattle.bf_explain.proofs.HandFacts.{line_if}
 use Rattle.bf_explain.proofs.by_hand.hand_lines.Goals as goal
 
@@ -12,7 +12,7 @@ pub returns : goal.returns
 returns c =
     let dag = c.args.plan.now.dag in let interval = c.args.report.now.interval in
     let instance = c.in-Some.instance.now in
-    let told : tells_words c.args.version instance (task_of dag c.args.task).command ≡ true = sym c.is_told.ensures ∙ c.if-not-is_told.false in
+    let told : tells_words_in c.args.version instance (task_of dag c.args.task).command ≡ true = sym c.is_told.ensures ∙ c.if-not-is_told.false in
     let fits : SFits w32 c.args.index = search rules in
     let line : IsHandLine dag interval c.args.run c.args.task c.args.index instance c.in_ok-hand_line.field-0 =
     subst (λ (n : ℤ). IsHandLine dag interval c.args.run c.args.task n instance c.in_ok-hand_line.field-0) (to_z-of_z w32 c.args.index fits) c.in_ok-hand_line.ensures in

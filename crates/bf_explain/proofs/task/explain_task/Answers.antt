@@ -2,7 +2,7 @@ use Rattle.std.proofs.Common.{◌≡◌, ap, sym, ◌∙◌, subst}
 use Rattle.std.specs.Prelude.{slice_index_or}
 use Rattle.std.proofs.lemmas.Result.{IfOk-weaker}
 use Rattle.bf_report.specs.declared.report.TaskReport.{TaskReport}
-use Rattle.bf_explain.specs.Sections.{lines_text}
+use Rattle.bf_explain.specs.Sections.{lines_text_of}
 use Rattle.bf_explain.specs.Tasks.{AreTaskLines}
 use Rattle.bf_explain.proofs.TaskFacts.{told_there}
 use Rattle.bf_explain.proofs.task.explain_task.Goals as goal
@@ -17,5 +17,5 @@ returns c =
       c.in_ok-lines.lines.items,
       subst (λ (t : TaskReport). AreTaskLines c.args.paths.now c.args.plan.now.dag c.args.report.now c.args.run c.args.told_run.now c.args.task t c.args.index c.in_ok-lines.lines.items)
           (sym (told_there tasks c.args.task wanted told there read)) c.in_ok-lines.ensures,
-      is ∙ ap lines_text c.as_slice-2.ensures.value,
+      is ∙ ap lines_text_of c.as_slice-2.ensures.value,
     )) c.lines_text.ensures

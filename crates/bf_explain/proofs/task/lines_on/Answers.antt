@@ -4,9 +4,9 @@ use Rattle.std.proofs.lemmas.Int.{to_z-of_z}
 use Rattle.bf_report.specs.declared.report.InstanceReport.{InstanceReport}
 use Rattle.bf_roots.specs.declared.step.Root.{Root}
 use Rattle.bf_why.specs.Decided.{id_of}
-use Rattle.bf_explain.specs.ByHand.{AreHandLines, index_of}
-use Rattle.bf_explain.specs.Clearing.{AreClearSections, places_to_clear}
-use Rattle.bf_explain.specs.Headings.{heading, instance_of, place_of}
+use Rattle.bf_explain.specs.ByHand.{AreHandLines, index_in}
+use Rattle.bf_explain.specs.Clearing.{AreClearSections, places_to_clear_in}
+use Rattle.bf_explain.specs.Headings.{heading_of_state, instance_in, place_in}
 use Rattle.bf_explain.specs.Sections.{section}
 use Rattle.bf_explain.specs.Tasks.{beside_sections, own_sections, why_section}
 use Rattle.bf_explain.proofs.task.lines_on.Goals as goal
@@ -19,8 +19,8 @@ returns c =
     let roots = c.in_ok-roots.roots.items in
     let slice = c.as_slice-roots.ensures.value in
     let place = c.place_of-place.ensures in
-    let instance = c.instance_of-instance.ensures ∙ ap₂ instance_of c.told.ensures place in
-    let at = c.index_of-at.ensures ∙ ap (λ t. index_of t c.args.index) c.told-2.ensures in
+    let instance = c.instance_of-instance.ensures ∙ ap₂ instance_in c.told.ensures place in
+    let at = c.index_of-at.ensures ∙ ap (λ t. index_in t c.args.index) c.told-2.ensures in
     let fits : SFits w32 c.index_of-at.result = search rules in
     let told_hand = subst (λ (n : ℤ). AreHandLines dag told_run.interval report.version run task n (option_copied c.instance_of-instance.result) hand) (to_z-of_z w32 c.index_of-at.result fits) c.in_ok-hand.ensures in
     record {
@@ -28,16 +28,16 @@ returns c =
       hand = hand;
       clear = clear;
       are_roots = c.in_ok-roots.ensures;
-      is_hand = subst (λ (n : ℤ). AreHandLines dag told_run.interval report.version run task n (instance_of told (place_of c.args.index)) hand) at
+      is_hand = subst (λ (n : ℤ). AreHandLines dag told_run.interval report.version run task n (instance_in told (place_in c.args.index)) hand) at
           (subst (λ (i : Option InstanceReport). AreHandLines dag told_run.interval report.version run task c.index_of-at.result i hand) instance told_hand);
-      is_clear = subst (λ (rs : List Root). AreClearSections c.args.paths.now dag report run task (places_to_clear run task rs) clear) slice c.in_ok-clear.ensures;
+      is_clear = subst (λ (rs : List Root). AreClearSections c.args.paths.now dag report run task (places_to_clear_in run task rs) clear) slice c.in_ok-clear.ensures;
       lines_are =
           c.in_ok-add_all.ensures
           ∙ ap (λ (ls : List (List ℕ)). ls ++ clear) (c.in_ok-add_beside.ensures
           ∙ ap (λ (ls : List (List ℕ)). ls ++ beside_sections dag c.args.settled.now task) (c.in_ok-add_section.ensures
           ∙ ap (λ (ls : List (List ℕ)). ls ++ section (codes "by hand") c.as_slice.result.now) (c.in_ok-add_own.ensures
           ∙ ap (λ (ls : List (List ℕ)). ls ++ own_sections told c.place_of-place.result) c.in_ok-lines.ensures)))
-          ∙ (λ i. ((((heading (id_of dag task) told_run.interval.start.nanosecond told (place i) ∷ []
+          ∙ (λ i. ((((heading_of_state (id_of dag task) told_run.interval.start.nanosecond told (place i) ∷ []
           ++ why_section dag report run told_run task told (place i) (slice i))
           ++ own_sections told (place i))
           ++ section (codes "by hand") (c.as_slice.ensures.value i))

@@ -1,7 +1,7 @@
 use Rattle.std.proofs.Common.{◌≡◌, map, take}
-use Rattle.bf_grid.specs.FailedTasks.{failing}
+use Rattle.bf_grid.specs.FailedTasks.{failing_of}
 use Rattle.bf_grid.specs.FoundTasks.{pair_of}
 use Rattle.bf_grid.proofs.failed_tasks.failing_among.Given as goal
 
 abbrev pub invariant-loop-task : goal.invariant-loop-task
-invariant-loop-task l = map pair_of l.found.items ≡ failing (map (λ run. run.now) l.runs) (take l.task-index l.tasks)
+invariant-loop-task l = map pair_of l.found.items ≡ failing_of (map (λ run. run.now) l.runs) (take l.task-index l.tasks)

@@ -1,7 +1,7 @@
 use Rattle.std.proofs.Common.{◌≡◌, ℕ, List, ◌++◌, OnOk, Bor, length, map, sym, ap, ap₂, ◌∙◌, subst, append_assoc}
 use Rattle.std.proofs.lemmas.List.{length-map}
 use Rattle.bf_report.specs.declared.report.RunReport.{RunReport}
-use Rattle.bf_grid.specs.Selection.{shown_runs, shown_tasks}
+use Rattle.bf_grid.specs.Selection.{shown_runs_of, shown_tasks_of}
 use Rattle.bf_marks.specs.RowOrder.{order_of}
 use Rattle.bf_grid.specs.Grid.{body_text, table_if}
 use Rattle.bf_grid.specs.Summary.{left_out_line}
@@ -13,13 +13,13 @@ returns c =
     let view = c.args.view.now in
     let dag = c.args.dag.now in
     let all : List RunReport = c.args.all.now in
-    let runs : List RunReport = shown_runs view all in
-    let tasks : List ℕ = shown_tasks view runs (order_of dag) in
+    let runs : List RunReport = shown_runs_of view all in
+    let tasks : List ℕ = shown_tasks_of view runs (order_of dag) in
     let read : List (Bor RunReport) → List RunReport = λ rs. map (λ run. run.now) rs in
     let runs_are : read c.as_slice-3.result.now ≡ runs = ap read c.as_slice-3.ensures.value ∙ c.in_ok-runs.ensures in
     let read_before : read c.as_slice.result.now ≡ runs = ap read c.as_slice.ensures.value ∙ c.in_ok-runs.ensures in
     let order = c.as_slice-2.ensures.value ∙ c.in_ok-order.ensures in
-    let found : c.in_ok-tasks.tasks.items ≡ tasks = c.in_ok-tasks.ensures ∙ ap₂ (shown_tasks view) read_before order in
+    let found : c.in_ok-tasks.tasks.items ≡ tasks = c.in_ok-tasks.ensures ∙ ap₂ (shown_tasks_of view) read_before order in
     let tasks_are : c.as_slice-4.result.now ≡ tasks = c.as_slice-4.ensures.value ∙ found in
     let how_many_runs : c.len.result ≡ length runs =
     c.len.ensures ∙ c.in_ok-runs.runs.ok.0 ∙ sym (length-map c.in_ok-runs.runs.items (λ (run : Bor RunReport). run.now)) ∙ ap length c.in_ok-runs.ensures in

@@ -3,7 +3,7 @@ use Rattle.std.proofs.lemmas.Result.{IfOk-weaker}
 use Rattle.bf_value.specs.declared.xval.Xval.{Xval}
 use Rattle.bf_value.specs.declared.xval.Xval.TheVariants.{List as ListOf}
 use Rattle.bf_value.specs.Views.{list_of}
-use Rattle.bf_journal.specs.Records.{optional}
+use Rattle.bf_journal.specs.Records.{optional_of}
 use Rattle.bf_journal.specs.Tells.{IsFound}
 use Rattle.bf_journal.proofs.Optionals.{found_alike, same_items}
 use Rattle.bf_journal.proofs.field.optionals_in.Goals as goal
@@ -12,9 +12,9 @@ pub returns : goal.returns
 returns c =
     let items = c.as_slice.result.now in
     let is : c.args.value.now ≡ list_of items = c.in-List.is ∙ ap ListOf (sym c.as_slice.ensures.plain) in
-    let P : List (Option Xval) → Type 0 = λ all. items ≡ map optional all in
-    let Q : List (Option Xval) → Type 0 = λ all. c.args.value.now ≡ list_of (map optional all) in
+    let P : List (Option Xval) → Type 0 = λ all. items ≡ map optional_of all in
+    let Q : List (Option Xval) → Type 0 = λ all. c.args.value.now ≡ list_of (map optional_of all) in
     let there : (all : List (Option Xval)) → P all → Q all = λ all same. is ∙ ap list_of same in
-    let back : (all : List (Option Xval)) → Q all → P all = λ all same. same_items items (map optional all) (sym is ∙ same) in
+    let back : (all : List (Option Xval)) → Q all → P all = λ all same. same_items items (map optional_of all) (sym is ∙ same) in
     let found : Option (Vec (Option Xval) Global) → Option (List (Option Xval)) = option_map (λ v. v.items) in
     IfOk-weaker c.all_optional_in.result (λ o. IsFound P (found o)) (λ o. IsFound Q (found o)) (λ o. found_alike P Q there back (found o)) c.all_optional_in.ensures

@@ -4,7 +4,7 @@ use Rattle.std.specs.declared.alloc.Global.{Global}
 use Rattle.std.proofs.lemmas.Result.{IfOk-weaker}
 use Rattle.bf_value.specs.declared.name.JobName.{JobName}
 use Rattle.bf_interval.specs.declared.interval.Interval.{Interval}
-use Rattle.bf_journal.specs.Records.{IsLineOf, IsName, IsRecord, record_of}
+use Rattle.bf_journal.specs.Records.{IsLineOf, IsName, IsRecord, record_at}
 use Rattle.bf_journal.proofs.Optionals.{some_weaker}
 use Rattle.bf_journal.proofs.record.record_of.Goals as goal
 
@@ -20,7 +20,7 @@ returns-in-Some-clause-some c =
     let is_task : done.name.task < length dag.tasks = search rules in
     let own : IsName c.name-name.result = (search rules, search rules) in
     let is_name : IsName done.name = subst IsName name own in
-    let P : String Global → Type 0 = λ line. IsLineOf (record_of dag run done c.args.outcome.now c.args.stamp) (string_bytes line) in
+    let P : String Global → Type 0 = λ line. IsLineOf (record_at dag run done c.args.outcome.now c.args.stamp) (string_bytes line) in
     let Q : String Global → Type 0 = λ line. IsRecord dag runs done c.args.outcome.now c.args.stamp (string_bytes line) in
     let there : (line : String Global) → P line → Q line =
     λ line told. record { run = run; is_run = is_run; is_task = is_task; is_name = is_name; told = told } in

@@ -2,7 +2,7 @@ use Rattle.std.proofs.Common.{◌≡◌, ℕ, List, ◌+◌, ◌-◌, ◌==◌, 
 use Rattle.std.proofs.lemmas.List.{take_all, length-drop}
 use Rattle.bf_moment.specs.Moment.{moment_text}
 use Rattle.bf_moment.specs.declared.moment.Moment.{Moment}
-use Rattle.bf_marks.specs.Labels.{counted, fitted, group_label, group_of, groups_of, groups_text, left, same_first}
+use Rattle.bf_marks.specs.Labels.{counted, fitted_of, group_label, group_of, groups_of, groups_text, left, same_first}
 use Rattle.bf_marks.proofs.LabelFacts.{moments, group_more, dropped_groups, length_groups}
 use Rattle.bf_marks.proofs.label.push_groups.Goals as goal
 
@@ -32,9 +32,9 @@ loop-first-preserved c =
     let size : length (take (length further - same) (drop same further)) ≡ length (drop same gs) = sym (length_groups scale (take (length further - same) (drop same further))) ∙ ap length left_groups in
     let has : room ≡ (if length (drop same gs) == 0 then max (same + 1) 99 else same + 1) = c.room_of.ensures ∙ ap (λ n. if n == 0 then max (same + 1) 99 else same + 1) size in
     let so_far : before ++ groups_text scale (counted (groups_of scale (moments c.loop-first.rest.now))) ≡ c.args.text.now.items ++ groups_text scale (counted (groups_of scale (moments c.args.starts.now))) = c.loop-first.invariant in
-    ap (λ t. t ++ groups_text scale (counted (groups_of scale (moments (take (length further - same) (drop same further)))))) (c.in_ok-push_group.ensures ∙ ap (λ k. before ++ left (same + 1) (fitted room (group_label scale k))) cut)
-    ∙ append_assoc before (left (same + 1) (fitted room (group_label scale g))) (groups_text scale (counted (groups_of scale (moments (take (length further - same) (drop same further))))))
-    ∙ ap (λ ys. before ++ (left (same + 1) (fitted room (group_label scale g)) ++ groups_text scale (counted ys))) left_groups
+    ap (λ t. t ++ groups_text scale (counted (groups_of scale (moments (take (length further - same) (drop same further)))))) (c.in_ok-push_group.ensures ∙ ap (λ k. before ++ left (same + 1) (fitted_of room (group_label scale k))) cut)
+    ∙ append_assoc before (left (same + 1) (fitted_of room (group_label scale g))) (groups_text scale (counted (groups_of scale (moments (take (length further - same) (drop same further))))))
+    ∙ ap (λ ys. before ++ (left (same + 1) (fitted_of room (group_label scale g)) ++ groups_text scale (counted ys))) left_groups
     ∙ ap (λ s. before ++ s) (sym (group_more scale g gs same room count has))
     ∙ ap (λ ms. before ++ groups_text scale (counted (groups_of scale (moments ms)))) (sym was)
     ∙ so_far

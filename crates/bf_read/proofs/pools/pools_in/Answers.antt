@@ -6,14 +6,14 @@ use Rattle.serde_json.specs.declared.value.Value.{Value}
 use Rattle.bf_read.specs.declared.draft.PoolDraft.{PoolDraft}
 use Rattle.bf_read.specs.Drafts.{IsPool}
 use Rattle.bf_read.specs.Gives.{◌>>=◌, Fails}
-use Rattle.bf_read.specs.Fields.{each_member, pool_at}
+use Rattle.bf_read.specs.Fields.{each_member, pool_in}
 use Rattle.bf_read.proofs.FieldLemmas.{after, member_read, all_members_read, fails_on}
 use Rattle.bf_read.proofs.PoolLemmas.{one_named, stand_by_name}
 use Rattle.bf_read.proofs.pools.pools_in.Goals as goal
 
 pub returns-in_err-pool_at-clause-exact : goal.returns-in_err-pool_at-clause-exact
 returns-in_err-pool_at-clause-exact c =
-    let pool = pool_at c.args.path in
+    let pool = pool_in c.args.path in
     let so_far = c.loop-name.pools.items in
     let entry : String Global × Value = (c.in-Some.name.now, c.in-Some.value.now) in
     let left = c.next.new.self in
@@ -24,7 +24,7 @@ returns-in_err-pool_at-clause-exact c =
 
 pub loop-name-preserved : goal.loop-name-preserved
 loop-name-preserved c =
-    let pool = pool_at c.args.path in
+    let pool = pool_in c.args.path in
     let so_far = c.loop-name.pools.items in
     let entry : String Global × Value = (c.in-Some.name.now, c.in-Some.value.now) in
     let left = c.next.new.self in
@@ -40,7 +40,7 @@ loop-name-preserved c =
 
 pub returns-clause-exact : goal.returns-clause-exact
 returns-clause-exact c =
-    let pool = pool_at c.args.path in
+    let pool = pool_in c.args.path in
     let so_far = c.loop-name.pools.items in
     sym c.loop-name.invariant.read ∙ ap (λ (es : List (String Global × Value)). after so_far (each_member pool (members_view es))) c.in-None.ensures.steps.0 ∙ all_members_read pool so_far
 

@@ -1,8 +1,8 @@
 use Rattle.std.proofs.Common.{◌≡◌, ◌≤◌, ◌+◌, ℕ, List, ◌∷◌, [], true, false, length, ap, ap₂, sym, ◌∙◌, subst, arith}
 use Rattle.std.proofs.lemmas.List.{length_push, nil_from_length}
 use Rattle.bf_report.specs.declared.report.TaskReport.{TaskReport}
-use Rattle.bf_reason.specs.Runs.{tasks_at, tasks_before}
-use Rattle.bf_roots.specs.Walks.{is_seen, nothing_seen}
+use Rattle.bf_reason.specs.Runs.{tasks_in, tasks_before}
+use Rattle.bf_roots.specs.Walks.{is_seen_in, nothing_seen}
 use Rattle.bf_roots.proofs.SeenFacts.{one_less, unseen_in}
 use Rattle.bf_roots.proofs.WalkFacts.{begun, ended, few_at, looked, passed}
 use Rattle.bf_roots.proofs.walk.roots_of.Goals as goal
@@ -21,8 +21,8 @@ walk-init c =
 
 pub walk-preserved-then-is_seen : goal.walk-preserved-then-is_seen
 walk-preserved-then-is_seen c =
-    let there : is_seen c.walk.trail.seen.items c.in-Some.step.run c.in-Some.step.task ≡ true =
-    ap (λ seen. is_seen seen c.in-Some.step.run c.in-Some.step.task) (sym c.as_slice.ensures.value) ∙ (sym c.is_seen.ensures ∙ c.if-is_seen.true) in
+    let there : is_seen_in c.walk.trail.seen.items c.in-Some.step.run c.in-Some.step.task ≡ true =
+    ap (λ seen. is_seen_in seen c.in-Some.step.run c.in-Some.step.task) (sym c.as_slice.ensures.value) ∙ (sym c.is_seen.ensures ∙ c.if-is_seen.true) in
     record {
       goes = passed c.args.plan.now.dag c.args.report.now c.args.run c.args.task c.walk.trail.seen.items c.walk.trail.left.items c.pop.new.self.items c.walk.trail.found.items c.in-Some.step
           c.in-Some.ensures.items there c.walk.invariant.goes;
@@ -38,7 +38,7 @@ pub walk-smaller : goal.walk-smaller
 walk-smaller c =
     let seen = c.walk.trail.seen.items in
     let step = c.in-Some.step in
-    let unseen : is_seen seen step.run step.task ≡ false = ap (λ rows. is_seen rows step.run step.task) (sym c.as_slice.ensures.value) ∙ (sym c.is_seen.ensures ∙ c.if-is_seen.false) in
+    let unseen : is_seen_in seen step.run step.task ≡ false = ap (λ rows. is_seen_in rows step.run step.task) (sym c.as_slice.ensures.value) ∙ (sym c.is_seen.ensures ∙ c.if-is_seen.false) in
     let looks = c.in_ok-look.ensures in
     let left : length c.walk.trail.left.items ≡ length c.pop.new.self.items + 1 = ap length c.in-Some.ensures.items ∙ length_push c.pop.new.self.items step in
     omega (arith, ap unseen_in looks.seen, one_less seen step.run step.task unseen, looks.few, left)
@@ -47,7 +47,7 @@ pub walk-preserved : goal.walk-preserved
 walk-preserved c =
     let seen = c.walk.trail.seen.items in
     let step = c.in-Some.step in
-    let unseen : is_seen seen step.run step.task ≡ false = ap (λ rows. is_seen rows step.run step.task) (sym c.as_slice.ensures.value) ∙ (sym c.is_seen.ensures ∙ c.if-is_seen.false) in
+    let unseen : is_seen_in seen step.run step.task ≡ false = ap (λ rows. is_seen_in rows step.run step.task) (sym c.as_slice.ensures.value) ∙ (sym c.is_seen.ensures ∙ c.if-is_seen.false) in
     let looks = c.in_ok-look.ensures in
     let window = c.in_ok-window-2.window in
     let shows = c.in_ok-window-2.ensures.shows in
@@ -55,7 +55,7 @@ walk-preserved c =
     record {
       goes = looked c.args.plan.now.dag report c.args.run c.args.task seen c.look.new.self.seen.items c.walk.trail.left.items c.pop.new.self.items c.look.new.self.left.items
           c.walk.trail.found.items c.look.new.self.found.items step window.settled.items window.before.items c.in-Some.ensures.items unseen
-          (shows.tasks ∙ ap (tasks_at report) c.in_ok-window-2.ensures.run) (shows.before ∙ ap (tasks_before report) c.in_ok-window-2.ensures.run)
+          (shows.tasks ∙ ap (tasks_in report) c.in_ok-window-2.ensures.run) (shows.before ∙ ap (tasks_before report) c.in_ok-window-2.ensures.run)
           looks.seen looks.left looks.found c.walk.invariant.goes;
       shows = shows;
     }

@@ -1,5 +1,5 @@
 use Rattle.std.proofs.Common.{None, option_map, refl, sym, ap, ◌∙◌}
-use Rattle.bf_rule.specs.Branches.{followed as followed_at}
+use Rattle.bf_rule.specs.Branches.{followed_at}
 use Rattle.bf_rule.proofs.Following.{nothing-followed}
 use Rattle.bf_rule.proofs.branching.followed.Goals as goal
 

@@ -1,7 +1,7 @@
 use Rattle.std.proofs.Common.{Some, sym, ap, ◌∙◌}
 use Rattle.std.specs.List.{list_any}
 use Rattle.bf_value.specs.declared.xval.Xval.{Xval}
-use Rattle.bf_rule.specs.Branches.{followed as followed_at, followed_by_name, name_in}
+use Rattle.bf_rule.specs.Branches.{followed_at, followed_by_name, name_in}
 use Rattle.bf_rule.proofs.Following.{list-follows, no-text-follows-nothing}
 use Rattle.bf_rule.proofs.branching.follows.Goals as goal
 

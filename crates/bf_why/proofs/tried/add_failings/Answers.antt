@@ -1,6 +1,6 @@
 use Rattle.std.proofs.Common.{ℕ, Bool, if◌then◌else◌, List, [], ◌∷◌, ◌++◌, codes, ap, ◌∙◌, append_assoc}
-use Rattle.bf_core.specs.Terms.{is_branch, task_of}
-use Rattle.bf_try.specs.Grades.{gives_items}
+use Rattle.bf_core.specs.Terms.{is_branch_in, task_of}
+use Rattle.bf_try.specs.Grades.{gives_items_in}
 use Rattle.bf_why.proofs.tried.add_failings.Goals as goal
 
 pub returns : goal.returns
@@ -13,5 +13,5 @@ returns c =
     c.in_ok-add.ensures
     ∙ ap (λ ls. ls ++ not_told ∷ []) (c.in_ok-add_if-2.ensures ∙ ap (λ ls. ls ++ line c.gives_items.result source) c.in_ok-add_if.ensures)
     ∙ (λ i. ((lines ++ line (c.is_branch.ensures i) branch) ++ line (c.gives_items.ensures i) source) ++ not_told ∷ [])
-    ∙ append_assoc (lines ++ line (is_branch (task_of c.args.dag.now c.args.task)) branch) (line (gives_items c.args.dag.now c.args.task) source) (not_told ∷ [])
-    ∙ append_assoc lines (line (is_branch (task_of c.args.dag.now c.args.task)) branch) (line (gives_items c.args.dag.now c.args.task) source ++ not_told ∷ [])
+    ∙ append_assoc (lines ++ line (is_branch_in (task_of c.args.dag.now c.args.task)) branch) (line (gives_items_in c.args.dag.now c.args.task) source) (not_told ∷ [])
+    ∙ append_assoc lines (line (is_branch_in (task_of c.args.dag.now c.args.task)) branch) (line (gives_items_in c.args.dag.now c.args.task) source ++ not_told ∷ [])

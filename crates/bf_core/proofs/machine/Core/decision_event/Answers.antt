@@ -2,7 +2,7 @@ use Rattle.std.proofs.Common.{◌≡◌, true, false, refl, sym, ap, ◌∙◌}
 use Rattle.bf_core.specs.Terms.{Dag, State}
 use Rattle.bf_core.specs.Cores.{deciding}
 use Rattle.bf_core.specs.Deciding.{after_verdict}
-use Rattle.bf_core.specs.Events.{decision_in, goes_on, seen_in, cell_at}
+use Rattle.bf_core.specs.Events.{decision_in, goes_on_in, seen_in, cell_at}
 use Rattle.bf_core.proofs.Kept.{replay-rows}
 use Rattle.bf_core.proofs.Shape.{open-run}
 use Rattle.bf_core.proofs.Enabling.{decide-able, decision-by, goes_on-by, untimed}
@@ -33,19 +33,19 @@ returns-clause-may_come c =
     let dag : Dag = c.self.inside.plan.now.dag in
     let s : State = c.self.inside.state in
     let now : _ = rw c.dag-dag.ensures.dag at (c.is_undecided.ensures.0 c.if-not-is_undecided.false) in
-    let on : c.goes_on.result ≡ goes_on dag s c.args.run c.args.task = goes_on-by dag c.dag-dag.result.now s c.args.run c.args.task c.gate-verdict.result c.goes_on.result c.dag-dag.ensures.dag c.gate-verdict.ensures c.goes_on.ensures in
+    let on : c.goes_on.result ≡ goes_on_in dag s c.args.run c.args.task = goes_on-by dag c.dag-dag.result.now s c.args.run c.args.task c.gate-verdict.result c.goes_on.result c.dag-dag.ensures.dag c.gate-verdict.ensures c.goes_on.ensures in
     let is : after_verdict c.dag-dag.result.now (λ u. seen_in (cell_at s c.args.run u)) c.args.task c.gate-verdict.result ≡ decision_in dag s c.args.run c.args.task =
     decision-by dag c.dag-dag.result.now s c.args.run c.args.task c.gate-verdict.result _ c.dag-dag.ensures.dag c.gate-verdict.ensures refl in
-    let named : c.deciding.result ≡ deciding (goes_on dag s c.args.run c.args.task) c.args.run c.args.task = c.deciding.ensures ∙ ap (λ g. deciding g c.args.run c.args.task) on in
+    let named : c.deciding.result ≡ deciding (goes_on_in dag s c.args.run c.args.task) c.args.run c.args.task = c.deciding.ensures ∙ ap (λ g. deciding g c.args.run c.args.task) on in
     rw (← c.self.view_is, named) (
-      decide-able dag c.self.inside.plan.now.limits s c.args.run c.args.task (goes_on dag s c.args.run c.args.task) _ now refl is
+      decide-able dag c.self.inside.plan.now.limits s c.args.run c.args.task (goes_on_in dag s c.args.run c.args.task) _ now refl is
           (λ e. let f : true ≡ false = sym (c.awaits.ensures.1 e) ∙ c.if-awaits.false in cc),
-      untimed c.self.inside.clock c.args.run c.args.task (goes_on dag s c.args.run c.args.task),
+      untimed c.self.inside.clock c.args.run c.args.task (goes_on_in dag s c.args.run c.args.task),
     )
 
 pub returns-clause-decides : goal.returns-clause-decides
 returns-clause-decides c =
     let dag : Dag = c.self.inside.plan.now.dag in
     let s : State = c.self.inside.state in
-    let on : c.goes_on.result ≡ goes_on dag s c.args.run c.args.task = goes_on-by dag c.dag-dag.result.now s c.args.run c.args.task c.gate-verdict.result c.goes_on.result c.dag-dag.ensures.dag c.gate-verdict.ensures c.goes_on.ensures in
+    let on : c.goes_on.result ≡ goes_on_in dag s c.args.run c.args.task = goes_on-by dag c.dag-dag.result.now s c.args.run c.args.task c.gate-verdict.result c.goes_on.result c.dag-dag.ensures.dag c.gate-verdict.ensures c.goes_on.ensures in
     rw (← c.self.view_is) (c.deciding.ensures ∙ ap (λ g. deciding g c.args.run c.args.task) on)

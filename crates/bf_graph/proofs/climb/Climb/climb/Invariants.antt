@@ -2,14 +2,14 @@ use Rattle.std.proofs.Common.{◌≡◌, ◌+◌, true}
 use Rattle.bf_graph.specs.Climbs.{IsClimbing, KeepsRanks}
 use Rattle.bf_graph.specs.Cycles.{unmarked_in}
 use Rattle.bf_graph.specs.Ranks.{unranked}
-use Rattle.bf_graph.specs.Reach.{is_marked}
+use Rattle.bf_graph.specs.Reach.{is_marked_in}
 use Rattle.bf_graph.proofs.climb.Climb.climb.Given as goal
 
 abbrev pub invariant-climb : goal.invariant-climb
 invariant-climb l = record {
   climbing : IsClimbing l.edges l.self;
   kept : KeepsRanks l.fn.self.found.ranks.items l.self.found.ranks.items;
-  started : is_marked l.self.seen.items l.start ≡ true;
+  started : is_marked_in l.self.seen.items l.start ≡ true;
 }
 
 abbrev pub decreases-climb : goal.decreases-climb

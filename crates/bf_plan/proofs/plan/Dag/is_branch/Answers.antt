@@ -2,9 +2,9 @@ use Rattle.std.proofs.Common.{ap, ◌∙◌}
 use Rattle.std.proofs.lemmas.Option.{unwrap_or-slice_get}
 use Rattle.std.specs.Prelude.{unwrap_or}
 use Rattle.bf_plan.specs.declared.plan.Task.{Task}
-use Rattle.bf_plan.specs.Plans.{no_task, task_of, is_branch}
+use Rattle.bf_plan.specs.Plans.{no_task, task_of, is_branch_in}
 use Rattle.bf_plan.proofs.plan.Dag.is_branch.Goals as goal
 
 pub returns-in-None : goal.returns-in-None
 unfolding task_of
-returns-in-None c = ap (λ (task : Task). is_branch task) (ap (λ o. unwrap_or o no_task) c.in-None.ensures ∙ unwrap_or-slice_get c.args.self.now.tasks c.args.task no_task)
+returns-in-None c = ap (λ (task : Task). is_branch_in task) (ap (λ o. unwrap_or o no_task) c.in-None.ensures ∙ unwrap_or-slice_get c.args.self.now.tasks c.args.task no_task)
