@@ -42,7 +42,8 @@ pub fn tries_end_as_told()
         ≡ intervals
         → (name : JobName) (instance : InstanceReport) (outcome : Outcome)
         → found_at report name.run name.task name.index ≡ Some instance
-        → outcome_of_try_in instance.result name.attempt ≡ Some outcome → fits_in dag name.task outcome
+        → outcome_of_try_in instance.result name.attempt ≡ Some outcome
+        → fits_in dag name.task outcome
         ≡ true
         → grade_of dag name.task (answer_of (answering dag intervals report) name) ≡ outcome }
 {

@@ -52,7 +52,8 @@ impl Looks<'_> {
         requires { HasNoneBelow self.now.draft.now 8 }
         ensures limits { IfOk result (λ limits. limits ≡ limits_in self.now.draft.now) }
         ensures ok { OnOk result (HasNoneBelow self.now.draft.now 10) }
-        ensures err { IfErr result (IsFaultOf self.now.draft.now (option_map (λ s. s.now) self.now.zone_file)) }
+        ensures err { IfErr result (IsFaultOf self.now.draft.now
+            (option_map (λ s. s.now) self.now.zone_file)) }
     {
         let demands = self.demands(alloc)?;
         Ok(limits_of(alloc, self.draft, demands)?)
@@ -63,11 +64,13 @@ impl Looks<'_> {
         requires graph { graph.now ≡ shape_in self.now.draft.now.tasks }
         requires rules { rules.items ≡ map rule_of self.now.draft.now.tasks }
         requires below { HasNoneBelow self.now.draft.now 14 }
-        requires scheduled { IsScheduled self.now.draft.now (option_map (λ s. s.now) self.now.zone_file) }
+        requires scheduled { IsScheduled self.now.draft.now
+            (option_map (λ s. s.now) self.now.zone_file) }
         ensures found { IfOk result (AreFoundIn self.now.draft.now.tasks graph.now) }
         ensures settled { OnOk result (AllMayPull self.now.draft.now) }
         ensures ok { OnOk result (HasNoFault self.now.draft.now) }
-        ensures err { IfErr result (IsFaultOf self.now.draft.now (option_map (λ s. s.now) self.now.zone_file)) }
+        ensures err { IfErr result (IsFaultOf self.now.draft.now
+            (option_map (λ s. s.now) self.now.zone_file)) }
     {
         let pulls = self.pulls(alloc, graph, rules.as_slice())?;
         let sources = self.sources(alloc, graph, rules.as_slice())?;
@@ -82,12 +85,15 @@ impl Looks<'_> {
     fn rest(&self, alloc: Global, graph: &Graph) -> Result<Rest, CheckFault>
         requires graph { graph.now ≡ shape_in self.now.draft.now.tasks }
         requires below { HasNoneBelow self.now.draft.now 10 }
-        ensures found { IfOk result (λ rest. AreFoundIn self.now.draft.now.tasks graph.now rest.found) }
+        ensures found { IfOk result (λ rest. AreFoundIn self.now.draft.now.tasks graph.now
+            rest.found) }
         ensures schedule { IfOk result (λ rest. Fires self.now.draft.now.schedule rest.schedule) }
-        ensures zone { IfOk result (λ rest. IsZoneFor self.now.draft.now.zone (option_map (λ s. s.now) self.now.zone_file) rest.zone) }
+        ensures zone { IfOk result (λ rest. IsZoneFor self.now.draft.now.zone
+            (option_map (λ s. s.now) self.now.zone_file) rest.zone) }
         ensures settled { OnOk result (AllMayPull self.now.draft.now) }
         ensures ok { OnOk result (HasNoFault self.now.draft.now) }
-        ensures err { IfErr result (IsFaultOf self.now.draft.now (option_map (λ s. s.now) self.now.zone_file)) }
+        ensures err { IfErr result (IsFaultOf self.now.draft.now
+            (option_map (λ s. s.now) self.now.zone_file)) }
     {
         let rules = self.rules(alloc)?;
         let (schedule, zone) = self.schedule_in_zone(alloc)?;
@@ -101,14 +107,18 @@ impl Looks<'_> {
 
     /// All looks in the order of their numbers.
     fn parts(&self, alloc: Global) -> Result<Parts, CheckFault>
-        ensures found { IfOk result (λ parts. AreFoundIn self.now.draft.now.tasks parts.graph parts.rest.found) }
+        ensures found { IfOk result (λ parts. AreFoundIn self.now.draft.now.tasks parts.graph
+            parts.rest.found) }
         ensures limits { IfOk result (λ parts. parts.limits ≡ limits_in self.now.draft.now) }
-        ensures schedule { IfOk result (λ parts. Fires self.now.draft.now.schedule parts.rest.schedule) }
-        ensures zone { IfOk result (λ parts. IsZoneFor self.now.draft.now.zone (option_map (λ s. s.now) self.now.zone_file) parts.rest.zone) }
+        ensures schedule { IfOk result (λ parts. Fires self.now.draft.now.schedule
+            parts.rest.schedule) }
+        ensures zone { IfOk result (λ parts. IsZoneFor self.now.draft.now.zone
+            (option_map (λ s. s.now) self.now.zone_file) parts.rest.zone) }
         ensures ranking { OnOk result (Ranking (shape_in self.now.draft.now.tasks).upstreams) }
         ensures ok { OnOk result (HasNoFault self.now.draft.now) }
         ensures settled { OnOk result (AllMayPull self.now.draft.now) }
-        ensures err { IfErr result (IsFaultOf self.now.draft.now (option_map (λ s. s.now) self.now.zone_file)) }
+        ensures err { IfErr result (IsFaultOf self.now.draft.now
+            (option_map (λ s. s.now) self.now.zone_file)) }
     {
         let graph = self.graph(alloc)?;
         let limits = self.limits(alloc)?;
@@ -164,7 +174,8 @@ fn parts_of(alloc: Global, draft: &Draft, zone_file: Option<&[u8]>) -> Result<Pa
     ensures found { IfOk result (λ parts. AreFoundIn draft.now.tasks parts.graph parts.rest.found) }
     ensures limits { IfOk result (λ parts. parts.limits ≡ limits_in draft.now) }
     ensures schedule { IfOk result (λ parts. Fires draft.now.schedule parts.rest.schedule) }
-    ensures zone { IfOk result (λ parts. IsZoneFor draft.now.zone (option_map (λ s. s.now) zone_file.entry) parts.rest.zone) }
+    ensures zone { IfOk result (λ parts. IsZoneFor draft.now.zone
+        (option_map (λ s. s.now) zone_file.entry) parts.rest.zone) }
     ensures ranking { OnOk result (Ranking (shape_in draft.now.tasks).upstreams) }
     ensures ok { OnOk result (HasNoFault draft.now) }
     ensures settled { OnOk result (AllMayPull draft.now) }
@@ -189,7 +200,8 @@ pub fn check(
     ensures dag { IfOk result (λ checked. checked.0.dag ≡ dag_of draft) }
     ensures limits { IfOk result (λ checked. checked.0.limits ≡ limits_in draft) }
     ensures schedule { IfOk result (λ checked. Fires draft.schedule checked.0.schedule) }
-    ensures zone { IfOk result (λ checked. IsZoneFor draft.zone (option_map (λ s. s.now) zone_file.entry) checked.1) }
+    ensures zone { IfOk result (λ checked. IsZoneFor draft.zone
+        (option_map (λ s. s.now) zone_file.entry) checked.1) }
     ensures accepted { OnOk result (IsAccepted draft (option_map (λ s. s.now) zone_file.entry)) }
     ensures fault { IfErr result (IsFaultOf draft (option_map (λ s. s.now) zone_file.entry)) }
 {

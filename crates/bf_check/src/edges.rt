@@ -47,7 +47,8 @@ pub(crate) fn numbers_of(
     ids: &Ids,
     names: &[Text],
 ) -> Result<Option<Vec<u32>>, OutOfMemory>
-    ensures { IfOk result (λ found. option_map (λ v. v.items) found ≡ numbers_in ids.now names.now) }
+    ensures { IfOk result (λ found. option_map (λ v. v.items) found
+        ≡ numbers_in ids.now names.now) }
 {
     let mut numbers = Vec::new(alloc);
     for name in names {
@@ -62,7 +63,8 @@ pub(crate) fn numbers_of(
 /// The ids of some tasks.
 fn names_of(alloc: Global, tasks: &[TaskDraft], numbers: &[u32]) -> Result<Vec<Text>, OutOfMemory>
     requires { (t : ℕ) → Contains numbers.now t → t < length tasks.now }
-    ensures { IfOk result (λ v. v.items ≡ map (λ t. slice_index_or (ids_of tasks.now) t []) numbers.now) }
+    ensures { IfOk result (λ v. v.items
+        ≡ map (λ t. slice_index_or (ids_of tasks.now) t []) numbers.now) }
 {
     let mut names = Vec::new(alloc);
     for number in numbers {
@@ -90,9 +92,11 @@ fn numbers_of_upstreams(
 impl Looks<'_> {
     /// The look 6: the numbers of each task's upstreams.
     fn upstreams(&self, alloc: Global) -> Result<Vec<Vec<u32>>, CheckFault>
-        ensures upstreams { IfOk result (λ upstreams. lists upstreams.items ≡ (shape_in self.now.draft.now.tasks).upstreams) }
+        ensures upstreams { IfOk result (λ upstreams. lists upstreams.items
+            ≡ (shape_in self.now.draft.now.tasks).upstreams) }
         ensures ok { OnOk result (HasNoneBelow self.now.draft.now 7) }
-        ensures err { IfErr result (IsFaultOf self.now.draft.now (option_map (λ s. s.now) self.now.zone_file)) }
+        ensures err { IfErr result (IsFaultOf self.now.draft.now
+            (option_map (λ s. s.now) self.now.zone_file)) }
     {
         let found = numbers_of_upstreams(alloc, self.ids, self.draft.tasks.as_slice())?;
         self.found_of_each(alloc, TaskFault::UnknownUpstream, found)
@@ -105,7 +109,8 @@ impl Looks<'_> {
         ensures graph { IfOk result (λ graph. graph ≡ shape_in self.now.draft.now.tasks) }
         ensures ranking { OnOk result (Ranking (shape_in self.now.draft.now.tasks).upstreams) }
         ensures ok { OnOk result (HasNoneBelow self.now.draft.now 8) }
-        ensures err { IfErr result (IsFaultOf self.now.draft.now (option_map (λ s. s.now) self.now.zone_file)) }
+        ensures err { IfErr result (IsFaultOf self.now.draft.now
+            (option_map (λ s. s.now) self.now.zone_file)) }
     {
         let tasks = self.draft.tasks.as_slice();
         match Graph::build(alloc, texts_of(alloc, tasks)?, upstreams) {
@@ -126,7 +131,8 @@ impl Looks<'_> {
         ensures graph { IfOk result (λ graph. graph ≡ shape_in self.now.draft.now.tasks) }
         ensures ranking { OnOk result (Ranking (shape_in self.now.draft.now.tasks).upstreams) }
         ensures ok { OnOk result (HasNoneBelow self.now.draft.now 8) }
-        ensures err { IfErr result (IsFaultOf self.now.draft.now (option_map (λ s. s.now) self.now.zone_file)) }
+        ensures err { IfErr result (IsFaultOf self.now.draft.now
+            (option_map (λ s. s.now) self.now.zone_file)) }
     {
         let upstreams = self.upstreams(alloc)?;
         self.graph_of(alloc, upstreams)

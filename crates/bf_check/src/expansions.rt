@@ -20,7 +20,8 @@ use std::alloc::Global;
 /// The number of the task over whose items a task is expanded, if it is; nothing where that isn't upstream.
 fn source_of(task: &TaskDraft, upstreams: &[u32]) -> Option<Option<u32>>
     requires { length upstreams.now ≡ length task.now.upstreams }
-    ensures { (ids : List (List ℕ)) → upstreams.now ≡ map (number_or_0 ids) task.now.upstreams → result ≡ source_found ids task.now }
+    ensures { (ids : List (List ℕ)) → upstreams.now ≡ map (number_or_0 ids) task.now.upstreams
+        → result ≡ source_found ids task.now }
 {
     let Some(id) = &task.expand else {
         return Some(None);
@@ -31,7 +32,8 @@ fn source_of(task: &TaskDraft, upstreams: &[u32]) -> Option<Option<u32>>
 
 /// The place of the first task that is expanded, and may be decided before its upstreams are settled.
 fn first_expanded_early(tasks: &[TaskDraft], rules: &[Rule]) -> Option<usize>
-    ensures { result ≡ position (λ both. is_some both.0.expand && not (is_waiting both.1)) (zip tasks.now rules.now) }
+    ensures { result ≡ position (λ both. is_some both.0.expand
+        && not (is_waiting both.1)) (zip tasks.now rules.now) }
 {
     tasks
         .iter()
@@ -54,7 +56,8 @@ impl Looks<'_> {
         graph: &Graph,
     ) -> Result<Vec<Option<Option<u32>>>, OutOfMemory>
         requires { graph.now ≡ shape_in self.now.draft.now.tasks }
-        ensures { IfOk result (λ found. found.items ≡ map (source_found self.now.ids.now) self.now.draft.now.tasks) }
+        ensures { IfOk result (λ found. found.items
+            ≡ map (source_found self.now.ids.now) self.now.draft.now.tasks) }
     {
         let mut found = Vec::new(alloc);
         for (t, task) in self.draft.tasks.as_slice().iter().enumerate() {
@@ -67,10 +70,13 @@ impl Looks<'_> {
     fn upstream_sources(&self, alloc: Global, graph: &Graph) -> Result<Vec<Option<u32>>, CheckFault>
         requires graph { graph.now ≡ shape_in self.now.draft.now.tasks }
         requires below { HasNoneBelow self.now.draft.now 15 }
-        requires scheduled { IsScheduled self.now.draft.now (option_map (λ s. s.now) self.now.zone_file) }
-        ensures sources { IfOk result (λ sources. sources.items ≡ map (source_in self.now.ids.now) self.now.draft.now.tasks) }
+        requires scheduled { IsScheduled self.now.draft.now
+            (option_map (λ s. s.now) self.now.zone_file) }
+        ensures sources { IfOk result (λ sources. sources.items
+            ≡ map (source_in self.now.ids.now) self.now.draft.now.tasks) }
         ensures ok { OnOk result (HasNoneBelow self.now.draft.now 16) }
-        ensures err { IfErr result (IsFaultOf self.now.draft.now (option_map (λ s. s.now) self.now.zone_file)) }
+        ensures err { IfErr result (IsFaultOf self.now.draft.now
+            (option_map (λ s. s.now) self.now.zone_file)) }
     {
         let found = self.sources_of_each(alloc, graph)?;
         self.found_of_each(alloc, TaskFault::ExpandSource, found)
@@ -80,9 +86,11 @@ impl Looks<'_> {
     fn refuse_early_expansions(&self, alloc: Global, rules: &[Rule]) -> Result<(), CheckFault>
         requires rules { rules.now ≡ map rule_of self.now.draft.now.tasks }
         requires below { HasNoneBelow self.now.draft.now 16 }
-        requires scheduled { IsScheduled self.now.draft.now (option_map (λ s. s.now) self.now.zone_file) }
+        requires scheduled { IsScheduled self.now.draft.now
+            (option_map (λ s. s.now) self.now.zone_file) }
         ensures ok { OnOk result (HasNoneBelow self.now.draft.now 17) }
-        ensures err { IfErr result (IsFaultOf self.now.draft.now (option_map (λ s. s.now) self.now.zone_file)) }
+        ensures err { IfErr result (IsFaultOf self.now.draft.now
+            (option_map (λ s. s.now) self.now.zone_file)) }
     {
         let early = first_expanded_early(self.draft.tasks.as_slice(), rules);
         self.refuse_at(alloc, TaskFault::ExpandRule, early)
@@ -91,9 +99,11 @@ impl Looks<'_> {
     /// The look 17 at branches.
     fn refuse_expanded_branches(&self, alloc: Global) -> Result<(), CheckFault>
         requires below { HasNoneBelow self.now.draft.now 17 }
-        requires scheduled { IsScheduled self.now.draft.now (option_map (λ s. s.now) self.now.zone_file) }
+        requires scheduled { IsScheduled self.now.draft.now
+            (option_map (λ s. s.now) self.now.zone_file) }
         ensures ok { OnOk result (HasNoFault self.now.draft.now) }
-        ensures err { IfErr result (IsFaultOf self.now.draft.now (option_map (λ s. s.now) self.now.zone_file)) }
+        ensures err { IfErr result (IsFaultOf self.now.draft.now
+            (option_map (λ s. s.now) self.now.zone_file)) }
     {
         let branch = first_expanded_branch(self.draft.tasks.as_slice());
         self.refuse_at(alloc, TaskFault::BranchMisuse, branch)
@@ -109,10 +119,13 @@ impl Looks<'_> {
         requires graph { graph.now ≡ shape_in self.now.draft.now.tasks }
         requires rules { rules.now ≡ map rule_of self.now.draft.now.tasks }
         requires below { HasNoneBelow self.now.draft.now 15 }
-        requires scheduled { IsScheduled self.now.draft.now (option_map (λ s. s.now) self.now.zone_file) }
-        ensures sources { IfOk result (λ sources. sources.items ≡ map (source_in self.now.ids.now) self.now.draft.now.tasks) }
+        requires scheduled { IsScheduled self.now.draft.now
+            (option_map (λ s. s.now) self.now.zone_file) }
+        ensures sources { IfOk result (λ sources. sources.items
+            ≡ map (source_in self.now.ids.now) self.now.draft.now.tasks) }
         ensures ok { OnOk result (HasNoFault self.now.draft.now) }
-        ensures err { IfErr result (IsFaultOf self.now.draft.now (option_map (λ s. s.now) self.now.zone_file)) }
+        ensures err { IfErr result (IsFaultOf self.now.draft.now
+            (option_map (λ s. s.now) self.now.zone_file)) }
     {
         let sources = self.upstream_sources(alloc, graph)?;
         self.refuse_early_expansions(alloc, rules)?;

@@ -8,7 +8,8 @@ ghost use Rattle.bf_check.specs.declared.fault.CheckFault.TheVariants.{OutOfMemo
 /// A draft has one answer, want of memory aside: one fault is told, and none where it is accepted.
 pub fn one_answer()
     ensures fault { (draft : Draft) (file : Option (List ℕ)) (x y : CheckFault)
-        → IsFaultOf draft file x → IsFaultOf draft file y → x ≢ OutOfMemory → y ≢ OutOfMemory → x ≡ y }
+        → IsFaultOf draft file x → IsFaultOf draft file y → x ≢ OutOfMemory → y ≢ OutOfMemory → x
+        ≡ y }
     ensures accepted { (draft : Draft) (file : Option (List ℕ)) (x : CheckFault)
         → IsAccepted draft file → IsFaultOf draft file x → x ≡ OutOfMemory }
 {}

@@ -44,10 +44,12 @@ impl Looks<'_> {
     ) -> Result<(), CheckFault>
         requires first { IsPlaceOfFirst self.now.draft.now fault place }
         requires below { HasNoneBelow self.now.draft.now (refusal_number_of fault) }
-        requires scheduled { 13 < refusal_number_of fault → IsScheduled self.now.draft.now (option_map (λ s. s.now) self.now.zone_file) }
+        requires scheduled { 13 < refusal_number_of fault
+            → IsScheduled self.now.draft.now (option_map (λ s. s.now) self.now.zone_file) }
         ensures none { OnOk result (place ≡ None) }
         ensures ok { OnOk result (HasNoneBelow self.now.draft.now (suc (refusal_number_of fault))) }
-        ensures err { IfErr result (IsFaultOf self.now.draft.now (option_map (λ s. s.now) self.now.zone_file)) }
+        ensures err { IfErr result (IsFaultOf self.now.draft.now
+            (option_map (λ s. s.now) self.now.zone_file)) }
     {
         match place {
             Some(place) => {
@@ -67,10 +69,12 @@ impl Looks<'_> {
     ) -> Result<Vec<T>, CheckFault>
         requires first { IsPlaceOfFirst self.now.draft.now fault (position is_none found.items) }
         requires below { HasNoneBelow self.now.draft.now (refusal_number_of fault) }
-        requires scheduled { 13 < refusal_number_of fault → IsScheduled self.now.draft.now (option_map (λ s. s.now) self.now.zone_file) }
+        requires scheduled { 13 < refusal_number_of fault
+            → IsScheduled self.now.draft.now (option_map (λ s. s.now) self.now.zone_file) }
         ensures found { IfOk result (λ each. map Some each.items ≡ found.items) }
         ensures ok { OnOk result (HasNoneBelow self.now.draft.now (suc (refusal_number_of fault))) }
-        ensures err { IfErr result (IsFaultOf self.now.draft.now (option_map (λ s. s.now) self.now.zone_file)) }
+        ensures err { IfErr result (IsFaultOf self.now.draft.now
+            (option_map (λ s. s.now) self.now.zone_file)) }
     {
         self.refuse_at(alloc, fault, first_missing(found.as_slice()))?;
         Ok(all_of(alloc, found)?)

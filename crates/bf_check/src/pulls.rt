@@ -42,8 +42,10 @@ fn are_settled(
     requires task { task < length settling.now }
     requires pulls { (u : ℕ) → Contains pulls.now u → u < length settling.now }
     requires in_range { AreInRange (lists settling.now) }
-    ensures all { IfOk result (λ all. IsTrue all → (u : ℕ) → Contains pulls.now u → Reaches (lists settling.now) u task) }
-    ensures not_all { IfOk result (λ all. all ≡ false → (u : ℕ) × Contains pulls.now u × ¬ (Reaches (lists settling.now) u task)) }
+    ensures all { IfOk result (λ all. IsTrue all → (u : ℕ) → Contains pulls.now u
+        → Reaches (lists settling.now) u task) }
+    ensures not_all { IfOk result (λ all. all ≡ false → (u : ℕ) × Contains pulls.now u
+        × ¬ (Reaches (lists settling.now) u task)) }
 {
     // Most pulls are from direct upstreams, and need no walk.
     if are_among(settling[task as usize].as_slice(), pulls) {
@@ -122,7 +124,8 @@ impl Looks<'_> {
     ) -> Result<Vec<Option<Pulls>>, OutOfMemory>
         requires settling { lists settling.now ≡ settling_edges_of self.now.draft.now.tasks }
         requires in_range { AreInRange (lists settling.now) }
-        ensures one_each { IfOk result (λ found. length found.items ≡ length self.now.draft.now.tasks) }
+        ensures one_each { IfOk result (λ found. length found.items
+            ≡ length self.now.draft.now.tasks) }
         ensures each { IfOk result (λ found. (t : ℕ) (task : TaskDraft) (one : Option Pulls)
             → slice_get self.now.draft.now.tasks t ≡ Some task → slice_get found.items t ≡ Some one
             → IsFoundOfPulls self.now.draft.now t task one) }
@@ -144,11 +147,14 @@ impl Looks<'_> {
         requires graph { graph.now ≡ shape_in self.now.draft.now.tasks }
         requires rules { rules.now ≡ map rule_of self.now.draft.now.tasks }
         requires below { HasNoneBelow self.now.draft.now 14 }
-        requires scheduled { IsScheduled self.now.draft.now (option_map (λ s. s.now) self.now.zone_file) }
-        ensures pulls { IfOk result (λ pulls. pulls.items ≡ map (pulls_in self.now.ids.now) self.now.draft.now.tasks) }
+        requires scheduled { IsScheduled self.now.draft.now
+            (option_map (λ s. s.now) self.now.zone_file) }
+        ensures pulls { IfOk result (λ pulls. pulls.items
+            ≡ map (pulls_in self.now.ids.now) self.now.draft.now.tasks) }
         ensures settled { OnOk result (AllMayPull self.now.draft.now) }
         ensures ok { OnOk result (HasNoneBelow self.now.draft.now 15) }
-        ensures err { IfErr result (IsFaultOf self.now.draft.now (option_map (λ s. s.now) self.now.zone_file)) }
+        ensures err { IfErr result (IsFaultOf self.now.draft.now
+            (option_map (λ s. s.now) self.now.zone_file)) }
     {
         let settling = self.settling_edges(alloc, graph, rules)?;
         let found = self.pulls_of_each(alloc, settling.as_slice())?;

@@ -28,7 +28,8 @@ impl Looks<'_> {
         requires { HasNoneBelow self.now.draft.now 10 }
         ensures rules { IfOk result (λ rules. rules.items ≡ map rule_of self.now.draft.now.tasks) }
         ensures ok { OnOk result (HasNoneBelow self.now.draft.now 11) }
-        ensures err { IfErr result (IsFaultOf self.now.draft.now (option_map (λ s. s.now) self.now.zone_file)) }
+        ensures err { IfErr result (IsFaultOf self.now.draft.now
+            (option_map (λ s. s.now) self.now.zone_file)) }
     {
         let found = rules_of(alloc, self.draft.tasks.as_slice())?;
         self.found_of_each(alloc, TaskFault::BadRule, found)

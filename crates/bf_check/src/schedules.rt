@@ -14,7 +14,8 @@ impl Looks<'_> {
     fn schedule_said(&self, alloc: Global) -> Result<CronSpec, CheckFault>
         requires { HasNoneBelow self.now.draft.now 11 }
         ensures ok { IfOk result (IsScheduleOf self.now.draft.now.schedule) }
-        ensures err { IfErr result (IsFaultOf self.now.draft.now (option_map (λ s. s.now) self.now.zone_file)) }
+        ensures err { IfErr result (IsFaultOf self.now.draft.now
+            (option_map (λ s. s.now) self.now.zone_file)) }
     {
         match CronSpec::read(alloc, self.draft.schedule.as_str()) {
             Ok(schedule) => Ok(schedule),
@@ -28,7 +29,8 @@ impl Looks<'_> {
         requires { HasNoneBelow self.now.draft.now 11 }
         ensures ok { IfOk result (Fires self.now.draft.now.schedule) }
         ensures below { OnOk result (HasNoneBelow self.now.draft.now 13) }
-        ensures err { IfErr result (IsFaultOf self.now.draft.now (option_map (λ s. s.now) self.now.zone_file)) }
+        ensures err { IfErr result (IsFaultOf self.now.draft.now
+            (option_map (λ s. s.now) self.now.zone_file)) }
     {
         let schedule = self.schedule_said(alloc)?;
         if schedule.never_fires() {
@@ -41,10 +43,13 @@ impl Looks<'_> {
     fn zone(&self, alloc: Global) -> Result<Zone, CheckFault>
         requires below { HasNoneBelow self.now.draft.now 13 }
         requires fires { (spec : CronSpec) × Fires self.now.draft.now.schedule spec }
-        ensures ok { IfOk result (IsZoneFor self.now.draft.now.zone (option_map (λ s. s.now) self.now.zone_file)) }
+        ensures ok { IfOk result (IsZoneFor self.now.draft.now.zone
+            (option_map (λ s. s.now) self.now.zone_file)) }
         ensures below { OnOk result (HasNoneBelow self.now.draft.now 14) }
-        ensures scheduled { OnOk result (IsScheduled self.now.draft.now (option_map (λ s. s.now) self.now.zone_file)) }
-        ensures err { IfErr result (IsFaultOf self.now.draft.now (option_map (λ s. s.now) self.now.zone_file)) }
+        ensures scheduled { OnOk result (IsScheduled self.now.draft.now
+            (option_map (λ s. s.now) self.now.zone_file)) }
+        ensures err { IfErr result (IsFaultOf self.now.draft.now
+            (option_map (λ s. s.now) self.now.zone_file)) }
     {
         match Zone::read(alloc, self.draft.zone.as_str(), self.zone_file) {
             Ok(zone) => Ok(zone),
@@ -57,10 +62,13 @@ impl Looks<'_> {
     pub(crate) fn schedule_in_zone(&self, alloc: Global) -> Result<(CronSpec, Zone), CheckFault>
         requires { HasNoneBelow self.now.draft.now 11 }
         ensures schedule { IfOk result (λ both. Fires self.now.draft.now.schedule both.0) }
-        ensures zone { IfOk result (λ both. IsZoneFor self.now.draft.now.zone (option_map (λ s. s.now) self.now.zone_file) both.1) }
+        ensures zone { IfOk result (λ both. IsZoneFor self.now.draft.now.zone
+            (option_map (λ s. s.now) self.now.zone_file) both.1) }
         ensures below { OnOk result (HasNoneBelow self.now.draft.now 14) }
-        ensures scheduled { OnOk result (IsScheduled self.now.draft.now (option_map (λ s. s.now) self.now.zone_file)) }
-        ensures err { IfErr result (IsFaultOf self.now.draft.now (option_map (λ s. s.now) self.now.zone_file)) }
+        ensures scheduled { OnOk result (IsScheduled self.now.draft.now
+            (option_map (λ s. s.now) self.now.zone_file)) }
+        ensures err { IfErr result (IsFaultOf self.now.draft.now
+            (option_map (λ s. s.now) self.now.zone_file)) }
     {
         let schedule = self.schedule(alloc)?;
         let zone = self.zone(alloc)?;

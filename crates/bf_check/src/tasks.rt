@@ -68,7 +68,8 @@ struct Links {
 fn task_of(alloc: Global, draft: TaskDraft, links: Links) -> Result<Task, OutOfMemory>
     requires task { IsTask draft }
     requires pulled { links.pulls.ids ≡ pulled_in draft.command }
-    ensures { IfOk result (λ task. (ids : List (List ℕ)) → links ≡ links_in ids draft → task ≡ task_in ids draft) }
+    ensures { IfOk result (λ task. (ids : List (List ℕ)) → links ≡ links_in ids draft → task
+        ≡ task_in ids draft) }
 {
     let pulls = links.pulls;
     let command = words_of(alloc, pulls.ids.as_slice(), draft.command)?;

@@ -30,7 +30,12 @@ impl<'a> Model for Cleared<'a> {
 
     ghost Value = { Clearance };
 
-    ghost coded = { Prim.hlevel (codes, Dag.the_row.coded, Followers.the_row.coded, Report.the_row.coded) };
+    ghost coded = { Prim.hlevel (
+      codes,
+      Dag.the_row.coded,
+      Followers.the_row.coded,
+      Report.the_row.coded,
+    ) };
 
     ghost view = { λ c. record { dag = c.plan.now.dag; cleared = c.cleared; report = c.report } };
 }

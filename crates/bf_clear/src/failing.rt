@@ -75,7 +75,8 @@ fn add_of_task(
     task: u32,
     found: &mut Vec<Place>,
 ) -> Result<(), OutOfMemory>
-    ensures { OnOk result (found.new.items ≡ found.old.items ++ failed_of_task_in report.now run task) }
+    ensures { OnOk result (found.new.items ≡ found.old.items
+        ++ failed_of_task_in report.now run task) }
 {
     add_failed(alloc, report, first_try(run, task, -1), found)?;
     for place in 0..instances_at(report, run, task) {

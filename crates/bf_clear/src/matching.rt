@@ -76,7 +76,8 @@ fn is_task_of(version: Version, dag: &Dag, report: &TaskReport, task: &Task) -> 
 }
 
 fn each_is_task_of(version: Version, dag: &Dag, reports: &[TaskReport], tasks: &[Task]) -> bool
-    ensures { result ≡ list_all (λ p. is_task_in version dag.now p.0 p.1) (zip reports.now tasks.now) }
+    ensures { result ≡ list_all (λ p. is_task_in version dag.now p.0 p.1)
+        (zip reports.now tasks.now) }
 {
     reports
         .iter()
@@ -104,7 +105,8 @@ fn is_run_of(version: Version, dag: &Dag, run: &RunReport, interval: &Interval) 
 }
 
 fn each_is_run_of(version: Version, dag: &Dag, runs: &[RunReport], intervals: &[Interval]) -> bool
-    ensures { result ≡ list_all (λ p. is_run_in version dag.now p.0 p.1) (zip runs.now intervals.now) }
+    ensures { result ≡ list_all (λ p. is_run_in version dag.now p.0 p.1)
+        (zip runs.now intervals.now) }
 {
     runs.iter()
         .zip(intervals)

@@ -13,7 +13,8 @@ use std::alloc::{AllocError, Global};
 #[tactic(auto, using(crate::proofs::Rows::first_rows))]
 pub(crate) fn format_asked(alloc: Global, matches: &ArgMatches<'_>) -> Result<Format, Error>
     ensures ok { IfOk result (IsFormatBy (rows_of (found_of matches.now))) }
-    ensures err { FailsBy (value_wrongs format_words (first_of (codes "format") (rows_of (found_of matches.now)))) result }
+    ensures err { FailsBy (value_wrongs format_words
+        (first_of (codes "format") (rows_of (found_of matches.now)))) result }
 {
     match matches.get_str("format") {
         Some("graph") => Ok(Format::Graph),
@@ -26,7 +27,8 @@ pub(crate) fn format_asked(alloc: Global, matches: &ArgMatches<'_>) -> Result<Fo
 #[tactic(auto, using(crate::proofs::Rows::first_rows))]
 pub(crate) fn shell_asked(alloc: Global, matches: &ArgMatches<'_>) -> Result<Shell, Error>
     ensures ok { IfOk result (IsShellBy (rows_of (found_of matches.now))) }
-    ensures err { FailsBy (value_wrongs shell_words (first_of (codes "shell") (rows_of (found_of matches.now)))) result }
+    ensures err { FailsBy (value_wrongs shell_words
+        (first_of (codes "shell") (rows_of (found_of matches.now)))) result }
 {
     match matches.get_str("shell") {
         Some("bash") => Ok(Shell::Bash),
@@ -39,8 +41,10 @@ pub(crate) fn shell_asked(alloc: Global, matches: &ArgMatches<'_>) -> Result<She
 
 #[tactic(auto, using(crate::proofs::Rows::first_rows))]
 pub(crate) fn color_asked(alloc: Global, matches: &ArgMatches<'_>) -> Result<Color, Error>
-    ensures ok { IfOk result (IsColorBy (first_of (codes "color") (rows_of (found_of matches.now)))) }
-    ensures err { FailsBy (value_wrongs color_words (first_of (codes "color") (rows_of (found_of matches.now)))) result }
+    ensures ok { IfOk result (IsColorBy
+        (first_of (codes "color") (rows_of (found_of matches.now)))) }
+    ensures err { FailsBy (value_wrongs color_words
+        (first_of (codes "color") (rows_of (found_of matches.now)))) result }
 {
     match matches.get_str("color") {
         Some("auto") | None => Ok(Color::Auto),

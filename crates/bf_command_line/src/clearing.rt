@@ -12,7 +12,8 @@ use clap::{ArgMatches, Error};
 use std::alloc::{AllocError, Global};
 
 fn index_at(matches: &ArgMatches<'_>, place: usize) -> Result<Option<i32>, AllocError>
-    ensures { IfOk result (IsIntegerIfGiven (slice_get (texts_in (codes "index") (rows_of (found_of matches.now))) place)) }
+    ensures { IfOk result (IsIntegerIfGiven
+        (slice_get (texts_in (codes "index") (rows_of (found_of matches.now))) place)) }
 {
     let Some(text) = text_at(matches, "index", place) else {
         return Ok(None);

@@ -50,7 +50,8 @@ fn journal_asked(
 /// The folder of logs of a command of this name, where it names one.
 fn logs_asked(alloc: Global, name: &str, matches: &ArgMatches<'_>) -> Result<Option<String>, Error>
     ensures ok { IfOk result (IsLogsBy (rows_of (found_of matches.now))) }
-    ensures err { FailsBy (empty_wrongs (first_of (codes "logs") (rows_of (found_of matches.now)))) result }
+    ensures err { FailsBy (empty_wrongs
+        (first_of (codes "logs") (rows_of (found_of matches.now)))) result }
 {
     match optional(alloc, matches, "logs")? {
         Some(folder) if folder.is_empty() => Err(no_folder(alloc, name)?),

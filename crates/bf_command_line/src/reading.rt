@@ -31,7 +31,8 @@ pub fn asked(alloc: Global, words: &[String]) -> Result<CommandLine, Error>
 }
 
 fn matches_of<'a>(alloc: Global, words: &'a [String]) -> Result<ArgMatches<'a>, Error>
-    ensures ok { IfOk result (λ m. subcommand_rows_of m ≡ subcommand_of backfill_app (map string_bytes words.entry.now)) }
+    ensures ok { IfOk result (λ m. subcommand_rows_of m
+        ≡ subcommand_of backfill_app (map string_bytes words.entry.now)) }
     ensures err { FailsBy (fault_of backfill_app (map string_bytes words.entry.now)) result }
 {
     backfill(alloc)?.try_get_matches_from(words)
@@ -66,7 +67,8 @@ fn is_overwritten(matches: &ArgMatches<'_>, path: &str) -> bool
 
 /// Where the report of a command of this name goes, if it isn't printed.
 fn out_asked(alloc: Global, name: &str, matches: &ArgMatches<'_>) -> Result<Option<String>, Error>
-    ensures ok { IfOk result (λ out. first_of (codes "out") (rows_of (found_of matches.now)) ≡ option_map string_bytes out) }
+    ensures ok { IfOk result (λ out. first_of (codes "out") (rows_of (found_of matches.now))
+        ≡ option_map string_bytes out) }
     ensures err { FailsBy (out_wrongs (rows_of (found_of matches.now))) result }
 {
     let Some(path) = optional(alloc, matches, "out")? else {

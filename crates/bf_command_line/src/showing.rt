@@ -30,7 +30,8 @@ fn has_grid(matches: &ArgMatches<'_>) -> bool
 fn grid_asked(alloc: Global, matches: &ArgMatches<'_>) -> Result<Asked, Error>
     requires { is_given_in (codes "json") (rows_of (found_of matches.now)) ≡ false }
     ensures ok { IfOk result (IsAskedBy (Some (codes "show", rows_of (found_of matches.now)))) }
-    ensures err { FailsBy (value_wrongs color_words (first_of (codes "color") (rows_of (found_of matches.now)))) result }
+    ensures err { FailsBy (value_wrongs color_words
+        (first_of (codes "color") (rows_of (found_of matches.now)))) result }
 {
     let color = color_asked(alloc, matches)?;
     Ok(Asked::Show(ShowAsked {

@@ -18,7 +18,8 @@ pub(crate) fn count_of(matches: &ArgMatches<'_>, id: &str) -> usize
 
 /// The value of an argument in this place of its values.
 pub(crate) fn text_at<'a>(matches: &ArgMatches<'a>, id: &str, place: usize) -> Option<&'a str>
-    ensures { option_map (λ t. t.now) result ≡ slice_get (texts_in id.now (rows_of (found_of matches.now))) place }
+    ensures { option_map (λ t. t.now) result
+        ≡ slice_get (texts_in id.now (rows_of (found_of matches.now))) place }
 {
     match matches.get_strs(id) {
         Some(texts) => texts.get(place).copied(),
@@ -32,7 +33,8 @@ pub(crate) fn required_at(
     id: &str,
     place: usize,
 ) -> Result<String, AllocError>
-    ensures { IfOk result (λ t. slice_get (texts_in id.now (rows_of (found_of matches.now))) place ≡ Some (string_bytes t)) }
+    ensures { IfOk result (λ t. slice_get (texts_in id.now (rows_of (found_of matches.now))) place
+        ≡ Some (string_bytes t)) }
 {
     match text_at(matches, id, place) {
         Some(value) => String::from_str(alloc, value),
@@ -46,7 +48,8 @@ pub(crate) fn optional(
     matches: &ArgMatches<'_>,
     id: &str,
 ) -> Result<Option<String>, AllocError>
-    ensures { IfOk result (λ t. first_of id.now (rows_of (found_of matches.now)) ≡ option_map string_bytes t) }
+    ensures { IfOk result (λ t. first_of id.now (rows_of (found_of matches.now))
+        ≡ option_map string_bytes t) }
 {
     match matches.get_str(id) {
         Some(value) => Ok(Some(String::from_str(alloc, value)?)),
@@ -60,7 +63,8 @@ pub(crate) fn required(
     matches: &ArgMatches<'_>,
     id: &str,
 ) -> Result<String, AllocError>
-    ensures { IfOk result (λ t. first_of id.now (rows_of (found_of matches.now)) ≡ Some (string_bytes t)) }
+    ensures { IfOk result (λ t. first_of id.now (rows_of (found_of matches.now))
+        ≡ Some (string_bytes t)) }
 {
     match matches.get_str(id) {
         Some(value) => String::from_str(alloc, value),

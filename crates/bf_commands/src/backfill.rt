@@ -152,7 +152,8 @@ fn ended<'p, RT: Starter + Screen + Threads + Wait + Clock + Sync, K: KeptTries 
         (MayAnswerBy (through (launching_of crew.now.launching) (RT.may_hear crew.now.rt.now))
         answers plan.entry.now.dag runs.now)
         plan.entry.now.dag plan.entry.now.limits (length runs.now) crew.now.workers) }
-    ensures stop { IfErr result (IsStopOrWantingFrom (is_alone_in crew.now.progress) (K.kept kept.now)
+    ensures stop { IfErr result (IsStopOrWantingFrom (is_alone_in crew.now.progress)
+        (K.kept kept.now)
         (launching_of crew.now.launching) (RT.may_lose crew.now.rt.now) answers plan.entry.now.dag
         runs.now) }
     ensures unsent { IfErr result IsUnsent }
@@ -182,7 +183,8 @@ pub(crate) fn write_backfill<
         (MayAnswerBy (through (launching_of crew.now.launching) (RT.may_hear crew.now.rt.now))
         answers plan.now.dag runs.now)
         plan.now.dag runs.now text success) (W.written out.old) (W.written out.new)) }
-    ensures stop { IfErr result (IsStopOrWantingFrom (is_alone_in crew.now.progress) (K.kept kept.now)
+    ensures stop { IfErr result (IsStopOrWantingFrom (is_alone_in crew.now.progress)
+        (K.kept kept.now)
         (launching_of crew.now.launching) (RT.may_lose crew.now.rt.now) answers plan.now.dag
         runs.now) }
     ensures left { IfErr result (Leaves (HasHalted (W.failures out.old) (W.failures out.new)

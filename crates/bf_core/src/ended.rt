@@ -40,11 +40,32 @@ impl<'p> Model for Ended<'p> {
 
     ghost Value = { Ending };
 
-    ghost coded = { Prim.hlevel (codes, Dag.the_row.coded, Limits.the_row.coded, RunState.the_row.coded, State.the_row.coded, Event.the_row.coded) };
+    ghost coded = { Prim.hlevel (
+      codes,
+      Dag.the_row.coded,
+      Limits.the_row.coded,
+      RunState.the_row.coded,
+      State.the_row.coded,
+      Event.the_row.coded,
+    ) };
 
-    ghost view = { λ e. record { dag = e.plan.now.dag; limits = e.plan.now.limits; runs = e.runs; state = e.state; run_states = e.run_states; journal = e.journal } };
+    ghost view = { λ e. record {
+      dag = e.plan.now.dag;
+      limits = e.plan.now.limits;
+      runs = e.runs;
+      state = e.state;
+      run_states = e.run_states;
+      journal = e.journal;
+    } };
 
-    ghost invariant = { λ e. IsEnd (record { dag = e.plan.now.dag; limits = e.plan.now.limits; runs = e.runs; state = e.state; run_states = e.run_states; journal = e.journal }) };
+    ghost invariant = { λ e. IsEnd (record {
+      dag = e.plan.now.dag;
+      limits = e.plan.now.limits;
+      runs = e.runs;
+      state = e.state;
+      run_states = e.run_states;
+      journal = e.journal;
+    }) };
 }
 
 impl<'p> Ended<'p> {
@@ -109,7 +130,8 @@ fn any_failed(instances: &[Instance]) -> bool
 #[tactic(auto, using(crate::proofs::Closing::ran_fails))]
 fn fails_its_run(plan: &Plan, task: u32, cell: &Cell) -> bool
     requires { task < length plan.now.dag.tasks }
-    ensures { result ≡ fails_run (is_leaf_in plan.now.dag task) (value_or_blocked (value_in cell.now)) }
+    ensures { result ≡ fails_run (is_leaf_in plan.now.dag task)
+        (value_or_blocked (value_in cell.now)) }
 {
     match cell {
         Cell::Undecided | Cell::Blocked => true,

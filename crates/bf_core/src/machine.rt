@@ -50,11 +50,32 @@ impl<'a> Model for Core<'a> {
 
     ghost Value = { Backfill };
 
-    ghost coded = { Prim.hlevel (codes, Dag.the_row.coded, Limits.the_row.coded, State.the_row.coded, Clock.the_row.coded, Event.the_row.coded) };
+    ghost coded = { Prim.hlevel (
+      codes,
+      Dag.the_row.coded,
+      Limits.the_row.coded,
+      State.the_row.coded,
+      Clock.the_row.coded,
+      Event.the_row.coded,
+    ) };
 
-    ghost view = { λ c. record { dag = c.plan.now.dag; limits = c.plan.now.limits; runs = c.runs; state = c.state; clock = c.clock; journal = c.journal.items } };
+    ghost view = { λ c. record {
+      dag = c.plan.now.dag;
+      limits = c.plan.now.limits;
+      runs = c.runs;
+      state = c.state;
+      clock = c.clock;
+      journal = c.journal.items;
+    } };
 
-    ghost invariant = { λ c. IsCore (record { dag = c.plan.now.dag; limits = c.plan.now.limits; runs = c.runs; state = c.state; clock = c.clock; journal = c.journal.items }) c.pools (vec_len c.run_states) c.opened_runs c.active_runs };
+    ghost invariant = { λ c. IsCore (record {
+      dag = c.plan.now.dag;
+      limits = c.plan.now.limits;
+      runs = c.runs;
+      state = c.state;
+      clock = c.clock;
+      journal = c.journal.items;
+    }) c.pools (vec_len c.run_states) c.opened_runs c.active_runs };
 }
 
 impl<'a> Core<'a> {

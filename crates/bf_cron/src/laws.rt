@@ -13,7 +13,8 @@ ghost use Rattle.bf_cron.specs.declared.item.Item.{Item};
 
 /// A text is read as an item exactly where it is written as that item.
 pub fn item_form()
-    ensures { (f : Field) (text : List ℕ) (i : Item) → (item_of f text ≡ Some i) ↔ IsItemText f text i }
+    ensures { (f : Field) (text : List ℕ) (i : Item) → (item_of f text ≡ Some i)
+        ↔ IsItemText f text i }
 {}
 
 /// A text is read as a schedule exactly where it is written as that schedule.
@@ -25,5 +26,6 @@ pub fn schedule_form()
 pub fn fires_in_each_leap_year()
     ensures { (text : List ℕ) (spec : CronSpec) → IsRead (schedule_of text) (Ok spec) →
         (minute : ℕ) (at : DateTime) → IsMinute minute at → spec_matches spec at ≡ true →
-        (year : ℤ) → IsYear year → pos 1_972 ≤ℤ year → is_leap_year year ≡ true → FiresIn spec year }
+        (year : ℤ) → IsYear year → pos 1_972 ≤ℤ year → is_leap_year year ≡ true
+        → FiresIn spec year }
 {}

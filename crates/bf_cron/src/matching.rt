@@ -128,7 +128,8 @@ pub trait Matches: Scheduled {
     /// Whether the schedule has the civil minute. Only its minute, hour, day, month and weekday count.
     fn matches(&self, at: DateTime) -> bool
         ensures value { result ≡ spec_matches (Self.spec self.now) at }
-        ensures rule { (s : Schedule) → Keeps (Self.spec self.now) s → spec_matches (Self.spec self.now) at ≡ matches s at };
+        ensures rule { (s : Schedule) → Keeps (Self.spec self.now) s
+            → spec_matches (Self.spec self.now) at ≡ matches s at };
 }
 
 impl<S: Scheduled> Matches for S {

@@ -42,7 +42,8 @@ fn lower(text: &[u8]) -> [u8; 3]
 
 /// January is 1.
 fn month(name: [u8; 3]) -> Option<u8>
-    ensures value { result ≡ option_map (λ i. i + 1) (position (λ known. bytes_eq known name) (names Month)) }
+    ensures value { result ≡ option_map (λ i. i + 1)
+        (position (λ known. bytes_eq known name) (names Month)) }
     ensures small { IfSome result (λ n. n < 60) }
 {
     match &name {
@@ -64,7 +65,8 @@ fn month(name: [u8; 3]) -> Option<u8>
 
 /// Sunday is 0.
 fn weekday(name: [u8; 3]) -> Option<u8>
-    ensures value { result ≡ option_map (λ i. i + 0) (position (λ known. bytes_eq known name) (names Weekday)) }
+    ensures value { result ≡ option_map (λ i. i + 0)
+        (position (λ known. bytes_eq known name) (names Weekday)) }
     ensures small { IfSome result (λ n. n < 60) }
 {
     match &name {

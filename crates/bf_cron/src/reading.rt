@@ -123,7 +123,8 @@ pub(crate) fn spec(
     month: &[u8],
     weekday: &[u8],
 ) -> Option<CronSpec>
-    ensures { IsSpec (schedule_of_fields (minute.now ∷ hour.now ∷ day.now ∷ month.now ∷ weekday.now ∷ [])) result }
+    ensures { IsSpec (schedule_of_fields (minute.now ∷ hour.now ∷ day.now ∷ month.now ∷ weekday.now
+        ∷ [])) result }
 {
     Some(CronSpec {
         minutes: field(Field::Minute, minute)?,

@@ -50,10 +50,12 @@ impl Search<'_, '_> {
     fn keep(self, found: &mut Vec<Interval>, listed: &[Interval]) -> Result<(), IntervalFault>
         requires { length found.old.items ≤ 4_096 }
         ensures ok { OnOk result (found.new.items
-            ≡ found.old.items ++ filter (are_on (plain_zone self.entry.zone.now) self.entry.days) listed.now) }
+            ≡ found.old.items
+            ++ filter (are_on (plain_zone self.entry.zone.now) self.entry.days) listed.now) }
         ensures few { OnOk result (length found.new.items ≤ 4_096) }
         ensures err { IfErr result
-            (IsKeptFault (are_on (plain_zone self.entry.zone.now) self.entry.days) found.old.items listed.now) }
+            (IsKeptFault (are_on
+            (plain_zone self.entry.zone.now) self.entry.days) found.old.items listed.now) }
     {
         for interval in listed {
             if is_on(self.zone, self.days, interval.start) {
@@ -80,11 +82,15 @@ impl Search<'_, '_> {
         requires in_years { to ≤ 7_258_118_399_000_000_001 }
         ensures few { OnOk result (length found.new.items ≤ 4_096) }
         ensures ok { OnOk result ((low : ℕ) → low ≤ from
-            → AreIntervalsBetween self.entry.spec.now (plain_zone self.entry.zone.now) self.entry.days low from found.old.items
-            → AreIntervalsBetween self.entry.spec.now (plain_zone self.entry.zone.now) self.entry.days low to found.new.items) }
+            → AreIntervalsBetween self.entry.spec.now
+            (plain_zone self.entry.zone.now) self.entry.days low from found.old.items
+            → AreIntervalsBetween self.entry.spec.now
+            (plain_zone self.entry.zone.now) self.entry.days low to found.new.items) }
         ensures err { IfErr result (λ fault. (low : ℕ) → low ≤ from
-            → AreIntervalsBetween self.entry.spec.now (plain_zone self.entry.zone.now) self.entry.days low from found.old.items
-            → IsAddFault self.entry.spec.now (plain_zone self.entry.zone.now) self.entry.days fault) }
+            → AreIntervalsBetween self.entry.spec.now
+            (plain_zone self.entry.zone.now) self.entry.days low from found.old.items
+            → IsAddFault self.entry.spec.now
+            (plain_zone self.entry.zone.now) self.entry.days fault) }
     {
         let fault = match intervals(alloc, self.spec, self.zone, moment(from), moment(to - 1)) {
             Ok(listed) => return self.keep(found, listed.as_slice()),
@@ -114,7 +120,8 @@ pub fn intervals_on(
     zone: &TimeZone<'_>,
     days: Days,
 ) -> Result<Vec<Interval>, IntervalFault>
-    ensures answer { IsAnswerOn spec.now (plain_zone zone.now) days (result_map_both (λ v. v.items) (λ e. e) result) }
+    ensures answer { IsAnswerOn spec.now (plain_zone zone.now) days
+        (result_map_both (λ v. v.items) (λ e. e) result) }
     ensures of_runs { IsSaid spec.now → IfOk result (λ v. AreOfRuns v.items) }
 {
     if !is_in_years(days.first) || !is_in_years(days.last) {

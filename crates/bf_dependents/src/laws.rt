@@ -12,10 +12,14 @@ ghost use Rattle.bf_dependents.specs.Listing.{places_in, IsListed};
 /// task in the next run.
 pub fn dependents_are_least()
     ensures { (dag : Dag) (seeds : List Place) (has : ℕ → ℕ → ℤ → Bool) →
-        ((k t : ℕ) (i : ℤ) → Contains seeds (record { run = k; task = t; index = None }) → has k t i ≡ true) →
-        ((k t : ℕ) (i : ℤ) → Contains seeds (record { run = k; task = t; index = Some i }) → has k t i ≡ true) →
-        ((k t u : ℕ) (i j : ℤ) → IsOneOf (task_of dag t).upstreams u → has k u j ≡ true → has k t i ≡ true) →
-        ((k t : ℕ) (i j : ℤ) → (task_of dag t).depends_on_past ≡ true → has k t j ≡ true → has (suc k) t i ≡ true) →
+        ((k t : ℕ) (i : ℤ) → Contains seeds (record { run = k; task = t; index = None }) → has k t i
+        ≡ true) →
+        ((k t : ℕ) (i : ℤ) → Contains seeds (record { run = k; task = t; index = Some i })
+        → has k t i ≡ true) →
+        ((k t u : ℕ) (i j : ℤ) → IsOneOf (task_of dag t).upstreams u → has k u j ≡ true → has k t i
+        ≡ true) →
+        ((k t : ℕ) (i j : ℤ) → (task_of dag t).depends_on_past ≡ true → has k t j ≡ true
+        → has (suc k) t i ≡ true) →
         (k t : ℕ) (i : ℤ) → IsDependent dag seeds k t i → has k t i ≡ true }
 {}
 
@@ -29,12 +33,14 @@ pub fn seeds_without_indexes_take_tasks()
 pub fn a_seed_with_an_index_leaves_its_neighbours()
     ensures { (dag : Dag) → IsSound dag → (k t : ℕ) (n : ℤ) (m s : ℕ) (i : ℤ) →
         IsDependent dag (record { run = k; task = t; index = Some n } ∷ []) m s i
-        ↔ (IsDependent dag (record { run = k; task = t; index = None } ∷ []) m s i × (m ≡ k → s ≡ t → i ≡ n)) }
+        ↔ (IsDependent dag (record { run = k; task = t; index = None } ∷ []) m s i
+        × (m ≡ k → s ≡ t → i ≡ n)) }
 {}
 
 /// What is listed of what follows is just that: each instance of a task that is listed without an index, and each that is listed.
 pub fn places_are_what_follows()
-    ensures { (dag : Dag) (seeds : List Place) (runs : ℕ) (all : Following) → AreDependents dag seeds runs all →
+    ensures { (dag : Dag) (seeds : List Place) (runs : ℕ) (all : Following)
+        → AreDependents dag seeds runs all →
         (k t : ℕ) (i : ℤ) → k < runs → t < length dag.tasks →
         IsListed (places_in dag all runs) k t i ↔ IsDependent dag seeds k t i }
 {}

@@ -49,7 +49,8 @@ impl Followers {
         places: &mut Vec<Place>,
     ) -> Result<(), OutOfMemory>
         requires { tasks ≤ length dag.now.tasks }
-        ensures { OnOk result (places.new.items ≡ places.old.items ++ places_of_run dag.now self.now tasks run) }
+        ensures { OnOk result (places.new.items ≡ places.old.items
+            ++ places_of_run dag.now self.now tasks run) }
     {
         for task in 0..tasks {
             let found = self.places_at(alloc, dag, run, task)?;

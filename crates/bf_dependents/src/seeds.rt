@@ -60,7 +60,8 @@ fn has_unknown_run(intervals: &[Interval], seeds: &[Seed]) -> bool
 /// Refuses seeds of which one names a task that isn't known, and else those of which one names a run that isn't.
 pub fn refuse_seeds(plan: &Plan, intervals: &[Interval], seeds: &[Seed]) -> Result<(), ClearFault>
     ensures ok { IfOk result (λ _. seed_fault plan.now.dag intervals.now seeds.now ≡ None) }
-    ensures err { IfErr result (λ fault. seed_fault plan.now.dag intervals.now seeds.now ≡ Some fault) }
+    ensures err { IfErr result (λ fault. seed_fault plan.now.dag intervals.now seeds.now
+        ≡ Some fault) }
 {
     if has_unknown_task(plan, seeds) {
         return Err(ClearFault::UnknownTask);
@@ -92,7 +93,8 @@ pub fn places_of(
     seeds: &[Seed],
 ) -> Result<Vec<Place>, OutOfMemory>
     requires few { length intervals.now ≤ 4_096 }
-    ensures { IfOk result (λ places. places.items ≡ places_in plan.now.dag intervals.now seeds.now) }
+    ensures { IfOk result (λ places. places.items
+        ≡ places_in plan.now.dag intervals.now seeds.now) }
 {
     let mut places = Vec::new(alloc);
     for seed in seeds {

@@ -50,7 +50,8 @@ impl Halts {
 
     /// Counts one more.
     pub fn count(&mut self, halt: Halt)
-        ensures interrupted { WentOn (interrupted (Err halt)) self.old.interrupted self.new.interrupted }
+        ensures interrupted { WentOn (interrupted
+            (Err halt)) self.old.interrupted self.new.interrupted }
         ensures failed { WentOn (read_failed (Err halt)) self.old.failed self.new.failed }
     {
         match halt {
@@ -72,9 +73,12 @@ pub trait Write {
     /// Writes the first of the bytes, and says how many.
     fn write(&mut self, bytes: &[u8]) -> Result<usize, Halt>
         ensures bound { IfOk result (λ n. n ≤ length bytes.now) }
-        ensures written { written self.new ≡ sent (written self.old) (take (taken result) bytes.now) }
-        ensures interruptions { WentOn (interrupted result) (interruptions self.old) (interruptions self.new) }
-        ensures failures { WentOn (write_failed bytes.now result) (failures self.old) (failures self.new) };
+        ensures written { written self.new
+            ≡ sent (written self.old) (take (taken result) bytes.now) }
+        ensures interruptions { WentOn (interrupted result) (interruptions self.old)
+            (interruptions self.new) }
+        ensures failures { WentOn (write_failed bytes.now result) (failures self.old)
+            (failures self.new) };
 }
 
 /// What bytes can be read from. Contracts see the bytes that are left, where the device tells them, and how often it
@@ -90,6 +94,7 @@ pub trait Read {
     fn read(&mut self, room: &mut [u8]) -> Result<usize, Halt>
         ensures bound { IfOk result (λ n. n ≤ length room.new) }
         ensures bytes { ReadConsumes (left self.old) (left self.new) result room.new }
-        ensures interruptions { WentOn (interrupted result) (interruptions self.old) (interruptions self.new) }
+        ensures interruptions { WentOn (interrupted result) (interruptions self.old)
+            (interruptions self.new) }
         ensures failures { WentOn (read_failed result) (failures self.old) (failures self.new) };
 }

@@ -64,7 +64,10 @@ impl Model for Agenda {
 
     ghost coded = { Prim.hlevel (codes, Step.the_row.coded) };
 
-    ghost view = { λ a. record { items = map (λ r. r.0) (heap_items a.heap); room = heap_capacity a.heap } };
+    ghost view = { λ a. record {
+      items = map (λ r. r.0) (heap_items a.heap);
+      room = heap_capacity a.heap;
+    } };
 
     ghost invariant = { λ a. IsHeap reverse_cmp (heap_items a.heap) };
 }

@@ -123,7 +123,8 @@ impl Cursors {
     /// Notes that so many upstreams of a task let it be decided.
     fn note_passed(&mut self, task: u32, passed: u32)
         ensures { (b : Backfill) (k : ℕ) → IsNoted b k self.old
-            → ArePassed (is_early_in b.dag task) b.dag b.state k task passed → IsNoted b k self.new }
+            → ArePassed (is_early_in b.dag task) b.dag b.state k task passed
+            → IsNoted b k self.new }
     {
         if (task as usize) < self.passed.len() {
             self.passed[task as usize] = passed;

@@ -36,7 +36,11 @@ impl Model for Due {
 
     ghost coded = { Prim.hlevel (codes, Step.the_row.coded, Cursors.the_row.coded) };
 
-    ghost view = { λ d. record { steps = d.agenda.items; room = d.agenda.room; progress = d.progress.items } };
+    ghost view = { λ d. record {
+      steps = d.agenda.items;
+      room = d.agenda.room;
+      progress = d.progress.items;
+    } };
 }
 
 fn is_there(core: &Core<'_>, run: u32, task: u32) -> bool

@@ -49,7 +49,8 @@ impl<'a, R> AnswerAtOnce for ByWorkers<'a, R> {
 impl<'a, K: KeptTries, R: TaskRunner> AnswerAtOnce for Keeping<'a, K, R> {
     ghost use Rattle.bf_kept.specs.Kept.{IsAnswer};
 
-    ghost may_answer_at_once = { λ s n g raw. IsAnswer (K.kept s.kept.now) (R.may_answer s.runner.now) n g raw };
+    ghost may_answer_at_once = { λ s n g raw. IsAnswer (K.kept s.kept.now)
+        (R.may_answer s.runner.now) n g raw };
 
     fn answer_at_once(&self, ticket: Ticket) -> Result<Done, Ticket> {
         match self.kept.answer(self.alloc, ticket.name(), ticket.given()) {

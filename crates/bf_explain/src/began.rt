@@ -19,7 +19,8 @@ use std::alloc::Global;
 const MOST_CHARACTERS: usize = 200;
 
 fn pushed_text(alloc: Global, instance: &InstanceReport) -> Result<Text, OutOfMemory>
-    ensures { IfOk result (λ text. text ≡ value_text_of 200 (pushed_by instance.now.result.outcome)) }
+    ensures { IfOk result (λ text. text
+        ≡ value_text_of 200 (pushed_by instance.now.result.outcome)) }
 {
     let ended = instance.result(alloc)?;
     value_text(alloc, ended.outcome.pushed(), MOST_CHARACTERS)

@@ -123,7 +123,8 @@ pub(crate) fn task_lines(
     settled: &[Settled<'_>],
     tasks: &[u32],
 ) -> Result<Vec<Text>, OutOfMemory>
-    ensures { IfOk result (λ lines. lines.items ≡ task_lines_of plan.now.dag settled.now tasks.now) }
+    ensures { IfOk result (λ lines. lines.items
+        ≡ task_lines_of plan.now.dag settled.now tasks.now) }
 {
     let width = widest(plan, tasks);
     let mut lines = Vec::with_capacity(alloc, tasks.len())?;

@@ -93,7 +93,8 @@ fn indexes_line(
     results: &[TaskResult],
     state: &str,
 ) -> Result<Text, OutOfMemory>
-    ensures { IfOk result (λ text. text ≡ padded_of width state.now ++ (codes " " ++ indexes_text_of state.now results.now)) }
+    ensures { IfOk result (λ text. text ≡ padded_of width state.now
+        ++ (codes " " ++ indexes_text_of state.now results.now)) }
 {
     let name = padded(alloc, state, width)?;
     let mut text = format!(in alloc; "{name} ")?;

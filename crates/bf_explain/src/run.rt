@@ -101,7 +101,8 @@ fn add_failed(
     order: &[u32],
 ) -> Result<(), OutOfMemory>
     ensures { OnOk result (lines.new.items ≡ lines.old.items
-        ++ section (codes "failed") (task_lines_of plan.now.dag settled.now (failed_tasks_of settled.now order.now))) }
+        ++ section (codes "failed")
+        (task_lines_of plan.now.dag settled.now (failed_tasks_of settled.now order.now))) }
 {
     let failed = failed_tasks(alloc, settled, order)?;
     let failed = task_lines(alloc, plan, settled, failed.as_slice())?;
@@ -116,7 +117,8 @@ fn add_not_tried(
     order: &[u32],
 ) -> Result<(), OutOfMemory>
     ensures { OnOk result (lines.new.items ≡ lines.old.items
-        ++ section (codes "not tried") (task_lines_of plan.now.dag settled.now (tasks_not_tried_of settled.now order.now))) }
+        ++ section (codes "not tried")
+        (task_lines_of plan.now.dag settled.now (tasks_not_tried_of settled.now order.now))) }
 {
     let left = tasks_not_tried(alloc, settled, order)?;
     let left = task_lines(alloc, plan, settled, left.as_slice())?;

@@ -138,7 +138,8 @@ pub(crate) fn run_why_lines(
     settled: &[Settled<'_>],
     order: &[u32],
 ) -> Result<Vec<Text>, OutOfMemory>
-    ensures { IfOk result (λ lines. lines.items ≡ run_why_lines_of plan.now.dag settled.now order.now) }
+    ensures { IfOk result (λ lines. lines.items
+        ≡ run_why_lines_of plan.now.dag settled.now order.now) }
 {
     let last = last_failed(alloc, plan, settled, order)?;
     let blocked = without_status(alloc, plan, settled, order)?;

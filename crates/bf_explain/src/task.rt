@@ -120,7 +120,8 @@ pub fn explain_task(
     requires few { All (λ run. All IsFewTask run.tasks) report.now.runs }
     requires runs { length report.now.runs ≤ 4_096 }
     requires told_run { slice_get report.now.runs run ≡ Some told_run.now }
-    ensures { IfOk result (λ text. (told : TaskReport) → slice_get told_run.now.tasks task ≡ Some told
+    ensures { IfOk result (λ text. (told : TaskReport) → slice_get told_run.now.tasks task
+        ≡ Some told
         →
         IsTaskText paths.now plan.now.dag report.now run told_run.now task told index
         (string_bytes text)) }

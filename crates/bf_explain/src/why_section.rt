@@ -47,7 +47,8 @@ pub(crate) fn roots_if_untried(
 ) -> Result<Vec<Root>, OutOfMemory>
     requires tasks { All (λ run. length run.tasks ≡ length plan.now.dag.tasks) report.now.runs }
     requires few { All (λ run. All IsFewTask run.tasks) report.now.runs }
-    ensures { IfOk result (λ roots. AreRootsIf (is_tried_in told.now) plan.now.dag report.now run task
+    ensures { IfOk result (λ roots. AreRootsIf
+        (is_tried_in told.now) plan.now.dag report.now run task
         roots.items) }
 {
     if is_tried(told) {

@@ -147,7 +147,8 @@ fn find_in_exit(
     line: &[u8],
 ) -> Result<Option<Failure>, OutOfMemory>
     requires { task < length plan.now.dag.tasks }
-    ensures { IfOk result (λ failure. failure ≡ answer_failure plan.now.dag task exit (Line.Bytes line.now)) }
+    ensures { IfOk result (λ failure. failure
+        ≡ answer_failure plan.now.dag task exit (Line.Bytes line.now)) }
 {
     match exit {
         Exit::Code(SKIP_STATUS) => Ok(None),

@@ -26,7 +26,8 @@ fn see_text(
     failure: &Failure,
 ) -> Result<String, OutOfMemory>
     ensures { IfOk result (λ text.
-        string_bytes text ≡ see_text_of (option_map (λ l. l.now) logs.entry) context.now failure.now) }
+        string_bytes text
+        ≡ see_text_of (option_map (λ l. l.now) logs.entry) context.now failure.now) }
 {
     let Some(folder) = logs else {
         return Ok(String::new(alloc));
@@ -57,7 +58,8 @@ pub fn failed_line(
     failure: &Failure,
 ) -> Result<String, OutOfMemory>
     ensures { IfOk result (λ line.
-        string_bytes line ≡ failed_line_of (option_map (λ l. l.now) logs.entry) context.now failure.now) }
+        string_bytes line
+        ≡ failed_line_of (option_map (λ l. l.now) logs.entry) context.now failure.now) }
 {
     let name = try_text(alloc, context)?;
     let see = see_text(alloc, logs, context, failure)?;

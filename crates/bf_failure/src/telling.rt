@@ -45,7 +45,8 @@ impl<'a, R: DetailedRunner + Drop, T: Teller + Drop> Model for Telling<'a, R, T>
       logs = option_map (λ l. l.now) s.logs;
     } };
 
-    ghost invariant = { λ s. MayTellOf (may_tell_to T.may_tell s.teller) (R.may_answer s.runner) s.plan.now.dag s.runs.now (option_map (λ l. l.now) s.logs) };
+    ghost invariant = { λ s. MayTellOf (may_tell_to T.may_tell s.teller)
+        (R.may_answer s.runner) s.plan.now.dag s.runs.now (option_map (λ l. l.now) s.logs) };
 }
 
 impl<'a, R: DetailedRunner + Drop, T: Teller + Drop> Telling<'a, R, T> {
@@ -58,7 +59,8 @@ impl<'a, R: DetailedRunner + Drop, T: Teller + Drop> Telling<'a, R, T> {
         runner: R,
         teller: Option<T>,
     ) -> Self
-        requires { MayTellOf (may_tell_to T.may_tell teller) (R.may_answer runner) plan.now.dag runs.now (option_map (λ l. l.now) logs) }
+        requires { MayTellOf (may_tell_to T.may_tell teller)
+            (R.may_answer runner) plan.now.dag runs.now (option_map (λ l. l.now) logs) }
         ensures { result ≡ record {
           runner = runner;
           teller = teller;

@@ -219,7 +219,8 @@ pub(crate) fn names_for<'a>(
     document: &'a Value,
     form: Form,
 ) -> Result<Vec<&'a str>, OutOfMemory>
-    ensures { IfOk result (λ v. map (λ s. s.now) v.items ≡ names_of (view document.entry.now) form) }
+    ensures { IfOk result (λ v. map (λ s. s.now) v.items
+        ≡ names_of (view document.entry.now) form) }
 {
     match form {
         Form::TaskId => return ids_in(alloc, document),

@@ -58,7 +58,8 @@ fn unknown_key(alloc: Global, key: &str) -> Result<Text, OutOfMemory>
 
 /// The name of a pool and its slots.
 fn pool_shown(alloc: Global, name: &str, value: &Value) -> Result<Text, OutOfMemory>
-    ensures { IfOk result (λ t. t ≡ compact_text (string name.now) ++ codes ": " ++ shown_of (view value.now)) }
+    ensures { IfOk result (λ t. t ≡ compact_text (string name.now) ++ codes ": "
+        ++ shown_of (view value.now)) }
 {
     let (name, slots) = (quoted(alloc, name)?, shown(alloc, value)?);
     Ok(Text::new(format!(in alloc; "{name}: {slots}")?))

@@ -26,7 +26,8 @@ impl<'a> Draft<'a> {
 
     /// With an argument more.
     pub(crate) fn arg(self, argument: Arg<'a>) -> Draft<'a>
-        ensures { (app : App) (rule : Rule) → IsDraftOf app self.entry → rule_of argument.entry ≡ rule
+        ensures { (app : App) (rule : Rule) → IsDraftOf app self.entry → rule_of argument.entry
+            ≡ rule
             → rule.is_simple ≡ true → IsDraftOf (with_rule app rule) result }
     {
         match self.command {

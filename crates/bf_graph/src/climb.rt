@@ -25,7 +25,8 @@ struct Climb {
 /// The place of the first upstream without rank.
 fn unranked_from(ranks: &[Option<u32>], upstreams: &[u32], from: usize) -> Option<usize>
     requires { (u : ℕ) → Contains upstreams.now u → u < length ranks.now }
-    ensures { MatchOption result (AreRankedBetween ranks.now upstreams.now from (length upstreams.now))
+    ensures { MatchOption result
+        (AreRankedBetween ranks.now upstreams.now from (length upstreams.now))
         (IsFirstUnranked ranks.now upstreams.now from) }
 {
     for place in from..upstreams.len() {
@@ -38,7 +39,8 @@ fn unranked_from(ranks: &[Option<u32>], upstreams: &[u32], from: usize) -> Optio
 
 impl Climb {
     fn new(alloc: Global, n: usize) -> Result<Climb, OutOfMemory>
-        ensures { IfOk result (λ c. (edges : List (Vec ℕ Global)) → length edges ≡ n → IsDown edges c) }
+        ensures { IfOk result (λ c. (edges : List (Vec ℕ Global)) → length edges ≡ n
+            → IsDown edges c) }
     {
         Ok(Climb {
             found: Found::new(alloc, n)?,
@@ -85,7 +87,8 @@ impl Climb {
 pub(crate) fn found_in(alloc: Global, edges: &[Vec<u32>]) -> Result<Option<Found>, OutOfMemory>
     requires in_range { AreInRange (lists edges.now) }
     requires few { length edges.now + 1 < 2 ^ 32 }
-    ensures { IfOk result (λ found. MatchOption found (HasCycle (lists edges.now)) (AreAllFound edges.now)) }
+    ensures { IfOk result (λ found. MatchOption found (HasCycle (lists edges.now))
+        (AreAllFound edges.now)) }
 {
     let mut climb = Climb::new(alloc, edges.len())?;
     for t in 0..edges.len() {

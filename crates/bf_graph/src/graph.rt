@@ -41,7 +41,8 @@ impl Model for Graph {
 
     ghost view = { λ g. record { ids = g.ids; upstreams = lists g.edges.items } };
 
-    ghost invariant = { λ g. IsKept g.ids g.edges.items g.downstreams.items g.leaves.items g.ranks.items g.rows.items };
+    ghost invariant = { λ g. IsKept g.ids g.edges.items g.downstreams.items g.leaves.items
+        g.ranks.items g.rows.items };
 }
 
 impl Graph {
@@ -112,7 +113,8 @@ impl Graph {
     /// The tasks that a task reaches, in file order.
     pub fn descendants(&self, alloc: Global, task: u32) -> Result<Vec<u32>, OutOfMemory>
         requires { task < length self.now.upstreams }
-        ensures { IfOk result (λ tasks. IsRisingListOf (Reaches self.now.upstreams task) tasks.items) }
+        ensures { IfOk result (λ tasks. IsRisingListOf
+            (Reaches self.now.upstreams task) tasks.items) }
     {
         let reached = column(alloc, self.rows.as_slice(), task as usize)?;
         marked_places(alloc, reached.as_slice())
@@ -121,7 +123,8 @@ impl Graph {
     /// The tasks that reach a task, in file order.
     pub fn ancestors(&self, alloc: Global, task: u32) -> Result<Vec<u32>, OutOfMemory>
         requires { task < length self.now.upstreams }
-        ensures { IfOk result (λ tasks. IsRisingListOf (λ a. Reaches self.now.upstreams a task) tasks.items) }
+        ensures { IfOk result (λ tasks. IsRisingListOf
+            (λ a. Reaches self.now.upstreams a task) tasks.items) }
     {
         marked_places(alloc, self.rows[task as usize].as_slice())
     }
@@ -213,7 +216,10 @@ impl Graph {
         requires same { length ids.items ≡ length upstreams.items }
         requires few { length ids.items + 1 < 2 ^ 32 }
         requires in_range { AreInRange (lists upstreams.items) }
-        ensures ok { IfOk result (λ g. g ≡ record { ids = texts ids.items; upstreams = lists upstreams.items }) }
+        ensures ok { IfOk result (λ g. g ≡ record {
+          ids = texts ids.items;
+          upstreams = lists upstreams.items;
+        }) }
         ensures acyclic { OnOk result (IsAcyclic (lists upstreams.items)) }
         ensures cycle { IfErr result (λ e. IsRightFault (lists upstreams.items) e) }
     {
@@ -236,7 +242,10 @@ impl Graph {
         requires few { length ids.items + 1 < 2 ^ 32 }
         requires in_range { AreInRange (lists edges.items) }
         requires found { AreAllFound edges.items found }
-        ensures ok { IfOk result (λ g. g ≡ record { ids = texts ids.items; upstreams = lists edges.items }) }
+        ensures ok { IfOk result (λ g. g ≡ record {
+          ids = texts ids.items;
+          upstreams = lists edges.items;
+        }) }
         ensures acyclic { OnOk result (IsAcyclic (lists edges.items)) }
     {
         let ranks = unwrapped(alloc, found.ranks.as_slice())?;

@@ -12,7 +12,8 @@ use std::alloc::Global;
 fn add_last(tasks: &mut Vec<u32>, task: u32) -> Result<(), OutOfMemory>
     requires rising { IsStrictlyIncreasing tasks.old.items }
     requires last { All (λ t. t ≤ task) tasks.old.items }
-    ensures { OnOk result (IsRisingListOf (λ t. Contains tasks.old.items t ⊎ (t ≡ task)) tasks.new.items) }
+    ensures { OnOk result (IsRisingListOf (λ t. Contains tasks.old.items t
+        ⊎ (t ≡ task)) tasks.new.items) }
 {
     if let Some(last) = tasks.last() {
         if *last == task {
@@ -32,7 +33,8 @@ fn add_downstream(
     requires in_range { AreInRange (lists edges.now) }
     requires within { task < length edges.now }
     requires below { AreDownstreamsBelow (lists edges.now) task (lists found.old.items) }
-    ensures { OnOk result (AreDownstreamsBelow (lists edges.now) (task + 1) (lists found.new.items)) }
+    ensures { OnOk result (AreDownstreamsBelow (lists edges.now) (task + 1)
+        (lists found.new.items)) }
 {
     for u in edges[task as usize].as_slice() {
         add_last(&mut found[*u as usize], task)?;
@@ -78,7 +80,8 @@ fn empty_ones(alloc: Global, lists: &[Vec<u32>]) -> Result<Vec<bool>, OutOfMemor
 /// The places that are marked.
 pub(crate) fn marked_places(alloc: Global, marks: &[bool]) -> Result<Vec<u32>, OutOfMemory>
     requires { length marks.now < 2 ^ 32 }
-    ensures { IfOk result (λ places. IsRisingListOf (λ t. is_marked_in marks.now t ≡ true) places.items) }
+    ensures { IfOk result (λ places. IsRisingListOf (λ t. is_marked_in marks.now t
+        ≡ true) places.items) }
 {
     let mut places = Vec::new(alloc);
     for t in 0..marks.len() {
@@ -92,7 +95,8 @@ pub(crate) fn marked_places(alloc: Global, marks: &[bool]) -> Result<Vec<u32>, O
 /// The tasks without downstreams.
 pub(crate) fn leaves_of(alloc: Global, downstreams: &[Vec<u32>]) -> Result<Vec<u32>, OutOfMemory>
     requires { length downstreams.now < 2 ^ 32 }
-    ensures { IfOk result (λ leaves. (ups : List (List ℕ)) → AreDownstreams ups (lists downstreams.now)
+    ensures { IfOk result (λ leaves. (ups : List (List ℕ))
+        → AreDownstreams ups (lists downstreams.now)
         → IsRisingListOf (IsLeaf ups) leaves.items) }
 {
     let are_leaves = empty_ones(alloc, downstreams)?;
@@ -113,7 +117,8 @@ pub(crate) fn column(
     place: usize,
 ) -> Result<Vec<bool>, OutOfMemory>
     requires { All (λ row. place < length row.items) rows.now }
-    ensures { IfOk result (λ marks. marks.items ≡ map (λ row. is_marked_in row.items place) rows.now) }
+    ensures { IfOk result (λ marks. marks.items
+        ≡ map (λ row. is_marked_in row.items place) rows.now) }
 {
     Ok(
         rows.iter()

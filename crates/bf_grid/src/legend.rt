@@ -33,7 +33,8 @@ fn meaning_of(mark: Mark) -> &'static str
 
 /// Whether a task has this mark in one of the runs.
 fn has_mark(alloc: Global, runs: &[&RunReport], mark: Mark, task: u32) -> Result<bool, OutOfMemory>
-    ensures { IfOk result (λ has_it. has_it ≡ has_mark_in (map (λ run. run.now) runs.now) mark task) }
+    ensures { IfOk result (λ has_it. has_it
+        ≡ has_mark_in (map (λ run. run.now) runs.now) mark task) }
 {
     for run in runs {
         if Mark::of(tally_at(alloc, run, task)?).weight() == mark.weight() {

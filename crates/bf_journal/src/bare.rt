@@ -87,7 +87,8 @@ fn named_in<'l>(plan: &Plan, runs: &Runs, line: &'l [u8]) -> Option<(JobName, &'
 /// How a try ended that pushed nothing and was given nothing, and what stands behind that.
 fn ended_in(fields: &[u8]) -> Option<(Outcome, &[u8])>
     ensures pushed { IfSome result (λ p. pushed_by p.0 ≡ None) }
-    ensures fields { IfSome result (λ p. fields.now ≡ quoted (outcome_word p.0) ++ (codes ",[],[],[]," ++ p.1.now)) }
+    ensures fields { IfSome result
+        (λ p. fields.now ≡ quoted (outcome_word p.0) ++ (codes ",[],[],[]," ++ p.1.now)) }
 {
     if let Some(stamp) = behind(fields, b"\"success\",[],[],[],") {
         return Some((Outcome::Success(None), stamp));

@@ -14,7 +14,8 @@ use std::alloc::Global;
 #[tactic(auto, using(crate::proofs::Lasting::noted, crate::proofs::Lasting::not_noted))]
 fn note(ledger: &mut Ledger, name: JobName, entry: Entry) -> Result<(), OutOfMemory>
     ensures { OnOk result ((n : JobName) →
-        FinMap.get ledger.new n ≡ option_or (FinMap.get ledger.old n) (entry_named (name, entry) n)) }
+        FinMap.get ledger.new n
+        ≡ option_or (FinMap.get ledger.old n) (entry_named (name, entry) n)) }
 {
     match ledger.note(name, entry) {
         Ok(()) => Ok(()),

@@ -41,9 +41,14 @@ impl<'a, K: Journaled, RT, R: DetailedRunner, D: Durable + Drop> Model
 
     ghost coded = { Prim.hlevel (codes, Dag.the_row.coded, Interval.the_row.coded) };
 
-    ghost view = { λ s. record { runner = s.runner.now; dag = s.plan.now.dag; intervals = s.runs.now } };
+    ghost view = { λ s. record {
+      runner = s.runner.now;
+      dag = s.plan.now.dag;
+      intervals = s.runs.now;
+    } };
 
-    ghost invariant = { λ s. MayRecord K.may_record (R.may_answer s.runner.now) s.plan.now.dag s.runs.now };
+    ghost invariant = { λ s. MayRecord K.may_record
+        (R.may_answer s.runner.now) s.plan.now.dag s.runs.now };
 }
 
 /// How a try ended, and its line.

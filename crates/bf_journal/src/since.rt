@@ -42,7 +42,8 @@ impl<K: KeptTries> KeptTries for Since<'_, K> {
     ghost use Rattle.std.specs.FinMap;
     ghost use Rattle.bf_journal.specs.Since.{left_of, since};
 
-    ghost kept = { λ s. since (left_of s.retry_failed s.plan.now.dag (FinMap.get s.tries.now)) (K.kept s.before.now) };
+    ghost kept = { λ s. since (left_of s.retry_failed s.plan.now.dag (FinMap.get s.tries.now))
+        (K.kept s.before.now) };
 
     fn answer(
         &self,

@@ -15,9 +15,11 @@ pub struct Keeping<'a, K, R> {
 impl<'a, K: KeptTries, R: TaskRunner> TaskRunner for Keeping<'a, K, R> {
     ghost use Rattle.bf_kept.specs.Kept.{IsAnswer, MayGiveUpAnew};
 
-    ghost may_answer = { λ s n g raw. IsAnswer (K.kept s.kept.now) (R.may_answer s.runner.now) n g raw };
+    ghost may_answer = { λ s n g raw. IsAnswer (K.kept s.kept.now)
+        (R.may_answer s.runner.now) n g raw };
 
-    ghost may_give_up = { λ s n g. MayGiveUpAnew (K.kept s.kept.now) (R.may_give_up s.runner.now) n g };
+    ghost may_give_up = { λ s n g. MayGiveUpAnew (K.kept s.kept.now)
+        (R.may_give_up s.runner.now) n g };
 
     fn run(&self, ticket: Ticket) -> Result<Done, (Ticket, RunnerFault)> {
         match self.kept.answer(self.alloc, ticket.name(), ticket.given()) {

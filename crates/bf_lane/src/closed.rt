@@ -26,7 +26,12 @@ impl<K: Service> Model for Closed<K> {
 
     ghost coded = { Prim.hlevel (codes, Job.the_row.coded, Answer.the_row.coded) };
 
-    ghost view = { λ c. record { submitted = (known c.jobs).put; taken = (known c.jobs).taken; sent = (known c.results).put; gathered = (known c.results).taken } };
+    ghost view = { λ c. record {
+      submitted = (known c.jobs).put;
+      taken = (known c.jobs).taken;
+      sent = (known c.results).put;
+      gathered = (known c.results).taken;
+    } };
 }
 
 impl<K: Service> Closed<K> {

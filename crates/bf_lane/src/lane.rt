@@ -47,7 +47,8 @@ impl<'s, K: Service> Model for Lane<'s, K> {
 
     ghost view = { λ l. scheduled (known l.puts).put (known l.gathers).taken };
 
-    ghost invariant = { λ l. IsOpen l.queues.now l.worker.promise.queues.now l.puts l.gathers l.is_busy };
+    ghost invariant = { λ l. IsOpen l.queues.now l.worker.promise.queues.now l.puts l.gathers
+        l.is_busy };
 }
 
 /// The queues of a lane, each of capacity 2, and a seat for each of the four kinds of step.

@@ -34,5 +34,6 @@ pub struct Serves<'s, K: Service> {
 impl<'s, K: Service> Promise<(Seat<Job>, Seat<Reply<K>>)> for Serves<'s, K> {
     ghost use Rattle.bf_lane.specs.Service.{HasServed};
 
-    ghost kept_by = { λ p r. HasServed K.answers K.gives_up p.queues.now.jobs p.queues.now.results r.0 r.1 };
+    ghost kept_by = { λ p r. HasServed K.answers K.gives_up p.queues.now.jobs p.queues.now.results
+        r.0 r.1 };
 }

@@ -27,7 +27,8 @@ fn are_two_apart(first: Moment, second: Moment, seconds: u32) -> bool
 
 /// Whether each moment is at least so many seconds behind the one before.
 fn are_apart(starts: &[Moment], seconds: u32) -> bool
-    ensures { result ≡ are_apart_in (seconds_of seconds) (map (λ start. start.at.nanosecond) starts.now) }
+    ensures { result ≡ are_apart_in (seconds_of seconds)
+        (map (λ start. start.at.nanosecond) starts.now) }
 {
     let Some((first, rest)) = starts.split_first() else {
         return true;

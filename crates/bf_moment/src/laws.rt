@@ -5,7 +5,8 @@ ghost use Rattle.bf_moment.specs.Long.{is_long, IsTextOfMoment};
 
 /// No two moments of whole seconds have one text.
 pub fn moments_differ_in_text()
-    ensures { (m n : ℤ) → IsShown m → IsShown n → IsWhole m → IsWhole n → moment_text m ≡ moment_text n → m ≡ n }
+    ensures { (m n : ℤ) → IsShown m → IsShown n → IsWhole m → IsWhole n → moment_text m
+        ≡ moment_text n → m ≡ n }
 {}
 
 /// The texts of the long form are those that are written of moments.

@@ -47,7 +47,8 @@ fn date_in(text: &[u8]) -> Option<Date>
 }
 
 fn time_in(text: &[u8]) -> Option<Time>
-    ensures found { IfSome result (λ t. (t.subsec_nanosecond ≡ 0) × (text.now ≡ clock_time_text t)) }
+    ensures found { IfSome result
+        (λ t. (t.subsec_nanosecond ≡ 0) × (text.now ≡ clock_time_text t)) }
     ensures none { IfNone result ((t : Time) → text.now ≡ clock_time_text t → ⊥) }
 {
     let [h, o, b':', m, i, b':', s, e] = text else {
@@ -93,7 +94,8 @@ fn moment_of(at: DateTime) -> Timestamp
 /// hour 24 and no second 60. A moment in the last 25:59:59 of the year 9999, which are past the last `Timestamp`,
 /// counts as that one.
 pub fn moment_in(text: &str) -> Option<Timestamp>
-    ensures found { IfSome result (λ t. (n : ℤ) × (Spells text.now n × (t.nanosecond ≡ nearest n))) }
+    ensures found { IfSome result
+        (λ t. (n : ℤ) × (Spells text.now n × (t.nanosecond ≡ nearest n))) }
     ensures none { IfNone result ((n : ℤ) → Spells text.now n → ⊥) }
 {
     let at = clock_in(text.as_bytes())?;

@@ -27,7 +27,10 @@ impl Model for Pools {
 
     ghost view = { λ p. record { sizes = p.sizes.items; occupied = p.occupied.items } };
 
-    ghost invariant = { λ p. AreWithin (record { sizes = p.sizes.items; occupied = p.occupied.items }) };
+    ghost invariant = { λ p. AreWithin (record {
+      sizes = p.sizes.items;
+      occupied = p.occupied.items;
+    }) };
 }
 
 impl Pools {
@@ -62,7 +65,8 @@ impl Pools {
     pub fn take(&mut self, pool: u32, slots: u32) -> Result<(), NoRoom>
         requires { pool < length self.old.sizes }
         ensures fits { IsOk result ↔ (occupied_of self.old pool + slots ≤ size_of self.old pool) }
-        ensures ok { OnOk result (HasOccupied self.old pool (occupied_of self.old pool + slots) self.new) }
+        ensures ok { OnOk result (HasOccupied self.old pool
+            (occupied_of self.old pool + slots) self.new) }
         ensures err { OnErr result (self.new ≡ self.old) }
     {
         let at = pool as usize;

@@ -179,9 +179,11 @@ impl<'s, 'p, 'i, 'l, S: Starter> ProcessRunner<'s, 'p, 'i, 'l, S> {
 impl<'s, 'p, 'i, 'l, S: Starter> TaskRunner for ProcessRunner<'s, 'p, 'i, 'l, S> {
     ghost use Rattle.bf_process.specs.Words.{MayAnswer, MayGiveUp, lost_through, through};
 
-    ghost may_answer = { λ s n g r. MayAnswer (through s.launching (S.may_hear s.starter)) s.dag s.intervals n g r };
+    ghost may_answer = { λ s n g r. MayAnswer
+        (through s.launching (S.may_hear s.starter)) s.dag s.intervals n g r };
 
-    ghost may_give_up = { λ s n g. MayGiveUp (lost_through s.launching (S.may_lose s.starter)) s.dag s.intervals n g };
+    ghost may_give_up = { λ s n g. MayGiveUp
+        (lost_through s.launching (S.may_lose s.starter)) s.dag s.intervals n g };
 
     fn run(&self, ticket: Ticket) -> Result<Done, (Ticket, RunnerFault)> {
         let (done, _) = self.run_in_detail(ticket)?;

@@ -30,9 +30,12 @@ impl TryLogs {
         context: &JobContext<'_>,
         given_text: String,
     ) -> Result<TryLogs, OutOfMemory>
-        ensures out { IfOk result (λ logs. string_bytes logs.out ≡ log_of folder.now context.now (codes ".out")) }
-        ensures err { IfOk result (λ logs. string_bytes logs.err ≡ log_of folder.now context.now (codes ".err")) }
-        ensures given { IfOk result (λ logs. string_bytes logs.given ≡ log_of folder.now context.now (codes ".given.json")) }
+        ensures out { IfOk result (λ logs. string_bytes logs.out
+            ≡ log_of folder.now context.now (codes ".out")) }
+        ensures err { IfOk result (λ logs. string_bytes logs.err
+            ≡ log_of folder.now context.now (codes ".err")) }
+        ensures given { IfOk result (λ logs. string_bytes logs.given
+            ≡ log_of folder.now context.now (codes ".given.json")) }
         ensures text { IfOk result (λ logs. logs.given_text ≡ given_text) }
     {
         Ok(TryLogs {

@@ -20,7 +20,8 @@ use serde_json::{Map, Value};
 use std::alloc::Global;
 
 fn only_of<'a>(members: &'a Map<String, Value>) -> Option<(&'a str, &'a Value)>
-    ensures { option_map (λ m. (m.0.now, view m.1.now)) result ≡ only_in (members_view members.entry.now.entries) }
+    ensures { option_map (λ m. (m.0.now, view m.1.now)) result
+        ≡ only_in (members_view members.entry.now.entries) }
 {
     if members.len() != 1 {
         return None;
@@ -34,7 +35,8 @@ fn only_of<'a>(members: &'a Map<String, Value>) -> Option<(&'a str, &'a Value)>
 /// The member of an object with exactly one key.
 #[tactic(auto, unfolding(crate::specs::Commands::only_member))]
 fn only_member<'a>(path: Path, value: &'a Value) -> Result<(&'a str, &'a Value), ReadFault>
-    ensures { Gives (λ m. (m.0.now, view m.1.now)) result (only_member_in path (view value.entry.now)) }
+    ensures { Gives (λ m. (m.0.now, view m.1.now)) result
+        (only_member_in path (view value.entry.now)) }
 {
     value
         .as_object()

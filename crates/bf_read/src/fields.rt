@@ -67,7 +67,8 @@ impl<'a> GraphObject<'a> {
 impl<'a> TaskObject<'a> {
     /// The member at a key.
     pub(crate) fn at(self, key: TaskKey) -> Field<'a>
-        ensures { member_of result ≡ task_member self.entry.n (view self.entry.value.now) is_key_in }
+        ensures { member_of result
+            ≡ task_member self.entry.n (view self.entry.value.now) is_key_in }
     {
         Field {
             path: Path::TaskKey(self.n, key),
@@ -240,7 +241,8 @@ pub(crate) fn items_at<'a>(field: Field<'a>) -> Result<&'a [Value], ReadFault>
 /// The members of a value that has to be there.
 #[tactic(auto, unfolding(crate::specs::Fields::members_at))]
 pub(crate) fn members_at<'a>(field: Field<'a>) -> Result<&'a Map<String, Value>, ReadFault>
-    ensures { Gives (λ ms. members_view ms.now.entries) result (members_in (member_of field.entry)) }
+    ensures { Gives (λ ms. members_view ms.now.entries) result
+        (members_in (member_of field.entry)) }
 {
     field
         .value

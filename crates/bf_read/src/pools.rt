@@ -32,7 +32,8 @@ fn pools_in(
     path: Path,
     members: &Map<String, Value>,
 ) -> Result<Vec<PoolDraft>, ReadFault>
-    ensures exact { Gives (λ v. v.items) result (each_member (pool_in path) (members_view members.now.entries)) }
+    ensures exact { Gives (λ v. v.items) result
+        (each_member (pool_in path) (members_view members.now.entries)) }
     ensures pools { IfOk result (λ v. All IsPool v.items) }
     ensures by_name { IfOk result (λ v. StandByName v.items) }
 {

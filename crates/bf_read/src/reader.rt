@@ -19,7 +19,8 @@ use std::alloc::Global;
 
 #[tactic(auto, unfolding(crate::specs::Reading::draft_at))]
 fn draft_at(alloc: Global, graph: GraphObject) -> Result<Draft, ReadFault>
-    ensures { Gives graph_file_of result (draft_of_entry (graph_member (view graph.entry.value.now))) }
+    ensures { Gives graph_file_of result
+        (draft_of_entry (graph_member (view graph.entry.value.now))) }
 {
     let dag_id = id_at(alloc, graph.at(GraphKey::DagId))?;
     let schedule = text_at(graph.at(GraphKey::Schedule))?;

@@ -81,7 +81,8 @@ fn fresh(tasks: &[TaskDraft], id: Text) -> Result<Text, ReadFault>
 #[tactic(auto, unfolding(crate::specs::Reading::place_at))]
 fn place_of(alloc: Global, tasks: &[TaskDraft], task: TaskObject) -> Result<TaskPlace, ReadFault>
     requires { number_of_edges tasks.now ≤ most_edges }
-    ensures exact { Gives (λ p. p) result (place_in tasks.now (task_member task.entry.n (view task.entry.value.now))) }
+    ensures exact { Gives (λ p. p) result
+        (place_in tasks.now (task_member task.entry.n (view task.entry.value.now))) }
     ensures fresh { IfOk result (λ p. list_any (λ task. bytes_eq p.id task.id) tasks.now ≡ false) }
     ensures id { IfOk result (λ p. is_id_in p.id ≡ true) }
     ensures distinct { IfOk result (λ p. AreDistinct p.upstreams) }
@@ -103,7 +104,8 @@ fn place_of(alloc: Global, tasks: &[TaskDraft], task: TaskObject) -> Result<Task
 
 #[tactic(auto, unfolding(crate::specs::Reading::work_at))]
 fn work_of(alloc: Global, task: TaskObject) -> Result<TaskWork, ReadFault>
-    ensures exact { Gives (λ w. w) result (work_in (task_member task.entry.n (view task.entry.value.now))) }
+    ensures exact { Gives (λ w. w) result
+        (work_in (task_member task.entry.n (view task.entry.value.now))) }
     ensures few_words { IfOk result (λ w. length w.command ≤ most_words) }
     ensures few_pulls { IfOk result (λ w. length (pulled_in w.command) ≤ most_pulls) }
     ensures few_retries { IfOk result (λ w. w.retries ≤ most_retries) }
@@ -131,7 +133,8 @@ fn work_of(alloc: Global, task: TaskObject) -> Result<TaskWork, ReadFault>
 
 #[tactic(auto, unfolding(crate::specs::Reading::demand_at))]
 fn demand_of(alloc: Global, task: TaskObject) -> Result<TaskDemand, ReadFault>
-    ensures exact { Gives (λ d. d) result (demand_in (task_member task.entry.n (view task.entry.value.now))) }
+    ensures exact { Gives (λ d. d) result
+        (demand_in (task_member task.entry.n (view task.entry.value.now))) }
     ensures some_slots { IfOk result (λ d. 1 ≤ d.slots) }
     ensures few_slots { IfOk result (λ d. d.slots ≤ most_slots) }
     ensures light { IfOk result (λ d. d.weight ≤ greatest_weight) }
@@ -197,7 +200,8 @@ fn tasks_of(alloc: Global, items: &[Value]) -> Result<Vec<TaskDraft>, ReadFault>
 
 /// Refuses more tasks than there may be.
 fn few_tasks(path: Path, items: &[Value]) -> Result<(), ReadFault>
-    ensures exact { Gives (λ u. u) result (limit_of path (nat_le (items_len (items_view items.now)) most_tasks)) }
+    ensures exact { Gives (λ u. u) result
+        (limit_of path (nat_le (items_len (items_view items.now)) most_tasks)) }
     ensures few { OnOk result (length items.now ≤ most_tasks) }
 {
     limit(path, items.len() <= MOST_TASKS)

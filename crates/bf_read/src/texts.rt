@@ -16,7 +16,8 @@ use std::collections::HashSet;
 
 /// The texts of a list of texts.
 fn texts_in<'a>(alloc: Global, path: Path, items: &'a [Value]) -> Result<Vec<&'a str>, ReadFault>
-    ensures { Gives (λ v. map (λ s. s.now) v.items) result (texts_of path (items_view items.entry.now)) }
+    ensures { Gives (λ v. map (λ s. s.now) v.items) result
+        (texts_of path (items_view items.entry.now)) }
 {
     let mut texts = Vec::new(alloc);
     for item in items {

@@ -85,7 +85,12 @@ impl Model for InstanceReport {
 
     ghost Value = { ReportedInstance };
 
-    ghost coded = { Prim.hlevel (codes, Xval.the_row.coded, TaskResult.the_row.coded, Pull.the_row.coded) };
+    ghost coded = { Prim.hlevel (
+      codes,
+      Xval.the_row.coded,
+      TaskResult.the_row.coded,
+      Pull.the_row.coded,
+    ) };
 
     ghost use Rattle.bf_report.specs.Told.{instance_told};
 

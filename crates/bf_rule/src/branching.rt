@@ -37,7 +37,8 @@ fn is_downstream_value(graph: &Graph, branch: u32, value: &Xval) -> bool
 }
 
 fn are_downstream_values(graph: &Graph, branch: u32, values: &[Xval]) -> bool
-    ensures { result ≡ list_all (λ v. is_downstream_name_in graph.now branch (name_in v)) values.now }
+    ensures { result ≡ list_all
+        (λ v. is_downstream_name_in graph.now branch (name_in v)) values.now }
 {
     values
         .iter()
@@ -91,7 +92,8 @@ fn follows_by_value(graph: &Graph, branch: u32, value: &Xval, task: u32) -> bool
 
 fn follows_by_values(graph: &Graph, branch: u32, values: &[Xval], task: u32) -> bool
     requires { task < length graph.now.upstreams }
-    ensures { result ≡ list_any (λ v. followed_by_name graph.now branch task (name_in v)) values.now }
+    ensures { result ≡ list_any
+        (λ v. followed_by_name graph.now branch task (name_in v)) values.now }
 {
     values
         .iter()

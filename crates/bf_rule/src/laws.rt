@@ -19,7 +19,8 @@ pub fn verdicts_stay()
 /// than `followed` looks.
 pub fn followed_tasks_are_named_or_reached(graph: &Graph)
     ensures { (branch : ℕ) (value : Option Xval) (task : ℕ) →
-        (followed_at graph.now branch value task ≡ true) ↔ IsNamedOrReached graph.now branch value task }
+        (followed_at graph.now branch value task ≡ true)
+        ↔ IsNamedOrReached graph.now branch value task }
 {
     let _tasks = graph.len();
     graph.ranks();

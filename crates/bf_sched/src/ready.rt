@@ -36,7 +36,14 @@ impl<'a> Model for Ready<'a> {
 
     ghost Value = { Backfill };
 
-    ghost coded = { Prim.hlevel (codes, Dag.the_row.coded, Limits.the_row.coded, State.the_row.coded, Clock.the_row.coded, Event.the_row.coded) };
+    ghost coded = { Prim.hlevel (
+      codes,
+      Dag.the_row.coded,
+      Limits.the_row.coded,
+      State.the_row.coded,
+      Clock.the_row.coded,
+      Event.the_row.coded,
+    ) };
 
     ghost view = { λ r. r.core };
 

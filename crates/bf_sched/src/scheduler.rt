@@ -39,7 +39,14 @@ impl<'a> Model for Scheduler<'a> {
 
     ghost Value = { Schedule };
 
-    ghost coded = { Prim.hlevel (codes, Dag.the_row.coded, Limits.the_row.coded, State.the_row.coded, Clock.the_row.coded, Event.the_row.coded) };
+    ghost coded = { Prim.hlevel (
+      codes,
+      Dag.the_row.coded,
+      Limits.the_row.coded,
+      State.the_row.coded,
+      Clock.the_row.coded,
+      Event.the_row.coded,
+    ) };
 
     ghost view = { λ s. record { backfill = s.ready; workers = s.workers } };
 

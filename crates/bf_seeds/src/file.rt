@@ -19,7 +19,8 @@ pub fn read_seeds(
     intervals: &[Interval],
     bytes: &[u8],
 ) -> Result<Vec<Seed>, SeedsFault>
-    ensures ok { IfOk result (λ seeds. AreSeedsOfFile plan.now.dag intervals.now bytes.now seeds.items) }
+    ensures ok { IfOk result (λ seeds. AreSeedsOfFile plan.now.dag intervals.now bytes.now
+        seeds.items) }
     ensures err { IfErr result (IsFaultOfFile plan.now.dag intervals.now bytes.now) }
 {
     if bytes.len() > LONGEST_FILE {

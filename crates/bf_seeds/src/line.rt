@@ -25,8 +25,10 @@ fn cut(text: &str) -> Option<(&str, &str)>
 
 /// The task that a text names, and the map index.
 fn task_in(text: &str) -> Option<(&str, Option<i32>)>
-    ensures found { IfSome result (λ found. SpellsTask text.now (cut_of text.now) found.0.now found.1) }
-    ensures none { IfNone result ((task : List ℕ) (index : Option ℤ) → SpellsTask text.now (cut_of text.now) task index → ⊥) }
+    ensures found { IfSome result
+        (λ found. SpellsTask text.now (cut_of text.now) found.0.now found.1) }
+    ensures none { IfNone result ((task : List ℕ) (index : Option ℤ)
+        → SpellsTask text.now (cut_of text.now) task index → ⊥) }
 {
     match cut(text) {
         None if text.is_empty() => None,

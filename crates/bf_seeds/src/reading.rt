@@ -78,8 +78,10 @@ fn seeds_of(
     intervals: &[Interval],
     lines: &[&str],
 ) -> Result<Vec<Seed>, SeedsFault>
-    ensures ok { IfOk result (λ seeds. AreSeeds plan.now.dag intervals.now (map (λ line. line.now) lines.now) seeds.items) }
-    ensures err { IfErr result (IsFirstFault plan.now.dag intervals.now (map (λ line. line.now) lines.now)) }
+    ensures ok { IfOk result (λ seeds. AreSeeds plan.now.dag intervals.now
+        (map (λ line. line.now) lines.now) seeds.items) }
+    ensures err { IfErr result (IsFirstFault plan.now.dag intervals.now
+        (map (λ line. line.now) lines.now)) }
 {
     let mut seeds = Vec::new(alloc);
     for line in lines {
@@ -99,7 +101,8 @@ pub fn seeds_in(
     intervals: &[Interval],
     text: &str,
 ) -> Result<Vec<Seed>, SeedsFault>
-    ensures ok { IfOk result (λ seeds. AreSeeds plan.now.dag intervals.now (lines_in text.now) seeds.items) }
+    ensures ok { IfOk result (λ seeds. AreSeeds plan.now.dag intervals.now
+        (lines_in text.now) seeds.items) }
     ensures err { IfErr result (IsFirstFault plan.now.dag intervals.now (lines_in text.now)) }
 {
     match lines_of(alloc, text) {

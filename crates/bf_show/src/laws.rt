@@ -11,7 +11,8 @@ ghost use Rattle.bf_show.specs.JsonLines.{instance_members, untried_members};
 
 /// The line of an instance of an expanded task is read as JSON with just its members, in their order.
 pub fn instances_are_read_back()
-    ensures { (run : RunReport) (id : List ℕ) (index : ℕ) (instance : InstanceReport) → index < 2 ^ 64
+    ensures { (run : RunReport) (id : List ℕ) (index : ℕ) (instance : InstanceReport) → index
+        < 2 ^ 64
         → instance.result.tries < 2 ^ 64 → IsSoundInstance instance
         → depth (outline (object (instance_members run id (unsigned index) instance))) ≤ max_depth
         → document (compact_text (object (instance_members run id (unsigned index) instance)))

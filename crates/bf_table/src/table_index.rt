@@ -144,7 +144,8 @@ fn first_with_date(
 
 #[tactic(auto, using(crate::proofs::IndexLemmas::two_groups))]
 fn first_with_task(firsts: &Firsts, asked: Pattern, task: Option<u32>) -> Option<usize>
-    ensures { result ≡ first_of_keys (BTreeMap.get pattern_cmp firsts.now) (keys_with_task asked task) }
+    ensures { result ≡ first_of_keys (BTreeMap.get pattern_cmp firsts.now)
+        (keys_with_task asked task) }
 {
     let any = first_with_date(firsts, asked, task, None);
     let same = first_with_date(firsts, asked, task, asked.date);

@@ -96,7 +96,8 @@ fn agrees(entry: &Entry, other: Option<&Entry>) -> bool
 }
 
 fn all_agree(entries: &BTreeMap<JobName, Entry>, other: &Ledger) -> bool
-    ensures all { IsTrue result ↔ All (λ e. Agree e.1 (FinMap.get other.now e.0)) entries.now.entries }
+    ensures all { IsTrue result
+        ↔ All (λ e. Agree e.1 (FinMap.get other.now e.0)) entries.now.entries }
     ensures ordered { IsOrdered name_cmp entries.now }
 {
     for (name, entry) in entries.iter() {

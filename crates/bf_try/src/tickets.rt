@@ -43,7 +43,12 @@ impl Model for Done {
 
     ghost Value = { Answered };
 
-    ghost coded = { Prim.hlevel (codes, JobName.the_row.coded, Given.the_row.coded, Raw.the_row.coded) };
+    ghost coded = { Prim.hlevel (
+      codes,
+      JobName.the_row.coded,
+      Given.the_row.coded,
+      Raw.the_row.coded,
+    ) };
 
     ghost view = { λ d. record { name = d.name; given = d.given; raw = d.raw } };
 }

@@ -48,7 +48,8 @@ fn are_nested_within(values: &Values, deepest: usize) -> bool
 /// What is left of the room after the text of a value.
 #[cycle(room)]
 fn room_after(room: usize, value: &Xval) -> Option<usize>
-    ensures { SomeIff result (length (json_of value.now) ≤ room) (room - length (json_of value.now)) }
+    ensures { SomeIff result (length (json_of value.now)
+        ≤ room) (room - length (json_of value.now)) }
 {
     match value {
         Xval::Flag(true) | Xval::Nil => room.checked_sub(4),
@@ -61,7 +62,8 @@ fn room_after(room: usize, value: &Xval) -> Option<usize>
 
 #[cycle(room)]
 fn room_after_list(room: usize, values: &Values) -> Option<usize>
-    ensures { SomeIff result (length (list_text values.now) ≤ room) (room - length (list_text values.now)) }
+    ensures { SomeIff result (length (list_text values.now)
+        ≤ room) (room - length (list_text values.now)) }
 {
     if values.items.is_empty() {
         return room.checked_sub(2);

@@ -61,7 +61,8 @@ fn by_blocked_tasks(
 ) -> Result<Vec<Text>, OutOfMemory>
     requires { task < length plan.now.dag.tasks }
     ensures { (before : Option RunReport) → IfOk result (λ lines.
-        lines.items ≡ decided_of plan.now.dag settled.now before task StateCause.UpstreamIsBlocked) }
+        lines.items ≡ decided_of plan.now.dag settled.now before task
+        StateCause.UpstreamIsBlocked) }
 {
     let names = blocked_tasks(alloc, plan, settled, upstreams_of(plan, task))?;
     one_line(alloc, upstreams_sentence(alloc, names.as_slice())?)

@@ -55,7 +55,8 @@ fn foreign_lines(
     is_expanded: bool,
     cause: StateCause,
 ) -> Result<Vec<Text>, OutOfMemory>
-    ensures { IfOk result (λ lines. lines.items ≡ codes "What the report has doesn't follow from this graph."
+    ensures { IfOk result (λ lines. lines.items
+        ≡ codes "What the report has doesn't follow from this graph."
         ∷ would_be_of is_expanded cause ∷ []) }
 {
     let first = Text::copied(alloc, "What the report has doesn't follow from this graph.")?;

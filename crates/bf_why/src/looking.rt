@@ -31,7 +31,8 @@ fn pushed_alone(results: &[TaskResult]) -> Option<&Xval>
 
 /// What the first instance of a task pushed.
 pub fn pushed_by<'a>(settled: &'a [Settled<'_>], task: u32) -> Option<&'a Xval>
-    ensures { option_copied result ≡ pushed_alone_in (results_of (value_among settled.entry.now task)) }
+    ensures { option_copied result
+        ≡ pushed_alone_in (results_of (value_among settled.entry.now task)) }
 {
     match settled.get(task as usize) {
         Some(settled) => pushed_alone(settled.results()),

@@ -178,7 +178,8 @@ fn because_of(
     states: States,
 ) -> Result<Text, OutOfMemory>
     requires { task < length dag.now.tasks }
-    ensures { IfOk result (λ text. text ≡ since_text_of dag.now settled.now task (because_of_states states)) }
+    ensures { IfOk result (λ text. text
+        ≡ since_text_of dag.now settled.now task (because_of_states states)) }
 {
     let upstreams = dag.task(task).upstreams.as_slice();
     let names = names_in(alloc, dag, settled, upstreams, states)?;

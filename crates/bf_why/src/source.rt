@@ -15,7 +15,8 @@ use std::alloc::Global;
 
 fn no_list(alloc: Global, source: Option<&Settled<'_>>) -> Result<Text, OutOfMemory>
     ensures { (each : Bool) → IfOk result (λ text.
-        text ≡ items_text_of each (option_map (λ t. t.now) source.entry) StateCause.ItemsAreMissing) }
+        text ≡ items_text_of each
+        (option_map (λ t. t.now) source.entry) StateCause.ItemsAreMissing) }
 {
     let came = came_text(alloc, source)?;
     Ok(Text::new(format!(in alloc; ", which pushed no list: it {came}.")?))
@@ -58,7 +59,8 @@ fn expanded_sentence(
     cause: StateCause,
     source: u32,
 ) -> Result<Text, OutOfMemory>
-    ensures { IfOk result (λ text. text ≡ expanded_sentence_of plan.now.dag settled.now cause source) }
+    ensures { IfOk result (λ text. text
+        ≡ expanded_sentence_of plan.now.dag settled.now cause source) }
 {
     let dag = plan.dag();
     let items = items_text(

@@ -97,7 +97,8 @@ pub(crate) fn blocked_branches(
     upstreams: &[u32],
 ) -> Result<Vec<Text>, OutOfMemory>
     ensures { IfOk result (λ ids. ids.items
-        ≡ flat_map (λ u. if branch_is plan.now.dag is_blocked_in u (Some (value_among settled.now u))
+        ≡ flat_map (λ u. if branch_is plan.now.dag is_blocked_in u
+        (Some (value_among settled.now u))
         then id_of plan.now.dag u ∷ [] else []) upstreams.now) }
 {
     let mut ids = Vec::new(alloc);
@@ -115,7 +116,8 @@ pub(crate) fn blocked_tasks(
     settled: &[Settled<'_>],
     upstreams: &[u32],
 ) -> Result<Vec<Text>, OutOfMemory>
-    ensures { IfOk result (λ ids. ids.items ≡ flat_map (λ u. if is_blocked_in (value_among settled.now u)
+    ensures { IfOk result (λ ids. ids.items
+        ≡ flat_map (λ u. if is_blocked_in (value_among settled.now u)
         then id_of plan.now.dag u ∷ [] else []) upstreams.now) }
 {
     let mut ids = Vec::new(alloc);
@@ -127,7 +129,8 @@ pub(crate) fn blocked_tasks(
 }
 
 fn have(count: usize) -> &'static str
-    ensures { result.now ≡ (if count == 1 then codes " has no status." else codes " have no status.") }
+    ensures { result.now ≡ (if count == 1 then codes " has no status." else codes
+        " have no status.") }
 {
     if count == 1 {
         " has no status."

@@ -53,7 +53,8 @@ fn came_to_lines(
 ) -> Result<Vec<Text>, OutOfMemory>
     requires task { task < length plan.now.dag.tasks }
     requires counted { counts.now ≡ counts_of_results_of results.now }
-    ensures { IfOk result (λ lines. lines.items ≡ came_to_lines_of plan.now.dag task results.now index) }
+    ensures { IfOk result (λ lines. lines.items
+        ≡ came_to_lines_of plan.now.dag task results.now index) }
 {
     match index {
         Some(index) => one_of(alloc, plan, task, results, index),

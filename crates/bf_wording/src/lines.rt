@@ -46,7 +46,8 @@ pub fn add_if(
     holds: bool,
     line: &str,
 ) -> Result<(), OutOfMemory>
-    ensures { OnOk result (lines.new.items ≡ lines.old.items ++ (if holds then line.now ∷ [] else [])) }
+    ensures { OnOk result (lines.new.items ≡ lines.old.items
+        ++ (if holds then line.now ∷ [] else [])) }
 {
     if holds {
         add(alloc, lines, line)

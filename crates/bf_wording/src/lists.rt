@@ -67,7 +67,8 @@ pub fn push_listed(
     names: &[Text],
     most: usize,
 ) -> Result<(), OutOfMemory>
-    ensures { OnOk result (string_bytes text.new ≡ string_bytes text.old ++ listed_of most names.now) }
+    ensures { OnOk result (string_bytes text.new ≡ string_bytes text.old
+        ++ listed_of most names.now) }
 {
     let kept = shortened(alloc, names, most)?;
     push_joined(text, kept.as_slice())

@@ -13,6 +13,7 @@ pub fn offset_form()
 
 /// One text and one file mean one zone: of any two that they allow, the instant of every civil time is the same.
 pub fn one_zone()
-    ensures { (a : Asked) (file : Option (List ℕ)) (x y : TimeZone) → IsZone a file x → IsZone a file y →
+    ensures { (a : Asked) (file : Option (List ℕ)) (x y : TimeZone) → IsZone a file x
+        → IsZone a file y →
         (at : DateTime) → picked_instant x at ≡ picked_instant y at }
 {}
