@@ -1,5 +1,10 @@
 //! What is cleared: tasks in runs, or single instances of them, named by ids, logical dates and map indexes, and all that follows
 //! from them (Airflow's "Clear", downstream and future).
+//!
+//! - A [`Seed`] is what a user names, a [`Place`] the same by numbers; one that the plan doesn't have is refused.
+//! - [`Followers`] are the least set that has the seeds, the downstreams of what it has, and, of a task that depends on its
+//!   past, the same task in the next run. They stand in a row of marks a run, made in the order of dates.
+//! - `Followers::places` lists them, which `clear --plan` prints.
 #![tactic(auto)]
 
 mod fault;

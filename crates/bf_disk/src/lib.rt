@@ -1,5 +1,9 @@
 //! Where files are read, replaced and locked, and which programs can be started: traits that tell what they give, the files of the
 //! system, and files in memory.
+//!
+//! - [`Source`] reads, [`Journals`] opens and locks, [`Launchers`] tells whether a program can be started. [`Disk`] is all of
+//!   them over the system; [`StoredFiles`] over memory, where a contract can say which bytes a path has.
+//! - [`NewFile`] replaces a file: it is written beside the old one, with its permissions, and renamed once it is whole.
 #![tactic(auto)]
 
 mod disk;

@@ -1,4 +1,7 @@
 //! What the bytes of a graph file come to: its size, a plan, and the runs of its schedule in a range, which `list` prints.
+//!
+//! It joins reading, checking, zones, schedules and ranges for the commands: bytes go in, and a plan with its runs, or the
+//! fault that is printed, comes out.
 #![tactic(auto)]
 
 mod check;

@@ -1,5 +1,7 @@
 //! Tests of the core and of what stands between it and graphs: pulls and words, tables, and the events of a run, chosen by
 //! hand.
+//!
+//! A clause needs no test. What stands here is what no clause says: values worked out by hand.
 #![tactic(auto)]
 
 #[cfg(test)]

@@ -1,5 +1,7 @@
-//! Tests of what is read off graphs: trigger rules and weights. The plans of graph files, and runs, are lent to the tests of the
-//! crates above; what is told of the files themselves is compared by tests/rows/graph_files.sh.
+//! Tests of what is read off graphs: trigger rules and weights.
+//!
+//! The plans of graph files, and runs, are lent to the tests of the crates above; what is told of the files themselves is
+//! compared by tests/rows/graph_files.sh.
 #![tactic(auto)]
 
 mod plans;

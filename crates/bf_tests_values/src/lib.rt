@@ -1,4 +1,6 @@
 //! Tests of what stands below graphs: values, moments, schedules, zones, data intervals and days.
+//!
+//! Expected values are worked out by hand; tests/oracles compares many more with readings in Python.
 #![tactic(auto)]
 
 #[cfg(test)]
