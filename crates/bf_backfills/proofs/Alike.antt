@@ -13,15 +13,15 @@ use Rattle.bf_command_fault.specs.declared.fault.CommandFault.TheVariants.{Read,
 use Rattle.bf_command_fault.specs.declared.range.RangeFault.{RangeFault}
 use Rattle.bf_planning.specs.declared.check.GraphSize.{GraphSize}
 use Rattle.bf_planning.specs.declared.range.RunRange.{RunRange}
-use Rattle.bf_commands.specs.DatedRuns.{IsFaultOfDry, IsReportIn}
+use Rattle.bf_commands.specs.DatedRuns.{DryFault, IsDryReport}
 use Rattle.bf_planning.specs.Graphs.{IsFaultIn, IsFileOf, IsGraph, IsSizeOf}
 use Rattle.bf_commands.specs.Journaled.{IsJournaledReport}
-use Rattle.bf_planning.specs.Lists.{HasListing, IsFaultOfList, IsListIn}
-use Rattle.bf_commands.specs.OneRun.{IsFaultOfSingle, IsReportAt}
+use Rattle.bf_planning.specs.Lists.{HasListing, ListFault, IsListIn}
+use Rattle.bf_commands.specs.OneRun.{SingleFault, IsSingleReport}
 use Rattle.bf_planning.specs.Tables.{IsTable}
 use Rattle.bf_process.specs.Words.{LaunchingOf}
 use Rattle.bf_planning.specs.Clocks.{AreClocksOf}
-use Rattle.bf_commands.specs.Programs.{Hearing, Losing, IsFaultOfRun, IsRunReport}
+use Rattle.bf_commands.specs.Programs.{Hearing, Losing, RunFault, IsRunReport}
 use Rattle.bf_input.specs.Inputs.{AreAlike}
 
 module _ (read held : List ℕ) (one two : Option (List ℕ)) (alike : AreAlike read held one two) where
@@ -64,7 +64,7 @@ module _ (read held : List ℕ) (one two : Option (List ℕ)) (alike : AreAlike 
   pub list_of : (range : RunRange) (text : List ℕ) → IsListIn read one range text → IsListIn held two range text
   list_of range text is = record { found = is.found; listing = listing_of range _ is.listing; text_is = is.text_is }
 
-  pub list_fault : (range : RunRange) (fault : CommandFault) → IsFaultOfList read one range fault → IsFaultOfList held two range fault
+  pub list_fault : (range : RunRange) (fault : CommandFault) → ListFault read one range fault → ListFault held two range fault
   list_fault range (Range fault) is = listing_of range _ is
   list_fault range (CannotWrite n) is = tt
   list_fault range fault is = fault_in fault is
@@ -96,7 +96,7 @@ module _ (read held : List ℕ) (one two : Option (List ℕ)) (alike : AreAlike 
     reported = is.reported;
   }
 
-  pub run_fault : (launching : LaunchingOf) (may_lose : Losing) (range : RunRange) (fault : CommandFault) → IsFaultOfRun launching may_lose read one range fault → IsFaultOfRun launching may_lose held two range fault
+  pub run_fault : (launching : LaunchingOf) (may_lose : Losing) (range : RunRange) (fault : CommandFault) → RunFault launching may_lose read one range fault → RunFault launching may_lose held two range fault
   run_fault launching may_lose range (Stopped stop) is = record {
     draft = is.draft;
     found = is.found;
@@ -112,7 +112,7 @@ module _ (read held : List ℕ) (one two : Option (List ℕ)) (alike : AreAlike 
     a_table : IsTable table → IsTable other
     a_table is = record { entries = is.entries; says = sym same ∙ is.says }
 
-    pub report_at : (at : Timestamp) (text : List ℕ) (success : Bool) → IsReportAt read one table at text success → IsReportAt held two other at text success
+    pub report_at : (at : Timestamp) (text : List ℕ) (success : Bool) → IsSingleReport read one table at text success → IsSingleReport held two other at text success
     report_at at text success is = record {
       draft = is.draft;
       entries = is.entries;
@@ -122,7 +122,7 @@ module _ (read held : List ℕ) (one two : Option (List ℕ)) (alike : AreAlike 
       reported = is.reported;
     }
 
-    pub report_in : (range : RunRange) (text : List ℕ) (success : Bool) → IsReportIn read one table range text success → IsReportIn held two other range text success
+    pub report_in : (range : RunRange) (text : List ℕ) (success : Bool) → IsDryReport read one table range text success → IsDryReport held two other range text success
     report_in range text success is = record {
       draft = is.draft;
       entries = is.entries;
@@ -133,13 +133,13 @@ module _ (read held : List ℕ) (one two : Option (List ℕ)) (alike : AreAlike 
       reported = is.reported;
     }
 
-    pub single_fault : (at : Timestamp) (fault : CommandFault) → IsFaultOfSingle read one table at fault → IsFaultOfSingle held two other at fault
+    pub single_fault : (at : Timestamp) (fault : CommandFault) → SingleFault read one table at fault → SingleFault held two other at fault
     single_fault at (Table fault) is = (is.0, graph_of is.0 is.1, sym same ∙ is.2)
     single_fault at (Range fault) is = (is.0, graph_of is.0 is.1, a_table is.2, is.3, is.4)
     single_fault at (CannotWrite n) is = tt
     single_fault at fault is = fault_in fault is
 
-    pub dry_fault : (alone : Bool) (range : RunRange) (fault : CommandFault) → IsFaultOfDry alone read one table range fault → IsFaultOfDry alone held two other range fault
+    pub dry_fault : (alone : Bool) (range : RunRange) (fault : CommandFault) → DryFault alone read one table range fault → DryFault alone held two other range fault
     dry_fault alone range (Table fault) is = (is.0, graph_of is.0 is.1, sym same ∙ is.2)
     dry_fault alone range (Range fault) is = (a_table is.0, listing_of range _ is.1)
     dry_fault alone range (CannotWrite n) is = tt

@@ -17,10 +17,10 @@ use Rattle.bf_command_fault.specs.declared.status.Status.{Status}
 use Rattle.bf_command_fault.specs.declared.stop.StopFault.{StopFault}
 use Rattle.bf_planning.specs.declared.range.RunRange.{RunRange}
 use Rattle.bf_report_reader.specs.Reading.{IsReadAs}
-use Rattle.bf_commands.specs.Cleared.{IsFaultAgain, IsPrepared, IsReady, IsReportAfter, IsUncleared}
-use Rattle.bf_commands.specs.Journaled.{Heading, IsClearable, IsClearedBy, IsFaultSince, IsJournaledAfter}
+use Rattle.bf_commands.specs.Cleared.{ClearingFault, IsPrepared, IsReady, IsReportAfter, IsUncleared}
+use Rattle.bf_commands.specs.Journaled.{Heading, IsClearable, IsClearedBy, JournalReportFault, IsJournaledAfter}
 use Rattle.bf_commands.specs.OverTable.{is_alone_in}
-use Rattle.bf_commands.specs.Planned.{IsClearPlan, IsFaultOfClearPlan}
+use Rattle.bf_commands.specs.Planned.{IsClearPlan, ClearPlanFault}
 use Rattle.bf_process.specs.Words.{LaunchingOf}
 use Rattle.bf_commands.specs.Programs.{Hearing, Losing, launched_by, with_clocks}
 use Rattle.bf_commands.proofs.Faults.{unwritten_leaves}
@@ -111,7 +111,7 @@ module _ (may_lose : Losing) (files : Files) (machine : Machine) (asked : ClearA
       -- ---- where no journal is named
 
       module _ (none : asked.journal ≡ None) where
-        clear_again : (fault : CommandFault) → IsFaultAgain (is_alone_in asked.progress) (with_clocks (launching_asked_of asked.launcher asked.logs) clocks) may_lose answers dag found was what fault → IsClearFault may_lose files machine asked fault
+        clear_again : (fault : CommandFault) → ClearingFault (is_alone_in asked.progress) (with_clocks (launching_asked_of asked.launcher asked.logs) clocks) may_lose answers dag found was what fault → IsClearFault may_lose files machine asked fault
         clear_again (Clear fault) is = clear_refused (Clear fault) is
         clear_again (Seeds fault) is = clear_refused (Seeds fault) is
         clear_again OutOfMemory is = clear_memory
@@ -162,7 +162,7 @@ module _ (may_lose : Losing) (files : Files) (machine : Machine) (asked : ClearA
         can_clear kept cleared is = (readable, report_readable, what, means_what, clearable kept cleared is)
 
         goes_wrong : (fault : CommandFault) (kept : Ledger) (cleared : Heading) (is : IsClearedBy dag found was what kept cleared)
-            → OfJournal machine.journals journal (λ bytes. IsFaultSince journal.stop_after kept journal.retry_failed bytes cleared (option_map string_bytes asked.logs) dag found fault)
+            → OfJournal machine.journals journal (λ bytes. JournalReportFault journal.stop_after kept journal.retry_failed bytes cleared (option_map string_bytes asked.logs) dag found fault)
             → GoesWrongOver files machine.journals asked journal range fault
         goes_wrong fault kept cleared is wrong = (
           readable,
@@ -293,7 +293,7 @@ module _ (files : Files) (asked : ClearPlanAsked) (range : RunRange) (means : Me
       report_says : (held : List ℕ) → IsHeld (files (string_bytes asked.report)) held → IsReadAs held was
       report_says held told = is_read.says held (stays ∙ told)
 
-      pub plan_fault : (fault : CommandFault) → IsFaultOfClearPlan dag found was what fault → IsClearPlanFault files asked fault
+      pub plan_fault : (fault : CommandFault) → ClearPlanFault dag found was what fault → IsClearPlanFault files asked fault
       plan_fault (CannotWrite n) is = of_planning (CannotWrite n) (readable, report_readable)
       plan_fault (Clear fault) is = of_planning (Clear fault) (uncleared files (plan_input asked) range dag found clocks answers readable what means_what said report_readable was report_says (Clear fault) is)
       plan_fault (Seeds fault) is = of_planning (Seeds fault) (uncleared files (plan_input asked) range dag found clocks answers readable what means_what said report_readable was report_says (Seeds fault) is)

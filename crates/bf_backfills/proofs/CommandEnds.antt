@@ -23,14 +23,14 @@ use Rattle.bf_command_fault.specs.Refusal.{of_cause, of_write}
 use Rattle.bf_command_fault.specs.Status.{of_runs}
 use Rattle.bf_planning.specs.declared.check.GraphSize.{GraphSize}
 use Rattle.bf_planning.specs.declared.range.RunRange.{RunRange}
-use Rattle.bf_commands.specs.DatedRuns.{IsFaultOfDry, IsReportIn}
+use Rattle.bf_commands.specs.DatedRuns.{DryFault, IsDryReport}
 use Rattle.bf_commands.specs.OverTable.{is_alone_in}
 use Rattle.bf_planning.specs.Graphs.{IsFaultIn, IsGraph, IsSizeOf}
-use Rattle.bf_commands.specs.Journaled.{GoesWrong, IsFaultSince}
-use Rattle.bf_planning.specs.Lists.{HasListing, IsFaultOfList, IsListIn}
-use Rattle.bf_commands.specs.OneRun.{IsFaultOfSingle, IsReportAt}
+use Rattle.bf_commands.specs.Journaled.{GoesWrong, JournalReportFault}
+use Rattle.bf_planning.specs.Lists.{HasListing, ListFault, IsListIn}
+use Rattle.bf_commands.specs.OneRun.{SingleFault, IsSingleReport}
 use Rattle.bf_process.specs.Words.{LaunchingOf}
-use Rattle.bf_commands.specs.Programs.{Hearing, Losing, IsFaultOfRun, IsRunReport}
+use Rattle.bf_commands.specs.Programs.{Hearing, Losing, RunFault, IsRunReport}
 use Rattle.bf_disk.specs.Files.{AreReadable, Files, IsFirstUntold}
 use Rattle.bf_input.specs.Inputs.{OfFiles, OfFilesAndTable, graph_paths, table_paths, AreAlike}
 use Rattle.bf_input.specs.Moments.{Means}
@@ -101,7 +101,7 @@ module _ {files : Files} (asked : ListAsked) (range : RunRange) (means : MeansRa
     text_is = λ graph held are. list_of read graph zone held (bytes.alike graph held are) range text is;
   }
 
-  pub list_files : (fault : CommandFault) → IsFaultOfList read zone range fault → IsListFault files asked fault
+  pub list_files : (fault : CommandFault) → ListFault read zone range fault → IsListFault files asked fault
   list_files BadMoment is = absurd is
   list_files OutOfMemory is = (range, means, tt)
   list_files (CannotRead path) is = absurd is
@@ -112,7 +112,7 @@ module _ {files : Files} (asked : ListAsked) (range : RunRange) (means : MeansRa
 
 module _ {files : Files} (asked : SingleAsked) (at : Timestamp) (means : Means (string_bytes asked.at) at) {read table : List ℕ} {zone : Option (List ℕ)}
     (bytes : AreBytesWithTable files asked.graph (string_bytes asked.table) read table zone) where
-  pub single_answer : (text : List ℕ) (success : Bool) → IsReportAt read zone table at text success → IsSingleAnswer files asked text (of_runs success)
+  pub single_answer : (text : List ℕ) (success : Bool) → IsSingleReport read zone table at text success → IsSingleAnswer files asked text (of_runs success)
   single_answer text success is = record {
     at = at;
     means = means;
@@ -122,7 +122,7 @@ module _ {files : Files} (asked : SingleAsked) (at : Timestamp) (means : Means (
     text_is = λ graph other held are holds. (let same = bytes.alike graph other held are holds in report_at read graph zone held same.0 table other same.1 at text success is);
   }
 
-  pub single_files : (fault : CommandFault) → IsFaultOfSingle read zone table at fault → IsSingleFault files asked fault
+  pub single_files : (fault : CommandFault) → SingleFault read zone table at fault → IsSingleFault files asked fault
   single_files BadMoment is = absurd is
   single_files OutOfMemory is = (at, means, tt)
   single_files (CannotRead path) is = absurd is
@@ -133,7 +133,7 @@ module _ {files : Files} (asked : SingleAsked) (at : Timestamp) (means : Means (
 
 module _ {files : Files} (asked : DryAsked) (range : RunRange) (means : MeansRange asked.range range) {read table : List ℕ} {zone : Option (List ℕ)}
     (bytes : AreBytesWithTable files asked.graph (string_bytes asked.table) read table zone) where
-  pub dry_answer : (text : List ℕ) (success : Bool) → IsReportIn read zone table range text success → IsDryAnswer files asked text (of_runs success)
+  pub dry_answer : (text : List ℕ) (success : Bool) → IsDryReport read zone table range text success → IsDryAnswer files asked text (of_runs success)
   dry_answer text success is = record {
     range = range;
     means = means;
@@ -143,7 +143,7 @@ module _ {files : Files} (asked : DryAsked) (range : RunRange) (means : MeansRan
     text_is = λ graph other held are holds. (let same = bytes.alike graph other held are holds in report_in read graph zone held same.0 table other same.1 range text success is);
   }
 
-  pub dry_files : (fault : CommandFault) → IsFaultOfDry (is_alone_in asked.progress) read zone table range fault → IsDryFault files asked fault
+  pub dry_files : (fault : CommandFault) → DryFault (is_alone_in asked.progress) read zone table range fault → IsDryFault files asked fault
   dry_files BadMoment is = absurd is
   dry_files OutOfMemory is = (range, means, tt)
   dry_files (CannotRead path) is = absurd is
@@ -190,7 +190,7 @@ module _ {files : Files} (machine : Machine) (asked : RunAsked) (range : RunRang
           (run_report read graph zone held (bytes.alike graph held are) (launching_asked_of asked.launcher asked.logs) may_hear range text success is);
     }
 
-    by_files : (may_lose : Losing) (fault : CommandFault) → IsFaultOfRun (launching_asked_of asked.launcher asked.logs) may_lose read zone range fault → IsRunFaultBy (launching_asked_of asked.launcher asked.logs) may_lose files machine.journals asked.graph None range fault
+    by_files : (may_lose : Losing) (fault : CommandFault) → RunFault (launching_asked_of asked.launcher asked.logs) may_lose read zone range fault → IsRunFaultBy (launching_asked_of asked.launcher asked.logs) may_lose files machine.journals asked.graph None range fault
     by_files may_lose BadMoment is = absurd is
     by_files may_lose OutOfMemory is = tt
     by_files may_lose (CannotRead path) is = absurd is
@@ -200,7 +200,7 @@ module _ {files : Files} (machine : Machine) (asked : RunAsked) (range : RunRang
     as_run : (may_lose : Losing) (fault : CommandFault) → IsRunFaultBy (launching_asked_of asked.launcher asked.logs) may_lose files machine.journals asked.graph None range fault → IsRunFaultBy (launching_asked_of asked.launcher asked.logs) may_lose files machine.journals asked.graph asked.journal range fault
     as_run may_lose fault is = subst (λ (o : Option JournalAsked). IsRunFaultBy (launching_asked_of asked.launcher asked.logs) may_lose files machine.journals asked.graph o range fault) (sym none) is
 
-    run_files : (may_lose : Losing) (fault : CommandFault) → IsFaultOfRun (launching_asked_of asked.launcher asked.logs) may_lose read zone range fault → IsRunFault may_lose files machine asked fault
+    run_files : (may_lose : Losing) (fault : CommandFault) → RunFault (launching_asked_of asked.launcher asked.logs) may_lose read zone range fault → IsRunFault may_lose files machine asked fault
     run_files may_lose BadMoment is = absurd is
     run_files may_lose (CannotLaunch path) is = absurd is
     run_files may_lose fault is = (range, means, as_run may_lose fault (by_files may_lose fault is))
@@ -224,7 +224,7 @@ module _ {files : Files} (machine : Machine) (asked : RunAsked) (range : RunRang
     has_runs found listing graph held are = (found, listing_of read graph zone held (bytes.alike graph held are) range _ listing)
 
     goes_wrong : (fault : CommandFault) (draft : Draft) (found : List Interval) → IsGraph read zone draft → HasListing read zone range (Ok found)
-        → OfJournal machine.journals journal (λ holds. IsFaultSince journal.stop_after nothing journal.retry_failed holds [] (option_map string_bytes asked.logs) (dag_of draft) found fault)
+        → OfJournal machine.journals journal (λ holds. JournalReportFault journal.stop_after nothing journal.retry_failed holds [] (option_map string_bytes asked.logs) (dag_of draft) found fault)
         → OfFiles files asked.graph (λ graph held. OfJournal machine.journals journal (λ holds. GoesWrong journal.stop_after (option_map string_bytes asked.logs) graph held journal.retry_failed holds range fault))
     goes_wrong fault draft found graph_is listing wrong graph held are holds told = record {
       draft = draft;
@@ -246,7 +246,7 @@ module _ {files : Files} (machine : Machine) (asked : RunAsked) (range : RunRang
     over_journal (CannotWrite n) draft found graph_is listing is = (bytes.readable, λ graph held are. tt)
     over_journal fault draft found graph_is listing is = absurd is
 
-    before_journal : (fault : CommandFault) → IsFaultOfList read zone range fault → IsRecordedRunFault (option_map string_bytes asked.logs) files machine.journals asked.graph journal range fault
+    before_journal : (fault : CommandFault) → ListFault read zone range fault → IsRecordedRunFault (option_map string_bytes asked.logs) files machine.journals asked.graph journal range fault
     before_journal (Read fault) is = (bytes.readable, λ graph held are. list_fault read graph zone held (bytes.alike graph held are) range (Read fault) is)
     before_journal (Check fault) is = (bytes.readable, λ graph held are. list_fault read graph zone held (bytes.alike graph held are) range (Check fault) is)
     before_journal (Range fault) is = (bytes.readable, λ graph held are. list_fault read graph zone held (bytes.alike graph held are) range (Range fault) is)

@@ -22,8 +22,8 @@ use Rattle.bf_command_fault.specs.declared.stop.StopFault.{StopFault}
 use Rattle.bf_planning.specs.declared.range.RunRange.{RunRange}
 use Rattle.bf_commands.specs.Cleared.{MayAnswerBy}
 use Rattle.bf_planning.specs.Graphs.{IsPlanOf}
-use Rattle.bf_commands.specs.Journaled.{Heading, IsClearedBy, IsFaultSince, IsJournaledReport, IsReportSince}
-use Rattle.bf_planning.specs.Lists.{HasListing, IsDatedFault, IsFaultOfList}
+use Rattle.bf_commands.specs.Journaled.{Heading, IsClearedBy, JournalReportFault, IsJournaledReport, IsJournalReport}
+use Rattle.bf_planning.specs.Lists.{HasListing, IsDatedFault, ListFault}
 use Rattle.bf_planning.specs.Clocks.{AreClocksOf}
 use Rattle.bf_commands.specs.Programs.{Hearing, HearingTries, launched_by}
 use Rattle.bf_disk.specs.Files.{Files}
@@ -33,12 +33,12 @@ use Rattle.bf_backfills.specs.Journals.{IsFaultOfRecorded, IsFaultOver, IsJourna
 
 module _ (journals : Files) (asked : JournalAsked) (held : List ℕ) (is_held : OfJournal journals asked (λ told. held ≡ told)) (before : Ledger) (cleared : Heading) (dag : Dag) (found : List Interval) where
   module _ (logs : Option (List ℕ)) where
-    as_told : (fault : CommandFault) → IsFaultSince asked.stop_after before asked.retry_failed held cleared logs dag found fault
-        → OfJournal journals asked (λ told. IsFaultSince asked.stop_after before asked.retry_failed told cleared logs dag found fault)
-    as_told fault is told holds = subst (λ (h : List ℕ). IsFaultSince asked.stop_after before asked.retry_failed h cleared logs dag found fault) (is_held told holds) is
+    as_told : (fault : CommandFault) → JournalReportFault asked.stop_after before asked.retry_failed held cleared logs dag found fault
+        → OfJournal journals asked (λ told. JournalReportFault asked.stop_after before asked.retry_failed told cleared logs dag found fault)
+    as_told fault is told holds = subst (λ (h : List ℕ). JournalReportFault asked.stop_after before asked.retry_failed h cleared logs dag found fault) (is_held told holds) is
 
     -- the fault is told with the journal's path
-    pub over : (fault : CommandFault) → IsFaultSince asked.stop_after before asked.retry_failed held cleared logs dag found fault → IsFaultOver journals asked before cleared logs dag found (journaled_fault (string_bytes asked.path) fault)
+    pub over : (fault : CommandFault) → JournalReportFault asked.stop_after before asked.retry_failed held cleared logs dag found fault → IsFaultOver journals asked before cleared logs dag found (journaled_fault (string_bytes asked.path) fault)
     over (Journal fault) is = as_told (Journal fault) is
     over (Stopped StopFault.CannotRecord) is = refl
     over (Stopped StopFault.CannotStart) is = as_told (Stopped StopFault.CannotStart) is
@@ -49,9 +49,9 @@ module _ (journals : Files) (asked : JournalAsked) (held : List ℕ) (is_held : 
     over (CannotWrite n) is = tt
     over fault is = absurd is
 
-  pub report_over : (may_answer : JobName → Given → Raw → Type 0) (text : List ℕ) (success : Bool) → IsReportSince before asked.retry_failed held cleared may_answer dag found text success
+  pub report_over : (may_answer : JobName → Given → Raw → Type 0) (text : List ℕ) (success : Bool) → IsJournalReport before asked.retry_failed held cleared may_answer dag found text success
       → IsReportOver journals asked before cleared may_answer dag found text success
-  report_over may_answer text success is told holds = subst (λ (h : List ℕ). IsReportSince before asked.retry_failed h cleared may_answer dag found text success) (is_held told holds) is
+  report_over may_answer text success is told holds = subst (λ (h : List ℕ). IsJournalReport before asked.retry_failed h cleared may_answer dag found text success) (is_held told holds) is
 
 -- and leaves what it left
 pub told_leaves : (path : List ℕ) (Halted : Type 0) (IsDue : List ℕ → Type 0) (before after : Option (List ℕ)) (fault : CommandFault) → Leaves Halted IsDue before after fault → Leaves Halted IsDue before after (journaled_fault path fault)
@@ -65,7 +65,7 @@ module _ (journals : Files) (asked : JournalAsked) (held : List ℕ) (is_held : 
     (before : Ledger) (cleared : Heading) (dag : Dag) (found : List Interval) (report : Result Bool CommandFault) where
   module _ (may_answer : JobName → Given → Raw → Type 0) (went went_after : Option (List ℕ)) where
     abbrev Reported : Bool → List ℕ → Bool → Type 0
-    Reported r text success = IsReportSince before r held cleared may_answer dag found text success
+    Reported r text success = IsJournalReport before r held cleared may_answer dag found text success
 
     as_asked : (text : List ℕ) (success : Bool) → Reported retry text success → IsReportOver journals asked before cleared may_answer dag found text success
     as_asked text success is = report_over journals asked held is_held before cleared dag found may_answer text success (subst (λ (r : Bool). Reported r text success) is_retry is)
@@ -86,17 +86,17 @@ module _ (journals : Files) (asked : JournalAsked) (held : List ℕ) (is_held : 
         (λ text due. (due.0, as_asked text due.0 due.1)) went went_after fault left)
 
   pub fault_over : (logs : Option (List ℕ)) (most : Option ℕ) → most ≡ asked.stop_after → (path : List ℕ) → path ≡ string_bytes asked.path → (fault : CommandFault) → report ≡ Err fault
-      → IfErr report (IsFaultSince most before retry held cleared logs dag found) → IsFaultOver journals asked before cleared logs dag found (journaled_fault path fault)
+      → IfErr report (JournalReportFault most before retry held cleared logs dag found) → IsFaultOver journals asked before cleared logs dag found (journaled_fault path fault)
   fault_over logs most is_most path is_path fault is err =
-      let since : IsFaultSince most before retry held cleared logs dag found fault = subst (λ (r : Result Bool CommandFault). IfErr r (IsFaultSince most before retry held cleared logs dag found)) is err in
-      let by_most = subst (λ (m : Option ℕ). IsFaultSince m before retry held cleared logs dag found fault) is_most since in
-      let by_retry = subst (λ (r : Bool). IsFaultSince asked.stop_after before r held cleared logs dag found fault) is_retry by_most in
+      let since : JournalReportFault most before retry held cleared logs dag found fault = subst (λ (r : Result Bool CommandFault). IfErr r (JournalReportFault most before retry held cleared logs dag found)) is err in
+      let by_most = subst (λ (m : Option ℕ). JournalReportFault m before retry held cleared logs dag found fault) is_most since in
+      let by_retry = subst (λ (r : Bool). JournalReportFault asked.stop_after before r held cleared logs dag found fault) is_retry by_most in
       subst (λ (p : List ℕ). IsFaultOver journals asked before cleared logs dag found (journaled_fault p fault)) (sym is_path) (over journals asked held is_held before cleared dag found logs fault by_retry)
 
 -- ---- the runs of a range
 
 -- why they aren't there is why they aren't listed
-pub dated_list : (graph : List ℕ) (file : Option (List ℕ)) (range : RunRange) (fault : CommandFault) → IsDatedFault graph file range fault → IsFaultOfList graph file range fault
+pub dated_list : (graph : List ℕ) (file : Option (List ℕ)) (range : RunRange) (fault : CommandFault) → IsDatedFault graph file range fault → ListFault graph file range fault
 dated_list graph file range (Range fault) (inl is) = absurd is
 dated_list graph file range (Range fault) (inr is) = is
 dated_list graph file range (CannotWrite n) is = tt
@@ -116,7 +116,7 @@ module _ {graph : List ℕ} {file : Option (List ℕ)} {plan : Checked} (range :
     listing = listing;
     clocks = clocks;
     clocks_are = are;
-    reported = subst (λ (d : Dag). IsReportSince nothing asked.retry_failed held [] (MayAnswer (launched_by launching may_hear clocks) d found) d found text success) is.dag (over held told);
+    reported = subst (λ (d : Dag). IsJournalReport nothing asked.retry_failed held [] (MayAnswer (launched_by launching may_hear clocks) d found) d found text success) is.dag (over held told);
   }
 
   -- and so is the fault

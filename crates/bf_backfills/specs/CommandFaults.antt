@@ -18,14 +18,14 @@ use Rattle.bf_command_fault.specs.declared.fault.CommandFault.TheVariants.{BadMo
 use Rattle.bf_command_fault.specs.declared.stop.StopFault.{StopFault}
 use Rattle.bf_planning.specs.declared.range.RunRange.{RunRange}
 use Rattle.bf_commands.specs.Cleared.{IsFaultBefore, IsReady, IsUnclearable, StopsClearing}
-use Rattle.bf_commands.specs.DatedRuns.{IsFaultOfDry}
+use Rattle.bf_commands.specs.DatedRuns.{DryFault}
 use Rattle.bf_planning.specs.Graphs.{IsFaultIn}
 use Rattle.bf_commands.specs.Journaled.{GoesWrong, GoesWrongClearing, IsClearable}
-use Rattle.bf_planning.specs.Lists.{HasListing, IsFaultOfList}
-use Rattle.bf_commands.specs.OneRun.{IsFaultOfSingle}
+use Rattle.bf_planning.specs.Lists.{HasListing, ListFault}
+use Rattle.bf_commands.specs.OneRun.{SingleFault}
 use Rattle.bf_commands.specs.OverTable.{is_alone_in}
 use Rattle.bf_process.specs.Words.{LaunchingOf}
-use Rattle.bf_commands.specs.Programs.{Losing, IsFaultOfRun}
+use Rattle.bf_commands.specs.Programs.{Losing, RunFault}
 use Rattle.bf_disk.specs.Files.{Files, IsReadable, IsUntold, AreReadable, IsFirstUntold}
 use Rattle.bf_input.specs.Inputs.{OfFiles, OfFilesAndTable, OfFilesAndNamedTable, graph_paths, table_paths}
 use Rattle.bf_input.specs.Moments.{Means, IsNoMoment}
@@ -56,20 +56,20 @@ IsCheckFault files asked fault = IsFaultOfFiles files (graph_paths asked) (OfFil
 abbrev pub IsListFault : Files → ListAsked → CommandFault → Type 0
 IsListFault files asked BadMoment = IsNoStarts asked.range.starts
 IsListFault files asked fault = (range : RunRange) × MeansRange asked.range range × IsFaultOfFiles files (graph_paths asked.graph)
-    (OfFiles files asked.graph (λ graph zone. IsFaultOfList graph zone range fault)) fault
+    (OfFiles files asked.graph (λ graph zone. ListFault graph zone range fault)) fault
 
 -- the moment comes first: the text is none; or it means one, and the fault is the first of the files, the graph, the table and the moment
 abbrev pub IsSingleFault : Files → SingleAsked → CommandFault → Type 0
 IsSingleFault files asked BadMoment = IsNoMoment (string_bytes asked.at)
 IsSingleFault files asked fault = (at : Timestamp) × Means (string_bytes asked.at) at × IsFaultOfFiles files (table_paths asked.graph (string_bytes asked.table))
-    (OfFilesAndTable files asked.graph (string_bytes asked.table) (λ graph zone table. IsFaultOfSingle graph zone table at fault)) fault
+    (OfFilesAndTable files asked.graph (string_bytes asked.table) (λ graph zone table. SingleFault graph zone table at fault)) fault
 
 -- moments come first: a text is no moment, or no days; or they mean a range, and the fault is the first of the files, the graph, the table and the range
 abbrev pub IsDryFault : Files → DryAsked → CommandFault → Type 0
 IsDryFault files asked BadMoment = IsNoStarts asked.range.starts
 IsDryFault files asked fault = (range : RunRange) × MeansRange asked.range range × IsFaultOfFiles files (table_paths asked.graph (string_bytes asked.table))
     (OfFilesAndTable files asked.graph (string_bytes asked.table) (λ graph zone table.
-    IsFaultOfDry (is_alone_in asked.progress) graph zone table range fault)) fault
+    DryFault (is_alone_in asked.progress) graph zone table range fault)) fault
 
 -- runs lie in the range
 abbrev pub HasRuns : RunRange → List ℕ → Option (List ℕ) → Type 0
@@ -88,12 +88,12 @@ IsRecordedRunFault logs files journals graph asked range (Stopped StopFault.Cann
 IsRecordedRunFault logs files journals graph asked range (Stopped stop) = AreReadable files (graph_paths graph) × OfFiles files graph (λ bytes zone. OfJournal journals asked (λ held.
     GoesWrong asked.stop_after logs bytes zone asked.retry_failed held range (Stopped stop)))
 IsRecordedRunFault logs files journals graph asked range fault = IsFaultOfFiles files (graph_paths graph)
-    (OfFiles files graph (λ bytes zone. IsFaultOfList bytes zone range fault)) fault
+    (OfFiles files graph (λ bytes zone. ListFault bytes zone range fault)) fault
 
 -- where no journal is named it is the first of the files, the graph, the range and what stops the backfill
 abbrev pub IsRunFaultBy : LaunchingOf → Losing → Files → Files → GraphAsked → Option JournalAsked → RunRange → CommandFault → Type 0
 IsRunFaultBy launching may_lose files journals graph None range fault = IsFaultOfFiles files (graph_paths graph)
-    (OfFiles files graph (λ bytes zone. IsFaultOfRun launching may_lose bytes zone range fault)) fault
+    (OfFiles files graph (λ bytes zone. RunFault launching may_lose bytes zone range fault)) fault
 IsRunFaultBy launching may_lose files journals graph (Some asked) range fault = IsRecordedRunFault launching.logs files journals graph asked range fault
 
 -- moments come first: a text is no moment, or no days; or the launcher can't be started; or they mean a range, and the fault is the first of what

@@ -34,11 +34,11 @@ use Rattle.bf_report.specs.declared.report.Report.{Report}
 use Rattle.bf_commands.specs.Planned.{IsClearPlan}
 use Rattle.bf_commands.specs.Cleared.{IsClearReport}
 use Rattle.bf_report_reader.specs.Reading.{IsReadAs}
-use Rattle.bf_commands.specs.DatedRuns.{IsReportIn}
+use Rattle.bf_commands.specs.DatedRuns.{IsDryReport}
 use Rattle.bf_planning.specs.Graphs.{IsGraph, IsSizeOf}
 use Rattle.bf_commands.specs.Journaled.{IsJournaledClearReport, IsJournaledReport}
 use Rattle.bf_planning.specs.Lists.{HasListing, IsListIn}
-use Rattle.bf_commands.specs.OneRun.{IsReportAt}
+use Rattle.bf_commands.specs.OneRun.{IsSingleReport}
 use Rattle.bf_process.specs.Words.{LaunchingOf}
 use Rattle.bf_commands.specs.Programs.{Hearing, IsRunReport}
 use Rattle.bf_disk.specs.Files.{AreReadable, Files, IsHeld, IsReadable, IsUntold}
@@ -159,7 +159,7 @@ pub record IsSingleAnswer (files : Files) (asked : SingleAsked) (text : List ℕ
   pub succeeded : Bool
   pub status_is : status ≡ of_runs succeeded
   pub readable : AreReadable files (table_paths asked.graph (string_bytes asked.table))
-  pub text_is : OfFilesAndTable files asked.graph (string_bytes asked.table) (λ graph zone table. IsReportAt graph zone table at text succeeded)
+  pub text_is : OfFilesAndTable files asked.graph (string_bytes asked.table) (λ graph zone table. IsSingleReport graph zone table at text succeeded)
 
 -- the report of a run for each data interval of the range over the table, and whether each is a success
 pub record IsDryAnswer (files : Files) (asked : DryAsked) (text : List ℕ) (status : Status) : Type 0 where
@@ -169,7 +169,7 @@ pub record IsDryAnswer (files : Files) (asked : DryAsked) (text : List ℕ) (sta
   pub status_is : status ≡ of_runs succeeded
   pub readable : AreReadable files (table_paths asked.graph (string_bytes asked.table))
   pub text_is : OfFilesAndTable files asked.graph (string_bytes asked.table) (λ graph zone table.
-      IsReportIn graph zone table range text succeeded)
+      IsDryReport graph zone table range text succeeded)
 
 -- the report of these bytes with the programs of the tasks; where a journal is named, of the backfill that goes on from that
 abbrev pub IsRunReportBy : LaunchingOf → Hearing → Files → Option JournalAsked → RunRange → List ℕ → Option (List ℕ) → List ℕ → Bool → Type 0

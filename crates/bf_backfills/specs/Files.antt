@@ -9,7 +9,7 @@ use Rattle.bf_table.specs.Tables.{table_in}
 use Rattle.bf_command_line.specs.declared.forms.GraphAsked.{GraphAsked}
 use Rattle.bf_command_fault.specs.declared.fault.CommandFault.{CommandFault}
 use Rattle.bf_planning.specs.declared.range.RunRange.{RunRange}
-use Rattle.bf_commands.specs.Cleared.{IsFaultAgain, IsFaultBefore, IsReportAfter}
+use Rattle.bf_commands.specs.Cleared.{ClearingFault, IsFaultBefore, IsReportAfter}
 use Rattle.bf_process.specs.Words.{LaunchingOf}
 use Rattle.bf_commands.specs.Programs.{HearingTries, Losing}
 use Rattle.bf_disk.specs.Files.{AreReadable, Files}
@@ -38,4 +38,4 @@ pub record IsReportAfterFile (may_hear : HearingTries) (answers : Option (List T
 -- the fault of a report's file, or else of the backfill that goes on from its report
 abbrev pub IsFaultAfterFile : Bool → LaunchingOf → Losing → Option (List TableEntry) → Dag → List Interval → List ℕ → Option (Option (List ℕ)) → ToClear → CommandFault → Type 0
 IsFaultAfterFile alone launching may_lose answers dag found path file what fault =
-    IsReportFault path file fault ⊎ ((was : Report) × IsReadOf file was × IsFaultAgain alone launching may_lose answers dag found was what fault)
+    IsReportFault path file fault ⊎ ((was : Report) × IsReadOf file was × ClearingFault alone launching may_lose answers dag found was what fault)

@@ -19,11 +19,11 @@ use Rattle.bf_command_fault.specs.declared.stop.StopFault.{StopFault}
 use Rattle.bf_planning.specs.declared.range.RunRange.{RunRange}
 use Rattle.bf_commands.specs.Cleared.{IsUncleared}
 use Rattle.bf_planning.specs.Graphs.{IsGraph}
-use Rattle.bf_commands.specs.Journaled.{Heading, IsClearedBy, IsFaultSince, IsJournaledAfter, IsReportSince}
-use Rattle.bf_planning.specs.Lists.{HasListing, IsFaultOfList}
+use Rattle.bf_commands.specs.Journaled.{Heading, IsClearedBy, JournalReportFault, IsJournaledAfter, IsJournalReport}
+use Rattle.bf_planning.specs.Lists.{HasListing, ListFault}
 use Rattle.bf_planning.specs.Wanting.{IsWanting}
 use Rattle.bf_process.specs.Words.{LaunchingOf}
-use Rattle.bf_commands.specs.Programs.{HearingTries, IsFaultOfRun, Losing}
+use Rattle.bf_commands.specs.Programs.{HearingTries, RunFault, Losing}
 use Rattle.bf_disk.specs.Files.{Files}
 use Rattle.bf_backfills.specs.Commands.{IsUnopened, OfJournal}
 use Rattle.bf_input.specs.Inputs.{IsReadOf, IsReportFault}
@@ -56,29 +56,29 @@ IsFaultOver journals asked before cleared logs dag found (CannotRead path) = IsF
 IsFaultOver journals asked before cleared logs dag found JournalInUse = IsFaultOfOpening journals asked JournalInUse
 IsFaultOver journals asked before cleared logs dag found (CannotWriteFile path) = path ≡ string_bytes asked.path
 IsFaultOver journals asked before cleared logs dag found (BadJournal fault) =
-    OfJournal journals asked (λ held. IsFaultSince asked.stop_after before asked.retry_failed held cleared logs dag found (BadJournal fault))
+    OfJournal journals asked (λ held. JournalReportFault asked.stop_after before asked.retry_failed held cleared logs dag found (BadJournal fault))
 IsFaultOver journals asked before cleared logs dag found (Stopped StopFault.CannotRecord) = ⊥
 IsFaultOver journals asked before cleared logs dag found (Stopped stop) =
-    OfJournal journals asked (λ held. IsFaultSince asked.stop_after before asked.retry_failed held cleared logs dag found (Stopped stop))
+    OfJournal journals asked (λ held. JournalReportFault asked.stop_after before asked.retry_failed held cleared logs dag found (Stopped stop))
 IsFaultOver journals asked before cleared logs dag found fault = IsWanting fault
 
 -- the report of the backfill that goes on from what the journal is told to hold
 abbrev pub IsReportOver : Files → JournalAsked → Ledger → Heading → (JobName → Given → Raw → Type 0) → Dag → List Interval → List ℕ → Bool → Type 0
 IsReportOver journals asked before cleared may_answer dag found text success =
-    OfJournal journals asked (λ held. IsReportSince before asked.retry_failed held cleared may_answer dag found text success)
+    OfJournal journals asked (λ held. IsJournalReport before asked.retry_failed held cleared may_answer dag found text success)
 
 -- ---- of `run`
 
 -- the report of these bytes, and the first fault of them and of the journal
 abbrev pub IsFaultOfRecorded : Option (List ℕ) → Files → JournalAsked → RunRange → List ℕ → Option (List ℕ) → CommandFault → Type 0
-IsFaultOfRecorded logs journals asked range graph zone fault = IsFaultOfList graph zone range fault
+IsFaultOfRecorded logs journals asked range graph zone fault = ListFault graph zone range fault
     ⊎ ((draft : Draft) × (found : List Interval) × IsGraph graph zone draft
     × HasListing graph zone range (Ok found)
     × IsFaultOver journals asked nothing [] logs (dag_of draft) found fault)
 
 -- where no journal is named, the first fault of them
 abbrev pub IsFaultOfRunBy : LaunchingOf → Losing → Files → Option JournalAsked → RunRange → List ℕ → Option (List ℕ) → CommandFault → Type 0
-IsFaultOfRunBy launching may_lose journals None range graph zone fault = IsFaultOfRun launching may_lose graph zone range fault
+IsFaultOfRunBy launching may_lose journals None range graph zone fault = RunFault launching may_lose graph zone range fault
 IsFaultOfRunBy launching may_lose journals (Some asked) range graph zone fault = IsFaultOfRecorded launching.logs journals asked range graph zone fault
 
 -- ---- of `clear`

@@ -18,7 +18,7 @@ use Rattle.bf_command_fault.specs.declared.fault.CommandFault.{CommandFault}
 use Rattle.bf_command_fault.specs.declared.fault.CommandFault.TheVariants.{Clear as NotCleared, OutOfMemory, Seeds as BadSeeds}
 use Rattle.bf_commands.specs.declared.cleared.ToClear.{ToClear}
 use Rattle.bf_planning.specs.declared.range.RunRange.{RunRange}
-use Rattle.bf_commands.specs.Cleared.{report_fault, AreAnswersIn, AreCleared, IsFaultAgain, IsFaultBefore, IsFaultOfNamed, IsKeptOf, IsPrepared, IsStopOrWantingFrom, IsUncleared, IsUnknown}
+use Rattle.bf_commands.specs.Cleared.{report_fault, AreAnswersIn, AreCleared, ClearingFault, IsFaultBefore, IsFaultOfNamed, IsKeptOf, IsPrepared, IsStopOrWantingFrom, IsUncleared, IsUnknown}
 use Rattle.bf_planning.specs.Graphs.{IsPlanOf}
 use Rattle.bf_planning.specs.Lists.{HasListing, IsRangeFault}
 use Rattle.bf_planning.specs.Clocks.{AreClocksOf}
@@ -53,7 +53,7 @@ module _ (dag : Dag) (intervals : List Interval) (was : Report) (what : ToClear)
   mismatch_uncleared places are ClearFault.OutOfMemory is = tt
 
   pub uncleared_again : (alone : Bool) (launching : LaunchingOf) (may_lose : Losing) (answers : Option (List TableEntry)) (fault : CommandFault) → IsUncleared dag intervals was what fault
-      → IsFaultAgain alone launching may_lose answers dag intervals was what fault
+      → ClearingFault alone launching may_lose answers dag intervals was what fault
   uncleared_again alone launching may_lose answers (NotCleared fault) is = is
   uncleared_again alone launching may_lose answers (BadSeeds fault) is = is
   uncleared_again alone launching may_lose answers OutOfMemory is = tt
@@ -62,11 +62,11 @@ module _ (dag : Dag) (intervals : List Interval) (was : Report) (what : ToClear)
 -- ---- the faults of what comes after it
 
 module _ (alone : Bool) (launching : LaunchingOf) (may_lose : Losing) (dag : Dag) (intervals : List Interval) (was : Report) (what : ToClear) (kept : Ledger) (is_kept : IsKeptOf dag intervals was what kept) where
-  stops_again : (answers : Option (List TableEntry)) (fault : CommandFault) → IsStopOrWantingFrom alone kept launching may_lose answers dag intervals fault → IsFaultAgain alone launching may_lose answers dag intervals was what fault
+  stops_again : (answers : Option (List TableEntry)) (fault : CommandFault) → IsStopOrWantingFrom alone kept launching may_lose answers dag intervals fault → ClearingFault alone launching may_lose answers dag intervals was what fault
   stops_again None =
-      stop_cases (IsFaultAgain alone launching may_lose None dag intervals was what) (MayGiveUpAnew kept (MayGiveUpLaunched launching may_lose dag intervals)) launching.logs dag intervals (λ stop is. (kept, is_kept, is)) tt (λ n. tt)
-  stops_again (Some entries) = workers_cases (IsFaultAgain alone launching may_lose (Some entries) dag intervals was what) alone (λ started. (kept, is_kept, (refl, started))) tt (λ n. tt)
+      stop_cases (ClearingFault alone launching may_lose None dag intervals was what) (MayGiveUpAnew kept (MayGiveUpLaunched launching may_lose dag intervals)) launching.logs dag intervals (λ stop is. (kept, is_kept, is)) tt (λ n. tt)
+  stops_again (Some entries) = workers_cases (ClearingFault alone launching may_lose (Some entries) dag intervals was what) alone (λ started. (kept, is_kept, (refl, started))) tt (λ n. tt)
 
   pub again_stop_in : (answers : Option (List TableEntry)) (r : Result Bool CommandFault) → IfErr r (IsStopOrWantingFrom alone kept launching may_lose answers dag intervals)
-      → IfErr r (IsFaultAgain alone launching may_lose answers dag intervals was what)
+      → IfErr r (ClearingFault alone launching may_lose answers dag intervals was what)
   again_stop_in answers r = IfErr-weaker r _ _ (stops_again answers)

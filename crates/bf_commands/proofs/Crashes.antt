@@ -18,7 +18,7 @@ use Rattle.bf_journal.proofs.Answering.{part_of, since_all}
 use Rattle.bf_journal.proofs.Crashes.{keeps_graded}
 use Rattle.bf_journal.proofs.Left.{behind_head}
 use Rattle.bf_journal.proofs.Naming.{are_told}
-use Rattle.bf_commands.specs.Journaled.{Heading, IsReportSince}
+use Rattle.bf_commands.specs.Journaled.{Heading, IsJournalReport}
 use Rattle.bf_commands.specs.Reported.{IsReportBy}
 use Rattle.bf_commands.proofs.FromKept.{from_graded}
 
@@ -32,7 +32,7 @@ module _ (may_answer : JobName → Given → Raw → Type 0) (dag : Dag) (interv
 
   -- and the report is that of a backfill from nothing
   pub no_report_changes : (before : Ledger) → AreGraded may_answer dag before → (retry : Bool) (held : List ℕ) → IsLeftByCrashes may_answer dag intervals (head_text dag intervals cleared) held → (text : List ℕ) (success : Bool)
-      → IsReportSince before retry held cleared may_answer dag intervals text success → IsReportBy may_answer dag intervals text success
+      → IsJournalReport before retry held cleared may_answer dag intervals text success → IsReportBy may_answer dag intervals text success
   no_report_changes before graded retry held left text success is =
       from_graded
       (since_all (HasGrade may_answer dag) (left_of retry dag is.tries) before (λ n e there. found_graded held is.has_tries.whole is.tries is.has_tries.found left n e (part_of retry dag is.tries n e there)) graded)

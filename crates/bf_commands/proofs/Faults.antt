@@ -24,15 +24,15 @@ use Rattle.bf_command_fault.specs.declared.range.RangeFault.{RangeFault}
 use Rattle.bf_command_fault.specs.declared.stop.StopFault.{StopFault}
 use Rattle.bf_planning.specs.declared.range.RunRange.{RunRange}
 use Rattle.bf_commands.specs.Cleared.{IsStopOrWantingAnew, IsStopOrWantingFrom}
-use Rattle.bf_commands.specs.DatedRuns.{IsFaultOfDry, IsReportIn}
+use Rattle.bf_commands.specs.DatedRuns.{DryFault, IsDryReport}
 use Rattle.bf_planning.specs.Graphs.{IsFaultIn, IsPlanOf}
 use Rattle.bf_planning.specs.Lists.{HasListing, IsRangeFault}
-use Rattle.bf_commands.specs.OneRun.{IsFaultOfSingle, IsReportAt}
-use Rattle.bf_commands.specs.OverTable.{AnswersByTable, IsReportOver, IsWantingWorkers}
+use Rattle.bf_commands.specs.OneRun.{SingleFault, IsSingleReport}
+use Rattle.bf_commands.specs.OverTable.{AnswersByTable, TableReport, IsWantingWorkers}
 use Rattle.bf_planning.specs.Tables.{IsTableFault}
 use Rattle.bf_planning.specs.Wanting.{IsWanting}
 use Rattle.bf_planning.specs.Clocks.{AreClocksOf}
-use Rattle.bf_commands.specs.Programs.{Hearing, IsFaultOfRun, IsRunReport, IsStop, IsStopOf, IsStopOfOrWanting, Losing, MayGiveUpLaunched, StopsRunning, launched_by, with_clocks}
+use Rattle.bf_commands.specs.Programs.{Hearing, RunFault, IsRunReport, IsStop, IsStopOf, IsStopOfOrWanting, Losing, MayGiveUpLaunched, StopsRunning, launched_by, with_clocks}
 use Rattle.bf_commands.specs.Reported.{IsReportBy, IsReportFrom}
 use Rattle.bf_commands.proofs.ByPrograms.{stop_weaker}
 use Rattle.bf_commands.proofs.FromKept.{from_nothing}
@@ -42,16 +42,16 @@ use Rattle.bf_planning.proofs.Faults.{wanting_cases}
 
 pub reported_at : {graph : List ℕ} {file : Option (List ℕ)} {table : List ℕ} {plan : Checked} {entries : List TableEntry} {at : Timestamp} {runs : List Interval}
     → IsPlanOf graph file plan → table_in table ≡ Ok entries → IsInYears at.nanosecond → runs ≡ intervals_at at → (text : List ℕ) (success : Bool)
-    → IsReportFrom nothing (AnswersByTable plan.dag entries runs) plan.dag runs text success → IsReportAt graph file table at text success
+    → IsReportFrom nothing (AnswersByTable plan.dag entries runs) plan.dag runs text success → IsSingleReport graph file table at text success
 reported_at {plan = plan} {entries = entries} {at = at} {runs = runs} is says years same text success from =
-    let over : IsReportOver plan.dag entries runs text success = from_nothing text success from in
+    let over : TableReport plan.dag entries runs text success = from_nothing text success from in
     record { draft = is.draft; entries = entries; graph_is = is.graph_is; table_says = says; in_years = years; reported = rw (is.dag, same) at over }
 
 module _ {graph : List ℕ} {file : Option (List ℕ)} {plan : Checked} {range : RunRange} {found : List Interval} (is : IsPlanOf graph file plan) (listing : HasListing graph file range (Ok found)) where
   pub reported_in : {table : List ℕ} {entries : List TableEntry} → table_in table ≡ Ok entries → (text : List ℕ) (success : Bool)
-      → IsReportFrom nothing (AnswersByTable plan.dag entries found) plan.dag found text success → IsReportIn graph file table range text success
+      → IsReportFrom nothing (AnswersByTable plan.dag entries found) plan.dag found text success → IsDryReport graph file table range text success
   reported_in {entries = entries} says text success from =
-      let over : IsReportOver plan.dag entries found text success = from_nothing text success from in
+      let over : TableReport plan.dag entries found text success = from_nothing text success from in
       record { draft = is.draft; entries = entries; found = found; graph_is = is.graph_is; table_says = says; listing = listing; reported = rw is.dag at over }
 
   pub reported_by : {launching : LaunchingOf} {may_hear : Hearing} {clocks : List ℤ} → AreClocksOf graph file found clocks → (text : List ℕ) (success : Bool)
@@ -90,30 +90,30 @@ module _ (P : CommandFault → Type 0) where
 -- ---- the faults of parts are those of commands
 
 module _ (graph : List ℕ) (file : Option (List ℕ)) (table : List ℕ) (at : Timestamp) where
-  pub single_table : (plan : Checked) → IsPlanOf graph file plan → (fault : CommandFault) → IsTableFault table fault → IsFaultOfSingle graph file table at fault
-  single_table plan said = table_cases (IsFaultOfSingle graph file table at) table (λ fault is. (said.draft, said.graph_is, is)) tt
+  pub single_table : (plan : Checked) → IsPlanOf graph file plan → (fault : CommandFault) → IsTableFault table fault → SingleFault graph file table at fault
+  single_table plan said = table_cases (SingleFault graph file table at) table (λ fault is. (said.draft, said.graph_is, is)) tt
 
   pub single_moment : (plan : Checked) (entries : List TableEntry) → IsPlanOf graph file plan → table_in table ≡ Ok entries → (fault : IntervalFault) → IsNoRunAt at fault
-      → IsFaultOfSingle graph file table at (of_range fault)
+      → SingleFault graph file table at (of_range fault)
   single_moment plan entries said says fault (inl outside) =
-      subst (λ (f : IntervalFault). IsFaultOfSingle graph file table at (of_range f)) (sym outside.0) (said.draft, said.graph_is, record { entries = entries; says = says }, refl, outside.1)
-  single_moment plan entries said says fault (inr memory) = subst (λ (f : IntervalFault). IsFaultOfSingle graph file table at (of_range f)) (sym memory) tt
+      subst (λ (f : IntervalFault). SingleFault graph file table at (of_range f)) (sym outside.0) (said.draft, said.graph_is, record { entries = entries; says = says }, refl, outside.1)
+  single_moment plan entries said says fault (inr memory) = subst (λ (f : IntervalFault). SingleFault graph file table at (of_range f)) (sym memory) tt
 
   -- the calling thread makes the tries
-  pub single_wanting_in : (alone : Bool) → alone ≡ true → (r : Result Bool CommandFault) → IfErr r (IsWantingWorkers alone) → IfErr r (IsFaultOfSingle graph file table at)
-  single_wanting_in alone is r = IfErr-weaker r _ _ (workers_cases (IsFaultOfSingle graph file table at) alone (λ started. (let bad : true ≡ false = sym is ∙ started in cc)) tt (λ n. tt))
+  pub single_wanting_in : (alone : Bool) → alone ≡ true → (r : Result Bool CommandFault) → IfErr r (IsWantingWorkers alone) → IfErr r (SingleFault graph file table at)
+  single_wanting_in alone is r = IfErr-weaker r _ _ (workers_cases (SingleFault graph file table at) alone (λ started. (let bad : true ≡ false = sym is ∙ started in cc)) tt (λ n. tt))
 
 module _ (graph : List ℕ) (file : Option (List ℕ)) (table : List ℕ) (range : RunRange) where
-  pub dry_table : (alone : Bool) (plan : Checked) → IsPlanOf graph file plan → (fault : CommandFault) → IsTableFault table fault → IsFaultOfDry alone graph file table range fault
-  dry_table alone plan said = table_cases (IsFaultOfDry alone graph file table range) table (λ fault is. (said.draft, said.graph_is, is)) tt
+  pub dry_table : (alone : Bool) (plan : Checked) → IsPlanOf graph file plan → (fault : CommandFault) → IsTableFault table fault → DryFault alone graph file table range fault
+  dry_table alone plan said = table_cases (DryFault alone graph file table range) table (λ fault is. (said.draft, said.graph_is, is)) tt
 
-  pub dry_range : (alone : Bool) (entries : List TableEntry) → table_in table ≡ Ok entries → (fault : CommandFault) → IsRangeFault graph file range fault → IsFaultOfDry alone graph file table range fault
-  dry_range alone entries says = range_cases (IsFaultOfDry alone graph file table range) graph file range (λ fault is. (record { entries = entries; says = says }, is)) tt
+  pub dry_range : (alone : Bool) (entries : List TableEntry) → table_in table ≡ Ok entries → (fault : CommandFault) → IsRangeFault graph file range fault → DryFault alone graph file table range fault
+  dry_range alone entries says = range_cases (DryFault alone graph file table range) graph file range (λ fault is. (record { entries = entries; says = says }, is)) tt
 
   pub dry_stop_in : (alone : Bool) (entries : List TableEntry) → table_in table ≡ Ok entries → (found : List Interval) → HasListing graph file range (Ok found) → (r : Result Bool CommandFault)
-      → IfErr r (IsWantingWorkers alone) → IfErr r (IsFaultOfDry alone graph file table range)
+      → IfErr r (IsWantingWorkers alone) → IfErr r (DryFault alone graph file table range)
   dry_stop_in alone entries says found listing r =
-      IfErr-weaker r _ _ (workers_cases (IsFaultOfDry alone graph file table range) alone (λ started. (found, record { entries = entries; says = says }, listing, refl, started)) tt (λ n. tt))
+      IfErr-weaker r _ _ (workers_cases (DryFault alone graph file table range) alone (λ started. (found, record { entries = entries; says = says }, listing, refl, started)) tt (λ n. tt))
 
 module _ (launching : LaunchingOf) (may_lose : Losing) (graph : List ℕ) (file : Option (List ℕ)) (range : RunRange) where
   stops_running : (plan : Checked) → IsPlanOf graph file plan → (found : List Interval) → HasListing graph file range (Ok found) → (clocks : List ℤ) → AreClocksOf graph file found clocks → (stop : StopFault)
@@ -122,9 +122,9 @@ module _ (launching : LaunchingOf) (may_lose : Losing) (graph : List ℕ) (file 
       record { draft = said.draft; found = found; graph_is = said.graph_is; listing = listing; clocks = clocks; clocks_are = are; stops = subst (λ (d : Dag). IsStop (with_clocks launching clocks) may_lose d found stop) said.dag is }
 
   pub run_stop_in : (plan : Checked) → IsPlanOf graph file plan → (found : List Interval) → HasListing graph file range (Ok found) → (clocks : List ℤ) → AreClocksOf graph file found clocks → (r : Result Bool CommandFault)
-      → IfErr r (IsStopOrWantingAnew nothing (with_clocks launching clocks) may_lose plan.dag found) → IfErr r (IsFaultOfRun launching may_lose graph file range)
+      → IfErr r (IsStopOrWantingAnew nothing (with_clocks launching clocks) may_lose plan.dag found) → IfErr r (RunFault launching may_lose graph file range)
   run_stop_in plan said found listing clocks are r =
-      IfErr-weaker r _ _ (stop_cases (IsFaultOfRun launching may_lose graph file range) (MayGiveUpAnew nothing (MayGiveUpLaunched (with_clocks launching clocks) may_lose plan.dag found)) launching.logs plan.dag found
+      IfErr-weaker r _ _ (stop_cases (RunFault launching may_lose graph file range) (MayGiveUpAnew nothing (MayGiveUpLaunched (with_clocks launching clocks) may_lose plan.dag found)) launching.logs plan.dag found
       (λ stop is. stops_running plan said found listing clocks are stop
       (stop_weaker {Q = MayGiveUpLaunched (with_clocks launching clocks) may_lose plan.dag found} (λ n g may. may.1) launching.logs plan.dag found stop is)) tt (λ n. tt))
 

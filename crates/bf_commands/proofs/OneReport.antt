@@ -23,10 +23,10 @@ use Rattle.bf_report.specs.declared.report.Report.{Report}
 use Rattle.bf_report.specs.Report.{report_text}
 use Rattle.bf_report.proofs.DatedFacts.{dated-once}
 use Rattle.bf_planning.specs.declared.range.RunRange.{RunRange}
-use Rattle.bf_commands.specs.DatedRuns.{IsReportIn}
+use Rattle.bf_commands.specs.DatedRuns.{IsDryReport}
 use Rattle.bf_planning.specs.Graphs.{IsGraph}
-use Rattle.bf_commands.specs.OneRun.{IsReportAt}
-use Rattle.bf_commands.specs.OverTable.{AnswersByTable, IsReportOver}
+use Rattle.bf_commands.specs.OneRun.{IsSingleReport}
+use Rattle.bf_commands.specs.OverTable.{AnswersByTable, TableReport}
 use Rattle.bf_commands.specs.Reported.{IsReportOf, is_success_in}
 use Rattle.bf_commands.proofs.OneList.{one_list}
 
@@ -50,7 +50,7 @@ answered-alike dag table intervals one two first second n d e at there given =
     a.2 ∙ ap (grade_of dag n.task) (a.1 ∙ sym b.1) ∙ sym b.2
 
 pub one_report : (dag : Dag) → IsSound dag → (table : List TableEntry) (intervals : List Interval) (text others : List ℕ) (success other : Bool)
-    → IsReportOver dag table intervals text success → IsReportOver dag table intervals others other → (text ≡ others) × (success ≡ other)
+    → TableReport dag table intervals text success → TableReport dag table intervals others other → (text ≡ others) × (success ≡ other)
 one_report dag sound table intervals text others success other a b =
     alike_reports dag sound intervals a.ledger b.ledger a.tries b.tries (answered-alike dag table intervals (finite.get a.ledger) (finite.get b.ledger) a.graded b.graded) text others success other a.reported b.reported
 
@@ -68,18 +68,18 @@ one_table : (table : List ℕ) (one two : List TableEntry) → table_in table �
 one_table table one two a b = let said : Ok one ≡ Ok two = sym a ∙ b in cc
 
 pub one_dry_report : (graph : List ℕ) (file : Option (List ℕ)) (table : List ℕ) (range : RunRange) (text others : List ℕ) (success other : Bool)
-    → IsReportIn graph file table range text success → IsReportIn graph file table range others other → (text ≡ others) × (success ≡ other)
+    → IsDryReport graph file table range text success → IsDryReport graph file table range others other → (text ≡ others) × (success ≡ other)
 one_dry_report graph file table range text others success other a b =
     let dags = one_dag graph file b.draft a.draft b.graph_is a.graph_is in
     let entries = one_table table b.entries a.entries b.table_says a.table_says in
     let found = one_list graph file range b.found a.found b.listing a.listing in
     one_report (dag_of a.draft) a.graph_is.sound a.entries a.found text others success other a.reported
-    (subst (λ (p : Dag × List TableEntry × List Interval). IsReportOver p.0 p.1 p.2 others other) (λ i. (dags i, entries i, found i)) b.reported)
+    (subst (λ (p : Dag × List TableEntry × List Interval). TableReport p.0 p.1 p.2 others other) (λ i. (dags i, entries i, found i)) b.reported)
 
 pub one_single_report : (graph : List ℕ) (file : Option (List ℕ)) (table : List ℕ) (at : Timestamp) (text others : List ℕ) (success other : Bool)
-    → IsReportAt graph file table at text success → IsReportAt graph file table at others other → (text ≡ others) × (success ≡ other)
+    → IsSingleReport graph file table at text success → IsSingleReport graph file table at others other → (text ≡ others) × (success ≡ other)
 one_single_report graph file table at text others success other a b =
     let dags = one_dag graph file b.draft a.draft b.graph_is a.graph_is in
     let entries = one_table table b.entries a.entries b.table_says a.table_says in
     one_report (dag_of a.draft) a.graph_is.sound a.entries (intervals_at at) text others success other a.reported
-    (subst (λ (p : Dag × List TableEntry). IsReportOver p.0 p.1 (intervals_at at) others other) (λ i. (dags i, entries i)) b.reported)
+    (subst (λ (p : Dag × List TableEntry). TableReport p.0 p.1 (intervals_at at) others other) (λ i. (dags i, entries i)) b.reported)

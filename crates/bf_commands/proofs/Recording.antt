@@ -17,7 +17,7 @@ use Rattle.bf_command_fault.specs.Refusal.{Leaves, of_journal}
 use Rattle.bf_command_fault.specs.declared.fault.CommandFault.{CommandFault}
 use Rattle.bf_command_fault.specs.declared.fault.CommandFault.TheVariants.{CannotWrite, Journal, OutOfMemory, Stopped}
 use Rattle.bf_command_fault.specs.declared.stop.StopFault.{StopFault}
-use Rattle.bf_commands.specs.Journaled.{HasTries, Heading, IsFaultOfJournal, IsFaultSince, IsStopRecordedOrWanting, IsToldAt, IsToldOfRecorded}
+use Rattle.bf_commands.specs.Journaled.{HasTries, Heading, IsFaultOfJournal, JournalReportFault, IsStopRecordedOrWanting, IsToldAt, IsToldOfRecorded}
 use Rattle.bf_planning.specs.Wanting.{IsWanting}
 
 -- ---- what is told of what stopped one
@@ -49,14 +49,14 @@ journal_fault dag intervals cleared held journal.OutOfMemory is = tt
 journal_fault dag intervals cleared held fault is = is
 
 module _ (most : Option ℕ) (before : Ledger) (retry : Bool) (held : List ℕ) (cleared : Heading) (logs : Option (List ℕ)) (dag : Dag) (intervals : List Interval) where
-  pub journal_since : (fault : CommandFault) → IsFaultOfJournal dag intervals cleared held fault → IsFaultSince most before retry held cleared logs dag intervals fault
+  pub journal_since : (fault : CommandFault) → IsFaultOfJournal dag intervals cleared held fault → JournalReportFault most before retry held cleared logs dag intervals fault
   journal_since (Journal fault) is = is
   journal_since (Stopped StopFault.CannotRecord) is = tt
   journal_since OutOfMemory is = tt
   journal_since fault is = absurd is
 
   pub stop_since : (tries : Ledger) → HasTries dag intervals cleared held tries → (fault : CommandFault) → IsStopRecordedOrWanting most (since (left_of retry dag tries) before) logs dag intervals fault
-      → IsFaultSince most before retry held cleared logs dag intervals fault
+      → JournalReportFault most before retry held cleared logs dag intervals fault
   stop_since tries has (Stopped StopFault.CannotRecord) is = tt
   stop_since tries has (Stopped StopFault.CannotStart) is = (tries, has, is)
   stop_since tries has (Stopped (StopFault.EnoughFailed count)) is = (tries, has, is)

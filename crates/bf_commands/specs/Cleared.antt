@@ -161,11 +161,11 @@ IsStopFrom alone kept launching may_lose (Some entries) dag intervals stop = (st
 IsStopFrom alone kept launching may_lose None dag intervals stop = IsStopOf (MayGiveUpAnew kept (MayGiveUpLaunched launching may_lose dag intervals)) launching.logs dag intervals stop
 
 -- the fault is the first: nothing is cleared in the report for this; or it is, and the backfill stops; or memory or the device is wanting
-abbrev pub IsFaultAgain : Bool → LaunchingOf → Losing → Option (List TableEntry) → Dag → List Interval → Report → ToClear → CommandFault → Type 0
-IsFaultAgain alone launching may_lose answers dag intervals was what (NotCleared fault) = IsUncleared dag intervals was what (NotCleared fault)
-IsFaultAgain alone launching may_lose answers dag intervals was what (BadSeeds fault) = IsUncleared dag intervals was what (BadSeeds fault)
-IsFaultAgain alone launching may_lose answers dag intervals was what (Stopped stop) = (kept : Ledger) × IsKeptOf dag intervals was what kept × IsStopFrom alone kept launching may_lose answers dag intervals stop
-IsFaultAgain alone launching may_lose answers dag intervals was what fault = IsWanting fault
+abbrev pub ClearingFault : Bool → LaunchingOf → Losing → Option (List TableEntry) → Dag → List Interval → Report → ToClear → CommandFault → Type 0
+ClearingFault alone launching may_lose answers dag intervals was what (NotCleared fault) = IsUncleared dag intervals was what (NotCleared fault)
+ClearingFault alone launching may_lose answers dag intervals was what (BadSeeds fault) = IsUncleared dag intervals was what (BadSeeds fault)
+ClearingFault alone launching may_lose answers dag intervals was what (Stopped stop) = (kept : Ledger) × IsKeptOf dag intervals was what kept × IsStopFrom alone kept launching may_lose answers dag intervals stop
+ClearingFault alone launching may_lose answers dag intervals was what fault = IsWanting fault
 
 -- they have none, the bytes say a report, this is cleared in it, and the backfill that goes on from it stops
 pub record StopsClearing (alone : Bool) (launching : LaunchingOf) (may_lose : Losing) (graph : List ℕ) (file table : Option (List ℕ)) (report : List ℕ) (range : RunRange) (what : ToClear) (stop : StopFault) : Type 0 where

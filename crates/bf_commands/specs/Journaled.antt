@@ -70,7 +70,7 @@ pub record HasTries (dag : Dag) (intervals : List Interval) (cleared : Heading) 
 
 -- the text is the report of the backfill that goes on from the tries of a journal, but for failed ones that are made again, and
 -- else from those that were kept before
-pub record IsReportSince (before : Ledger) (retry : Bool) (held : List ℕ) (cleared : Heading) (may_answer : JobName → Given → Raw → Type 0) (dag : Dag) (intervals : List Interval) (text : List ℕ) (success : Bool) : Type 0 where
+pub record IsJournalReport (before : Ledger) (retry : Bool) (held : List ℕ) (cleared : Heading) (may_answer : JobName → Given → Raw → Type 0) (dag : Dag) (intervals : List Interval) (text : List ℕ) (success : Bool) : Type 0 where
   pub tries : Ledger
   pub has_tries : HasTries dag intervals cleared held tries
   pub reported : IsReportFrom (since (left_of retry dag tries) before) may_answer dag intervals text success
@@ -84,14 +84,14 @@ pub record IsJournaledReport (launching : LaunchingOf) (may_hear : Hearing) (gra
   pub listing : HasListing graph file range (Ok found)
   pub clocks : List ℤ
   pub clocks_are : AreClocksOf graph file found clocks
-  pub reported : IsReportSince nothing retry held [] (MayAnswer (launched_by launching may_hear clocks) (dag_of draft) found) (dag_of draft) found text success
+  pub reported : IsJournalReport nothing retry held [] (MayAnswer (launched_by launching may_hear clocks) (dag_of draft) found) (dag_of draft) found text success
 
 -- the text is the report of the backfill that goes on from a journal, and else from what is kept of a report where this is cleared
 pub record IsJournaledAfter (may_hear : HearingTries) (answers : Option (List TableEntry)) (dag : Dag) (intervals : List Interval) (was : Report) (what : ToClear) (retry : Bool) (held : List ℕ) (text : List ℕ) (success : Bool) : Type 0 where
   pub kept : Ledger
   pub cleared : Heading
   pub cleared_is : IsClearedBy dag intervals was what kept cleared
-  pub reported : IsReportSince kept retry held cleared (MayAnswerBy may_hear answers dag intervals) dag intervals text success
+  pub reported : IsJournalReport kept retry held cleared (MayAnswerBy may_hear answers dag intervals) dag intervals text success
 
 -- the bytes say a graph, which has no fault, a table where there is one, and a report of the graph's runs in the range; and the text
 -- is the report of the backfill that goes on from a journal of these bytes, and else from that report where this is cleared
@@ -123,10 +123,10 @@ IsStopSince most before retry held cleared logs dag intervals stop =
     (tries : Ledger) × HasTries dag intervals cleared held tries × IsStopRecorded most (since (left_of retry dag tries) before) logs dag intervals stop
 
 -- the fault is the first: the journal is refused; or the backfill that goes on from it stops; or memory or the device is wanting
-abbrev pub IsFaultSince : Option ℕ → Ledger → Bool → List ℕ → Heading → Option (List ℕ) → Dag → List Interval → CommandFault → Type 0
-IsFaultSince most before retry held cleared logs dag intervals (BadJournal fault) = IsFault dag intervals (head_text dag intervals cleared) held fault
-IsFaultSince most before retry held cleared logs dag intervals (Stopped stop) = IsStopSince most before retry held cleared logs dag intervals stop
-IsFaultSince most before retry held cleared logs dag intervals fault = IsWanting fault
+abbrev pub JournalReportFault : Option ℕ → Ledger → Bool → List ℕ → Heading → Option (List ℕ) → Dag → List Interval → CommandFault → Type 0
+JournalReportFault most before retry held cleared logs dag intervals (BadJournal fault) = IsFault dag intervals (head_text dag intervals cleared) held fault
+JournalReportFault most before retry held cleared logs dag intervals (Stopped stop) = IsStopSince most before retry held cleared logs dag intervals stop
+JournalReportFault most before retry held cleared logs dag intervals fault = IsWanting fault
 
 -- the bytes say a graph, which has no fault, its runs lie in the range, and the backfill that goes on from a journal of these bytes has
 -- this fault
@@ -135,7 +135,7 @@ pub record GoesWrong (most : Option ℕ) (logs : Option (List ℕ)) (graph : Lis
   pub found : List Interval
   pub graph_is : IsGraph graph file draft
   pub listing : HasListing graph file range (Ok found)
-  pub fault_is : IsFaultSince most nothing retry held [] logs (dag_of draft) found fault
+  pub fault_is : JournalReportFault most nothing retry held [] logs (dag_of draft) found fault
 
 -- the graph, the table and the range have no fault, the bytes say a report, and this is cleared in it
 pub record IsClearable (graph : List ℕ) (file table : Option (List ℕ)) (report : List ℕ) (range : RunRange) (what : ToClear) : Type 0 where
@@ -149,7 +149,7 @@ pub record IsClearable (graph : List ℕ) (file table : Option (List ℕ)) (repo
 -- so it is, and the backfill that goes on from a journal of these bytes, and else from that report, has this fault
 pub record GoesWrongClearing (most : Option ℕ) (logs : Option (List ℕ)) (graph : List ℕ) (file table : Option (List ℕ)) (report : List ℕ) (retry : Bool) (held : List ℕ) (range : RunRange) (what : ToClear) (fault : CommandFault) : Type 0 where
   pub clearable : IsClearable graph file table report range what
-  pub fault_is : IsFaultSince most clearable.kept retry held clearable.cleared logs clearable.ready.dag clearable.ready.found fault
+  pub fault_is : JournalReportFault most clearable.kept retry held clearable.cleared logs clearable.ready.dag clearable.ready.found fault
 
 -- ---- for private clauses
 

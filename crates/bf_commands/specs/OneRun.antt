@@ -12,21 +12,21 @@ use Rattle.bf_command_fault.specs.declared.fault.CommandFault.{CommandFault}
 use Rattle.bf_command_fault.specs.declared.fault.CommandFault.TheVariants.{Table, Range, CannotWrite}
 use Rattle.bf_command_fault.specs.declared.range.RangeFault.TheVariants.{Unlisted}
 use Rattle.bf_planning.specs.Graphs.{IsGraph, IsFaultIn}
-use Rattle.bf_commands.specs.OverTable.{IsReportOver}
+use Rattle.bf_commands.specs.OverTable.{TableReport}
 use Rattle.bf_planning.specs.Tables.{IsTable}
 
 -- the bytes say a graph, which has no fault, and a table, and the text is the report of one run of this over that
-pub record IsReportAt (graph : List ℕ) (file : Option (List ℕ)) (table : List ℕ) (at : Timestamp) (text : List ℕ) (success : Bool) : Type 0 where
+pub record IsSingleReport (graph : List ℕ) (file : Option (List ℕ)) (table : List ℕ) (at : Timestamp) (text : List ℕ) (success : Bool) : Type 0 where
   pub draft : Draft
   pub entries : List TableEntry
   pub graph_is : IsGraph graph file draft
   pub table_says : table_in table ≡ Ok entries
   pub in_years : IsInYears at.nanosecond
-  pub reported : IsReportOver (dag_of draft) entries (intervals_at at) text success
+  pub reported : TableReport (dag_of draft) entries (intervals_at at) text success
 
 -- the fault is the first: those of the graph go before those of the table, and the moment comes last; or memory or the device is wanting
-abbrev pub IsFaultOfSingle : List ℕ → Option (List ℕ) → List ℕ → Timestamp → CommandFault → Type 0
-IsFaultOfSingle graph file table at (Table fault) = (draft : Draft) × IsGraph graph file draft × (table_in table ≡ Err fault)
-IsFaultOfSingle graph file table at (Range fault) = (draft : Draft) × IsGraph graph file draft × IsTable table × (fault ≡ Unlisted IntervalFault.OutsideYears) × ¬ (IsInYears at.nanosecond)
-IsFaultOfSingle graph file table at (CannotWrite n) = Unit {0}
-IsFaultOfSingle graph file table at fault = IsFaultIn graph file fault
+abbrev pub SingleFault : List ℕ → Option (List ℕ) → List ℕ → Timestamp → CommandFault → Type 0
+SingleFault graph file table at (Table fault) = (draft : Draft) × IsGraph graph file draft × (table_in table ≡ Err fault)
+SingleFault graph file table at (Range fault) = (draft : Draft) × IsGraph graph file draft × IsTable table × (fault ≡ Unlisted IntervalFault.OutsideYears) × ¬ (IsInYears at.nanosecond)
+SingleFault graph file table at (CannotWrite n) = Unit {0}
+SingleFault graph file table at fault = IsFaultIn graph file fault

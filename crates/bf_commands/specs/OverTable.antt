@@ -22,8 +22,8 @@ abbrev pub AnswersByTable : Dag → List TableEntry → List Interval → JobNam
 AnswersByTable dag table intervals name given raw = raw ≡ answer_of (answering dag table intervals) name
 
 -- the text is that of the recursion's report over the ledger of a backfill over the table; and whether every run of it is a success
-abbrev pub IsReportOver : Dag → List TableEntry → List Interval → List ℕ → Bool → Type 0
-IsReportOver dag table intervals text success = IsReportBy (AnswersByTable dag table intervals) dag intervals text success
+abbrev pub TableReport : Dag → List TableEntry → List Interval → List ℕ → Bool → Type 0
+TableReport dag table intervals text success = IsReportBy (AnswersByTable dag table intervals) dag intervals text success
 
 -- where a table answers and no progress is told, the calling thread makes all tries, however many workers may run
 abbrev pub is_alone_in : Bool → Bool

@@ -72,6 +72,6 @@ pub record IsClearPlan (dag : Dag) (intervals : List Interval) (was : Report) (w
   pub text_is : text ≡ flat_map cleared_line cleared ++ sum_line (places_in dag following (length intervals))
 
 -- nothing is cleared in the report for this; or memory or the device is wanting
-abbrev pub IsFaultOfClearPlan : Dag → List Interval → Report → ToClear → CommandFault → Type 0
-IsFaultOfClearPlan dag intervals was what (CannotWrite n) = Unit {0}
-IsFaultOfClearPlan dag intervals was what fault = IsUncleared dag intervals was what fault
+abbrev pub ClearPlanFault : Dag → List Interval → Report → ToClear → CommandFault → Type 0
+ClearPlanFault dag intervals was what (CannotWrite n) = Unit {0}
+ClearPlanFault dag intervals was what fault = IsUncleared dag intervals was what fault

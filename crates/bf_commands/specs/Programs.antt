@@ -98,11 +98,11 @@ pub record StopsRunning (launching : LaunchingOf) (may_lose : Losing) (graph : L
   pub stops : IsStop (with_clocks launching clocks) may_lose (dag_of draft) found stop
 
 -- the fault is the first: those of the graph go before those of the range; then the backfill stops; or memory or the device is wanting
-abbrev pub IsFaultOfRun : LaunchingOf → Losing → List ℕ → Option (List ℕ) → RunRange → CommandFault → Type 0
-IsFaultOfRun launching may_lose graph file range (Range fault) = HasListing graph file range (Err fault)
-IsFaultOfRun launching may_lose graph file range (CannotWrite n) = Unit {0}
-IsFaultOfRun launching may_lose graph file range (Stopped stop) = StopsRunning launching may_lose graph file range stop
-IsFaultOfRun launching may_lose graph file range fault = IsFaultIn graph file fault
+abbrev pub RunFault : LaunchingOf → Losing → List ℕ → Option (List ℕ) → RunRange → CommandFault → Type 0
+RunFault launching may_lose graph file range (Range fault) = HasListing graph file range (Err fault)
+RunFault launching may_lose graph file range (CannotWrite n) = Unit {0}
+RunFault launching may_lose graph file range (Stopped stop) = StopsRunning launching may_lose graph file range stop
+RunFault launching may_lose graph file range fault = IsFaultIn graph file fault
 
 -- ---- for private clauses
 

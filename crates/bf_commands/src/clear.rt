@@ -5,10 +5,10 @@ ghost use Rattle.bf_command_fault.specs.Refusal.{Leaves, Sends};
 ghost use Rattle.bf_kept.specs.Kept.{AreFit};
 ghost use Rattle.bf_process.specs.Words.{launching_of};
 ghost use Rattle.bf_clear.specs.Keeping.{kept_in};
-ghost use Rattle.bf_commands.specs.Cleared.{AreAnswersIn, IsFaultAgain, IsFaultBefore, IsFaultOfNamed, IsPrepared, IsReportAfter, IsUncleared, MayAnswerBy};
+ghost use Rattle.bf_commands.specs.Cleared.{AreAnswersIn, ClearingFault, IsFaultBefore, IsFaultOfNamed, IsPrepared, IsReportAfter, IsUncleared, MayAnswerBy};
 ghost use Rattle.bf_journal.specs.Heads.{head_text};
 ghost use Rattle.bf_journal.specs.Left.{KeepsJournal};
-ghost use Rattle.bf_commands.specs.Journaled.{IsClearedBy, IsFaultSince, IsReportSince};
+ghost use Rattle.bf_commands.specs.Journaled.{IsClearedBy, JournalReportFault, IsJournalReport};
 ghost use Rattle.bf_commands.specs.OverTable.{is_alone_in};
 ghost use Rattle.bf_planning.specs.Clocks.{clocks_in};
 ghost use Rattle.bf_commands.specs.Programs.{launched_in, with_clocks};
@@ -123,7 +123,7 @@ pub fn run_again<RT: Starter + Screen + Threads + Wait + Clock + Sync, W: Write>
         (RT.may_hear crew.now.rt.now))
         prepared.answers prepared.dated.plan.dag prepared.dated.runs report what text success)
         (W.written out.old) (W.written out.new)) }
-    ensures fault { IfErr result (IsFaultAgain (is_alone_in crew.now.progress)
+    ensures fault { IfErr result (ClearingFault (is_alone_in crew.now.progress)
         (with_clocks (launching_of crew.now.launching) (clocks_in prepared.dated))
         (RT.may_lose crew.now.rt.now)
         prepared.answers prepared.dated.plan.dag prepared.dated.runs report what) }
@@ -162,7 +162,7 @@ where
     W: Write,
     requires { AreFit clearing.now.dated.now.plan.dag (kept_in clearing.now.kept) }
     ensures ok { IfOk result.report (λ success. Sends (λ text.
-        IsReportSince (kept_in clearing.now.kept) journal.retry_failed journal.held.items
+        IsJournalReport (kept_in clearing.now.kept) journal.retry_failed journal.held.items
         clearing.now.cleared.items
         (MayAnswerBy (launched_in clearing.now.dated.now (launching_of crew.now.launching)
         (RT.may_hear crew.now.rt.now)) answers clearing.now.dated.now.plan.dag
@@ -170,13 +170,13 @@ where
         clearing.now.dated.now.plan.dag clearing.now.dated.now.runs text success)
         (W.written out.old) (W.written out.new)) }
     ensures fault { IfErr result.report
-        (IsFaultSince journal.stop_after (kept_in clearing.now.kept) journal.retry_failed
+        (JournalReportFault journal.stop_after (kept_in clearing.now.kept) journal.retry_failed
         journal.held.items clearing.now.cleared.items (launching_of crew.now.launching).logs
         clearing.now.dated.now.plan.dag clearing.now.dated.now.runs) }
     ensures left { IfErr result.report (Leaves (HasHalted (W.failures out.old) (W.failures out.new)
         (W.interruptions out.old) (W.interruptions out.new))
         (λ text. (success : Bool)
-        × IsReportSince (kept_in clearing.now.kept) journal.retry_failed journal.held.items
+        × IsJournalReport (kept_in clearing.now.kept) journal.retry_failed journal.held.items
         clearing.now.cleared.items
         (MayAnswerBy (launched_in clearing.now.dated.now (launching_of crew.now.launching)
         (RT.may_hear crew.now.rt.now)) answers clearing.now.dated.now.plan.dag

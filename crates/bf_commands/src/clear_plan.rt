@@ -4,7 +4,7 @@ ghost use Rattle.std.specs.List.{flat_map};
 ghost use Rattle.bf_command_fault.specs.Refusal.{Leaves, Sends};
 ghost use Rattle.bf_device.specs.Device.{HasHalted};
 ghost use Rattle.bf_commands.specs.Cleared.{IsUncleared};
-ghost use Rattle.bf_commands.specs.Planned.{begins_run_in, begins_task_in, cleared_line, place_before_in, runs_in, sum_line, tasks_in, IsClearPlan, IsFaultOfClearPlan};
+ghost use Rattle.bf_commands.specs.Planned.{begins_run_in, begins_task_in, cleared_line, place_before_in, runs_in, sum_line, tasks_in, IsClearPlan, ClearPlanFault};
 
 use crate::cleared::{ToClear, kept_of, places_to_clear};
 use crate::heading::headings_of;
@@ -126,7 +126,7 @@ pub fn write_clear_plan<W: Write>(
 ) -> Result<(), CommandFault>
     ensures ok { OnOk result (Sends (IsClearPlan dated.now.plan.dag dated.now.runs report what.now)
         (W.written out.old) (W.written out.new)) }
-    ensures fault { IfErr result (IsFaultOfClearPlan dated.now.plan.dag dated.now.runs report
+    ensures fault { IfErr result (ClearPlanFault dated.now.plan.dag dated.now.runs report
         what.now) }
     ensures left { IfErr result (Leaves (HasHalted (W.failures out.old) (W.failures out.new)
         (W.interruptions out.old) (W.interruptions out.new))

@@ -10,7 +10,7 @@ ghost use Rattle.bf_journal.specs.Left.{KeepsJournal};
 ghost use Rattle.bf_journal.specs.Recording.{IsRecordBy, IsWritten, is_write_failed};
 ghost use Rattle.bf_command_fault.specs.Refusal.{Leaves, Sends};
 ghost use Rattle.bf_commands.specs.Cleared.{MayAnswerBy};
-ghost use Rattle.bf_commands.specs.Journaled.{IsFaultSince, IsReportSince, IsStopRecordedOrWanting};
+ghost use Rattle.bf_commands.specs.Journaled.{JournalReportFault, IsJournalReport, IsStopRecordedOrWanting};
 ghost use Rattle.bf_commands.specs.OverTable.{AnswersByTable, IsUnsent};
 ghost use Rattle.bf_planning.specs.Wanting.{IsWanting};
 ghost use Rattle.bf_commands.specs.Reported.{IsEndFrom, IsReportFrom, IsReportOf};
@@ -259,20 +259,20 @@ where
     W: Write,
     requires { AreFit backfill.now.plan.now.dag (K.kept backfill.now.before.now) }
     ensures ok { IfOk result.report (λ success. Sends (λ text.
-        IsReportSince (K.kept backfill.now.before.now) journal.retry_failed journal.held.items
+        IsJournalReport (K.kept backfill.now.before.now) journal.retry_failed journal.held.items
         backfill.now.cleared.now
         (MayAnswerBy (through (launching_of crew.now.launching) (RT.may_hear crew.now.rt.now))
         answers backfill.now.plan.now.dag backfill.now.runs.now)
         backfill.now.plan.now.dag backfill.now.runs.now text success) (W.written out.old)
         (W.written out.new)) }
     ensures fault { IfErr result.report
-        (IsFaultSince journal.stop_after (K.kept backfill.now.before.now) journal.retry_failed
+        (JournalReportFault journal.stop_after (K.kept backfill.now.before.now) journal.retry_failed
         journal.held.items backfill.now.cleared.now (launching_of crew.now.launching).logs
         backfill.now.plan.now.dag backfill.now.runs.now) }
     ensures left { IfErr result.report (Leaves (HasHalted (W.failures out.old) (W.failures out.new)
         (W.interruptions out.old) (W.interruptions out.new))
         (λ text. (success : Bool)
-        × IsReportSince (K.kept backfill.now.before.now) journal.retry_failed journal.held.items
+        × IsJournalReport (K.kept backfill.now.before.now) journal.retry_failed journal.held.items
         backfill.now.cleared.now
         (MayAnswerBy (through (launching_of crew.now.launching) (RT.may_hear crew.now.rt.now))
         answers backfill.now.plan.now.dag backfill.now.runs.now)

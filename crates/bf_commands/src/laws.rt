@@ -10,12 +10,12 @@ ghost use Rattle.bf_core.specs.Answered.{AreGraded};
 ghost use Rattle.bf_table.specs.declared.table.TableEntry.{TableEntry};
 ghost use Rattle.bf_journal.specs.Heads.{head_text};
 ghost use Rattle.bf_journal.specs.Left.{IsLeftByCrashes};
-ghost use Rattle.bf_commands.specs.DatedRuns.{IsReportIn};
+ghost use Rattle.bf_commands.specs.DatedRuns.{IsDryReport};
 ghost use Rattle.bf_planning.specs.declared.range.RunRange.{RunRange};
-ghost use Rattle.bf_commands.specs.Journaled.{Heading, IsReportSince};
+ghost use Rattle.bf_commands.specs.Journaled.{Heading, IsJournalReport};
 ghost use Rattle.bf_planning.specs.Lists.{HasListing};
-ghost use Rattle.bf_commands.specs.OneRun.{IsReportAt};
-ghost use Rattle.bf_commands.specs.OverTable.{IsReportOver};
+ghost use Rattle.bf_commands.specs.OneRun.{IsSingleReport};
+ghost use Rattle.bf_commands.specs.OverTable.{TableReport};
 ghost use Rattle.bf_commands.specs.Reported.{IsReportBy};
 
 use bf_try::TaskRunner;
@@ -32,7 +32,7 @@ pub fn one_report()
     ensures { (dag : Dag) → IsSound dag
         → (table : List TableEntry) (intervals : List Interval) (one two : List ℕ)
         (success other : Bool)
-        → IsReportOver dag table intervals one success → IsReportOver dag table intervals two other
+        → TableReport dag table intervals one success → TableReport dag table intervals two other
         → (one ≡ two) × (success ≡ other) }
 {}
 
@@ -41,8 +41,8 @@ pub fn one_report()
 pub fn one_dry_report()
     ensures { (graph : List ℕ) (file : Option (List ℕ)) (table : List ℕ) (range : RunRange)
         (one two : List ℕ) (success other : Bool)
-        → IsReportIn graph file table range one success
-        → IsReportIn graph file table range two other
+        → IsDryReport graph file table range one success
+        → IsDryReport graph file table range two other
         → (one ≡ two) × (success ≡ other) }
 {}
 
@@ -50,7 +50,7 @@ pub fn one_dry_report()
 pub fn one_single_report()
     ensures { (graph : List ℕ) (file : Option (List ℕ)) (table : List ℕ) (at : Timestamp)
         (one two : List ℕ) (success other : Bool)
-        → IsReportAt graph file table at one success → IsReportAt graph file table at two other
+        → IsSingleReport graph file table at one success → IsSingleReport graph file table at two other
         → (one ≡ two) × (success ≡ other) }
 {}
 
@@ -64,7 +64,7 @@ pub fn crashes_change_no_report<R: TaskRunner>(runner: &R)
         → (retry : Bool) (held : List ℕ)
         → IsLeftByCrashes (R.may_answer runner.now) dag intervals (head_text dag intervals cleared)
         held → (text : List ℕ) (success : Bool)
-        → IsReportSince before retry held cleared (R.may_answer runner.now) dag intervals text
+        → IsJournalReport before retry held cleared (R.may_answer runner.now) dag intervals text
         success
         → IsReportBy (R.may_answer runner.now) dag intervals text success }
 {}

@@ -6,8 +6,8 @@ ghost use Rattle.bf_kept.specs.Kept.{nothing};
 ghost use Rattle.bf_process.specs.Words.{MayAnswer, launching_of};
 ghost use Rattle.bf_journal.specs.Heads.{head_text};
 ghost use Rattle.bf_journal.specs.Left.{KeepsJournal};
-ghost use Rattle.bf_commands.specs.Journaled.{IsFaultSince, IsReportSince};
-ghost use Rattle.bf_commands.specs.Programs.{IsFaultOfRun, IsRunReport, launched_in};
+ghost use Rattle.bf_commands.specs.Journaled.{JournalReportFault, IsJournalReport};
+ghost use Rattle.bf_commands.specs.Programs.{RunFault, IsRunReport, launched_in};
 
 use crate::backfill::write_backfill;
 use crate::crew::Crew;
@@ -38,7 +38,7 @@ pub fn run_programs<RT: Starter + Screen + Threads + Wait + Clock + Sync, W: Wri
         IsRunReport (launching_of crew.now.launching) (RT.may_hear crew.now.rt.now) graph.now
         (option_map (λ s. s.now) zone_file.entry) range text success)
         (W.written out.old) (W.written out.new)) }
-    ensures fault { IfErr result (IsFaultOfRun (launching_of crew.now.launching)
+    ensures fault { IfErr result (RunFault (launching_of crew.now.launching)
         (RT.may_lose crew.now.rt.now) graph.now (option_map (λ s. s.now) zone_file.entry) range) }
     ensures left { IfErr result (Leaves (HasHalted (W.failures out.old) (W.failures out.new)
         (W.interruptions out.old) (W.interruptions out.new))
@@ -65,17 +65,17 @@ where
     D: Cuttable + Drop + Send,
     W: Write,
     ensures ok { IfOk result.report (λ success. Sends (λ text.
-        IsReportSince nothing journal.retry_failed journal.held.items []
+        IsJournalReport nothing journal.retry_failed journal.held.items []
         (MayAnswer (launched_in dated.now (launching_of crew.now.launching)
         (RT.may_hear crew.now.rt.now)) dated.now.plan.dag dated.now.runs)
         dated.now.plan.dag dated.now.runs text success) (W.written out.old) (W.written out.new)) }
     ensures fault { IfErr result.report
-        (IsFaultSince journal.stop_after nothing journal.retry_failed
+        (JournalReportFault journal.stop_after nothing journal.retry_failed
         journal.held.items [] (launching_of crew.now.launching).logs dated.now.plan.dag
         dated.now.runs) }
     ensures left { IfErr result.report (Leaves (HasHalted (W.failures out.old) (W.failures out.new)
         (W.interruptions out.old) (W.interruptions out.new))
-        (λ text. (success : Bool) × IsReportSince nothing journal.retry_failed journal.held.items []
+        (λ text. (success : Bool) × IsJournalReport nothing journal.retry_failed journal.held.items []
         (MayAnswer (launched_in dated.now (launching_of crew.now.launching)
         (RT.may_hear crew.now.rt.now)) dated.now.plan.dag dated.now.runs)
         dated.now.plan.dag dated.now.runs text success) (W.written out.old) (W.written out.new)) }

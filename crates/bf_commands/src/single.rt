@@ -4,7 +4,7 @@ ghost use Rattle.bf_interval.specs.Years.{IsInYears};
 ghost use Rattle.bf_moment.specs.Moment.{IsWhole};
 ghost use Rattle.bf_device.specs.Device.{HasHalted};
 ghost use Rattle.bf_command_fault.specs.Refusal.{Leaves, Sends};
-ghost use Rattle.bf_commands.specs.OneRun.{IsFaultOfSingle, IsReportAt};
+ghost use Rattle.bf_commands.specs.OneRun.{SingleFault, IsSingleReport};
 
 use crate::backfill::write_backfill;
 use crate::crew::Crew;
@@ -35,14 +35,14 @@ pub fn run_single<RT: Starter + Screen + Threads + Wait + Clock + Sync, W: Write
 ) -> Result<bool, CommandFault>
     requires { IsInYears at.nanosecond → IsWhole at.nanosecond }
     ensures ok { IfOk result (λ success. Sends
-        (λ text. IsReportAt graph.now (option_map (λ s. s.now) zone_file.entry) table.now at text
+        (λ text. IsSingleReport graph.now (option_map (λ s. s.now) zone_file.entry) table.now at text
         success)
         (W.written out.old) (W.written out.new)) }
-    ensures fault { IfErr result (IsFaultOfSingle graph.now
+    ensures fault { IfErr result (SingleFault graph.now
         (option_map (λ s. s.now) zone_file.entry) table.now at) }
     ensures left { IfErr result (Leaves (HasHalted (W.failures out.old) (W.failures out.new)
         (W.interruptions out.old) (W.interruptions out.new))
-        (λ text. (success : Bool) × IsReportAt graph.now (option_map (λ s. s.now) zone_file.entry)
+        (λ text. (success : Bool) × IsSingleReport graph.now (option_map (λ s. s.now) zone_file.entry)
         table.now at text success)
         (W.written out.old) (W.written out.new)) }
 {

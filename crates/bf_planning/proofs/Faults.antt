@@ -19,7 +19,7 @@ use Rattle.bf_command_fault.specs.declared.fault.CommandFault.TheVariants.{OutOf
 use Rattle.bf_command_fault.specs.declared.range.RangeFault.TheVariants.{Unlisted}
 use Rattle.bf_planning.specs.declared.range.RunRange.{RunRange}
 use Rattle.bf_planning.specs.Graphs.{IsFaultIn, IsFileOf}
-use Rattle.bf_planning.specs.Lists.{HasListing, IsFaultOfList, IsRangeFault}
+use Rattle.bf_planning.specs.Lists.{HasListing, ListFault, IsRangeFault}
 use Rattle.bf_planning.specs.Wanting.{IsWanting}
 
 pub read_fault : (graph : List ℕ) (file : Option (List ℕ)) (fault : ReadFault) → Fails fault (graph_in graph) → IsFaultIn graph file (of_read fault)
@@ -49,5 +49,5 @@ module _ (P : CommandFault → Type 0) where
   wanting_cases memory write _ is = absurd is
 
 module _ (graph : List ℕ) (file : Option (List ℕ)) (range : RunRange) where
-  pub list_wanting : (fault : CommandFault) → IsWanting fault → IsFaultOfList graph file range fault
-  list_wanting = wanting_cases (IsFaultOfList graph file range) tt (λ n. tt)
+  pub list_wanting : (fault : CommandFault) → IsWanting fault → ListFault graph file range fault
+  list_wanting = wanting_cases (ListFault graph file range) tt (λ n. tt)

@@ -39,10 +39,10 @@ pub record IsListIn (graph : List ℕ) (file : Option (List ℕ)) (range : RunRa
   pub text_is : text ≡ intervals_text found
 
 -- the fault is the first: those of the graph go before those of the range; or memory or the device is wanting
-abbrev pub IsFaultOfList : List ℕ → Option (List ℕ) → RunRange → CommandFault → Type 0
-IsFaultOfList graph file range (Range fault) = HasListing graph file range (Err fault)
-IsFaultOfList graph file range (CannotWrite n) = Unit {0}
-IsFaultOfList graph file range fault = IsFaultIn graph file fault
+abbrev pub ListFault : List ℕ → Option (List ℕ) → RunRange → CommandFault → Type 0
+ListFault graph file range (Range fault) = HasListing graph file range (Err fault)
+ListFault graph file range (CannotWrite n) = Unit {0}
+ListFault graph file range fault = IsFaultIn graph file fault
 
 -- ---- for private clauses
 

@@ -2,7 +2,7 @@
 ghost use Rattle.std.specs.Prelude.{◌≡◌, ◌++◌, IfOk, IfErr, OnOk, All, option_map, string_bytes};
 ghost use Rattle.bf_device.specs.Device.{HasHalted};
 ghost use Rattle.bf_command_fault.specs.Refusal.{Leaves, Sends};
-ghost use Rattle.bf_planning.specs.Lists.{IsFaultOfList, IsListIn, IsSince1970, interval_line, intervals_text};
+ghost use Rattle.bf_planning.specs.Lists.{ListFault, IsListIn, IsSince1970, interval_line, intervals_text};
 
 use crate::plan::dated_plan_in;
 use crate::range::RunRange;
@@ -46,7 +46,7 @@ pub fn run_list<W: Write>(
     ensures ok { OnOk result (Sends
         (IsListIn graph.now (option_map (λ s. s.now) zone_file.entry) range)
         (W.written out.old) (W.written out.new)) }
-    ensures fault { IfErr result (IsFaultOfList graph.now (option_map (λ s. s.now) zone_file.entry)
+    ensures fault { IfErr result (ListFault graph.now (option_map (λ s. s.now) zone_file.entry)
         range) }
     ensures left { IfErr result (Leaves (HasHalted (W.failures out.old) (W.failures out.new)
         (W.interruptions out.old) (W.interruptions out.new))

@@ -37,8 +37,8 @@ use Rattle.bf_answers.specs.TableText.{answers_text}
 use Rattle.bf_planning.specs.Graphs.{IsGraph}
 use Rattle.bf_planning.specs.Lists.{HasListing}
 use Rattle.bf_planning.specs.declared.range.RunRange.{RunRange}
-use Rattle.bf_commands.specs.DatedRuns.{IsReportIn}
-use Rattle.bf_commands.specs.OverTable.{IsReportOver}
+use Rattle.bf_commands.specs.DatedRuns.{IsDryReport}
+use Rattle.bf_commands.specs.OverTable.{TableReport}
 use Rattle.bf_commands.specs.Reported.{IsReportBy, is_success_in}
 use Rattle.bf_commands.proofs.OneList.{one_list}
 use Rattle.bf_views.specs.Tables.{IsTableOf}
@@ -74,7 +74,7 @@ MadeAgain =
 
 module _ (back : ReadBack) (again : MadeAgain) (may_answer : JobName → Given → Raw → Type 0) (graph : List ℕ) (file : Option (List ℕ)) (range : RunRange) (draft : Draft) (found : List Interval)
     (graph_is : IsGraph graph file draft) (listing : HasListing graph file range (Ok found)) (held table text : List ℕ) (success other : Bool) (was : IsReportBy may_answer (dag_of draft) found held success)
-    (told : IsTableOf held table) (made : IsReportIn graph file table range text other) where
+    (told : IsTableOf held table) (made : IsDryReport graph file table range text other) where
   abbrev report : Report
   report = was.reported.report
 
@@ -87,11 +87,11 @@ module _ (back : ReadBack) (again : MadeAgain) (may_answer : JobName → Given �
       let said : Ok made.entries ≡ Ok (answers_in report) = sym made.table_says ∙ ap table_in table_is ∙ back report was.reported.kept short in
       cc
 
-  moved : IsReportOver (dag_of draft) (answers_in report) found text other
+  moved : TableReport (dag_of draft) (answers_in report) found text other
   moved =
       let dags = same_dag graph file made.draft draft made.graph_is graph_is in
       let intervals = one_list graph file range made.found found made.listing listing in
-      subst (λ (p : Dag × List TableEntry × List Interval). IsReportOver p.0 p.1 p.2 text other) (λ i. (dags i, entries_are i, intervals i)) made.reported
+      subst (λ (p : Dag × List TableEntry × List Interval). TableReport p.0 p.1 p.2 text other) (λ i. (dags i, entries_are i, intervals i)) made.reported
 
   fit : AreFit (dag_of draft) (finite.get was.ledger)
   fit n e at = let graded = was.graded n e at in subst (λ (o : Outcome). fits_in (dag_of draft) n.task o ≡ true) (sym graded.2) (grade_fits (dag_of draft) n.task graded.0)

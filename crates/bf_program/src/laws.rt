@@ -12,7 +12,7 @@ ghost use Rattle.bf_cells.specs.Cells.{letters_from};
 ghost use Rattle.bf_planning.specs.Graphs.{IsGraph};
 ghost use Rattle.bf_planning.specs.Lists.{HasListing};
 ghost use Rattle.bf_planning.specs.declared.range.RunRange.{RunRange};
-ghost use Rattle.bf_commands.specs.DatedRuns.{IsReportIn};
+ghost use Rattle.bf_commands.specs.DatedRuns.{IsDryReport};
 ghost use Rattle.bf_commands.specs.Reported.{IsReportBy, IsReportOf};
 ghost use Rattle.bf_views.specs.Pages.{IsPageOf, PageWords};
 ghost use Rattle.bf_views.specs.Tables.{IsTableOf};
@@ -29,7 +29,7 @@ pub fn reports_are_printed_again<R: TaskRunner>(runner: &R)
         → IsGraph graph file draft → HasListing graph file range (Ok found)
         → (report table text : List ℕ) (success other : Bool)
         → IsReportBy (R.may_answer runner.now) (dag_of draft) found report success
-        → IsTableOf report table → IsReportIn graph file table range text other → (text ≡ report)
+        → IsTableOf report table → IsDryReport graph file table range text other → (text ≡ report)
         × (other ≡ success) }
 {
     tables_are_read_back();
