@@ -25,19 +25,19 @@ use Rattle.bf_try.proofs.GradeLemmas.{success_graded, failed_answered, skipped_a
 use Rattle.bf_table.specs.Tables.{answer_of, answers_for_in, dates_in, raw_in}
 use Rattle.bf_core.specs.Agreement.{HoldsItsTries}
 use Rattle.bf_core.specs.Answered.{AreGraded}
-use Rattle.bf_core.proofs.Confluence.{tries-same}
+use Rattle.bf_core.proofs.Confluence.{tries_same}
 use Rattle.bf_report.specs.declared.report.InstanceReport.{InstanceReport}
 use Rattle.bf_report.specs.declared.report.TaskReport.{TaskReport}
 use Rattle.bf_report.specs.declared.report.RunReport.{RunReport}
 use Rattle.bf_report.specs.declared.report.Report.{Report}
 use Rattle.bf_report.specs.declared.report.Version.{Version}
 use Rattle.bf_report.specs.Dated.{AreDated, IsDated, ids_shown}
-use Rattle.bf_report.proofs.DatedFacts.{dated-once}
+use Rattle.bf_report.proofs.DatedFacts.{dated_once}
 use Rattle.bf_report_reader.specs.Entries.{IsShownOutcome, IsShownResult}
 use Rattle.bf_report_reader.specs.Rules.{IsShownInstance, IsShownReport, IsShownTask}
 use Rattle.bf_kept.specs.Kept.{AreFit}
 use Rattle.bf_clear.specs.Entries.{entry_by, entry_of_try, found_at, given_by, instance_in, outcome_of_try_in, told}
-use Rattle.bf_clear.proofs.Told.{told-is}
+use Rattle.bf_clear.proofs.Told.{told_is}
 use Rattle.bf_answers.specs.Answers.{answers_in, entries_for}
 use Rattle.bf_answers.specs.Over.{answering, MayAnswer}
 use Rattle.bf_answers.proofs.Found.{first_of}
@@ -159,7 +159,7 @@ module _ (differ : (m n : ℤ) → IsShown m → IsShown n → IsWhole m → IsW
   alike : AreAlike (finite.get was) (finite.get again)
   unfolding told
   alike name entry same e f given =
-      let parts = told_parts report.version _ _ name.attempt entry (told-is dag intervals (finite.get was) holds report dated name ∙ e) in
+      let parts = told_parts report.version _ _ name.attempt entry (told_is dag intervals (finite.get was) holds report dated name ∙ e) in
       let ids = dated.tasks ∙ ids_where_runs dag intervals name.run (holds.asked name entry e).0 in
       let over = over_intervals dag (finite.get was) 0 intervals report.runs dated.runs in
       let raw = graded name same f in
@@ -167,5 +167,5 @@ module _ (differ : (m n : ℤ) → IsShown m → IsShown n → IsWhole m → IsW
 
   pub made_again : (other : Report) → IsDated dag intervals (finite.get again) other → other ≡ report
   made_again other is =
-      let same : was ≡ again = tries-same dag sound _ was again holds also alike in
-      sym (dated-once dag intervals (finite.get again) report other (subst (λ l. IsDated dag intervals (finite.get l) report) same dated) is)
+      let same : was ≡ again = tries_same dag sound _ was again holds also alike in
+      sym (dated_once dag intervals (finite.get again) report other (subst (λ l. IsDated dag intervals (finite.get l) report) same dated) is)

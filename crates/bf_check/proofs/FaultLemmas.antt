@@ -30,20 +30,20 @@ fault_at n =
     else (if n == 16 then Some ExpandRule
     else (if n == 17 then Some BranchMisuse else None)))))))
 
-fault_at-number : (fault : TaskFault) → fault_at (refusal_number_of fault) ≡ Some fault
+fault_at_number : (fault : TaskFault) → fault_at (refusal_number_of fault) ≡ Some fault
 unfolding fault_at
-fault_at-number UnknownUpstream = refl
-fault_at-number UnknownPool = refl
-fault_at-number SlotsBeyondPool = refl
-fault_at-number BadRule = refl
-fault_at-number PullNotSettled = refl
-fault_at-number ExpandSource = refl
-fault_at-number ExpandRule = refl
-fault_at-number BranchMisuse = refl
+fault_at_number UnknownUpstream = refl
+fault_at_number UnknownPool = refl
+fault_at_number SlotsBeyondPool = refl
+fault_at_number BadRule = refl
+fault_at_number PullNotSettled = refl
+fault_at_number ExpandSource = refl
+fault_at_number ExpandRule = refl
+fault_at_number BranchMisuse = refl
 
 -- a number is that of one fault
 pub one_number : (a b : TaskFault) → refusal_number_of a ≡ refusal_number_of b → a ≡ b
-one_number a b e = let both : Some a ≡ Some b = sym (fault_at-number a) ∙ ap fault_at e ∙ fault_at-number b in cc
+one_number a b e = let both : Some a ≡ Some b = sym (fault_at_number a) ∙ ap fault_at e ∙ fault_at_number b in cc
 
 -- ---- below a number
 

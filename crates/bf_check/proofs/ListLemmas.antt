@@ -7,9 +7,9 @@ use Rattle.std.proofs.lemmas.Option.{get_or_from_slice_get, slice_get_read, slic
 use Rattle.std.proofs.Math.Seq.{take-suc}
 use Rattle.bf_graph.proofs.Places.{none_passing}
 
-pub map-then : {X Y Z : Type 0} (f : X → Y) (g : Y → Z) (xs : List X) → map g (map f xs) ≡ map (λ x. g (f x)) xs
-map-then f g [] = refl
-map-then f g (x ∷ xs) = ap (λ zs. g (f x) ∷ zs) (map-then f g xs)
+pub map_then : {X Y Z : Type 0} (f : X → Y) (g : Y → Z) (xs : List X) → map g (map f xs) ≡ map (λ x. g (f x)) xs
+map_then f g [] = refl
+map_then f g (x ∷ xs) = ap (λ zs. g (f x) ∷ zs) (map_then f g xs)
 
 -- a list that is mapped as far as i, and one more
 pub map_more : {X Y : Type 0} (f : X → Y) (xs : List X) (i : ℕ) (d : X) (ys : List Y) (y : Y) → i < length xs → ys ≡ map f (take i xs) → y ≡ f (get_or xs i d) → ys ++ y ∷ [] ≡ map f (take (i + 1) xs)
@@ -137,6 +137,6 @@ pair_at (a ∷ xs) (b ∷ ys) zero x y e = (ap (option_map (λ p. p.0)) e, ap (o
 pair_at (a ∷ xs) (b ∷ ys) (suc k) x y e = pair_at xs ys k x y e
 
 -- one text more, behind the byte
-pub join-more : (c : ℕ) (x : List ℕ) (xs : List (List ℕ)) (y : List ℕ) → join_with_byte c (x ∷ xs ++ y ∷ []) ≡ join_with_byte c (x ∷ xs) ++ c ∷ y
-join-more c x [] y = refl
-join-more c x (z ∷ zs) y = ap (λ r. x ++ c ∷ r) (join-more c z zs y) ∙ sym (append_assoc x (c ∷ join_with_byte c (z ∷ zs)) (c ∷ y))
+pub join_more : (c : ℕ) (x : List ℕ) (xs : List (List ℕ)) (y : List ℕ) → join_with_byte c (x ∷ xs ++ y ∷ []) ≡ join_with_byte c (x ∷ xs) ++ c ∷ y
+join_more c x [] y = refl
+join_more c x (z ∷ zs) y = ap (λ r. x ++ c ∷ r) (join_more c z zs y) ∙ sym (append_assoc x (c ∷ join_with_byte c (z ∷ zs)) (c ∷ y))

@@ -6,9 +6,9 @@ use Rattle.bf_core.specs.Deciding.{Seen, settled, and_then_past, after_verdict, 
 use Rattle.bf_core.specs.Recursion.{out, before, decided, value_of, results_from, Asks}
 use Rattle.bf_core.specs.Events.{place_in}
 use Rattle.bf_core.specs.Agreement.{HoldsItsTries}
-use Rattle.bf_core.proofs.Attempts.{last_try-same}
-use Rattle.bf_core.proofs.Confluence.{ancestor-in, decided-alike, entries-same, AreAlikeAt, IsClosed}
-use Rattle.bf_core.proofs.Depth.{decision-cong, out-is, pick}
+use Rattle.bf_core.proofs.Attempts.{last_try_same}
+use Rattle.bf_core.proofs.Confluence.{ancestor_in, decided_alike, entries_same, AreAlikeAt, IsClosed}
+use Rattle.bf_core.proofs.Depth.{decision_cong, out_is, pick}
 
 -- the two are alike at the tries of an instance
 abbrev pub AreAlikeOf : Ledger → Ledger → JobName → Type 0
@@ -19,29 +19,29 @@ abbrev AreAlikeIn : Dag → Ledger → Ledger → ℕ → ℕ → ℕ → Type 0
 AreAlikeIn dag one two k t i =
     (a : ℕ) (d e : Entry) → one (name_of dag k t i a) ≡ Some d → two (name_of dag k t i a) ≡ Some e → d.given ≡ e.given → d.outcome ≡ e.outcome
 
-alike-in : (dag : Dag) (one two : Ledger) (n : JobName) (i : ℕ) → n ≡ name_of dag n.run n.task i n.attempt → AreAlikeOf one two n → AreAlikeIn dag one two n.run n.task i
+alike_in : (dag : Dag) (one two : Ledger) (n : JobName) (i : ℕ) → n ≡ name_of dag n.run n.task i n.attempt → AreAlikeOf one two n → AreAlikeIn dag one two n.run n.task i
 unfolding name_of
-alike-in dag one two n i name alike a d e first second given = alike (name_of dag n.run n.task i a) d e refl refl (ap (λ (m : JobName). m.index) (sym name)) first second given
+alike_in dag one two n i name alike a d e first second given = alike (name_of dag n.run n.task i a) d e refl refl (ap (λ (m : JobName). m.index) (sym name)) first second given
 
 -- a task that doesn't depend on its past is decided without it
-past-free : (dag : Dag) (k t : ℕ) (p q : Option TaskValue) (v : Verdict) → (task_of dag t).depends_on_past ≡ false → and_then_past dag k p t v ≡ and_then_past dag k q t v
-past-free dag k t p q Verdict.Run e = rw e
-past-free dag k t p q Verdict.Wait e = refl
-past-free dag k t p q _ e = refl
+past_free : (dag : Dag) (k t : ℕ) (p q : Option TaskValue) (v : Verdict) → (task_of dag t).depends_on_past ≡ false → and_then_past dag k p t v ≡ and_then_past dag k q t v
+past_free dag k t p q Verdict.Run e = rw e
+past_free dag k t p q Verdict.Wait e = refl
+past_free dag k t p q _ e = refl
 
-decision-free : (dag : Dag) (k : ℕ) (seen : ℕ → Seen) (p q : Option TaskValue) (t : ℕ) → (task_of dag t).depends_on_past ≡ false → decision dag k seen p t ≡ decision dag k seen q t
+decision_free : (dag : Dag) (k : ℕ) (seen : ℕ → Seen) (p q : Option TaskValue) (t : ℕ) → (task_of dag t).depends_on_past ≡ false → decision dag k seen p t ≡ decision dag k seen q t
 unfolding decision gate_of
-decision-free dag k seen p q t e = ap (after_verdict dag seen t) (past-free dag k t p q _ e)
+decision_free dag k seen p q t e = ap (after_verdict dag seen t) (past_free dag k t p q _ e)
 
 -- the tries that the recursion asks for of an instance, over a ledger that has them
 abbrev HasTries : Dag → Ledger → ℕ → ℕ → ℕ → Given → Type 0
 HasTries dag ledger k t i given =
     (a : ℕ) → 1 ≤ a → a ≤ (result_of dag ledger k t i).tries → (o : Outcome) × (ledger (name_of dag k t i a) ≡ Some (record { given = given; outcome = o }))
 
-tries-same : (dag : Dag) (one two : Ledger) (k t i : ℕ) → AreAlikeIn dag one two k t i → (given : Given) → HasTries dag one k t i given → HasTries dag two k t i given →
+tries_same : (dag : Dag) (one two : Ledger) (k t i : ℕ) → AreAlikeIn dag one two k t i → (given : Given) → HasTries dag one k t i given → HasTries dag two k t i given →
     (result_of dag one k t i).tries ≡ (result_of dag two k t i).tries
 unfolding result_of
-tries-same dag one two k t i alike given has_one has_two = last_try-same f g 1 (task_of dag t).retries same
+tries_same dag one two k t i alike given has_one has_two = last_try_same f g 1 (task_of dag t).retries same
   where
     f : ℕ → Outcome
     f = outcome_at dag one k t i
@@ -58,7 +58,7 @@ tries-same dag one two k t i alike given has_one has_two = last_try-same f g 1 (
 module _ (dag : Dag) (sound : IsSound dag) (runs : ℕ) (one two : Ledger) (Kept : ℕ → ℕ → Type 0) (closed : IsClosed dag Kept) (alike : (k t : ℕ) → Kept k t → AreAlikeAt dag one two k t) (first : HoldsItsTries dag runs one) (second : HoldsItsTries dag runs two) where
   entries : (k t i a : ℕ) → Kept k t → one (name_of dag k t i a) ≡ two (name_of dag k t i a)
   unfolding name_of
-  entries k t i a kept = entries-same dag sound runs one two Kept closed alike first second (name_of dag k t i a) kept
+  entries k t i a kept = entries_same dag sound runs one two Kept closed alike first second (name_of dag k t i a) kept
 
   results : (k t : ℕ) → Kept k t → (i : ℕ) → result_of dag one k t i ≡ result_of dag two k t i
   unfolding result_of
@@ -75,46 +75,46 @@ module _ (dag : Dag) (sound : IsSound dag) (runs : ℕ) (one two : Ledger) (Kept
 
   outs : (k t : ℕ) → Kept k t → k < runs → t < length dag.tasks → out dag one k t ≡ out dag two k t
   outs k t kept l m =
-      out-is dag sound one k t
+      out_is dag sound one k t
       ∙ (values k t kept (decided dag one k t)
-      ∙ (ap (value_of dag two k t) (decided-alike dag sound runs one two Kept closed alike first.defined second.defined k t kept l m)
-      ∙ sym (out-is dag sound two k t)))
+      ∙ (ap (value_of dag two k t) (decided_alike dag sound runs one two Kept closed alike first.defined second.defined k t kept l m)
+      ∙ sym (out_is dag sound two k t)))
 
-  ancestor-kept : (k t a : ℕ) → ((u : ℕ) → IsOneOf (task_of dag t).upstreams u → Kept k u) → IsSettledAncestor dag t a → Kept k a
-  ancestor-kept k t a up (Direct w h) = up a h
-  ancestor-kept k t a up (Above {u = u} w h above) = ancestor-kept k u a (λ v g. closed.up k u v (up u h) g) above
+  ancestor_kept : (k t a : ℕ) → ((u : ℕ) → IsOneOf (task_of dag t).upstreams u → Kept k u) → IsSettledAncestor dag t a → Kept k a
+  ancestor_kept k t a up (Direct w h) = up a h
+  ancestor_kept k t a up (Above {u = u} w h above) = ancestor_kept k u a (λ v g. closed.up k u v (up u h) g) above
 
   -- what a task rests on
   module _ (k t : ℕ) (l : k < runs) (m : t < length dag.tasks) (up : (u : ℕ) → IsOneOf (task_of dag t).upstreams u → Kept k u) (back : (j : ℕ) → k ≡ suc j → (task_of dag t).depends_on_past ≡ true → Kept j t) where
-    past-same : (n : ℕ) → k ≡ n → (task_of dag t).depends_on_past ≡ true → before dag one n t ≡ before dag two n t
+    past_same : (n : ℕ) → k ≡ n → (task_of dag t).depends_on_past ≡ true → before dag one n t ≡ before dag two n t
     unfolding before
-    past-same zero e d = refl
-    past-same (suc j) e d = outs j t (back j e d) (omega (arith, l, e)) m
+    past_same zero e d = refl
+    past_same (suc j) e d = outs j t (back j e d) (omega (arith, l, e)) m
 
-    decided-same : decided dag one k t ≡ decided dag two k t
+    decided_same : decided dag one k t ≡ decided dag two k t
     unfolding decided
-    decided-same =
-        decision-cong dag k _ _ (Some (before dag one k t)) t sound
+    decided_same =
+        decision_cong dag k _ _ (Some (before dag one k t)) t sound
         (λ u h. ap settled (outs k u (up u h) l (sound.in_range t u h)))
         (λ p h. let above : _ = pick (IsSettledAncestor dag t) (task_of dag t).pulls p (sound.pulls_settled t) h in
-        ap settled (outs k p (ancestor-kept k t p up above) l (ancestor-in dag sound t p above)))
+        ap settled (outs k p (ancestor_kept k t p up above) l (ancestor_in dag sound t p above)))
         ∙ go (task_of dag t).depends_on_past refl
       where
         go : (b : Bool) → (task_of dag t).depends_on_past ≡ b →
             decision dag k (λ u. settled (out dag two k u)) (Some (before dag one k t)) t ≡ decision dag k (λ u. settled (out dag two k u)) (Some (before dag two k t)) t
-        go true e = ap (λ v. decision dag k (λ u. settled (out dag two k u)) (Some v) t) (past-same k refl e)
-        go false e = decision-free dag k _ _ _ t e
+        go true e = ap (λ v. decision dag k (λ u. settled (out dag two k u)) (Some v) t) (past_same k refl e)
+        go false e = decision_free dag k _ _ _ t e
 
 -- what one ledger has of an instance the other has too
-entry-forth : (dag : Dag) (runs : ℕ) (one two : Ledger) → HoldsItsTries dag runs one → HoldsItsTries dag runs two → (n : JobName) → AreAlikeOf one two n →
+entry_forth : (dag : Dag) (runs : ℕ) (one two : Ledger) → HoldsItsTries dag runs one → HoldsItsTries dag runs two → (n : JobName) → AreAlikeOf one two n →
     (n.run < runs → n.task < length dag.tasks → decided dag one n.run n.task ≡ decided dag two n.run n.task) → (e : Entry) → one n ≡ Some e → two n ≡ Some e
-entry-forth dag runs one two first second n alike decided-same e h =
+entry_forth dag runs one two first second n alike decided_same e h =
     let a : _ = first.asked n e h in
     let i : ℕ = place_in dag n in
     let asks : Asks dag one n.run n.task i n.attempt e.given = a.3 in
-    let same : decided dag one n.run n.task ≡ decided dag two n.run n.task = decided-same a.0 a.1 in
+    let same : decided dag one n.run n.task ≡ decided dag two n.run n.task = decided_same a.0 a.1 in
     let tries : (result_of dag one n.run n.task i).tries ≡ (result_of dag two n.run n.task i).tries =
-    tries-same dag one two n.run n.task i (alike-in dag one two n i a.2 alike) e.given
+    tries_same dag one two n.run n.task i (alike_in dag one two n i a.2 alike) e.given
     (λ b l m. first.defined n.run n.task i b e.given a.0 a.1 (record { givens = asks.givens; runs = asks.runs; is_one = asks.is_one; from_first = l; to_last = m }))
     (λ b l m. second.defined n.run n.task i b e.given a.0 a.1 (record { givens = asks.givens; runs = sym same ∙ asks.runs; is_one = asks.is_one; from_first = l; to_last = m })) in
     let found : _ = second.defined n.run n.task i n.attempt e.given a.0 a.1 (record { givens = asks.givens; runs = sym same ∙ asks.runs; is_one = asks.is_one; from_first = asks.from_first; to_last = rw (← tries) asks.to_last }) in
@@ -122,18 +122,18 @@ entry-forth dag runs one two first second n alike decided-same e h =
     there ∙ ap (λ o. Some (record { given = e.given; outcome = o })) (sym (alike n e _ refl refl refl h there refl))
 
 -- two ledgers that hold their tries, are alike within a closed set, and at an instance whose task rests on that set, have equal entries of the instance
-pub instance-same : (dag : Dag) → IsSound dag → (runs : ℕ) (one two : Ledger) (Kept : ℕ → ℕ → Type 0) → IsClosed dag Kept → ((k t : ℕ) → Kept k t → AreAlikeAt dag one two k t) →
+pub instance_same : (dag : Dag) → IsSound dag → (runs : ℕ) (one two : Ledger) (Kept : ℕ → ℕ → Type 0) → IsClosed dag Kept → ((k t : ℕ) → Kept k t → AreAlikeAt dag one two k t) →
     HoldsItsTries dag runs one → HoldsItsTries dag runs two → (n : JobName) → ((u : ℕ) → IsOneOf (task_of dag n.task).upstreams u → Kept n.run u) →
     ((j : ℕ) → n.run ≡ suc j → (task_of dag n.task).depends_on_past ≡ true → Kept j n.task) → AreAlikeOf one two n → one n ≡ two n
-instance-same dag sound runs one two Kept closed alike first second n up back at = go (one n) refl (two n) refl
+instance_same dag sound runs one two Kept closed alike first second n up back at = go (one n) refl (two n) refl
   where
     same : n.run < runs → n.task < length dag.tasks → decided dag one n.run n.task ≡ decided dag two n.run n.task
-    same l m = decided-same dag sound runs one two Kept closed alike first second n.run n.task l m up back
+    same l m = decided_same dag sound runs one two Kept closed alike first second n.run n.task l m up back
 
-    at-back : AreAlikeOf two one n
-    at-back m d e run task index p q given = sym (at m e d run task index q p (sym given))
+    at_back : AreAlikeOf two one n
+    at_back m d e run task index p q given = sym (at m e d run task index q p (sym given))
 
     go : (a : Option Entry) → one n ≡ a → (b : Option Entry) → two n ≡ b → one n ≡ two n
     go None e None f = e ∙ sym f
-    go (Some d) e b f = e ∙ sym (entry-forth dag runs one two first second n at same d e)
-    go None e (Some d) f = entry-forth dag runs two one second first n at-back (λ l m. sym (same l m)) d f ∙ sym f
+    go (Some d) e b f = e ∙ sym (entry_forth dag runs one two first second n at same d e)
+    go None e (Some d) f = entry_forth dag runs two one second first n at_back (λ l m. sym (same l m)) d f ∙ sym f

@@ -9,16 +9,16 @@ use Rattle.bf_clear.specs.Entries.{entry_by, entry_of_try, found_at, given_by, o
 use Rattle.bf_clear.specs.Keeping.{Clearance, fit_outcome, fitting, kept_in, kept_of, IsAnswerOf, IsRawFor}
 
 -- what is kept is looked up in one way or the other
-answers-same : (kept other : Ledger) (n : JobName) (given : Given) (o : Option Raw) → kept n ≡ other n → IsAnsweredBy other n given o → IsAnsweredBy kept n given o
-answers-same kept other n given None e is = λ d held. is d (sym e ∙ held.0, held.1)
-answers-same kept other n given (Some raw) e is = record { held = is.held; is_kept = (e ∙ is.is_kept.0, is.is_kept.1); grades = is.grades }
+answers_same : (kept other : Ledger) (n : JobName) (given : Given) (o : Option Raw) → kept n ≡ other n → IsAnsweredBy other n given o → IsAnsweredBy kept n given o
+answers_same kept other n given None e is = λ d held. is d (sym e ∙ held.0, held.1)
+answers_same kept other n given (Some raw) e is = record { held = is.held; is_kept = (e ∙ is.is_kept.0, is.is_kept.1); grades = is.grades }
 
-none-kept : (kept : Ledger) (n : JobName) (given : Given) → kept n ≡ None → IsAnsweredBy kept n given None
-none-kept kept n given e = λ d held. let both : ◌≡◌ {A = Option Entry} None (Some d) = sym e ∙ held.0 in cc
+none_kept : (kept : Ledger) (n : JobName) (given : Given) → kept n ≡ None → IsAnsweredBy kept n given None
+none_kept kept n given e = λ d held. let both : ◌≡◌ {A = Option Entry} None (Some d) = sym e ∙ held.0 in cc
 
-outcome-answers : (dag : Dag) (x : InstanceReport) (n : JobName) (given : Given) (o : Option Raw) →
+outcome_answers : (dag : Dag) (x : InstanceReport) (n : JobName) (given : Given) (o : Option Raw) →
     IsRawFor (fit_outcome dag n.task (outcome_of_try_in x.result n.attempt)) o → IsAnswerOf dag (Some given) x n given o
-outcome-answers dag x n given o is = go (outcome_of_try_in x.result n.attempt) refl o is
+outcome_answers dag x n given o is = go (outcome_of_try_in x.result n.attempt) refl o is
   where
     entry : Outcome → Entry
     entry w = record { given = given; outcome = w }
@@ -37,32 +37,32 @@ outcome-answers dag x n given o is = go (outcome_of_try_in x.result n.attempt) r
     go (Some w) e r h = fit w (fits_in dag n.task w) refl r h
 
 -- the outcome of the try, where it fits
-pub raw-answers : (dag : Dag) (told : Option Given) (x : InstanceReport) (n : JobName) (given : Given) (o : Option Raw) → told ≡ Some given →
+pub raw_answers : (dag : Dag) (told : Option Given) (x : InstanceReport) (n : JobName) (given : Given) (o : Option Raw) → told ≡ Some given →
     IsRawFor (fit_outcome dag n.task (outcome_of_try_in x.result n.attempt)) o → IsAnswerOf dag told x n given o
-raw-answers dag told x n given o same is =
-    answers-same (λ m. fitting dag n.task (entry_of_try x.result n.attempt told)) (λ m. fitting dag n.task (entry_of_try x.result n.attempt (Some given))) n given o
-    (ap (λ g. fitting dag n.task (entry_of_try x.result n.attempt g)) same) (outcome-answers dag x n given o is)
+raw_answers dag told x n given o same is =
+    answers_same (λ m. fitting dag n.task (entry_of_try x.result n.attempt told)) (λ m. fitting dag n.task (entry_of_try x.result n.attempt (Some given))) n given o
+    (ap (λ g. fitting dag n.task (entry_of_try x.result n.attempt g)) same) (outcome_answers dag x n given o is)
 
 -- ---- by the report
 
-pub answers-here : (c : Clearance) (n : JobName) (given : Given) (x : InstanceReport) (o : Option Raw) →
+pub answers_here : (c : Clearance) (n : JobName) (given : Given) (x : InstanceReport) (o : Option Raw) →
     nat_lt n.task (length c.dag.tasks) ≡ true → has_in c.dag c.cleared n.run n.task n.index ≡ false → found_at c.report n.run n.task n.index ≡ Some x →
     IsAnswerOf c.dag (given_by c.report.version (worked_out_in c.dag c.report n.run n.task n.index) x) x n given o → IsAnsweredBy (kept_in c) n given o
 unfolding told
-answers-here c n given x o there beside found is =
-    answers-same (kept_in c) (λ m. fitting c.dag n.task (entry_of_try x.result n.attempt (given_by c.report.version (worked_out_in c.dag c.report n.run n.task n.index) x))) n given o
+answers_here c n given x o there beside found is =
+    answers_same (kept_in c) (λ m. fitting c.dag n.task (entry_of_try x.result n.attempt (given_by c.report.version (worked_out_in c.dag c.report n.run n.task n.index) x))) n given o
     (ap (λ b. kept_of (b && not (has_in c.dag c.cleared n.run n.task n.index)) c.dag n.task (told c.dag c.report n)) there
     ∙ (ap (λ b. kept_of (not b) c.dag n.task (told c.dag c.report n)) beside
     ∙ ap (λ m. fitting c.dag n.task (entry_by c.report.version (worked_out_in c.dag c.report n.run n.task n.index) m n.attempt)) found)) is
 
-fitting-none : (b : Bool) (dag : Dag) (t : ℕ) → kept_of b dag t None ≡ None
-fitting-none true dag t = refl
-fitting-none false dag t = refl
+fitting_none : (b : Bool) (dag : Dag) (t : ℕ) → kept_of b dag t None ≡ None
+fitting_none true dag t = refl
+fitting_none false dag t = refl
 
 -- no such instance stands in the report
-pub answers-none : (c : Clearance) (n : JobName) (given : Given) → found_at c.report n.run n.task n.index ≡ None → IsAnsweredBy (kept_in c) n given None
+pub answers_none : (c : Clearance) (n : JobName) (given : Given) → found_at c.report n.run n.task n.index ≡ None → IsAnsweredBy (kept_in c) n given None
 unfolding told
-answers-none c n given none =
-    none-kept (kept_in c) n given
+answers_none c n given none =
+    none_kept (kept_in c) n given
     (ap (λ m. kept_of (nat_lt n.task (length c.dag.tasks) && not (has_in c.dag c.cleared n.run n.task n.index)) c.dag n.task (entry_by c.report.version (worked_out_in c.dag c.report n.run n.task n.index) m n.attempt)) none
-    ∙ fitting-none (nat_lt n.task (length c.dag.tasks) && not (has_in c.dag c.cleared n.run n.task n.index)) c.dag n.task)
+    ∙ fitting_none (nat_lt n.task (length c.dag.tasks) && not (has_in c.dag c.cleared n.run n.task n.index)) c.dag n.task)

@@ -22,60 +22,60 @@ use Rattle.bf_report.specs.declared.report.TaskReport.{TaskReport}
 use Rattle.bf_report.specs.declared.report.RunReport.{RunReport}
 use Rattle.bf_report.specs.declared.report.Report.{Report}
 use Rattle.bf_report.specs.Dated.{AreDated, IsDated, cell_by, ids_shown}
-use Rattle.bf_report.proofs.DatedFacts.{length-reports_from}
+use Rattle.bf_report.proofs.DatedFacts.{length_reports_from}
 use Rattle.bf_clear.specs.Aligning.{AreAligned, IsAligned, is_over, tasks_at, tasks_in, tasks_told, told_at}
 use Rattle.bf_clear.specs.Entries.{entry_by, found_at, instance_in, report_at, told, worked_out_in}
 use Rattle.bf_clear.specs.Matching.{is_same_interval_in}
-use Rattle.bf_clear.proofs.Aligned.{over-one}
-use Rattle.bf_clear.proofs.Own.{same-interval}
-use Rattle.bf_clear.proofs.Told.{told-is}
+use Rattle.bf_clear.proofs.Aligned.{over_one}
+use Rattle.bf_clear.proofs.Own.{same_interval}
+use Rattle.bf_clear.proofs.Told.{told_is}
 
 -- ---- runs
 
 module _ (dag : Dag) (ledger : Ledger) where
   -- the run in a place is over the data interval there
-  dated-at : (from : ℕ) (intervals : List Interval) (runs : List RunReport) → AreDated dag ledger from intervals runs → (j : ℕ) (interval : Interval) → slice_get intervals j ≡ Some interval
+  dated_at : (from : ℕ) (intervals : List Interval) (runs : List RunReport) → AreDated dag ledger from intervals runs → (j : ℕ) (interval : Interval) → slice_get intervals j ≡ Some interval
       → (run : RunReport) × (slice_get runs j ≡ Some run) × (length run.tasks ≡ length dag.tasks)
-  dated-at from [] runs are j interval e = cc
-  dated-at from (i ∷ is) [] are j interval e = absurd are
-  dated-at from (i ∷ is) (r ∷ rs) are zero interval e = (r, refl, ap length are.2 ∙ length-reports_from dag (cell_by dag ledger from) 0 dag.tasks)
-  dated-at from (i ∷ is) (r ∷ rs) are (suc j) interval e = dated-at (suc from) is rs are.3 j interval e
+  dated_at from [] runs are j interval e = cc
+  dated_at from (i ∷ is) [] are j interval e = absurd are
+  dated_at from (i ∷ is) (r ∷ rs) are zero interval e = (r, refl, ap length are.2 ∙ length_reports_from dag (cell_by dag ledger from) 0 dag.tasks)
+  dated_at from (i ∷ is) (r ∷ rs) are (suc j) interval e = dated_at (suc from) is rs are.3 j interval e
 
   -- and none before it is
-  first-over : (from : ℕ) (intervals : List Interval) (runs : List RunReport) → AreDated dag ledger from intervals runs → AllPairs (λ i later. i.start.nanosecond <ℤ later.start.nanosecond) intervals
+  first_over : (from : ℕ) (intervals : List Interval) (runs : List RunReport) → AreDated dag ledger from intervals runs → AllPairs (λ i later. i.start.nanosecond <ℤ later.start.nanosecond) intervals
       → (j : ℕ) (interval : Interval) (run : RunReport) → slice_get intervals j ≡ Some interval → slice_get runs j ≡ Some run → find (is_over interval) runs ≡ Some run
-  first-over from [] runs are rising j interval run e f = cc
-  first-over from (i ∷ is) [] are rising j interval run e f = absurd are
-  first-over from (i ∷ is) (r ∷ rs) are rising zero interval run e f =
+  first_over from [] runs are rising j interval run e f = cc
+  first_over from (i ∷ is) [] are rising j interval run e f = absurd are
+  first_over from (i ∷ is) (r ∷ rs) are rising zero interval run e f =
       let same : i ≡ interval = cc in
-      let over : is_over interval r ≡ true = ap (λ (x : Interval). is_same_interval_in x interval) (are.0 ∙ same) ∙ same-interval interval in
+      let over : is_over interval r ≡ true = ap (λ (x : Interval). is_same_interval_in x interval) (are.0 ∙ same) ∙ same_interval interval in
       rw over f
-  first-over from (i ∷ is) (r ∷ rs) are rising (suc j) interval run e f =
+  first_over from (i ∷ is) (r ∷ rs) are rising (suc j) interval run e f =
       let low : j < length is = slice_get_within is j interval e in
       let later : i.start.nanosecond <ℤ interval.start.nanosecond =
       subst (λ (x : Interval). i.start.nanosecond <ℤ x.start.nanosecond) (get_or_from_slice_get is j interval interval e) (rising 0 (suc j) interval (omega arith) (omega (arith, low))) in
-      let here : is_over i r ≡ true = ap (λ (x : Interval). is_same_interval_in x i) are.0 ∙ same-interval i in
-      let gone : is_over interval r ≡ false = over-one r i interval here (λ same. omega (arith, ints, later, same)) in
-      rw gone (first-over (suc from) is rs are.3 (λ a b d lt within. rising (suc a) (suc b) d (omega (arith, lt)) (omega (arith, within))) j interval run e f)
+      let here : is_over i r ≡ true = ap (λ (x : Interval). is_same_interval_in x i) are.0 ∙ same_interval i in
+      let gone : is_over interval r ≡ false = over_one r i interval here (λ same. omega (arith, ints, later, same)) in
+      rw gone (first_over (suc from) is rs are.3 (λ a b d lt within. rising (suc a) (suc b) d (omega (arith, lt)) (omega (arith, within))) j interval run e f)
 
-aligned-at : (dag : Dag) (told : Report) (intervals : List Interval) (runs : List RunReport) → AreAligned dag told intervals runs → (k : ℕ) (interval : Interval) → slice_get intervals k ≡ Some interval
+aligned_at : (dag : Dag) (told : Report) (intervals : List Interval) (runs : List RunReport) → AreAligned dag told intervals runs → (k : ℕ) (interval : Interval) → slice_get intervals k ≡ Some interval
     → (run : RunReport) × (slice_get runs k ≡ Some run) × (run.tasks ≡ tasks_told dag told.tasks (tasks_at told.runs interval))
-aligned-at dag told [] runs are k interval e = cc
-aligned-at dag told (i ∷ is) [] are k interval e = absurd are
-aligned-at dag told (i ∷ is) (r ∷ rs) are zero interval e =
+aligned_at dag told [] runs are k interval e = cc
+aligned_at dag told (i ∷ is) [] are k interval e = absurd are
+aligned_at dag told (i ∷ is) (r ∷ rs) are zero interval e =
     let same : i ≡ interval = cc in
     (r, refl, are.1 ∙ ap (λ (x : Interval). tasks_told dag told.tasks (tasks_at told.runs x)) same)
-aligned-at dag told (i ∷ is) (r ∷ rs) are (suc k) interval e = aligned-at dag told is rs are.2 k interval e
+aligned_at dag told (i ∷ is) (r ∷ rs) are (suc k) interval e = aligned_at dag told is rs are.2 k interval e
 
-ids-are-shown : (dag : Dag) (intervals : List Interval) (j : ℕ) (interval : Interval) → slice_get intervals j ≡ Some interval → ids_shown dag intervals ≡ map (λ task. task.id) dag.tasks
-ids-are-shown dag [] j interval e = cc
-ids-are-shown dag (i ∷ is) j interval e = refl
+ids_are_shown : (dag : Dag) (intervals : List Interval) (j : ℕ) (interval : Interval) → slice_get intervals j ≡ Some interval → ids_shown dag intervals ≡ map (λ task. task.id) dag.tasks
+ids_are_shown dag [] j interval e = cc
+ids_are_shown dag (i ∷ is) j interval e = refl
 
 -- ---- tasks
 
 -- the id of a task stands in its place
-own-place : (tasks : List Task) → AreDistinct (map (λ task. task.id) tasks) → (t : ℕ) → t < length tasks → position (bytes_eq (get_or tasks t no_task).id) (map (λ task. task.id) tasks) ≡ Some t
-own-place tasks distinct t low =
+own_place : (tasks : List Task) → AreDistinct (map (λ task. task.id) tasks) → (t : ℕ) → t < length tasks → position (bytes_eq (get_or tasks t no_task).id) (map (λ task. task.id) tasks) ≡ Some t
+own_place tasks distinct t low =
     (λ k. cond (nat_lt (place k) (length ids)) (Some (place k)) None) ∙ ap (λ b. cond b (Some t) None) there
   where
     ids : List (List ℕ)
@@ -103,8 +103,8 @@ own-place tasks distinct t low =
     there : nat_lt t (length ids) ≡ true
     there = grind (arith, within)
 
-same-tasks : (dag : Dag) → IsNamed dag → (tasks : List TaskReport) → length tasks ≡ length dag.tasks → (t : ℕ) → slice_get (tasks_told dag (map (λ task. task.id) dag.tasks) tasks) t ≡ slice_get tasks t
-same-tasks dag named tasks long t = by (nat_lt t (length dag.tasks)) refl
+same_tasks : (dag : Dag) → IsNamed dag → (tasks : List TaskReport) → length tasks ≡ length dag.tasks → (t : ℕ) → slice_get (tasks_told dag (map (λ task. task.id) dag.tasks) tasks) t ≡ slice_get tasks t
+same_tasks dag named tasks long t = by (nat_lt t (length dag.tasks)) refl
   where
     ids : List (List ℕ)
     ids = map (λ task. task.id) dag.tasks
@@ -118,42 +118,42 @@ same-tasks dag named tasks long t = by (nat_lt t (length dag.tasks)) refl
         let below : t < length tasks = omega (arith, low, long) in
         let here : slice_get tasks t ≡ Some (get_or tasks t TaskReport.NoStatus) = slice_get-get_or tasks t TaskReport.NoStatus below in
         slice_get-map at dag.tasks t ∙ (ap (option_map at) (slice_get-get_or dag.tasks t no_task low)
-        ∙ (ap (λ place. Some (told_at tasks place)) (own-place dag.tasks named.distinct t low) ∙ rw here refl))
+        ∙ (ap (λ place. Some (told_at tasks place)) (own_place dag.tasks named.distinct t low) ∙ rw here refl))
     by false e =
         slice_get-map at dag.tasks t ∙ (ap (option_map at) (slice_get_past dag.tasks t (grind (arith, nat_tests))) ∙ sym (slice_get_past tasks t (grind (arith, nat_tests, long))))
 
 -- ---- entries
 
 -- in version 2 nothing is worked out
-entry-told : (worked other : Option Given) (found : Option InstanceReport) (attempt : ℕ) → entry_by Version.Two worked found attempt ≡ entry_by Version.Two other found attempt
-entry-told worked other None attempt = refl
-entry-told worked other (Some instance) attempt = refl
+entry_told : (worked other : Option Given) (found : Option InstanceReport) (attempt : ℕ) → entry_by Version.Two worked found attempt ≡ entry_by Version.Two other found attempt
+entry_told worked other None attempt = refl
+entry_told worked other (Some instance) attempt = refl
 
-same-entry : (one two : Version) → one ≡ Version.Two → two ≡ Version.Two → (worked other : Option Given) (found there : Option InstanceReport) → found ≡ there → (attempt : ℕ)
+same_entry : (one two : Version) → one ≡ Version.Two → two ≡ Version.Two → (worked other : Option Given) (found there : Option InstanceReport) → found ≡ there → (attempt : ℕ)
     → entry_by one worked found attempt ≡ entry_by two other there attempt
-same-entry one two first second worked other found there same attempt =
-    (λ k. entry_by (first k) worked (same k) attempt) ∙ (entry-told worked other there attempt ∙ ap (λ v. entry_by v other there attempt) (sym second))
+same_entry one two first second worked other found there same attempt =
+    (λ k. entry_by (first k) worked (same k) attempt) ∙ (entry_told worked other there attempt ∙ ap (λ v. entry_by v other there attempt) (sym second))
 
 module _ (dag : Dag) (named : IsNamed dag) (before intervals : List Interval) (of_runs : AreOfRuns before) (ledger : Ledger) (report aligned : Report) (dated : IsDated dag before ledger report)
     (is : IsAligned dag intervals report aligned) (interval : Interval) (j k : ℕ) (at : slice_get before j ≡ Some interval) (there : slice_get intervals k ≡ Some interval) where
-  same-report : (t : ℕ) → report_at aligned k t ≡ report_at report j t
-  same-report t =
-      let run = dated-at dag ledger 0 before report.runs dated.runs j interval at in
-      let now = aligned-at dag report intervals aligned.runs is.runs k interval there in
-      let tasks : tasks_at report.runs interval ≡ run.0.tasks = ap tasks_in (first-over dag ledger 0 before report.runs dated.runs of_runs.rising j interval run.0 at run.1) in
-      let ids : report.tasks ≡ map (λ task. task.id) dag.tasks = dated.tasks ∙ ids-are-shown dag before j interval at in
+  same_report : (t : ℕ) → report_at aligned k t ≡ report_at report j t
+  same_report t =
+      let run = dated_at dag ledger 0 before report.runs dated.runs j interval at in
+      let now = aligned_at dag report intervals aligned.runs is.runs k interval there in
+      let tasks : tasks_at report.runs interval ≡ run.0.tasks = ap tasks_in (first_over dag ledger 0 before report.runs dated.runs of_runs.rising j interval run.0 at run.1) in
+      let ids : report.tasks ≡ map (λ task. task.id) dag.tasks = dated.tasks ∙ ids_are_shown dag before j interval at in
       let told : now.0.tasks ≡ tasks_told dag (map (λ task. task.id) dag.tasks) run.0.tasks = now.2 ∙ (λ i. tasks_told dag (ids i) (tasks i)) in
       ap (option_and_then (λ (r : RunReport). slice_get r.tasks t)) now.1
-      ∙ (ap (λ (ts : List TaskReport). slice_get ts t) told ∙ (same-tasks dag named run.0.tasks run.2 t ∙ sym (ap (option_and_then (λ (r : RunReport). slice_get r.tasks t)) run.1)))
+      ∙ (ap (λ (ts : List TaskReport). slice_get ts t) told ∙ (same_tasks dag named run.0.tasks run.2 t ∙ sym (ap (option_and_then (λ (r : RunReport). slice_get r.tasks t)) run.1)))
 
-  same-found : (t : ℕ) (index : ℤ) → found_at aligned k t index ≡ found_at report j t index
-  same-found t index = ap (option_and_then (λ (told : TaskReport). instance_in told index)) (same-report t)
+  same_found : (t : ℕ) (index : ℤ) → found_at aligned k t index ≡ found_at report j t index
+  same_found t index = ap (option_and_then (λ (told : TaskReport). instance_in told index)) (same_report t)
 
-pub kept-tells : (dag : Dag) → IsNamed dag → (before intervals : List Interval) → AreOfRuns before → (ledger : Ledger) → HoldsItsTries dag (length before) ledger → (report aligned : Report)
+pub kept_tells : (dag : Dag) → IsNamed dag → (before intervals : List Interval) → AreOfRuns before → (ledger : Ledger) → HoldsItsTries dag (length before) ledger → (report aligned : Report)
     → IsDated dag before ledger report → IsAligned dag intervals report aligned → (interval : Interval) (j : ℕ) (n : JobName) → slice_get before j ≡ Some interval → slice_get intervals n.run ≡ Some interval
     → told dag aligned n ≡ ledger (record n { run = j })
 unfolding told
-kept-tells dag named before intervals of_runs ledger holds report aligned dated is interval j n at there =
-    same-entry aligned.version report.version (is.version ∙ dated.version) dated.version (worked_out_in dag aligned n.run n.task n.index) (worked_out_in dag report j n.task n.index) _ _
-    (same-found dag named before intervals of_runs ledger report aligned dated is interval j n.run at there n.task n.index) n.attempt
-    ∙ told-is dag before ledger holds report dated (record n { run = j })
+kept_tells dag named before intervals of_runs ledger holds report aligned dated is interval j n at there =
+    same_entry aligned.version report.version (is.version ∙ dated.version) dated.version (worked_out_in dag aligned n.run n.task n.index) (worked_out_in dag report j n.task n.index) _ _
+    (same_found dag named before intervals of_runs ledger report aligned dated is interval j n.run at there n.task n.index) n.attempt
+    ∙ told_is dag before ledger holds report dated (record n { run = j })

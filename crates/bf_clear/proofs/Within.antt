@@ -15,27 +15,27 @@ use Rattle.bf_clear.specs.Entries.{instance_in, IsWithin}
 use Rattle.bf_clear.specs.Matching.{are_ids_in, are_runs_in, are_tasks_in, is_report_in, is_run_in, is_same_interval_in}
 
 -- each run that is told of is of the plan
-each-run : (v : Version) (dag : Dag) (runs : List RunReport) (intervals : List Interval) → length runs ≡ length intervals → list_all (λ p. is_run_in v dag p.0 p.1) (zip runs intervals) ≡ true →
+each_run : (v : Version) (dag : Dag) (runs : List RunReport) (intervals : List Interval) → length runs ≡ length intervals → list_all (λ p. is_run_in v dag p.0 p.1) (zip runs intervals) ≡ true →
     (k : ℕ) (run : RunReport) → slice_get runs k ≡ Some run → length run.tasks ≡ length dag.tasks
-each-run v dag [] intervals len all k run e = cc
-each-run v dag (r ∷ rs) [] len all k run e = absurd (omega (arith, len))
-each-run v dag (r ∷ rs) (i ∷ is) len all zero run e =
+each_run v dag [] intervals len all k run e = cc
+each_run v dag (r ∷ rs) [] len all k run e = absurd (omega (arith, len))
+each_run v dag (r ∷ rs) (i ∷ is) len all zero run e =
     let same : r ≡ run = cc in
     let first : _ = and_parts (is_run_in v dag r i) (list_all (λ p. is_run_in v dag p.0 p.1) (zip rs is)) all in
     let tasks : _ = and_parts (is_same_interval_in r.interval i) (are_tasks_in v dag r.tasks) first.0 in
     let count : _ = and_parts (length r.tasks == length dag.tasks) _ tasks.1 in
     ap (λ (r : RunReport). length r.tasks) (sym same) ∙ eqb-true (length r.tasks) (length dag.tasks) count.0
-each-run v dag (r ∷ rs) (i ∷ is) len all (suc k) run e =
+each_run v dag (r ∷ rs) (i ∷ is) len all (suc k) run e =
     let rest : _ = and_parts (is_run_in v dag r i) (list_all (λ p. is_run_in v dag p.0 p.1) (zip rs is)) all in
-    each-run v dag rs is (omega (arith, len)) rest.1 k run e
+    each_run v dag rs is (omega (arith, len)) rest.1 k run e
 
 -- a report with so many runs, each of which tells of each task, is of what is there
-pub sized-within : (dag : Dag) (runs : ℕ) (report : Report) → length report.runs ≡ runs → ((k : ℕ) (run : RunReport) → slice_get report.runs k ≡ Some run → length run.tasks ≡ length dag.tasks) → IsWithin dag runs report
-sized-within dag runs report len each k t index x e = at (slice_get report.runs k) refl e
+pub sized_within : (dag : Dag) (runs : ℕ) (report : Report) → length report.runs ≡ runs → ((k : ℕ) (run : RunReport) → slice_get report.runs k ≡ Some run → length run.tasks ≡ length dag.tasks) → IsWithin dag runs report
+sized_within dag runs report len each k t index x e = at (slice_get report.runs k) refl e
   where
-    in-run : (run : RunReport) → slice_get report.runs k ≡ Some run → (task : Option TaskReport) → slice_get run.tasks t ≡ task → option_and_then (λ x. instance_in x index) task ≡ Some x → (k < runs) × (t < length dag.tasks)
-    in-run run there None h f = cc
-    in-run run there (Some task) h f =
+    in_run : (run : RunReport) → slice_get report.runs k ≡ Some run → (task : Option TaskReport) → slice_get run.tasks t ≡ task → option_and_then (λ x. instance_in x index) task ≡ Some x → (k < runs) × (t < length dag.tasks)
+    in_run run there None h f = cc
+    in_run run there (Some task) h f =
         let low : k < length report.runs = slice_get_within report.runs k run there in
         let below : t < length run.tasks = slice_get_within run.tasks t task h in
         let size : length run.tasks ≡ length dag.tasks = each k run there in
@@ -43,11 +43,11 @@ sized-within dag runs report len each k t index x e = at (slice_get report.runs 
 
     at : (o : Option RunReport) → slice_get report.runs k ≡ o → option_and_then (λ x. instance_in x index) (option_and_then (λ run. slice_get run.tasks t) o) ≡ Some x → (k < runs) × (t < length dag.tasks)
     at None h f = cc
-    at (Some run) h f = in-run run h (slice_get run.tasks t) refl f
+    at (Some run) h f = in_run run h (slice_get run.tasks t) refl f
 
-pub matches-within : (dag : Dag) (intervals : List Interval) (report : Report) → is_report_in dag intervals report ≡ true → IsWithin dag (length intervals) report
+pub matches_within : (dag : Dag) (intervals : List Interval) (report : Report) → is_report_in dag intervals report ≡ true → IsWithin dag (length intervals) report
 unfolding is_report_in
-matches-within dag intervals report is = sized-within dag (length intervals) report len (each-run report.version dag report.runs intervals len parts.1)
+matches_within dag intervals report is = sized_within dag (length intervals) report len (each_run report.version dag report.runs intervals len parts.1)
   where
     runs : are_runs_in report.version dag report.runs intervals ≡ true
     runs = (and_parts (length intervals == 0 || are_ids_in report.tasks dag.tasks) _ (and_parts (bytes_eq report.dag_id dag.id) _ is).1).1

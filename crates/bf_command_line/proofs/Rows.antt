@@ -25,10 +25,10 @@ one_more Is [] x each here (suc k) y is = cc
 one_more Is (z ∷ xs) x each here zero y is = each 0 y is
 one_more Is (z ∷ xs) x each here (suc k) y is = one_more (λ j. Is (suc j)) xs x (λ j w. each (suc j) w) here k y is
 
-pub get-map : {X Y : Type 0} (f : X → Y) (xs : List X) (k : ℕ) → option_map f (slice_get xs k) ≡ slice_get (map f xs) k
-get-map f [] k = refl
-get-map f (x ∷ xs) zero = refl
-get-map f (x ∷ xs) (suc k) = get-map f xs k
+pub get_map : {X Y : Type 0} (f : X → Y) (xs : List X) (k : ℕ) → option_map f (slice_get xs k) ≡ slice_get (map f xs) k
+get_map f [] k = refl
+get_map f (x ∷ xs) zero = refl
+get_map f (x ∷ xs) (suc k) = get_map f xs k
 
 here_at : {X : Type 0} (xs : List X) (k : ℕ) (x : X) → k < length xs → x ≡ get_or xs k x → Some x ≡ slice_get xs k
 here_at [] k x low is = absurd (omega arith)

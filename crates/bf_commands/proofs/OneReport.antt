@@ -18,10 +18,10 @@ use Rattle.bf_try.specs.Grades.{grade_of}
 use Rattle.bf_try.specs.Tries.{Ledger, AreAlike}
 use Rattle.bf_core.specs.Agreement.{HoldsItsTries}
 use Rattle.bf_core.specs.Answered.{AreGraded}
-use Rattle.bf_core.proofs.Confluence.{tries-same}
+use Rattle.bf_core.proofs.Confluence.{tries_same}
 use Rattle.bf_report.specs.declared.report.Report.{Report}
 use Rattle.bf_report.specs.Report.{report_text}
-use Rattle.bf_report.proofs.DatedFacts.{dated-once}
+use Rattle.bf_report.proofs.DatedFacts.{dated_once}
 use Rattle.bf_planning.specs.declared.range.RunRange.{RunRange}
 use Rattle.bf_commands.specs.DatedRuns.{IsDryReport}
 use Rattle.bf_planning.specs.Graphs.{IsGraph}
@@ -35,16 +35,16 @@ alike_reports : (dag : Dag) → IsSound dag → (intervals : List Interval) (one
     → AreAlike (finite.get one) (finite.get two) → (text others : List ℕ) (success other : Bool) → IsReportOf dag intervals (finite.get one) text success → IsReportOf dag intervals (finite.get two) others other
     → (text ≡ others) × (success ≡ other)
 alike_reports dag sound intervals one two first second alike text others success other reported again =
-    let same_ledger : one ≡ two = tries-same dag sound (length intervals) one two first second alike in
+    let same_ledger : one ≡ two = tries_same dag sound (length intervals) one two first second alike in
     let moved : IsReportOf dag intervals (finite.get two) text success = subst (λ l. IsReportOf dag intervals (finite.get l) text success) same_ledger reported in
-    let same : moved.report ≡ again.report = dated-once dag intervals (finite.get two) moved.report again.report moved.dated again.dated in (
+    let same : moved.report ≡ again.report = dated_once dag intervals (finite.get two) moved.report again.report moved.dated again.dated in (
       moved.text_is ∙ ap report_text same ∙ sym again.text_is,
       moved.state ∙ ap (λ (r : Report). list_all (λ run. is_success_in run.state) r.runs) same ∙ sym again.state,
     )
 
 -- ledgers whose entries have the answers of one table are alike
-answered-alike : (dag : Dag) (table : List TableEntry) (intervals : List Interval) (one two : Ledger) → AreGraded (AnswersByTable dag table intervals) dag one → AreGraded (AnswersByTable dag table intervals) dag two → AreAlike one two
-answered-alike dag table intervals one two first second n d e at there given =
+answered_alike : (dag : Dag) (table : List TableEntry) (intervals : List Interval) (one two : Ledger) → AreGraded (AnswersByTable dag table intervals) dag one → AreGraded (AnswersByTable dag table intervals) dag two → AreAlike one two
+answered_alike dag table intervals one two first second n d e at there given =
     let a = first n d at in
     let b = second n e there in
     a.2 ∙ ap (grade_of dag n.task) (a.1 ∙ sym b.1) ∙ sym b.2
@@ -52,7 +52,7 @@ answered-alike dag table intervals one two first second n d e at there given =
 pub one_report : (dag : Dag) → IsSound dag → (table : List TableEntry) (intervals : List Interval) (text others : List ℕ) (success other : Bool)
     → TableReport dag table intervals text success → TableReport dag table intervals others other → (text ≡ others) × (success ≡ other)
 one_report dag sound table intervals text others success other a b =
-    alike_reports dag sound intervals a.ledger b.ledger a.tries b.tries (answered-alike dag table intervals (finite.get a.ledger) (finite.get b.ledger) a.graded b.graded) text others success other a.reported b.reported
+    alike_reports dag sound intervals a.ledger b.ledger a.tries b.tries (answered_alike dag table intervals (finite.get a.ledger) (finite.get b.ledger) a.graded b.graded) text others success other a.reported b.reported
 
 -- ---- over bytes
 

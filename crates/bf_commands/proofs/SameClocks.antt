@@ -55,9 +55,9 @@ same_rule_at a b n e = same_dst a.std_offset b.std_offset a.dst b.dst n (same_of
 
 -- ---- tables
 
-prefix_len-map : {X Y : Type 0} (p : Y → Bool) (f : X → Y) (xs : List X) → prefix_len p (map f xs) ≡ prefix_len (λ x. p (f x)) xs
-prefix_len-map p f [] = refl
-prefix_len-map p f (x ∷ xs) = ap (λ n. cond (p (f x)) (1 + n) 0) (prefix_len-map p f xs)
+prefix_len_map : {X Y : Type 0} (p : Y → Bool) (f : X → Y) (xs : List X) → prefix_len p (map f xs) ≡ prefix_len (λ x. p (f x)) xs
+prefix_len_map p f [] = refl
+prefix_len_map p f (x ∷ xs) = ap (λ n. cond (p (f x)) (1 + n) 0) (prefix_len_map p f xs)
 
 abbrev Alike : Tzif → Tzif → Type 0
 Alike z w = tzif_view z ≡ tzif_view w
@@ -76,9 +76,9 @@ same_text z w i e = text_is z i ∙ (λ j. get_or (rows z w e j) i (stand_in ((e
 
 same_count : (z w : Tzif) (s : ℤ) → Alike z w → count_at z s ≡ count_at w s
 same_count z w s e =
-    sym (prefix_len-map (λ r. int_le r.second s) transition_text z.transitions.items)
+    sym (prefix_len_map (λ r. int_le r.second s) transition_text z.transitions.items)
     ∙ ap (prefix_len (λ r. int_le r.second s)) (rows z w e)
-    ∙ prefix_len-map (λ r. int_le r.second s) transition_text w.transitions.items
+    ∙ prefix_len_map (λ r. int_le r.second s) transition_text w.transitions.items
 
 same_after : (z w : Tzif) (i : ℕ) → Alike z w → (transition_at z i).after.offset ≡ (transition_at w i).after.offset
 same_after z w i e = same_offset _ _ (ap (λ r. r.after.seconds) (same_text z w i e))

@@ -12,7 +12,7 @@ use Rattle.bf_plan.proofs.PlanLemmas.{upstreams_of_task}
 use Rattle.bf_plan.proofs.ListLemmas.{any_contained}
 use Rattle.bf_pool.proofs.WeightFacts.{tasks_there, any_of}
 use Rattle.bf_core.specs.Recursion.{is_leaf_in}
-use Rattle.bf_core.proofs.Placing.{any-default}
+use Rattle.bf_core.proofs.Placing.{any_default}
 
 named : (dag : Dag) (t d : ℕ) → IsUpstream (shape_of dag).upstreams t d → list_any (λ task. list_any (λ u. u == t) task.upstreams) dag.tasks ≡ true
 unfolding task_of
@@ -20,7 +20,7 @@ named dag t d up =
     let within : d < length dag.tasks = omega (arith, task_within (shape_of dag).upstreams t d up, tasks_there dag) in
     let task : Task = task_of dag d in
     let up' : Contains task.upstreams t = subst (λ (us : List ℕ). Contains us t) (sym (upstreams_of_task dag d)) up in
-    any_contained (λ task. list_any (λ u. u == t) task.upstreams) dag.tasks task (d, within, any-default dag.tasks d task no_task within)
+    any_contained (λ task. list_any (λ u. u == t) task.upstreams) dag.tasks task (d, within, any_default dag.tasks d task no_task within)
     (any_contained (λ u. u == t) task.upstreams t up' (eq-eqb t t refl))
 
 namer : (dag : Dag) (t : ℕ) → list_any (λ task. list_any (λ u. u == t) task.upstreams) dag.tasks ≡ true → (d : ℕ) × IsUpstream (shape_of dag).upstreams t d
@@ -28,7 +28,7 @@ unfolding task_of
 namer dag t e =
     let (task, (d, within, at), names) = any_of (λ task. list_any (λ u. u == t) task.upstreams) dag.tasks e in
     let (u, held, same) = any_of (λ u. u == t) task.upstreams names in
-    let is : task ≡ task_of dag d = sym at ∙ any-default dag.tasks d task no_task within in
+    let is : task ≡ task_of dag d = sym at ∙ any_default dag.tasks d task no_task within in
     let one : Contains task.upstreams t = subst (λ (v : ℕ). Contains task.upstreams v) (eqb-true u t same) held in
     (d, subst (λ (us : List ℕ). Contains us t) (ap (λ (x : Task). x.upstreams) is ∙ upstreams_of_task dag d) one)
 

@@ -14,8 +14,8 @@ use Rattle.bf_core.specs.Clocks.{AreTimely, IsTimely, KeepsTime, clock_after, cl
 
 -- ---- names
 
-next-one : (a b : JobName) → next_try_of a ≡ next_try_of b → a ≡ b
-next-one a b e =
+next_one : (a b : JobName) → next_try_of a ≡ next_try_of b → a ≡ b
+next_one a b e =
     let run : a.run ≡ b.run = ap (λ (n : JobName). n.run) e in
     let task : a.task ≡ b.task = ap (λ (n : JobName). n.task) e in
     let index : a.index ≡ b.index = ap (λ (n : JobName). n.index) e in
@@ -24,33 +24,33 @@ next-one a b e =
 
 -- ---- maps
 
-some-kept : {X : Type 0} → (m : map.FinMap name_cmp X) (k : JobName) (v : X) (q : JobName) → IsSome (map.get m q) → IsSome (map.get (map.insert m k v) q)
-some-kept m k v q h = rw (map.get-insert name_cmp_total m k v q) (go (eq_by_cmp name_cmp q k))
+some_kept : {X : Type 0} → (m : map.FinMap name_cmp X) (k : JobName) (v : X) (q : JobName) → IsSome (map.get m q) → IsSome (map.get (map.insert m k v) q)
+some_kept m k v q h = rw (map.get-insert name_cmp_total m k v q) (go (eq_by_cmp name_cmp q k))
   where
     go : (b : Bool) → IsSome (cond b (Some v) (map.get m q))
     go true = refl
     go false = h
 
-some-own : {X : Type 0} → (m : map.FinMap name_cmp X) (k : JobName) (v : X) (q : JobName) → q ≡ k → IsSome (map.get (map.insert m k v) q)
-some-own m k v q e = rw (map.get-insert name_cmp_total m k v q) (go (eq_by_cmp name_cmp q k) refl)
+some_own : {X : Type 0} → (m : map.FinMap name_cmp X) (k : JobName) (v : X) (q : JobName) → q ≡ k → IsSome (map.get (map.insert m k v) q)
+some_own m k v q e = rw (map.get-insert name_cmp_total m k v q) (go (eq_by_cmp name_cmp q k) refl)
   where
     go : (b : Bool) → eq_by_cmp name_cmp q k ≡ b → IsSome (cond b (Some v) (map.get m q))
     go true f = refl
-    go false f = absurd (not-same q k e f)
+    go false f = absurd (not_same q k e f)
       where
-        not-same : (a b : JobName) → a ≡ b → eq_by_cmp name_cmp a b ≡ false → ⊥
-        not-same a b e f = let t : eq_by_cmp name_cmp a a ≡ true = (eq_by_cmp_equiv name_cmp_total).refl a in let u : eq_by_cmp name_cmp a b ≡ true = rw (← e) t in cc
+        not_same : (a b : JobName) → a ≡ b → eq_by_cmp name_cmp a b ≡ false → ⊥
+        not_same a b e f = let t : eq_by_cmp name_cmp a a ≡ true = (eq_by_cmp_equiv name_cmp_total).refl a in let u : eq_by_cmp name_cmp a b ≡ true = rw (← e) t in cc
 
 -- what is noted under a new name and forgotten leaves the map as it was
-noted-forgotten : {X : Type 0} → (m : map.FinMap name_cmp X) (k : JobName) (v : X) → map.get m k ≡ None → map.remove (map.insert m k v) k ≡ m
-noted-forgotten m k v none = map.same_map name_cmp_total name_cmp-IsAntisymmetric _ _ (λ q. map.get-remove name_cmp_total (map.insert m k v) k q ∙ go q (eq_by_cmp name_cmp q k) refl)
+noted_forgotten : {X : Type 0} → (m : map.FinMap name_cmp X) (k : JobName) (v : X) → map.get m k ≡ None → map.remove (map.insert m k v) k ≡ m
+noted_forgotten m k v none = map.same_map name_cmp_total name_cmp-IsAntisymmetric _ _ (λ q. map.get-remove name_cmp_total (map.insert m k v) k q ∙ go q (eq_by_cmp name_cmp q k) refl)
   where
     go : (q : JobName) (b : Bool) → eq_by_cmp name_cmp q k ≡ b → cond b None (map.get (map.insert m k v) q) ≡ map.get m q
     go q true e = sym (ap (λ n. map.get m n) (same_name q k e) ∙ none)
     go q false e = map.get-insert name_cmp_total m k v q ∙ ap (λ b. cond b (Some v) (map.get m q)) e
 
-none-forgotten : {X : Type 0} → (m : map.FinMap name_cmp X) (k : JobName) → map.get m k ≡ None → map.remove m k ≡ m
-none-forgotten m k none = map.same_map name_cmp_total name_cmp-IsAntisymmetric _ _ (λ q. map.get-remove name_cmp_total m k q ∙ go q (eq_by_cmp name_cmp q k) refl)
+none_forgotten : {X : Type 0} → (m : map.FinMap name_cmp X) (k : JobName) → map.get m k ≡ None → map.remove m k ≡ m
+none_forgotten m k none = map.same_map name_cmp_total name_cmp-IsAntisymmetric _ _ (λ q. map.get-remove name_cmp_total m k q ∙ go q (eq_by_cmp name_cmp q k) refl)
   where
     go : (q : JobName) (b : Bool) → eq_by_cmp name_cmp q k ≡ b → cond b None (map.get m q) ≡ map.get m q
     go q true e = sym (ap (λ n. map.get m n) (same_name q k e) ∙ none)
@@ -60,20 +60,20 @@ none-forgotten m k none = map.same_map name_cmp_total name_cmp-IsAntisymmetric _
 pub forgotten : (c : Clock) (next : JobName) (again : Bool) (delay : ℕ) → map.get c.moments next ≡ None →
     ◌≡◌ {A = Clock} (record { time = (after_end c next again delay).time; moments = map.remove (after_end c next again delay).moments next }) c
 unfolding after_end
-forgotten c next false delay none = λ i. record { time = c.time; moments = none-forgotten c.moments next none i }
+forgotten c next false delay none = λ i. record { time = c.time; moments = none_forgotten c.moments next none i }
 forgotten c next true delay none = go (int_lt c.time (int_min (c.time +ℤ pos delay) last_moment)) refl
   where
     at : Bool → Clock
     at b = cond b (record { time = c.time; moments = map.insert c.moments next (int_min (c.time +ℤ pos delay) last_moment) }) c
 
     go : (b : Bool) → int_lt c.time (int_min (c.time +ℤ pos delay) last_moment) ≡ b → ◌≡◌ {A = Clock} (record { time = (at b).time; moments = map.remove (at b).moments next }) c
-    go true e = λ i. record { time = c.time; moments = noted-forgotten c.moments next (int_min (c.time +ℤ pos delay) last_moment) none i }
-    go false e = λ i. record { time = c.time; moments = none-forgotten c.moments next none i }
+    go true e = λ i. record { time = c.time; moments = noted_forgotten c.moments next (int_min (c.time +ℤ pos delay) last_moment) none i }
+    go false e = λ i. record { time = c.time; moments = none_forgotten c.moments next none i }
 
 -- ---- what a clock keeps
 
-at-most : (x y : ℤ) → int_min x y ≤ℤ y
-at-most x y = omega (arith, ints, clamps)
+at_most : (x y : ℤ) → int_min x y ≤ℤ y
+at_most x y = omega (arith, ints, clamps)
 
 module _ (c : Clock) (look : Ledger) (is : KeepsTime c look) where
   -- the next try of one that has not ended has no moment
@@ -84,47 +84,47 @@ module _ (c : Clock) (look : Ledger) (is : KeepsTime c look) where
       go None e = refl
       go (Some m) e = absurd (let some : IsSome (look n) = is.after_one n (rw e refl) in let no : false ≡ true = rw none at some in cc)
 
-  begin-keeps : (n : JobName) → KeepsTime (record { time = c.time; moments = map.remove c.moments n }) look
-  begin-keeps n = record {
+  begin_keeps : (n : JobName) → KeepsTime (record { time = c.time; moments = map.remove c.moments n }) look
+  begin_keeps n = record {
     begun = is.begun;
     within = is.within;
-    bounded = λ q m h. go-bounded q m (eq_by_cmp name_cmp q n) (rw (map.get-remove name_cmp_total c.moments n q) at h);
-    after_one = λ q h. go-some q (eq_by_cmp name_cmp (next_try_of q) n) (rw (map.get-remove name_cmp_total c.moments n (next_try_of q)) at h);
+    bounded = λ q m h. go_bounded q m (eq_by_cmp name_cmp q n) (rw (map.get-remove name_cmp_total c.moments n q) at h);
+    after_one = λ q h. go_some q (eq_by_cmp name_cmp (next_try_of q) n) (rw (map.get-remove name_cmp_total c.moments n (next_try_of q)) at h);
   }
     where
-      go-bounded : (q : JobName) (m : ℤ) (b : Bool) → cond b None (map.get c.moments q) ≡ Some m → m ≤ℤ last_moment
-      go-bounded q m true h = cc
-      go-bounded q m false h = is.bounded q m h
+      go_bounded : (q : JobName) (m : ℤ) (b : Bool) → cond b None (map.get c.moments q) ≡ Some m → m ≤ℤ last_moment
+      go_bounded q m true h = cc
+      go_bounded q m false h = is.bounded q m h
 
-      go-some : (q : JobName) (b : Bool) → IsSome (cond b None (map.get c.moments (next_try_of q))) → IsSome (look q)
-      go-some q true h = cc
-      go-some q false h = is.after_one q h
+      go_some : (q : JobName) (b : Bool) → IsSome (cond b None (map.get c.moments (next_try_of q))) → IsSome (look q)
+      go_some q true h = cc
+      go_some q false h = is.after_one q h
 
 -- the end of a try, which the ledger gets, keeps it
-pub end-keeps-time : (c : Clock) (ledger : map.FinMap name_cmp Entry) → KeepsTime c (entry_in ledger) → (n : JobName) (e : Entry) (again : Bool) (delay : ℕ) →
+pub end_keeps_time : (c : Clock) (ledger : map.FinMap name_cmp Entry) → KeepsTime c (entry_in ledger) → (n : JobName) (e : Entry) (again : Bool) (delay : ℕ) →
     KeepsTime (after_end c (next_try_of n) again delay) (entry_in (map.insert ledger n e))
 unfolding after_end
-end-keeps-time c ledger is n e false delay = record {
+end_keeps_time c ledger is n e false delay = record {
   begun = is.begun;
   within = is.within;
   bounded = is.bounded;
-  after_one = λ q h. some-kept ledger n e q (is.after_one q h);
+  after_one = λ q h. some_kept ledger n e q (is.after_one q h);
 }
-end-keeps-time c ledger is n e true delay = go (int_lt c.time m)
+end_keeps_time c ledger is n e true delay = go (int_lt c.time m)
   where
     m : ℤ
     m = int_min (c.time +ℤ pos delay) last_moment
 
     bound : (q : JobName) (o : ℤ) (b : Bool) → cond b (Some m) (map.get c.moments q) ≡ Some o → o ≤ℤ last_moment
-    bound q o true h = let same : m ≡ o = cc in rw (← same) (at-most (c.time +ℤ pos delay) last_moment)
+    bound q o true h = let same : m ≡ o = cc in rw (← same) (at_most (c.time +ℤ pos delay) last_moment)
     bound q o false h = is.bounded q o h
 
     one : (q : JobName) (b : Bool) → eq_by_cmp name_cmp (next_try_of q) (next_try_of n) ≡ b → IsSome (cond b (Some m) (map.get c.moments (next_try_of q))) → IsSome (map.get (map.insert ledger n e) q)
-    one q true f h = some-own ledger n e q (next-one q n (same_name _ _ f))
-    one q false f h = some-kept ledger n e q (is.after_one q h)
+    one q true f h = some_own ledger n e q (next_one q n (same_name _ _ f))
+    one q false f h = some_kept ledger n e q (is.after_one q h)
 
     go : (b : Bool) → KeepsTime (cond b (record { time = c.time; moments = map.insert c.moments (next_try_of n) m }) c) (entry_in (map.insert ledger n e))
-    go false = record { begun = is.begun; within = is.within; bounded = is.bounded; after_one = λ q h. some-kept ledger n e q (is.after_one q h) }
+    go false = record { begun = is.begun; within = is.within; bounded = is.bounded; after_one = λ q h. some_kept ledger n e q (is.after_one q h) }
     go true = record {
       begun = is.begun;
       within = is.within;
@@ -132,18 +132,18 @@ end-keeps-time c ledger is n e true delay = go (int_lt c.time m)
       after_one = λ q h. one q (eq_by_cmp name_cmp (next_try_of q) (next_try_of n)) refl (rw (map.get-insert name_cmp_total c.moments (next_try_of n) m (next_try_of q)) at h);
     }
 
-pub keeps-time : (dag : Dag) (limits : Limits) (c : Clock) (s : State) (e : Event) → IsTimely c e → KeepsTime c (entry_in s.ledger) → KeepsTime (clock_after dag limits c e) (entry_in (after dag s e).ledger)
+pub keeps_time : (dag : Dag) (limits : Limits) (c : Clock) (s : State) (e : Event) → IsTimely c e → KeepsTime c (entry_in s.ledger) → KeepsTime (clock_after dag limits c e) (entry_in (after dag s e).ledger)
 unfolding after
-keeps-time dag limits c s Event.Open timely is = is
-keeps-time dag limits c s (Event.Settle k t) timely is = is
-keeps-time dag limits c s (Event.Expand k t) timely is = is
-keeps-time dag limits c s (Event.Begin n) timely is = begin-keeps c (entry_in s.ledger) is n
-keeps-time dag limits c s (Event.End n o) timely is = end-keeps-time c s.ledger is n _ (is_made_again (task_of dag n.task).retries n.attempt o) (demand_of limits n.task).retry_delay
-keeps-time dag limits c s (Event.Close k) timely is = is
-keeps-time dag limits c s (Event.Tick m) timely is = record { begun = omega (arith, ints, is.begun, timely.0); within = timely.1; bounded = is.bounded; after_one = is.after_one }
+keeps_time dag limits c s Event.Open timely is = is
+keeps_time dag limits c s (Event.Settle k t) timely is = is
+keeps_time dag limits c s (Event.Expand k t) timely is = is
+keeps_time dag limits c s (Event.Begin n) timely is = begin_keeps c (entry_in s.ledger) is n
+keeps_time dag limits c s (Event.End n o) timely is = end_keeps_time c s.ledger is n _ (is_made_again (task_of dag n.task).retries n.attempt o) (demand_of limits n.task).retry_delay
+keeps_time dag limits c s (Event.Close k) timely is = is
+keeps_time dag limits c s (Event.Tick m) timely is = record { begun = omega (arith, ints, is.begun, timely.0); within = timely.1; bounded = is.bounded; after_one = is.after_one }
 
-pub start-keeps-time : KeepsTime start_clock (entry_in map.empty)
-start-keeps-time = record {
+pub start_keeps_time : KeepsTime start_clock (entry_in map.empty)
+start_keeps_time = record {
   begun = omega (arith, ints);
   within = omega (arith, ints);
   bounded = λ n m h. absurd (let none : map.get {R = name_cmp} (map.empty {X = ℤ}) n ≡ None = map.get-empty name_cmp n in cc);
@@ -152,13 +152,13 @@ start-keeps-time = record {
 
 -- ---- lists of events
 
-pub timely-more : (dag : Dag) (limits : Limits) (c : Clock) (es : List Event) (e : Event) → AreTimely dag limits c es → IsTimely (clock_of dag limits c es) e → AreTimely dag limits c (es ++ e ∷ [])
-timely-more dag limits c [] e timely able = (able, tt)
-timely-more dag limits c (d ∷ es) e timely able = (timely.0, timely-more dag limits (clock_after dag limits c d) es e timely.1 able)
+pub timely_more : (dag : Dag) (limits : Limits) (c : Clock) (es : List Event) (e : Event) → AreTimely dag limits c es → IsTimely (clock_of dag limits c es) e → AreTimely dag limits c (es ++ e ∷ [])
+timely_more dag limits c [] e timely able = (able, tt)
+timely_more dag limits c (d ∷ es) e timely able = (timely.0, timely_more dag limits (clock_after dag limits c d) es e timely.1 able)
 
-pub clock-more : (dag : Dag) (limits : Limits) (c : Clock) (es : List Event) (e : Event) → clock_of dag limits c (es ++ e ∷ []) ≡ clock_after dag limits (clock_of dag limits c es) e
-clock-more dag limits c [] e = refl
-clock-more dag limits c (d ∷ es) e = clock-more dag limits (clock_after dag limits c d) es e
+pub clock_more : (dag : Dag) (limits : Limits) (c : Clock) (es : List Event) (e : Event) → clock_of dag limits c (es ++ e ∷ []) ≡ clock_after dag limits (clock_of dag limits c es) e
+clock_more dag limits c [] e = refl
+clock_more dag limits c (d ∷ es) e = clock_more dag limits (clock_after dag limits c d) es e
 
 -- the clock without the moment of a try
 pub forgets : (c : Clock) (n : JobName) (ms : map.FinMap name_cmp ℤ) → ms ≡ map.remove c.moments n → ◌≡◌ {A = Clock} (record { time = c.time; moments = ms }) (record { time = c.time; moments = map.remove c.moments n })
@@ -167,34 +167,34 @@ forgets c n ms e = λ i. record { time = c.time; moments = e i }
 pub retried : (c : Clock) (next after_it : JobName) (again is_again : Bool) (delay waits : ℕ) → next ≡ after_it → again ≡ is_again → delay ≡ waits → after_end c next again delay ≡ after_end c after_it is_again waits
 retried c next after_it again is_again delay waits e f g = λ i. after_end c (e i) (f i) (g i)
 
-pub no-entry : {X : Type 0} → {o : Option X} → (IsSome o → ⊥) → o ≡ None
-no-entry {o = None} never = refl
-no-entry {o = Some x} never = absurd (never refl)
+pub no_entry : {X : Type 0} → {o : Option X} → (IsSome o → ⊥) → o ≡ None
+no_entry {o = None} never = refl
+no_entry {o = Some x} never = absurd (never refl)
 
-pub not-yes : (b : Bool) → not b ≡ true → b ≡ false
-not-yes true e = cc
-not-yes false e = refl
+pub not_yes : (b : Bool) → not b ≡ true → b ≡ false
+not_yes true e = cc
+not_yes false e = refl
 
-pub not-no : (b : Bool) → not b ≡ false → b ≡ true
-not-no true e = refl
-not-no false e = cc
+pub not_no : (b : Bool) → not b ≡ false → b ≡ true
+not_no true e = refl
+not_no false e = cc
 
 -- a next try that is made, and whose moment is later, waits for it
-pub waits-for : (c : Clock) (next : JobName) (again : Bool) (delay : ℕ) (m : ℤ) (ms : map.FinMap name_cmp ℤ) → again ≡ true → m ≡ int_min (c.time +ℤ pos delay) last_moment → int_lt c.time m ≡ true →
+pub waits_for : (c : Clock) (next : JobName) (again : Bool) (delay : ℕ) (m : ℤ) (ms : map.FinMap name_cmp ℤ) → again ≡ true → m ≡ int_min (c.time +ℤ pos delay) last_moment → int_lt c.time m ≡ true →
     ms ≡ map.insert c.moments next m → ◌≡◌ {A = Clock} (record { time = c.time; moments = ms }) (after_end c next again delay)
 unfolding after_end
-waits-for c next again delay m ms made is later noted = rw (made, ← is, later) (λ i. record { time = c.time; moments = noted i })
+waits_for c next again delay m ms made is later noted = rw (made, ← is, later) (λ i. record { time = c.time; moments = noted i })
 
-pub waits-not : (c : Clock) (next : JobName) (again : Bool) (delay : ℕ) (m : ℤ) → m ≡ int_min (c.time +ℤ pos delay) last_moment → int_lt c.time m ≡ false → c ≡ after_end c next again delay
+pub waits_not : (c : Clock) (next : JobName) (again : Bool) (delay : ℕ) (m : ℤ) → m ≡ int_min (c.time +ℤ pos delay) last_moment → int_lt c.time m ≡ false → c ≡ after_end c next again delay
 unfolding after_end
-waits-not c next false delay m is e = refl
-waits-not c next true delay m is e = rw (← is, e) refl
+waits_not c next false delay m is e = refl
+waits_not c next true delay m is e = rw (← is, e) refl
 
-pub made-not : (c : Clock) (next : JobName) (again : Bool) (delay : ℕ) → again ≡ false → c ≡ after_end c next again delay
+pub made_not : (c : Clock) (next : JobName) (again : Bool) (delay : ℕ) → again ≡ false → c ≡ after_end c next again delay
 unfolding after_end
-made-not c next again delay e = rw e refl
+made_not c next again delay e = rw e refl
 
 -- what was noted is taken back
-pub taken-back : (c d : Clock) (next : JobName) (again : Bool) (delay : ℕ) (ms : map.FinMap name_cmp ℤ) → d ≡ after_end c next again delay → ms ≡ map.remove d.moments next → map.get c.moments next ≡ None →
+pub taken_back : (c d : Clock) (next : JobName) (again : Bool) (delay : ℕ) (ms : map.FinMap name_cmp ℤ) → d ≡ after_end c next again delay → ms ≡ map.remove d.moments next → map.get c.moments next ≡ None →
     ◌≡◌ {A = Clock} (record { time = d.time; moments = ms }) c
-taken-back c d next again delay ms is less none = (λ i. record { time = (is i).time; moments = (less ∙ ap (λ (x : Clock). map.remove x.moments next) is) i }) ∙ forgotten c next again delay none
+taken_back c d next again delay ms is less none = (λ i. record { time = (is i).time; moments = (less ∙ ap (λ (x : Clock). map.remove x.moments next) is) i }) ∙ forgotten c next again delay none

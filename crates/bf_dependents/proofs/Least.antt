@@ -16,8 +16,8 @@ least dag seeds Any whole at down next k t i (IsDependent.Downstream {u = u} {j 
 least dag seeds Any whole at down next (suc k) t i (IsDependent.NextRun {j = j} h d) = next k t i j h (least dag seeds Any whole at down next k t j d)
 
 -- where no seed has an index, each instance of a task follows, or none
-pub whole-tasks : (dag : Dag) (seeds : List Place) → ((p : Place) → Contains seeds p → p.index ≡ None) → (k t : ℕ) (i j : ℤ) → IsDependent dag seeds k t i → IsDependent dag seeds k t j
-whole-tasks dag seeds none k t i j (IsDependent.Seed c) = IsDependent.Seed c
-whole-tasks dag seeds none k t i j (IsDependent.SeedAt c) = let e : Some i ≡ None = none (record { run = k; task = t; index = Some i }) c in cc
-whole-tasks dag seeds none k t i j (IsDependent.Downstream h d) = IsDependent.Downstream h d
-whole-tasks dag seeds none (suc k) t i j (IsDependent.NextRun h d) = IsDependent.NextRun h d
+pub whole_tasks : (dag : Dag) (seeds : List Place) → ((p : Place) → Contains seeds p → p.index ≡ None) → (k t : ℕ) (i j : ℤ) → IsDependent dag seeds k t i → IsDependent dag seeds k t j
+whole_tasks dag seeds none k t i j (IsDependent.Seed c) = IsDependent.Seed c
+whole_tasks dag seeds none k t i j (IsDependent.SeedAt c) = let e : Some i ≡ None = none (record { run = k; task = t; index = Some i }) c in cc
+whole_tasks dag seeds none k t i j (IsDependent.Downstream h d) = IsDependent.Downstream h d
+whole_tasks dag seeds none (suc k) t i j (IsDependent.NextRun h d) = IsDependent.NextRun h d

@@ -27,30 +27,30 @@ pub record AreMarksTo (dag : Dag) (seeds : List Place) (k : ℕ) (order : List �
 abbrev pub AreMarksForTo : Dag → List Bool → List Bool → List ℕ → ℕ → List Bool → Type 0
 AreMarksForTo dag seeded before order i marks = (seeds : List Place) (k : ℕ) → IsSeedRow seeds (length dag.tasks) k seeded → ArePast dag seeds k before → AreMarksTo dag seeds k order i marks
 
-same-or-before : (j n : ℕ) → j < n + 1 → (j ≡ n) ⊎ (j < n)
-same-or-before j n l = let low : j ≤ n = omega (arith, l) in eq-or-lt_of_le low
+same_or_before : (j n : ℕ) → j < n + 1 → (j ≡ n) ⊎ (j < n)
+same_or_before j n l = let low : j ≤ n = omega (arith, l) in eq-or-lt_of_le low
 
 -- ---- what marks a task
 
-pub of-parts : (k t : ℕ) (p : Place) → is_of k t p ≡ true → (k ≡ p.run) × (t ≡ p.task)
-of-parts k t p e =
+pub of_parts : (k t : ℕ) (p : Place) → is_of k t p ≡ true → (k ≡ p.run) × (t ≡ p.task)
+of_parts k t p e =
     let both : _ = and_parts (p.run == k) (p.task == t) e in
     let run : k ≡ p.run = grind (arith, both.0) in
     let task : t ≡ p.task = grind (arith, both.1) in
     (run, task)
 
-pub of-itself : (k t : ℕ) (p : Place) → k ≡ p.run → t ≡ p.task → is_of k t p ≡ true
-of-itself k t p e f = and_from (p.run == k) (p.task == t) (grind (arith, e)) (grind (arith, f))
+pub of_itself : (k t : ℕ) (p : Place) → k ≡ p.run → t ≡ p.task → is_of k t p ≡ true
+of_itself k t p e f = and_from (p.run == k) (p.task == t) (grind (arith, e)) (grind (arith, f))
 
 -- ---- one seed more
 
 module _ (seeds : List Place) (i runs tasks : ℕ) (rows : List (List Bool)) (p : Place) (l : i < length seeds) (here : p ≡ slice_index_or seeds i p) (are : AreSeeded (take i seeds) runs tasks rows) where
-  one-more : (k t : ℕ) → list_any (is_of k t) (take (i + 1) seeds) ≡ (list_any (is_of k t) (take i seeds) || is_of k t p)
-  one-more k t = list_any_more (is_of k t) seeds i p l ∙ ap (λ q. list_any (is_of k t) (take i seeds) || is_of k t q) (sym here)
+  one_more : (k t : ℕ) → list_any (is_of k t) (take (i + 1) seeds) ≡ (list_any (is_of k t) (take i seeds) || is_of k t p)
+  one_more k t = list_any_more (is_of k t) seeds i p l ∙ ap (λ q. list_any (is_of k t) (take i seeds) || is_of k t q) (sym here)
 
   -- where the seed is another, the answer stays
   other : (k t : ℕ) (mark : Bool) → mark ≡ list_any (is_of k t) (take i seeds) → is_of k t p ≡ false → mark ≡ list_any (is_of k t) (take (i + 1) seeds)
-  other k t mark e f = e ∙ stays (list_any (is_of k t) (take i seeds)) ∙ ap (λ b. list_any (is_of k t) (take i seeds) || b) (sym f) ∙ sym (one-more k t)
+  other k t mark e f = e ∙ stays (list_any (is_of k t) (take i seeds)) ∙ ap (λ b. list_any (is_of k t) (take i seeds) || b) (sym f) ∙ sym (one_more k t)
     where
       stays : (b : Bool) → b ≡ (b || false)
       stays true = refl
@@ -60,17 +60,17 @@ module _ (seeds : List Place) (i runs tasks : ℕ) (rows : List (List Bool)) (p 
   apart k t differs = go (is_of k t p) refl
     where
       go : (b : Bool) → is_of k t p ≡ b → b ≡ false
-      go true e = let same : _ = of-parts k t p e in absurd (differs same.0 same.1)
+      go true e = let same : _ = of_parts k t p e in absurd (differs same.0 same.1)
       go false e = refl
 
   found : (k t : ℕ) → k ≡ p.run → t ≡ p.task → list_any (is_of k t) (take (i + 1) seeds) ≡ true
-  found k t e f = one-more k t ∙ or_right (list_any (is_of k t) (take i seeds)) (is_of k t p) (of-itself k t p e f)
+  found k t e f = one_more k t ∙ or_right (list_any (is_of k t) (take i seeds)) (is_of k t p) (of_itself k t p e f)
 
   abbrev is_there : Bool
   is_there = nat_lt p.run (length rows) && nat_lt p.task (length (row_at rows p.run))
 
-  unmarked-still : is_there ≡ false → AreSeeded (take (i + 1) seeds) runs tasks rows
-  unmarked-still e = record {
+  unmarked_still : is_there ≡ false → AreSeeded (take (i + 1) seeds) runs tasks rows
+  unmarked_still e = record {
     len = are.len;
     each = are.each;
     right = λ k h t low. other k t _ (are.right k h t low) (apart k t (λ r s.
@@ -80,11 +80,11 @@ module _ (seeds : List Place) (i runs tasks : ℕ) (rows : List (List Bool)) (p 
         true≢false (sym (and_from (nat_lt p.run (length rows)) (nat_lt p.task (length (row_at rows p.run))) (lt-ltb p.run (length rows) inside) (lt-ltb p.task (length (row_at rows p.run)) row)) ∙ e)));
   }
 
-  marked-more : is_there ≡ true → AreSeeded (take (i + 1) seeds) runs tasks (slice_set rows p.run (slice_set (row_at rows p.run) p.task true))
-  marked-more e = record {
+  marked_more : is_there ≡ true → AreSeeded (take (i + 1) seeds) runs tasks (slice_set rows p.run (slice_set (row_at rows p.run) p.task true))
+  marked_more e = record {
     len = length-set rows p.run row ∙ are.len;
-    each = λ k h. go-each k h (same-or-other k);
-    right = λ k h t low. go-right k h t low (same-or-other k);
+    each = λ k h. go_each k h (same_or_other k);
+    right = λ k h t low. go_right k h t low (same_or_other k);
   }
     where
       row : List Bool
@@ -96,8 +96,8 @@ module _ (seeds : List Place) (i runs tasks : ℕ) (rows : List (List Bool)) (p 
       inside : p.run < length rows
       inside = ltb-true p.run (length rows) both.0
 
-      same-or-other : (k : ℕ) → (k ≡ p.run) ⊎ (k ≡ p.run → ⊥)
-      same-or-other k = cases_eq k p.run
+      same_or_other : (k : ℕ) → (k ≡ p.run) ⊎ (k ≡ p.run → ⊥)
+      same_or_other k = cases_eq k p.run
 
       kept : (k : ℕ) → (k ≡ p.run → ⊥) → row_at (slice_set rows p.run row) k ≡ row_at rows k
       kept k differs = get_or-set_other rows p.run k row [] differs
@@ -105,36 +105,36 @@ module _ (seeds : List Place) (i runs tasks : ℕ) (rows : List (List Bool)) (p 
       now : row_at (slice_set rows p.run row) p.run ≡ row
       now = get_or-set_same rows p.run row [] inside
 
-      go-each : (k : ℕ) → k < runs → (k ≡ p.run) ⊎ (k ≡ p.run → ⊥) → length (row_at (slice_set rows p.run row) k) ≡ tasks
-      go-each k h (inl r) = ap (λ n. length (row_at (slice_set rows p.run row) n)) r ∙ ap length now ∙ length-set (row_at rows p.run) p.task true ∙ are.each p.run (rw (← r) h)
-      go-each k h (inr differs) = ap length (kept k differs) ∙ are.each k h
+      go_each : (k : ℕ) → k < runs → (k ≡ p.run) ⊎ (k ≡ p.run → ⊥) → length (row_at (slice_set rows p.run row) k) ≡ tasks
+      go_each k h (inl r) = ap (λ n. length (row_at (slice_set rows p.run row) n)) r ∙ ap length now ∙ length-set (row_at rows p.run) p.task true ∙ are.each p.run (rw (← r) h)
+      go_each k h (inr differs) = ap length (kept k differs) ∙ are.each k h
 
-      go-right : (k : ℕ) → k < runs → (t : ℕ) → t < tasks → (k ≡ p.run) ⊎ (k ≡ p.run → ⊥) → is_marked_in (row_at (slice_set rows p.run row) k) t ≡ list_any (is_of k t) (take (i + 1) seeds)
-      go-right k h t low (inr differs) = other k t _ (ap (λ r. is_marked_in r t) (kept k differs) ∙ are.right k h t low) (apart k t (λ r s. differs r))
-      go-right k h t low (inl r) = ap (λ n. is_marked_in (row_at (slice_set rows p.run row) n) t) r ∙ ap (λ m. is_marked_in m t) now ∙ in_row (cases_eq t p.task)
+      go_right : (k : ℕ) → k < runs → (t : ℕ) → t < tasks → (k ≡ p.run) ⊎ (k ≡ p.run → ⊥) → is_marked_in (row_at (slice_set rows p.run row) k) t ≡ list_any (is_of k t) (take (i + 1) seeds)
+      go_right k h t low (inr differs) = other k t _ (ap (λ r. is_marked_in r t) (kept k differs) ∙ are.right k h t low) (apart k t (λ r s. differs r))
+      go_right k h t low (inl r) = ap (λ n. is_marked_in (row_at (slice_set rows p.run row) n) t) r ∙ ap (λ m. is_marked_in m t) now ∙ in_row (cases_eq t p.task)
         where
           in_row : (t ≡ p.task) ⊎ (t ≡ p.task → ⊥) → is_marked_in row t ≡ list_any (is_of k t) (take (i + 1) seeds)
           in_row (inl s) = ap (is_marked_in row) s ∙ get_or-set_same (row_at rows p.run) p.task true false (ltb-true p.task (length (row_at rows p.run)) both.1) ∙ sym (found k t r s)
           in_row (inr differs) = other k t _ (get_or-set_other (row_at rows p.run) p.task t true false differs ∙ ap (λ n. is_marked_in (row_at rows n) t) (sym r) ∙ are.right k h t low) (apart k t (λ r s. differs s))
 
-  pub seeded-more : AreSeeded (take (i + 1) seeds) runs tasks (with_mark rows p)
-  seeded-more = go is_there refl
+  pub seeded_more : AreSeeded (take (i + 1) seeds) runs tasks (with_mark rows p)
+  seeded_more = go is_there refl
     where
       go : (b : Bool) → is_there ≡ b → AreSeeded (take (i + 1) seeds) runs tasks (if b then slice_set rows p.run (slice_set (row_at rows p.run) p.task true) else rows)
-      go true e = marked-more e
-      go false e = unmarked-still e
+      go true e = marked_more e
+      go false e = unmarked_still e
 
-pub one-marked : (marks : List Bool) (us : List ℕ) → list_any (is_marked_in marks) us ≡ true → (u : ℕ) × IsOneOf us u × (is_marked_in marks u ≡ true)
-one-marked marks [] e = cc
-one-marked marks (u ∷ us) e = elim (or_cases (is_marked_in marks u) (list_any (is_marked_in marks) us) e) [
+pub one_marked : (marks : List Bool) (us : List ℕ) → list_any (is_marked_in marks) us ≡ true → (u : ℕ) × IsOneOf us u × (is_marked_in marks u ≡ true)
+one_marked marks [] e = cc
+one_marked marks (u ∷ us) e = elim (or_cases (is_marked_in marks u) (list_any (is_marked_in marks) us) e) [
   | inl h ↦ (u, inl refl, h)
-  | inr h ↦ let rest : _ = one-marked marks us h in (rest.0, inr rest.1, rest.2)
+  | inr h ↦ let rest : _ = one_marked marks us h in (rest.0, inr rest.1, rest.2)
 ]
 
-pub marked-one : (marks : List Bool) (us : List ℕ) (u : ℕ) → IsOneOf us u → is_marked_in marks u ≡ true → list_any (is_marked_in marks) us ≡ true
-marked-one marks [] u one h = absurd one
-marked-one marks (v ∷ us) u (inl e) h = or_left (is_marked_in marks v) _ (ap (is_marked_in marks) (sym e) ∙ h)
-marked-one marks (v ∷ us) u (inr one) h = or_right (is_marked_in marks v) _ (marked-one marks us u one h)
+pub marked_one : (marks : List Bool) (us : List ℕ) (u : ℕ) → IsOneOf us u → is_marked_in marks u ≡ true → list_any (is_marked_in marks) us ≡ true
+marked_one marks [] u one h = absurd one
+marked_one marks (v ∷ us) u (inl e) h = or_left (is_marked_in marks v) _ (ap (is_marked_in marks) (sym e) ∙ h)
+marked_one marks (v ∷ us) u (inr one) h = or_right (is_marked_in marks v) _ (marked_one marks us u one h)
 
 module _ (dag : Dag) (seeds : List Place) (k : ℕ) (seeded before : List Bool) (row : IsSeedRow seeds (length dag.tasks) k seeded) (past : ArePast dag seeds k before) (t : ℕ) (there : t < length dag.tasks) (marks : List Bool)
     (ups : (u : ℕ) → IsOneOf (task_of dag t).upstreams u → (is_marked_in marks u ≡ true) ↔ IsTouched dag seeds k u) where
@@ -143,7 +143,7 @@ module _ (dag : Dag) (seeds : List Place) (k : ℕ) (seeded before : List Bool) 
     | inl h ↦ IsTouched.Seed (sym (row t there) ∙ h)
     | inr h ↦ elim (or_cases ((task_of dag t).depends_on_past && is_marked_in before t) _ h) [
       | inl g ↦ let both : _ = and_parts (task_of dag t).depends_on_past (is_marked_in before t) g in next k ((past t there).0 both.1) both.0
-      | inr g ↦ let one : _ = one-marked marks (task_of dag t).upstreams g in IsTouched.Downstream one.1 ((ups one.0 one.1).0 one.2)
+      | inr g ↦ let one : _ = one_marked marks (task_of dag t).upstreams g in IsTouched.Downstream one.1 ((ups one.0 one.1).0 one.2)
     ]
   ]
     where
@@ -151,8 +151,8 @@ module _ (dag : Dag) (seeds : List Place) (k : ℕ) (seeded before : List Bool) 
       next zero w d = absurd w
       next (suc j) w d = IsTouched.NextRun d w
 
-  past-of : (j : ℕ) → k ≡ suc j → IsTouched dag seeds j t → WasTouched dag seeds k t
-  past-of j e d = subst (λ (n : ℕ). WasTouched dag seeds n t) (sym e) d
+  past_of : (j : ℕ) → k ≡ suc j → IsTouched dag seeds j t → WasTouched dag seeds k t
+  past_of j e d = subst (λ (n : ℕ). WasTouched dag seeds n t) (sym e) d
 
   -- why a task follows from the seeds
   following : (n s : ℕ) → n ≡ k → s ≡ t → IsTouched dag seeds n s → follows_in dag t seeded before marks ≡ true
@@ -161,29 +161,29 @@ module _ (dag : Dag) (seeds : List Place) (k : ℕ) (seeded before : List Bool) 
   following n s e f (IsTouched.Downstream {u = u} h d) =
       let one : IsOneOf (task_of dag t).upstreams u = subst (λ (s : ℕ). IsOneOf (task_of dag s).upstreams u) f h in
       or_right (is_marked_in seeded t) _ (or_right ((task_of dag t).depends_on_past && is_marked_in before t) _
-      (marked-one marks (task_of dag t).upstreams u one ((ups u one).1 (subst (λ (n : ℕ). IsTouched dag seeds n u) e d))))
+      (marked_one marks (task_of dag t).upstreams u one ((ups u one).1 (subst (λ (n : ℕ). IsTouched dag seeds n u) e d))))
   following (suc n) s e f (IsTouched.NextRun h d) =
       or_right (is_marked_in seeded t) _ (or_left ((task_of dag t).depends_on_past && is_marked_in before t) _
-      (and_from _ _ (ap (λ s. (task_of dag s).depends_on_past) (sym f) ∙ h) ((past t there).1 (past-of n (sym e) (subst (IsTouched dag seeds n) f d)))))
+      (and_from _ _ (ap (λ s. (task_of dag s).depends_on_past) (sym f) ∙ h) ((past t there).1 (past_of n (sym e) (subst (IsTouched dag seeds n) f d)))))
 
-  pub follows-right : (follows_in dag t seeded before marks ≡ true) ↔ IsTouched dag seeds k t
-  follows-right = (followed, following k t refl refl)
+  pub follows_right : (follows_in dag t seeded before marks ≡ true) ↔ IsTouched dag seeds k t
+  follows_right = (followed, following k t refl refl)
 
 -- ---- in order
 
 module _ (dag : Dag) (order : List ℕ) (ranked : IsByRank (shape_of dag).upstreams order) (behind : StandBehind (shape_of dag).upstreams order) where
-  pub task-within : (i : ℕ) → i < length order → slice_index_or order i 0 < length dag.tasks
-  task-within i l =
+  pub task_within : (i : ℕ) → i < length order → slice_index_or order i 0 < length dag.tasks
+  task_within i l =
       let low : _ = ranked.tasks i (slice_index_or order i 0) (slice_get-get_or order i 0 l) in
       omega (arith, low, length-map dag.tasks (λ (task : Task). task.upstreams))
 
   module _ (seeded before : List Bool) where
-    pub marks-more : (i : ℕ) → i < length order → (marks : List Bool) → AreMarksForTo dag seeded before order i marks → (mark : Bool) →
+    pub marks_more : (i : ℕ) → i < length order → (marks : List Bool) → AreMarksForTo dag seeded before order i marks → (mark : Bool) →
         mark ≡ follows_in dag (slice_index_or order i 0) seeded before marks →
         AreMarksForTo dag seeded before order (i + 1) (slice_set marks (slice_index_or order i 0) mark)
-    marks-more i l marks far mark is seeds k row past = record {
+    marks_more i l marks far mark is seeds k row past = record {
       len = length-set marks t mark ∙ at.len;
-      right = λ j s below e. go j s e (same-or-before j i below);
+      right = λ j s below e. go j s e (same_or_before j i below);
     }
       where
         at : AreMarksTo dag seeds k order i marks
@@ -200,8 +200,8 @@ module _ (dag : Dag) (order : List ℕ) (ranked : IsByRank (shape_of dag).upstre
 
         marked : (is_marked_in (slice_set marks t mark) t ≡ true) ↔ IsTouched dag seeds k t
         marked =
-            let now : is_marked_in (slice_set marks t mark) t ≡ follows_in dag t seeded before marks = get_or-set_same marks t mark false (rw at.len (task-within i l)) ∙ is in
-            let right : _ = follows-right dag seeds k seeded before row past t (task-within i l) marks ups in
+            let now : is_marked_in (slice_set marks t mark) t ≡ follows_in dag t seeded before marks = get_or-set_same marks t mark false (rw at.len (task_within i l)) ∙ is in
+            let right : _ = follows_right dag seeds k seeded before row past t (task_within i l) marks ups in
             (λ e. right.0 (sym now ∙ e), λ d. now ∙ right.1 d)
 
         go : (j s : ℕ) → slice_get order j ≡ Some s → (j ≡ i) ⊎ (j < i) → (is_marked_in (slice_set marks t mark) s ≡ true) ↔ IsTouched dag seeds k s
@@ -214,8 +214,8 @@ module _ (dag : Dag) (order : List ℕ) (ranked : IsByRank (shape_of dag).upstre
             let kept : is_marked_in (slice_set marks t mark) s ≡ is_marked_in marks s = get_or-set_other marks t s mark false apart in
             (λ h. (at.right j s low e).0 (sym kept ∙ h), λ d. kept ∙ (at.right j s low e).1 d)
 
-    pub marks-end : (marks : List Bool) (i : ℕ) → i ≡ length order → AreMarksForTo dag seeded before order i marks → AreMarksFor dag seeded before marks
-    marks-end marks i over far seeds k row past = record {
+    pub marks_end : (marks : List Bool) (i : ℕ) → i ≡ length order → AreMarksForTo dag seeded before order i marks → AreMarksFor dag seeded before marks
+    marks_end marks i over far seeds k row past = record {
       len = at.len;
       right = λ t l. let place : _ = ranked.all t (omega (arith, l, length-map dag.tasks (λ (task : Task). task.upstreams))) in
           at.right place.0 t (rw over (slice_get_within order place.0 t place.1)) place.1;
@@ -226,18 +226,18 @@ module _ (dag : Dag) (order : List ℕ) (ranked : IsByRank (shape_of dag).upstre
 
 -- ---- run by run
 
-pub past-of-runs : (dag : Dag) (seeds : List Place) (k : ℕ) (rows : List (List Bool)) → AreTouched dag seeds k rows → ArePast dag seeds k (marks_before_in rows k)
-past-of-runs dag seeds zero rows are t l = (λ e. cc, λ d. absurd d)
-past-of-runs dag seeds (suc k) rows are t l = (are.each k (omega arith)).right t l
+pub past_of_runs : (dag : Dag) (seeds : List Place) (k : ℕ) (rows : List (List Bool)) → AreTouched dag seeds k rows → ArePast dag seeds k (marks_before_in rows k)
+past_of_runs dag seeds zero rows are t l = (λ e. cc, λ d. absurd d)
+past_of_runs dag seeds (suc k) rows are t l = (are.each k (omega arith)).right t l
 
-pub no-runs : (dag : Dag) (seeds : List Place) → AreTouched dag seeds 0 []
-no-runs dag seeds = record { len = refl; each = λ k l. absurd (omega (arith, l)) }
+pub no_runs : (dag : Dag) (seeds : List Place) → AreTouched dag seeds 0 []
+no_runs dag seeds = record { len = refl; each = λ k l. absurd (omega (arith, l)) }
 
-pub one-run-more : (dag : Dag) (seeds : List Place) (k : ℕ) (rows : List (List Bool)) (marks : List Bool) → AreTouched dag seeds k rows → AreMarks dag seeds k marks →
+pub one_run_more : (dag : Dag) (seeds : List Place) (k : ℕ) (rows : List (List Bool)) (marks : List Bool) → AreTouched dag seeds k rows → AreMarks dag seeds k marks →
     AreTouched dag seeds (k + 1) (rows ++ marks ∷ [])
-one-run-more dag seeds k rows marks are is = record {
+one_run_more dag seeds k rows marks are is = record {
   len = omega (arith, are.len, length-append rows (marks ∷ []));
-  each = λ j l. go j (same-or-before j k l);
+  each = λ j l. go j (same_or_before j k l);
 }
   where
     seam : row_at (rows ++ marks ∷ []) k ≡ marks
@@ -248,14 +248,14 @@ one-run-more dag seeds k rows marks are is = record {
     go j (inr low) = rw (get_or-append rows (marks ∷ []) [] j (rw are.len low)) (are.each j low)
 
 -- one run more, by the row of its seeds
-pub one-row-more : (dag : Dag) (seeds : List Place) (runs k : ℕ) (seeded rows : List (List Bool)) (marks : List Bool) → AreSeeded seeds runs (length dag.tasks) seeded → k < runs →
+pub one_row_more : (dag : Dag) (seeds : List Place) (runs k : ℕ) (seeded rows : List (List Bool)) (marks : List Bool) → AreSeeded seeds runs (length dag.tasks) seeded → k < runs →
     AreTouched dag seeds k rows → AreMarksFor dag (row_at seeded k) (marks_before_in rows k) marks → AreTouched dag seeds (k + 1) (rows ++ marks ∷ [])
-one-row-more dag seeds runs k seeded rows marks are l so_far made =
-    one-run-more dag seeds k rows marks so_far (made seeds k (are.right k l) (past-of-runs dag seeds k rows so_far))
+one_row_more dag seeds runs k seeded rows marks are l so_far made =
+    one_run_more dag seeds k rows marks so_far (made seeds k (are.right k l) (past_of_runs dag seeds k rows so_far))
 
-pub behind-read : (ups vps : List (List ℕ)) (order slice : List ℕ) → ups ≡ vps → slice ≡ order → StandBehind ups order → StandBehind vps slice
-behind-read ups vps order slice same read behind = subst (λ (xs : List ℕ). StandBehind vps xs) (sym read) (subst (λ (xs : List (List ℕ)). StandBehind xs order) same behind)
+pub behind_read : (ups vps : List (List ℕ)) (order slice : List ℕ) → ups ≡ vps → slice ≡ order → StandBehind ups order → StandBehind vps slice
+behind_read ups vps order slice same read behind = subst (λ (xs : List ℕ). StandBehind vps xs) (sym read) (subst (λ (xs : List (List ℕ)). StandBehind xs order) same behind)
 
-pub made-read : (dag planned : Dag) (seeded row before past marks : List Bool) → dag ≡ planned → seeded ≡ row → before ≡ past → AreMarksFor dag seeded before marks → AreMarksFor planned row past marks
-made-read dag planned seeded row before past marks same one two made =
+pub made_read : (dag planned : Dag) (seeded row before past marks : List Bool) → dag ≡ planned → seeded ≡ row → before ≡ past → AreMarksFor dag seeded before marks → AreMarksFor planned row past marks
+made_read dag planned seeded row before past marks same one two made =
     subst (λ (p : Dag × List Bool × List Bool). AreMarksFor p.0 p.1 p.2 marks) (λ i. (same i, one i, two i)) made

@@ -12,8 +12,8 @@ use Rattle.bf_core.specs.declared.event.Event.{Event}
 use Rattle.bf_core.specs.declared.state.State.{State}
 use Rattle.bf_core.specs.Events.{IsDecidable}
 use Rattle.bf_core.specs.Cores.{Backfill, MayCome}
-use Rattle.bf_core.proofs.Shape.{open-run}
-use Rattle.bf_core.proofs.Numbers.{below-or}
+use Rattle.bf_core.proofs.Shape.{open_run_exists}
+use Rattle.bf_core.proofs.Numbers.{below_or}
 use Rattle.bf_due.specs.declared.agenda.Step.{Step}
 use Rattle.bf_due.specs.declared.agenda.Turn.{Turn}
 use Rattle.bf_due.specs.declared.cursors.Cursors.{Cursors}
@@ -21,29 +21,29 @@ use Rattle.bf_due.specs.declared.news.News.{News}
 use Rattle.bf_due.specs.Cursors.{AreNoted}
 use Rattle.bf_due.specs.Stirring.{is_settled, matters_in}
 use Rattle.bf_due.specs.Dues.{Asks, AsksAll, HasAdded, IsAround, IsBelow, IsCloseOf, IsDueStep, IsOfFirst, IsOfRun, IsOfRunBelow, IsOfTask, IsOpening, IsRanked, IsStirred, IsUnder}
-use Rattle.bf_due.proofs.Reached.{held-at, row-put}
+use Rattle.bf_due.proofs.Reached.{held_at, row_put}
 
 module _ (b : Backfill) where
   -- nothing is added where none of these may come
-  pub none-added : (P : Step → Type 0) (old : List Step) → ((x : Step) → P x → IsDueStep b x → ⊥) → HasAdded b P old old
-  none-added P old none = record { kept = λ x c. c; added = λ x p due. absurd (none x p due); ranked = λ h. h }
+  pub none_added : (P : Step → Type 0) (old : List Step) → ((x : Step) → P x → IsDueStep b x → ⊥) → HasAdded b P old old
+  none_added P old none = record { kept = λ x c. c; added = λ x p due. absurd (none x p due); ranked = λ h. h }
 
   -- those of one kind, and then those of another
-  pub then-added : (P Q R : Step → Type 0) (old mid new : List Step) → ((x : Step) → R x → IsDueStep b x → P x ⊎ Q x) → HasAdded b P old mid → HasAdded b Q mid new → HasAdded b R old new
-  then-added P Q R old mid new split first second = record {
+  pub then_added : (P Q R : Step → Type 0) (old mid new : List Step) → ((x : Step) → R x → IsDueStep b x → P x ⊎ Q x) → HasAdded b P old mid → HasAdded b Q mid new → HasAdded b R old new
+  then_added P Q R old mid new split first second = record {
     kept = λ x c. second.kept x (first.kept x c);
     added = λ x r due. elim (split x r due) [ inl p ↦ second.kept x (first.added x p due) | inr q ↦ second.added x q due ];
     ranked = λ h. second.ranked (first.ranked h);
   }
 
   -- of fewer steps too those that may come were added
-  pub fewer-added : (P Q : Step → Type 0) (old new : List Step) → ((x : Step) → Q x → P x) → HasAdded b P old new → HasAdded b Q old new
-  fewer-added P Q old new fewer all = record { kept = all.kept; added = λ x q due. all.added x (fewer x q) due; ranked = all.ranked }
+  pub fewer_added : (P Q : Step → Type 0) (old new : List Step) → ((x : Step) → Q x → P x) → HasAdded b P old new → HasAdded b Q old new
+  fewer_added P Q old new fewer all = record { kept = all.kept; added = λ x q due. all.added x (fewer x q) due; ranked = all.ranked }
 
   -- one step was added, and no other of these may come
-  pub one-added : (P : Step → Type 0) (step : Step) (old new : List Step) → IsRanked b.dag step → ((x : Step) → P x → IsDueStep b x → x ≡ step) → Contains new step →
+  pub one_added : (P : Step → Type 0) (step : Step) (old new : List Step) → IsRanked b.dag step → ((x : Step) → P x → IsDueStep b x → x ≡ step) → Contains new step →
       ((x : Step) → Contains old x → Contains new x) → ((x : Step) → Contains new x → (x ≡ step) ⊎ Contains old x) → HasAdded b P old new
-  one-added P step old new is_ranked only there kept from = record {
+  one_added P step old new is_ranked only there kept from = record {
     kept = kept;
     added = λ x p due. subst (λ (y : Step). Contains new y) (sym (only x p due)) there;
     ranked = λ h x c. elim (from x c) [ inl same ↦ subst (λ (y : Step). IsRanked b.dag y) (sym same) is_ranked | inr before ↦ h x before ];
@@ -51,8 +51,8 @@ module _ (b : Backfill) where
 
 -- ---- the step of a task
 
-pub one-rank : (ups : List (List ℕ)) (t q r : ℕ) → IsRank ups t q → IsRank ups t r → q ≡ r
-one-rank ups t q r a b = let x : q ≤ r = b.longest q a.path in let y : r ≤ q = a.longest r b.path in omega arith
+pub one_rank : (ups : List (List ℕ)) (t q r : ℕ) → IsRank ups t q → IsRank ups t r → q ≡ r
+one_rank ups t q r a b = let x : q ≤ r = b.longest q a.path in let y : r ≤ q = a.longest r b.path in omega arith
 
 -- the step that decides a task by its expansion, or without
 abbrev pub step_of : Bool → Turn → Step
@@ -60,190 +60,190 @@ step_of true x = Step.Expand x
 step_of false x = Step.Settle x
 
 -- where the task may not be decided, no step of it may come
-pub none-decides : (b : Backfill) (k t : ℕ) → ¬ (IsDecidable b.dag b.state k t) → (x : Step) → IsOfTask k t x → IsDueStep b x → ⊥
-none-decides b k t none (Step.Close j) of due = absurd of
-none-decides b k t none Step.Open of due = absurd of
-none-decides b k t none (Step.Settle y) of due = none (subst₂ (λ (j u : ℕ). IsDecidable b.dag b.state j u) of.0 of.1 due.1.0.0)
-none-decides b k t none (Step.Expand y) of due = none (subst₂ (λ (j u : ℕ). IsDecidable b.dag b.state j u) of.0 of.1 due.1.0.0)
+pub none_decides : (b : Backfill) (k t : ℕ) → ¬ (IsDecidable b.dag b.state k t) → (x : Step) → IsOfTask k t x → IsDueStep b x → ⊥
+none_decides b k t none (Step.Close j) of due = absurd of
+none_decides b k t none Step.Open of due = absurd of
+none_decides b k t none (Step.Settle y) of due = none (subst₂ (λ (j u : ℕ). IsDecidable b.dag b.state j u) of.0 of.1 due.1.0.0)
+none_decides b k t none (Step.Expand y) of due = none (subst₂ (λ (j u : ℕ). IsDecidable b.dag b.state j u) of.0 of.1 due.1.0.0)
 
 -- ---- the steps of several tasks
 
-at-any : (xs : List ℕ) (i d : ℕ) → i < length xs → get_or xs i d ≡ get_or xs i 0
-at-any [] i d l = absurd (omega (arith, l))
-at-any (x ∷ xs) zero d l = refl
-at-any (x ∷ xs) (suc i) d l = at-any xs i d (omega arith)
+at_any : (xs : List ℕ) (i d : ℕ) → i < length xs → get_or xs i d ≡ get_or xs i 0
+at_any [] i d l = absurd (omega (arith, l))
+at_any (x ∷ xs) zero d l = refl
+at_any (x ∷ xs) (suc i) d l = at_any xs i d (omega arith)
 
-any-of : (xs : List ℕ) (u : ℕ) → Contains xs u → (i : ℕ) × (i < length xs) × (get_or xs i 0 ≡ u)
-any-of xs u c = (c.0, c.1, sym (at-any xs c.0 u c.1) ∙ c.2)
+any_of : (xs : List ℕ) (u : ℕ) → Contains xs u → (i : ℕ) × (i < length xs) × (get_or xs i 0 ≡ u)
+any_of xs u c = (c.0, c.1, sym (at_any xs c.0 u c.1) ∙ c.2)
 
 -- numbers below n that rise are at most n
-at-least : (xs : List ℕ) → IsStrictlyIncreasing xs → (i : ℕ) → i < length xs → i ≤ get_or xs i 0
-at-least xs rising zero l = omega arith
-at-least xs rising (suc i) l =
-    let here : i ≤ get_or xs i 0 = at-least xs rising i (omega arith) in
+at_least : (xs : List ℕ) → IsStrictlyIncreasing xs → (i : ℕ) → i < length xs → i ≤ get_or xs i 0
+at_least xs rising zero l = omega arith
+at_least xs rising (suc i) l =
+    let here : i ≤ get_or xs i 0 = at_least xs rising i (omega arith) in
     let more : get_or xs i 0 < get_or xs (i + 1) 0 = rising i (omega (arith, l)) in
     let same : get_or xs (i + 1) 0 ≡ get_or xs (suc i) 0 = ap (λ j. get_or xs j 0) (omega arith) in
     omega (arith, here, more, same)
 
-pub few-rising : (xs : List ℕ) (n : ℕ) → IsStrictlyIncreasing xs → ((i : ℕ) → i < length xs → get_or xs i 0 < n) → length xs ≤ n
-few-rising [] n rising below = omega arith
-few-rising (x ∷ xs) n rising below =
+pub few_rising : (xs : List ℕ) (n : ℕ) → IsStrictlyIncreasing xs → ((i : ℕ) → i < length xs → get_or xs i 0 < n) → length xs ≤ n
+few_rising [] n rising below = omega arith
+few_rising (x ∷ xs) n rising below =
     let last : length xs < length (x ∷ xs) = omega arith in
-    let a : length xs ≤ get_or (x ∷ xs) (length xs) 0 = at-least (x ∷ xs) rising (length xs) last in
+    let a : length xs ≤ get_or (x ∷ xs) (length xs) 0 = at_least (x ∷ xs) rising (length xs) last in
     let b : get_or (x ∷ xs) (length xs) 0 < n = below (length xs) last in
     omega (arith, a, b)
 
 -- what is listed below a task is a task
-pub below-there : (dag : Dag) (u : ℕ) (ds : List ℕ) → IsRisingListOf (IsUpstream (shape_of dag).upstreams u) ds → (i : ℕ) → i < length ds → get_or ds i 0 < length dag.tasks
-below-there dag u ds rising i l =
-    let listed : Contains ds (get_or ds i 0) = (i, l, at-any ds i (get_or ds i 0) l) in
+pub below_there : (dag : Dag) (u : ℕ) (ds : List ℕ) → IsRisingListOf (IsUpstream (shape_of dag).upstreams u) ds → (i : ℕ) → i < length ds → get_or ds i 0 < length dag.tasks
+below_there dag u ds rising i l =
+    let listed : Contains ds (get_or ds i 0) = (i, l, at_any ds i (get_or ds i 0) l) in
     let there : get_or ds i 0 < length (shape_of dag).upstreams = task_within (shape_of dag).upstreams u (get_or ds i 0) ((rising.exact (get_or ds i 0)).0 listed) in
     omega (arith, there, tasks_there dag)
 
 -- a step of one of the first n + 1 is one of the first n or of that one
-first-more : (dag : Dag) (s : State) (n : News) (ts : List ℕ) (m : ℕ) (x : Step) → IsOfFirst dag s n ts (m + 1) x → IsOfFirst dag s n ts m x ⊎ IsStirred dag s n (get_or ts m 0) x
-first-more dag s n ts m x of = elim (below-or of.0 m of.1) [
+first_more : (dag : Dag) (s : State) (n : News) (ts : List ℕ) (m : ℕ) (x : Step) → IsOfFirst dag s n ts (m + 1) x → IsOfFirst dag s n ts m x ⊎ IsStirred dag s n (get_or ts m 0) x
+first_more dag s n ts m x of = elim (below_or of.0 m of.1) [
   | inl less ↦ inl (of.0, less, of.2)
   | inr same ↦ inr (subst (λ (i : ℕ). IsStirred dag s n (get_or ts i 0) x) same of.2)
 ]
 
 -- the same, of tasks by number
-below-more : (k n : ℕ) (x : Step) → IsBelow k (n + 1) x → IsBelow k n x ⊎ IsOfTask k n x
-below-more k n (Step.Close j) of = absurd of
-below-more k n Step.Open of = absurd of
-below-more k n (Step.Settle y) of = elim (below-or y.task n of.1) [ inl l ↦ inl (of.0, l) | inr e ↦ inr (of.0, e) ]
-below-more k n (Step.Expand y) of = elim (below-or y.task n of.1) [ inl l ↦ inl (of.0, l) | inr e ↦ inr (of.0, e) ]
+below_more : (k n : ℕ) (x : Step) → IsBelow k (n + 1) x → IsBelow k n x ⊎ IsOfTask k n x
+below_more k n (Step.Close j) of = absurd of
+below_more k n Step.Open of = absurd of
+below_more k n (Step.Settle y) of = elim (below_or y.task n of.1) [ inl l ↦ inl (of.0, l) | inr e ↦ inr (of.0, e) ]
+below_more k n (Step.Expand y) of = elim (below_or y.task n of.1) [ inl l ↦ inl (of.0, l) | inr e ↦ inr (of.0, e) ]
 
-none-below-zero : (k : ℕ) (x : Step) → IsBelow k 0 x → ⊥
-none-below-zero k (Step.Close j) of = of
-none-below-zero k Step.Open of = of
-none-below-zero k (Step.Settle y) of = omega (arith, of.1)
-none-below-zero k (Step.Expand y) of = omega (arith, of.1)
+none_below_zero : (k : ℕ) (x : Step) → IsBelow k 0 x → ⊥
+none_below_zero k (Step.Close j) of = of
+none_below_zero k Step.Open of = of
+none_below_zero k (Step.Settle y) of = omega (arith, of.1)
+none_below_zero k (Step.Expand y) of = omega (arith, of.1)
 
 -- ---- the steps of runs
 
-run-split : (b : Backfill) (k : ℕ) (x : Step) → IsOfRun k x → IsDueStep b x → IsBelow k (length b.dag.tasks) x ⊎ IsCloseOf k x
-run-split b k (Step.Close j) of due = inr of
-run-split b k Step.Open of due = absurd of
-run-split b k (Step.Settle y) of due = inl (of, due.1.0.0.is_task)
-run-split b k (Step.Expand y) of due = inl (of, due.1.0.0.is_task)
+run_split : (b : Backfill) (k : ℕ) (x : Step) → IsOfRun k x → IsDueStep b x → IsBelow k (length b.dag.tasks) x ⊎ IsCloseOf k x
+run_split b k (Step.Close j) of due = inr of
+run_split b k Step.Open of due = absurd of
+run_split b k (Step.Settle y) of due = inl (of, due.1.0.0.is_task)
+run_split b k (Step.Expand y) of due = inl (of, due.1.0.0.is_task)
 
-runs-more : (n : ℕ) (x : Step) → IsOfRunBelow (n + 1) x → IsOfRunBelow n x ⊎ IsOfRun n x
-runs-more n (Step.Close j) of = below-or j n of
-runs-more n Step.Open of = absurd of
-runs-more n (Step.Settle y) of = below-or y.run n of
-runs-more n (Step.Expand y) of = below-or y.run n of
+runs_more : (n : ℕ) (x : Step) → IsOfRunBelow (n + 1) x → IsOfRunBelow n x ⊎ IsOfRun n x
+runs_more n (Step.Close j) of = below_or j n of
+runs_more n Step.Open of = absurd of
+runs_more n (Step.Settle y) of = below_or y.run n of
+runs_more n (Step.Expand y) of = below_or y.run n of
 
-pub one-run-more : (b : Backfill) (n : ℕ) (old mid new : List Step) → HasAdded b (IsOfRunBelow n) old mid → HasAdded b (IsOfRun n) mid new → HasAdded b (IsOfRunBelow (n + 1)) old new
-one-run-more b n old mid new before here = then-added b _ _ _ old mid new (λ x of due. runs-more n x of) before here
+pub one_run_more : (b : Backfill) (n : ℕ) (old mid new : List Step) → HasAdded b (IsOfRunBelow n) old mid → HasAdded b (IsOfRun n) mid new → HasAdded b (IsOfRunBelow (n + 1)) old new
+one_run_more b n old mid new before here = then_added b _ _ _ old mid new (λ x of due. runs_more n x of) before here
 
-none-run-below : (x : Step) → IsOfRunBelow 0 x → ⊥
-none-run-below (Step.Close j) of = omega (arith, of)
-none-run-below Step.Open of = of
-none-run-below (Step.Settle y) of = omega (arith, of)
-none-run-below (Step.Expand y) of = omega (arith, of)
+none_run_below : (x : Step) → IsOfRunBelow 0 x → ⊥
+none_run_below (Step.Close j) of = omega (arith, of)
+none_run_below Step.Open of = of
+none_run_below (Step.Settle y) of = omega (arith, of)
+none_run_below (Step.Expand y) of = omega (arith, of)
 
-pub no-runs : (b : Backfill) (old : List Step) → HasAdded b (IsOfRunBelow 0) old old
-no-runs b old = none-added b _ old (λ x of due. none-run-below x of)
+pub no_runs : (b : Backfill) (old : List Step) → HasAdded b (IsOfRunBelow 0) old old
+no_runs b old = none_added b _ old (λ x of due. none_run_below x of)
 
 -- a step under the news: of the tasks below theirs, or the close of the run
-under-split : (b : Backfill) (s : State) (n : News) (ds : List ℕ) → IsRisingListOf (IsUpstream (shape_of b.dag).upstreams n.task) ds → (x : Step) → IsUnder b.dag s n x → IsOfFirst b.dag s n ds (length ds) x ⊎ IsCloseOf n.run x
-under-split b s n ds rising (Step.Close k) of = inr of
-under-split b s n ds rising Step.Open of = absurd of
-under-split b s n ds rising (Step.Settle y) of =
-    let at : _ = any-of ds y.task ((rising.exact y.task).1 of.1) in
+under_split : (b : Backfill) (s : State) (n : News) (ds : List ℕ) → IsRisingListOf (IsUpstream (shape_of b.dag).upstreams n.task) ds → (x : Step) → IsUnder b.dag s n x → IsOfFirst b.dag s n ds (length ds) x ⊎ IsCloseOf n.run x
+under_split b s n ds rising (Step.Close k) of = inr of
+under_split b s n ds rising Step.Open of = absurd of
+under_split b s n ds rising (Step.Settle y) of =
+    let at : _ = any_of ds y.task ((rising.exact y.task).1 of.1) in
     inl (at.0, at.1, ((of.0, sym at.2), subst (λ (t : ℕ). matters_in b.dag s n t ≡ true) (sym at.2) of.2))
-under-split b s n ds rising (Step.Expand y) of =
-    let at : _ = any-of ds y.task ((rising.exact y.task).1 of.1) in
+under_split b s n ds rising (Step.Expand y) of =
+    let at : _ = any_of ds y.task ((rising.exact y.task).1 of.1) in
     inl (at.0, at.1, ((of.0, sym at.2), subst (λ (t : ℕ). matters_in b.dag s n t ≡ true) (sym at.2) of.2))
 
 -- a step around the news: under them, or of the same task in the next run once it is settled
-around-split : (dag : Dag) (s : State) (n : News) (x : Step) → IsAround dag s n x → IsUnder dag s n x ⊎ (IsOfTask (n.run + 1) n.task x × (is_settled s n.run n.task ≡ true))
-around-split dag s n (Step.Close k) of = inl of
-around-split dag s n Step.Open of = absurd of
-around-split dag s n (Step.Settle y) (inl below) = inl below
-around-split dag s n (Step.Settle y) (inr behind) = inr ((behind.0, behind.1), behind.2)
-around-split dag s n (Step.Expand y) (inl below) = inl below
-around-split dag s n (Step.Expand y) (inr behind) = inr ((behind.0, behind.1), behind.2)
+around_split : (dag : Dag) (s : State) (n : News) (x : Step) → IsAround dag s n x → IsUnder dag s n x ⊎ (IsOfTask (n.run + 1) n.task x × (is_settled s n.run n.task ≡ true))
+around_split dag s n (Step.Close k) of = inl of
+around_split dag s n Step.Open of = absurd of
+around_split dag s n (Step.Settle y) (inl below) = inl below
+around_split dag s n (Step.Settle y) (inr behind) = inr ((behind.0, behind.1), behind.2)
+around_split dag s n (Step.Expand y) (inl below) = inl below
+around_split dag s n (Step.Expand y) (inr behind) = inr ((behind.0, behind.1), behind.2)
 
 -- ---- single steps
 
-pub just-this : (a x : Step) → Some a ≡ Some x → x ≡ a
-just-this a x e = cc
+pub just_this : (a x : Step) → Some a ≡ Some x → x ≡ a
+just_this a x e = cc
 
-pub is-close : (k : ℕ) (x : Step) → IsCloseOf k x → x ≡ Step.Close k
-is-close k (Step.Close j) of = ap Step.Close of
-is-close k Step.Open of = absurd of
-is-close k (Step.Settle y) of = absurd of
-is-close k (Step.Expand y) of = absurd of
+pub is_close : (k : ℕ) (x : Step) → IsCloseOf k x → x ≡ Step.Close k
+is_close k (Step.Close j) of = ap Step.Close of
+is_close k Step.Open of = absurd of
+is_close k (Step.Settle y) of = absurd of
+is_close k (Step.Expand y) of = absurd of
 
-pub is-opening : (x : Step) → IsOpening x → x ≡ Step.Open
-is-opening (Step.Close j) of = absurd of
-is-opening Step.Open of = refl
-is-opening (Step.Settle y) of = absurd of
-is-opening (Step.Expand y) of = absurd of
+pub is_opening : (x : Step) → IsOpening x → x ≡ Step.Open
+is_opening (Step.Close j) of = absurd of
+is_opening Step.Open of = refl
+is_opening (Step.Settle y) of = absurd of
+is_opening (Step.Expand y) of = absurd of
 
 -- ---- with what is noted
 
-pub asks-none : (b : Backfill) (k : ℕ) (P : Step → Type 0) (row : Cursors) (old : List Step) → ((x : Step) → P x → IsDueStep b x → ⊥) → Asks b k P row row old old
-asks-none b k P row old none = λ is. (is, none-added b P old none)
+pub asks_none : (b : Backfill) (k : ℕ) (P : Step → Type 0) (row : Cursors) (old : List Step) → ((x : Step) → P x → IsDueStep b x → ⊥) → Asks b k P row row old old
+asks_none b k P row old none = λ is. (is, none_added b P old none)
 
 -- those of one kind, and then those of another
-then-asks : (b : Backfill) (k : ℕ) (P Q R : Step → Type 0) (first second third : Cursors) (old mid new : List Step) → ((x : Step) → R x → IsDueStep b x → P x ⊎ Q x) →
+then_asks : (b : Backfill) (k : ℕ) (P Q R : Step → Type 0) (first second third : Cursors) (old mid new : List Step) → ((x : Step) → R x → IsDueStep b x → P x ⊎ Q x) →
     Asks b k P first second old mid → Asks b k Q second third mid new → Asks b k R first third old new
-then-asks b k P Q R first second third old mid new split p q = λ is.
+then_asks b k P Q R first second third old mid new split p q = λ is.
     let here : _ = p is in
     let there : _ = q here.0 in
-    (there.0, then-added b P Q R old mid new split here.1 there.1)
+    (there.0, then_added b P Q R old mid new split here.1 there.1)
 
 -- news that don't matter to a task stir it not
-pub not-stirred : (b : Backfill) (s : State) (n : News) (t : ℕ) → matters_in b.dag s n t ≡ false → (old : List Step) → HasAdded b (IsStirred b.dag s n t) old old
-not-stirred b s n t calm old = none-added b _ old (λ x of due. both_ways _ calm of.1)
+pub not_stirred : (b : Backfill) (s : State) (n : News) (t : ℕ) → matters_in b.dag s n t ≡ false → (old : List Step) → HasAdded b (IsStirred b.dag s n t) old old
+not_stirred b s n t calm old = none_added b _ old (λ x of due. both_ways _ calm of.1)
 
-pub one-stirred : (b : Backfill) (s : State) (n : News) (ts : List ℕ) (m : ℕ) (first second third : Cursors) (old mid new : List Step) →
+pub one_stirred : (b : Backfill) (s : State) (n : News) (ts : List ℕ) (m : ℕ) (first second third : Cursors) (old mid new : List Step) →
     Asks b n.run (IsOfFirst b.dag s n ts m) first second old mid → Asks b n.run (IsStirred b.dag s n (get_or ts m 0)) second third mid new → Asks b n.run (IsOfFirst b.dag s n ts (m + 1)) first third old new
-one-stirred b s n ts m first second third old mid new = then-asks b n.run _ _ _ first second third old mid new (λ x of due. first-more b.dag s n ts m x of)
+one_stirred b s n ts m first second third old mid new = then_asks b n.run _ _ _ first second third old mid new (λ x of due. first_more b.dag s n ts m x of)
 
-pub none-stirred : (b : Backfill) (s : State) (n : News) (ts : List ℕ) (row : Cursors) (old : List Step) → Asks b n.run (IsOfFirst b.dag s n ts 0) row row old old
-none-stirred b s n ts row old = asks-none b n.run _ row old (λ x of due. omega (arith, of.1))
+pub none_stirred : (b : Backfill) (s : State) (n : News) (ts : List ℕ) (row : Cursors) (old : List Step) → Asks b n.run (IsOfFirst b.dag s n ts 0) row row old old
+none_stirred b s n ts row old = asks_none b n.run _ row old (λ x of due. omega (arith, of.1))
 
-pub below-asked : (b : Backfill) (k n : ℕ) (first second third : Cursors) (old mid new : List Step) →
+pub below_asked : (b : Backfill) (k n : ℕ) (first second third : Cursors) (old mid new : List Step) →
     Asks b k (IsBelow k n) first second old mid → Asks b k (IsOfTask k n) second third mid new → Asks b k (IsBelow k (n + 1)) first third old new
-below-asked b k n first second third old mid new = then-asks b k _ _ _ first second third old mid new (λ x of due. below-more k n x of)
+below_asked b k n first second third old mid new = then_asks b k _ _ _ first second third old mid new (λ x of due. below_more k n x of)
 
-pub none-below : (b : Backfill) (k : ℕ) (row : Cursors) (old : List Step) → Asks b k (IsBelow k 0) row row old old
-none-below b k row old = asks-none b k _ row old (λ x of due. none-below-zero k x of)
+pub none_below : (b : Backfill) (k : ℕ) (row : Cursors) (old : List Step) → Asks b k (IsBelow k 0) row row old old
+none_below b k row old = asks_none b k _ row old (λ x of due. none_below_zero k x of)
 
-pub run-asked : (b : Backfill) (k : ℕ) (first second third : Cursors) (old mid new : List Step) →
+pub run_asked : (b : Backfill) (k : ℕ) (first second third : Cursors) (old mid new : List Step) →
     Asks b k (IsBelow k (length b.dag.tasks)) first second old mid → Asks b k (IsCloseOf k) second third mid new → Asks b k (IsOfRun k) first third old new
-run-asked b k first second third old mid new = then-asks b k _ _ _ first second third old mid new (run-split b k)
+run_asked b k first second third old mid new = then_asks b k _ _ _ first second third old mid new (run_split b k)
 
-pub under-asked : (b : Backfill) (s : State) (n : News) (ds : List ℕ) → IsRisingListOf (IsUpstream (shape_of b.dag).upstreams n.task) ds → (first second third : Cursors) (old mid new : List Step) →
+pub under_asked : (b : Backfill) (s : State) (n : News) (ds : List ℕ) → IsRisingListOf (IsUpstream (shape_of b.dag).upstreams n.task) ds → (first second third : Cursors) (old mid new : List Step) →
     Asks b n.run (IsOfFirst b.dag s n ds (length ds)) first second old mid → Asks b n.run (IsCloseOf n.run) second third mid new → Asks b n.run (IsUnder b.dag s n) first third old new
-under-asked b s n ds rising first second third old mid new = then-asks b n.run _ _ _ first second third old mid new (λ x of due. under-split b s n ds rising x of)
+under_asked b s n ds rising first second third old mid new = then_asks b n.run _ _ _ first second third old mid new (λ x of due. under_split b s n ds rising x of)
 
 -- a run is asked by its row
-pub row-asked : (b : Backfill) (k : ℕ) (P : Step → Type 0) (rows : List Cursors) (row after : Cursors) (old new : List Step) → k < length rows → row ≡ get_or rows k row → Asks b k P row after old new →
+pub row_asked : (b : Backfill) (k : ℕ) (P : Step → Type 0) (rows : List Cursors) (row after : Cursors) (old new : List Step) → k < length rows → row ≡ get_or rows k row → Asks b k P row after old new →
     AsksAll b P rows (slice_set rows k after) old new
-row-asked b k P rows row after old new l at asks = λ reached.
-    let r : _ = asks (reached k row (held-at rows k row l at)) in
-    (row-put b rows k after reached r.0, r.1)
+row_asked b k P rows row after old new l at asks = λ reached.
+    let r : _ = asks (reached k row (held_at rows k row l at)) in
+    (row_put b rows k after reached r.0, r.1)
 
-pub around-asked : (b : Backfill) (s : State) (n : News) (first second third : List Cursors) (old mid new : List Step) →
+pub around_asked : (b : Backfill) (s : State) (n : News) (first second third : List Cursors) (old mid new : List Step) →
     AsksAll b (IsUnder b.dag s n) first second old mid → AsksAll b (IsOfTask (n.run + 1) n.task) second third mid new → AsksAll b (IsAround b.dag s n) first third old new
-around-asked b s n first second third old mid new p q = λ reached.
+around_asked b s n first second third old mid new p q = λ reached.
     let here : _ = p reached in
     let there : _ = q here.0 in
-    (there.0, then-added b _ _ _ old mid new (λ x of due. behind-or x of) here.1 there.1)
+    (there.0, then_added b _ _ _ old mid new (λ x of due. behind_or x of) here.1 there.1)
   where
-    behind-or : (x : Step) → IsAround b.dag s n x → IsUnder b.dag s n x ⊎ IsOfTask (n.run + 1) n.task x
-    behind-or x of = elim (around-split b.dag s n x of) [ inl under ↦ inl under | inr behind ↦ inr behind.0 ]
+    behind_or : (x : Step) → IsAround b.dag s n x → IsUnder b.dag s n x ⊎ IsOfTask (n.run + 1) n.task x
+    behind_or x of = elim (around_split b.dag s n x of) [ inl under ↦ inl under | inr behind ↦ inr behind.0 ]
 
 -- while the task isn't settled there is nothing to ask of the next run
-pub around-open : (b : Backfill) (s : State) (n : News) (first second : List Cursors) (old new : List Step) →
+pub around_open : (b : Backfill) (s : State) (n : News) (first second : List Cursors) (old new : List Step) →
     AsksAll b (IsUnder b.dag s n) first second old new → (AreNoted b first → is_settled s n.run n.task ≡ false) → AsksAll b (IsAround b.dag s n) first second old new
-around-open b s n first second old new p unsettled = λ reached.
-    ((p reached).0, fewer-added b _ _ old new (λ x of. only x (unsettled reached) (around-split b.dag s n x of)) (p reached).1)
+around_open b s n first second old new p unsettled = λ reached.
+    ((p reached).0, fewer_added b _ _ old new (λ x of. only x (unsettled reached) (around_split b.dag s n x of)) (p reached).1)
   where
     only : (x : Step) → is_settled s n.run n.task ≡ false → IsUnder b.dag s n x ⊎ (IsOfTask (n.run + 1) n.task x × (is_settled s n.run n.task ≡ true)) → IsUnder b.dag s n x
     only x h (inl under) = under
@@ -251,24 +251,24 @@ around-open b s n first second old new p unsettled = λ reached.
 
 -- ---- where there is none
 
-pub no-close : (b : Backfill) (k : ℕ) → ¬ (MayCome b (Event.Close k)) → (x : Step) → IsCloseOf k x → IsDueStep b x → ⊥
-no-close b k none (Step.Close j) of due = none (subst (λ (i : ℕ). MayCome b (Event.Close i)) of due.1)
-no-close b k none Step.Open of due = of
-no-close b k none (Step.Settle y) of due = of
-no-close b k none (Step.Expand y) of due = of
+pub no_close : (b : Backfill) (k : ℕ) → ¬ (MayCome b (Event.Close k)) → (x : Step) → IsCloseOf k x → IsDueStep b x → ⊥
+no_close b k none (Step.Close j) of due = none (subst (λ (i : ℕ). MayCome b (Event.Close i)) of due.1)
+no_close b k none Step.Open of due = of
+no_close b k none (Step.Settle y) of due = of
+no_close b k none (Step.Expand y) of due = of
 
 -- a run without a row is not there, so none of its steps may come
-pub no-run : (b : Backfill) (k n : ℕ) → length b.state.runs ≤ n → n ≤ k → (x : Step) → IsOfRun k x → IsDueStep b x → ⊥
-no-run b k n few l (Step.Close j) of due = let there : j < length b.state.runs = open-run b.state j due.1.0.0 in omega (arith, few, l, of, there)
-no-run b k n few l Step.Open of due = of
-no-run b k n few l (Step.Settle y) of due = let there : y.run < length b.state.runs = open-run b.state y.run due.1.0.0.run_is_open in omega (arith, few, l, of, there)
-no-run b k n few l (Step.Expand y) of due = let there : y.run < length b.state.runs = open-run b.state y.run due.1.0.0.run_is_open in omega (arith, few, l, of, there)
+pub no_run : (b : Backfill) (k n : ℕ) → length b.state.runs ≤ n → n ≤ k → (x : Step) → IsOfRun k x → IsDueStep b x → ⊥
+no_run b k n few l (Step.Close j) of due = let there : j < length b.state.runs = open_run_exists b.state j due.1.0.0 in omega (arith, few, l, of, there)
+no_run b k n few l Step.Open of due = of
+no_run b k n few l (Step.Settle y) of due = let there : y.run < length b.state.runs = open_run_exists b.state y.run due.1.0.0.run_is_open in omega (arith, few, l, of, there)
+no_run b k n few l (Step.Expand y) of due = let there : y.run < length b.state.runs = open_run_exists b.state y.run due.1.0.0.run_is_open in omega (arith, few, l, of, there)
 
-pub no-task : (b : Backfill) (k t n : ℕ) → length b.state.runs ≤ n → n ≤ k → (x : Step) → IsOfTask k t x → IsDueStep b x → ⊥
-no-task b k t n few l (Step.Close j) of due = of
-no-task b k t n few l Step.Open of due = of
-no-task b k t n few l (Step.Settle y) of due = no-run b k n few l (Step.Settle y) of.0 due
-no-task b k t n few l (Step.Expand y) of due = no-run b k n few l (Step.Expand y) of.0 due
+pub no_task : (b : Backfill) (k t n : ℕ) → length b.state.runs ≤ n → n ≤ k → (x : Step) → IsOfTask k t x → IsDueStep b x → ⊥
+no_task b k t n few l (Step.Close j) of due = of
+no_task b k t n few l Step.Open of due = of
+no_task b k t n few l (Step.Settle y) of due = no_run b k n few l (Step.Settle y) of.0 due
+no_task b k t n few l (Step.Expand y) of due = no_run b k n few l (Step.Expand y) of.0 due
 
 pub skipped : (b : Backfill) (P : Step → Type 0) (rows : List Cursors) (old : List Step) → ((x : Step) → P x → IsDueStep b x → ⊥) → AsksAll b P rows rows old old
-skipped b P rows old none = λ reached. (reached, none-added b P old none)
+skipped b P rows old none = λ reached. (reached, none_added b P old none)

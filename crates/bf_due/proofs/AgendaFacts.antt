@@ -8,7 +8,7 @@ use Rattle.std.specs.BinaryHeap.{IsUpperBound}
 use Rattle.std.specs.declared.cmp.Reverse.{Reverse}
 use Rattle.std.proofs.lemmas.Cmp.{ranked}
 use Rattle.std.proofs.lemmas.List.Sorted.{Contains-permutation, IsPermutation-map, IsPermutation-sym}
-use Rattle.bf_core.proofs.Members.{contains-first, contains-rest, contains-cases}
+use Rattle.bf_core.proofs.Members.{contains_first, contains_rest, contains_cases}
 use Rattle.bf_due.specs.declared.agenda.Step.{Step}
 use Rattle.bf_due.specs.declared.agenda.Turn.{Turn}
 use Rattle.bf_due.specs.contracts.agenda.StepOrd.TheImpl as by_step
@@ -17,8 +17,8 @@ use Rattle.bf_due.specs.Agendas.{Comes, TurnComes, reverse_cmp}
 
 -- ---- the order
 
-no-later : (a b : ℕ) → is_lt (nat_cmp b a) ≡ false → a ≤ b
-no-later a b e = go (nat_cmp b a) refl e
+no_later : (a b : ℕ) → is_lt (nat_cmp b a) ≡ false → a ≤ b
+no_later a b e = go (nat_cmp b a) refl e
   where
     go : (r : Ordering) → r ≡ nat_cmp b a → is_lt r ≡ false → a ≤ b
     go Less is e = cc
@@ -26,25 +26,25 @@ no-later a b e = go (nat_cmp b a) refl e
     go Greater is e = let h : a < b = ranked b a Greater is in omega arith
 
 -- of two numbers compared before the rest: the first is less, or both are equal and the rest decides
-first-then : (a b : ℕ) (rest : Ordering) → is_lt (ordering_then (nat_cmp b a) rest) ≡ false → (a < b) ⊎ ((a ≡ b) × (is_lt rest ≡ false))
-first-then a b rest e = go (nat_cmp b a) refl e
+first_then : (a b : ℕ) (rest : Ordering) → is_lt (ordering_then (nat_cmp b a) rest) ≡ false → (a < b) ⊎ ((a ≡ b) × (is_lt rest ≡ false))
+first_then a b rest e = go (nat_cmp b a) refl e
   where
     go : (r : Ordering) → r ≡ nat_cmp b a → is_lt (ordering_then r rest) ≡ false → (a < b) ⊎ ((a ≡ b) × (is_lt rest ≡ false))
     go Less is e = cc
     go Equal is e = let h : b ≡ a = ranked b a Equal is in inr (sym h, e)
     go Greater is e = let h : a < b = ranked b a Greater is in inl h
 
-turn-comes : (x y : Turn) → is_lt (by_turn.ghosts.cmp y x) ≡ false → TurnComes x y
-turn-comes x y e = elim (first-then x.run y.run _ e) [
+turn_comes : (x y : Turn) → is_lt (by_turn.ghosts.cmp y x) ≡ false → TurnComes x y
+turn_comes x y e = elim (first_then x.run y.run _ e) [
   | inl l ↦ inl l
-  | inr same_run ↦ elim (first-then x.rank y.rank _ same_run.1) [
+  | inr same_run ↦ elim (first_then x.rank y.rank _ same_run.1) [
     | inl l ↦ inr (same_run.0, inl l)
-    | inr same_rank ↦ inr (same_run.0, inr (same_rank.0, no-later x.task y.task same_rank.1))
+    | inr same_rank ↦ inr (same_run.0, inr (same_rank.0, no_later x.task y.task same_rank.1))
   ]
 ]
 
 comes : (x y : Step) → is_lt (by_step.ghosts.cmp y x) ≡ false → Comes x y
-comes (Step.Close j) (Step.Close k) e = no-later j k e
+comes (Step.Close j) (Step.Close k) e = no_later j k e
 comes (Step.Close j) Step.Open e = omega arith
 comes (Step.Close j) (Step.Settle y) e = omega arith
 comes (Step.Close j) (Step.Expand y) e = omega arith
@@ -54,56 +54,56 @@ comes Step.Open (Step.Settle y) e = omega arith
 comes Step.Open (Step.Expand y) e = omega arith
 comes (Step.Settle x) (Step.Close k) e = cc
 comes (Step.Settle x) Step.Open e = cc
-comes (Step.Settle x) (Step.Settle y) e = turn-comes x y e
+comes (Step.Settle x) (Step.Settle y) e = turn_comes x y e
 comes (Step.Settle x) (Step.Expand y) e = omega arith
 comes (Step.Expand x) (Step.Close k) e = cc
 comes (Step.Expand x) Step.Open e = cc
 comes (Step.Expand x) (Step.Settle y) e = cc
-comes (Step.Expand x) (Step.Expand y) e = turn-comes x y e
+comes (Step.Expand x) (Step.Expand y) e = turn_comes x y e
 
 -- ---- what is in a list
 
 abbrev pub unwrapped : List (Reverse Step) → List Step
 unwrapped xs = map (λ (r : Reverse Step). r.0) xs
 
-pub top-in : (xs : List Step) (x : Step) → Some x ≡ slice_get xs 0 → Contains xs x
-top-in [] x e = cc
-top-in (y ∷ ys) x e = let same : y ≡ x = cc in (0, omega arith, same)
+pub top_in : (xs : List Step) (x : Step) → Some x ≡ slice_get xs 0 → Contains xs x
+top_in [] x e = cc
+top_in (y ∷ ys) x e = let same : y ≡ x = cc in (0, omega arith, same)
 
-pub no-items : (xs : List Step) → None ≡ slice_get xs 0 → (x : Step) → Contains xs x → ⊥
-no-items [] e x c = omega (arith, c.1)
-no-items (y ∷ ys) e x c = cc
+pub no_items : (xs : List Step) → None ≡ slice_get xs 0 → (x : Step) → Contains xs x → ⊥
+no_items [] e x c = omega (arith, c.1)
+no_items (y ∷ ys) e x c = cc
 
 -- ---- a heap
 
 -- the top comes before all
 pub bounded : (top : Reverse Step) (xs : List (Reverse Step)) → IsUpperBound reverse_cmp top xs → (y : Step) → Contains (unwrapped xs) y → Comes top.0 y
 bounded top [] b y c = absurd (omega (arith, c.1))
-bounded top (z ∷ zs) b y c = elim (contains-cases z.0 (unwrapped zs) y c) [
+bounded top (z ∷ zs) b y c = elim (contains_cases z.0 (unwrapped zs) y c) [
   | inl same ↦ subst (λ (w : Step). Comes top.0 w) (sym same) (comes top.0 z.0 b.0)
   | inr more ↦ bounded top zs b.1 y more
 ]
 
 pub added : (x : Reverse Step) (old new : List (Reverse Step)) → IsPermutation (x ∷ old) new → Contains (unwrapped new) x.0
-added x old new p = Contains-permutation (unwrapped (x ∷ old)) (unwrapped new) x.0 (IsPermutation-map (λ (r : Reverse Step). r.0) (x ∷ old) new p) (contains-first x.0 (unwrapped old))
+added x old new p = Contains-permutation (unwrapped (x ∷ old)) (unwrapped new) x.0 (IsPermutation-map (λ (r : Reverse Step). r.0) (x ∷ old) new p) (contains_first x.0 (unwrapped old))
 
-pub kept-added : (x : Reverse Step) (old new : List (Reverse Step)) → IsPermutation (x ∷ old) new → (y : Step) → Contains (unwrapped old) y → Contains (unwrapped new) y
-kept-added x old new p y c = Contains-permutation (unwrapped (x ∷ old)) (unwrapped new) y (IsPermutation-map (λ (r : Reverse Step). r.0) (x ∷ old) new p) (contains-rest x.0 (unwrapped old) y c)
+pub kept_added : (x : Reverse Step) (old new : List (Reverse Step)) → IsPermutation (x ∷ old) new → (y : Step) → Contains (unwrapped old) y → Contains (unwrapped new) y
+kept_added x old new p y c = Contains-permutation (unwrapped (x ∷ old)) (unwrapped new) y (IsPermutation-map (λ (r : Reverse Step). r.0) (x ∷ old) new p) (contains_rest x.0 (unwrapped old) y c)
 
-pub only-added : (x : Reverse Step) (old new : List (Reverse Step)) → IsPermutation (x ∷ old) new → (y : Step) → Contains (unwrapped new) y → (y ≡ x.0) ⊎ Contains (unwrapped old) y
-only-added x old new p y c = contains-cases x.0 (unwrapped old) y (Contains-permutation (unwrapped new) (unwrapped (x ∷ old)) y (IsPermutation-map (λ (r : Reverse Step). r.0) new (x ∷ old) (IsPermutation-sym (x ∷ old) new p)) c)
+pub only_added : (x : Reverse Step) (old new : List (Reverse Step)) → IsPermutation (x ∷ old) new → (y : Step) → Contains (unwrapped new) y → (y ≡ x.0) ⊎ Contains (unwrapped old) y
+only_added x old new p y c = contains_cases x.0 (unwrapped old) y (Contains-permutation (unwrapped new) (unwrapped (x ∷ old)) y (IsPermutation-map (λ (r : Reverse Step). r.0) new (x ∷ old) (IsPermutation-sym (x ∷ old) new p)) c)
 
-pub kept-taken : (x : Reverse Step) (old new : List (Reverse Step)) → IsPermutation old (x ∷ new) → (y : Step) → Contains (unwrapped old) y → (y ≡ x.0) ⊎ Contains (unwrapped new) y
-kept-taken x old new p y c = contains-cases x.0 (unwrapped new) y (Contains-permutation (unwrapped old) (unwrapped (x ∷ new)) y (IsPermutation-map (λ (r : Reverse Step). r.0) old (x ∷ new) p) c)
+pub kept_taken : (x : Reverse Step) (old new : List (Reverse Step)) → IsPermutation old (x ∷ new) → (y : Step) → Contains (unwrapped old) y → (y ≡ x.0) ⊎ Contains (unwrapped new) y
+kept_taken x old new p y c = contains_cases x.0 (unwrapped new) y (Contains-permutation (unwrapped old) (unwrapped (x ∷ new)) y (IsPermutation-map (λ (r : Reverse Step). r.0) old (x ∷ new) p) c)
 
 -- what is not the step that was taken out is still there
-pub still-there : (r : Option Step) (old new : List Step) (step x : Step) → r ≡ slice_get old 0 → Some step ≡ slice_get old 0 →
+pub still_there : (r : Option Step) (old new : List Step) (step x : Step) → r ≡ slice_get old 0 → Some step ≡ slice_get old 0 →
     IfSome r (λ z. (y : Step) → Contains old y → (y ≡ z) ⊎ Contains new y) → (x ≡ step → ⊥) → Contains old x → Contains new x
-still-there None old new step x e f kept other c = let g : None ≡ Some step = e ∙ sym f in cc
-still-there (Some z) old new step x e f kept other c =
+still_there None old new step x e f kept other c = let g : None ≡ Some step = e ∙ sym f in cc
+still_there (Some z) old new step x e f kept other c =
     let g : Some z ≡ Some step = e ∙ sym f in
     let same : z ≡ step = cc in
     elim (kept x c) [ inl h ↦ absurd (other (h ∙ same)) | inr h ↦ h ]
 
-pub taken-fewer : (x : Reverse Step) (old new : List (Reverse Step)) → IsPermutation old (x ∷ new) → (y : Step) → Contains (unwrapped new) y → Contains (unwrapped old) y
-taken-fewer x old new p y c = Contains-permutation (unwrapped (x ∷ new)) (unwrapped old) y (IsPermutation-map (λ (r : Reverse Step). r.0) (x ∷ new) old (IsPermutation-sym old (x ∷ new) p)) (contains-rest x.0 (unwrapped new) y c)
+pub taken_fewer : (x : Reverse Step) (old new : List (Reverse Step)) → IsPermutation old (x ∷ new) → (y : Step) → Contains (unwrapped new) y → Contains (unwrapped old) y
+taken_fewer x old new p y c = Contains-permutation (unwrapped (x ∷ new)) (unwrapped old) y (IsPermutation-map (λ (r : Reverse Step). r.0) (x ∷ new) old (IsPermutation-sym old (x ∷ new) p)) (contains_rest x.0 (unwrapped new) y c)

@@ -12,45 +12,45 @@ use Rattle.bf_core.specs.declared.event.Event.{Event}
 use Rattle.bf_core.specs.declared.decision.Decision.{Decision}
 use Rattle.bf_core.specs.Deciding.{Seen, after_verdict, and_then_past, branch_is, branch_skips, counts_over, decision, gate_of, is_blocked_in, lets_decide_in, one_blocked, one_of, one_skipped, one_unfinished, one_upstream_failed, ruling_of}
 use Rattle.bf_core.specs.Events.{after, before_in, cell_at, cell_of, change_at, change_instance, cons_result, counts_of_cell, counts_of_instance, counts_of_instances, decision_in, ended, fresh, instance_of, place_in, put, results, seen_in, value_in, IsDecidable, IsEnabled}
-use Rattle.bf_core.proofs.Instances.{instance-here}
-use Rattle.bf_core.proofs.Reading.{put-cases}
+use Rattle.bf_core.proofs.Instances.{instance_here}
+use Rattle.bf_core.proofs.Reading.{put_cases}
 use Rattle.bf_due.specs.declared.news.News.{News}
 use Rattle.bf_due.specs.Stirring.{all_settled, decided_at, ended_at, finished_in, heard_of_cell, heard_of_instance, is_settled, knows_past_in, looks_beyond_in, matters_in, stirs_in}
-use Rattle.bf_due.proofs.Locality.{RulesAlike, Touches, seen-kept, touches?}
-use Rattle.bf_due.proofs.Reached.{settled-stays}
+use Rattle.bf_due.proofs.Locality.{RulesAlike, Touches, seen_kept, touches?}
+use Rattle.bf_due.proofs.Reached.{settled_stays}
 
 -- ---- what a rule looks for
 
-some-sum : (m n : ℕ) → nat_lt 0 (m + n) ≡ (nat_lt 0 m || nat_lt 0 n)
-some-sum zero n = let e : zero + n ≡ n = omega arith in ap (λ k. nat_lt 0 k) e
-some-sum (suc m) n =
+some_sum : (m n : ℕ) → nat_lt 0 (m + n) ≡ (nat_lt 0 m || nat_lt 0 n)
+some_sum zero n = let e : zero + n ≡ n = omega arith in ap (λ k. nat_lt 0 k) e
+some_sum (suc m) n =
     let here : nat_lt 0 (suc m) ≡ true = grind (arith, nat_tests) in
     let all : nat_lt 0 (suc m + n) ≡ true = grind (arith, nat_tests) in
     rw (here, all)
 
 -- it is among the sum where it is in some part
-fires-add : (rule : Rule) (a b : Counts) → fires_in rule (add a b) ≡ (fires_in rule a || fires_in rule b)
-fires-add Rule.OneSuccess a b = some-sum a.success b.success
-fires-add Rule.OneFailed a b =
+fires_add : (rule : Rule) (a b : Counts) → fires_in rule (add a b) ≡ (fires_in rule a || fires_in rule b)
+fires_add Rule.OneSuccess a b = some_sum a.success b.success
+fires_add Rule.OneFailed a b =
     let e : (a.failed + b.failed) + (a.upstream_failed + b.upstream_failed) ≡ (a.failed + a.upstream_failed) + (b.failed + b.upstream_failed) = omega arith in
-    ap (λ n. nat_lt 0 n) e ∙ some-sum (a.failed + a.upstream_failed) (b.failed + b.upstream_failed)
-fires-add Rule.OneDone a b =
+    ap (λ n. nat_lt 0 n) e ∙ some_sum (a.failed + a.upstream_failed) (b.failed + b.upstream_failed)
+fires_add Rule.OneDone a b =
     let e : (a.success + b.success) + (a.failed + b.failed) ≡ (a.success + a.failed) + (b.success + b.failed) = omega arith in
-    ap (λ n. nat_lt 0 n) e ∙ some-sum (a.success + a.failed) (b.success + b.failed)
-fires-add _ a b = refl
+    ap (λ n. nat_lt 0 n) e ∙ some_sum (a.success + a.failed) (b.success + b.failed)
+fires_add _ a b = refl
 
 -- what is unfinished is nothing to it
 quiet : (rule : Rule) → fires_in rule one_unfinished ≡ fires_in rule none_counted
 quiet Rule.Always = refl
 quiet _ = refl
 
-none-fires : (rule : Rule) (c : Counts) → fires_in rule none_counted ≡ true → fires_in rule c ≡ true
-none-fires Rule.Always c e = refl
-none-fires _ c e = cc
+none_fires : (rule : Rule) (c : Counts) → fires_in rule none_counted ≡ true → fires_in rule c ≡ true
+none_fires Rule.Always c e = refl
+none_fires _ c e = cc
 
 -- counts that don't stir the rule are as nothing to it
 unheard : (rule : Rule) (c : Counts) → stirs_in rule c ≡ false → fires_in rule c ≡ fires_in rule none_counted
-unheard rule c h = go (fires_in rule c) (fires_in rule none_counted) (none-fires rule c) h
+unheard rule c h = go (fires_in rule c) (fires_in rule none_counted) (none_fires rule c) h
   where
     go : (x y : Bool) → (y ≡ true → x ≡ true) → (x && not y) ≡ false → x ≡ y
     go true true n h = refl
@@ -59,66 +59,66 @@ unheard rule c h = go (fires_in rule c) (fires_in rule none_counted) (none-fires
     go false false n h = refl
 
 -- while something is unfinished an early rule runs or waits
-early-verdict : (rule : Rule) (c : Counts) → 0 < c.unfinished → verdict rule c ≡ (if fires_in rule c then Verdict.Run else Verdict.Wait)
+early_verdict : (rule : Rule) (c : Counts) → 0 < c.unfinished → verdict rule c ≡ (if fires_in rule c then Verdict.Run else Verdict.Wait)
 unfolding verdict
-early-verdict rule c p =
+early_verdict rule c p =
     let some : (finished_of c + c.blocked + c.unfinished == 0) ≡ false = grind (arith, nat_tests) in
     let more : nat_lt 0 c.unfinished ≡ true = grind (arith, nat_tests) in
     rw (some, more)
 
-same-verdict : (rule : Rule) (c d : Counts) → fires_in rule c ≡ fires_in rule d → 0 < c.unfinished → 0 < d.unfinished → verdict rule c ≡ verdict rule d
-same-verdict rule c d same p q = early-verdict rule c p ∙ (ap (λ (b : Bool). if b then Verdict.Run else Verdict.Wait) same ∙ sym (early-verdict rule d q))
+same_verdict : (rule : Rule) (c d : Counts) → fires_in rule c ≡ fires_in rule d → 0 < c.unfinished → 0 < d.unfinished → verdict rule c ≡ verdict rule d
+same_verdict rule c d same p q = early_verdict rule c p ∙ (ap (λ (b : Bool). if b then Verdict.Run else Verdict.Wait) same ∙ sym (early_verdict rule d q))
 
 -- ---- a cell
 
-or-same : (a : Bool) → (a || a) ≡ a
-or-same true = refl
-or-same false = refl
+or_same : (a : Bool) → (a || a) ≡ a
+or_same true = refl
+or_same false = refl
 
-fresh-counts : (rule : Rule) (gs : List Given) → fires_in rule (counts_of_instances (map fresh gs)) ≡ fires_in rule none_counted
-fresh-counts rule [] = refl
-fresh-counts rule (g ∷ gs) = fires-add rule one_unfinished (counts_of_instances (map fresh gs)) ∙ (ap₂ (λ x y. x || y) (quiet rule) (fresh-counts rule gs) ∙ or-same (fires_in rule none_counted))
+fresh_counts : (rule : Rule) (gs : List Given) → fires_in rule (counts_of_instances (map fresh gs)) ≡ fires_in rule none_counted
+fresh_counts rule [] = refl
+fresh_counts rule (g ∷ gs) = fires_add rule one_unfinished (counts_of_instances (map fresh gs)) ∙ (ap₂ (λ x y. x || y) (quiet rule) (fresh_counts rule gs) ∙ or_same (fires_in rule none_counted))
 
-decision-told : (rule : Rule) (d : Decision) → stirs_in rule (heard_of_cell (cell_of d)) ≡ false → fires_in rule (counts_of_cell (cell_of d)) ≡ fires_in rule one_unfinished
-decision-told rule Decision.Wait h = refl
-decision-told rule Decision.Blocked h = unheard rule one_blocked h ∙ sym (quiet rule)
-decision-told rule Decision.Skipped h = unheard rule one_skipped h ∙ sym (quiet rule)
-decision-told rule Decision.UpstreamFailed h = unheard rule one_upstream_failed h ∙ sym (quiet rule)
-decision-told rule (Decision.Instances gs) h = fresh-counts rule gs ∙ sym (quiet rule)
+decision_told : (rule : Rule) (d : Decision) → stirs_in rule (heard_of_cell (cell_of d)) ≡ false → fires_in rule (counts_of_cell (cell_of d)) ≡ fires_in rule one_unfinished
+decision_told rule Decision.Wait h = refl
+decision_told rule Decision.Blocked h = unheard rule one_blocked h ∙ sym (quiet rule)
+decision_told rule Decision.Skipped h = unheard rule one_skipped h ∙ sym (quiet rule)
+decision_told rule Decision.UpstreamFailed h = unheard rule one_upstream_failed h ∙ sym (quiet rule)
+decision_told rule (Decision.Instances gs) h = fresh_counts rule gs ∙ sym (quiet rule)
 
-phase-told : (rule : Rule) (p : Phase) → stirs_in rule (finished_in p) ≡ false → fires_in rule (counts_of_instance p) ≡ fires_in rule one_unfinished
-phase-told rule (Phase.Finished o) h = unheard rule (one_of o) h ∙ sym (quiet rule)
-phase-told rule Phase.Waiting h = refl
-phase-told rule Phase.Running h = refl
+phase_told : (rule : Rule) (p : Phase) → stirs_in rule (finished_in p) ≡ false → fires_in rule (counts_of_instance p) ≡ fires_in rule one_unfinished
+phase_told rule (Phase.Finished o) h = unheard rule (one_of o) h ∙ sym (quiet rule)
+phase_told rule Phase.Waiting h = refl
+phase_told rule Phase.Running h = refl
 
-one-told : (rule : Rule) (f : Instance → Instance) (xs : List Instance) (i : ℕ) (x : Instance) → slice_get xs i ≡ Some x →
+one_told : (rule : Rule) (f : Instance → Instance) (xs : List Instance) (i : ℕ) (x : Instance) → slice_get xs i ≡ Some x →
     fires_in rule (counts_of_instance (f x).phase) ≡ fires_in rule (counts_of_instance x.phase) → fires_in rule (counts_of_instances (change_at f xs i)) ≡ fires_in rule (counts_of_instances xs)
-one-told rule f [] i x e same = cc
-one-told rule f (y ∷ ys) zero x e same =
+one_told rule f [] i x e same = cc
+one_told rule f (y ∷ ys) zero x e same =
     let is : x ≡ y = cc in
     let here : fires_in rule (counts_of_instance (f y).phase) ≡ fires_in rule (counts_of_instance y.phase) = subst (λ (z : Instance). fires_in rule (counts_of_instance (f z).phase) ≡ fires_in rule (counts_of_instance z.phase)) is same in
-    fires-add rule (counts_of_instance (f y).phase) (counts_of_instances ys) ∙ (ap (λ (b : Bool). b || fires_in rule (counts_of_instances ys)) here ∙ sym (fires-add rule (counts_of_instance y.phase) (counts_of_instances ys)))
-one-told rule f (y ∷ ys) (suc i) x e same =
-    fires-add rule (counts_of_instance y.phase) (counts_of_instances (change_at f ys i)) ∙
-    (ap (λ (b : Bool). fires_in rule (counts_of_instance y.phase) || b) (one-told rule f ys i x e same) ∙ sym (fires-add rule (counts_of_instance y.phase) (counts_of_instances ys)))
+    fires_add rule (counts_of_instance (f y).phase) (counts_of_instances ys) ∙ (ap (λ (b : Bool). b || fires_in rule (counts_of_instances ys)) here ∙ sym (fires_add rule (counts_of_instance y.phase) (counts_of_instances ys)))
+one_told rule f (y ∷ ys) (suc i) x e same =
+    fires_add rule (counts_of_instance y.phase) (counts_of_instances (change_at f ys i)) ∙
+    (ap (λ (b : Bool). fires_in rule (counts_of_instance y.phase) || b) (one_told rule f ys i x e same) ∙ sym (fires_add rule (counts_of_instance y.phase) (counts_of_instances ys)))
 
-cell-told : (rule : Rule) (f : Instance → Instance) (c : Cell) (i : ℕ) (x : Instance) → instance_of c i ≡ Some x →
+cell_told : (rule : Rule) (f : Instance → Instance) (c : Cell) (i : ℕ) (x : Instance) → instance_of c i ≡ Some x →
     fires_in rule (counts_of_instance (f x).phase) ≡ fires_in rule (counts_of_instance x.phase) → fires_in rule (counts_of_cell (change_instance f c i)) ≡ fires_in rule (counts_of_cell c)
-cell-told rule f (Cell.Ran xs) i x e same = one-told rule f xs i x e same
-cell-told rule f Cell.Undecided i x e same = refl
-cell-told rule f Cell.Blocked i x e same = refl
-cell-told rule f Cell.Skipped i x e same = refl
-cell-told rule f Cell.UpstreamFailed i x e same = refl
+cell_told rule f (Cell.Ran xs) i x e same = one_told rule f xs i x e same
+cell_told rule f Cell.Undecided i x e same = refl
+cell_told rule f Cell.Blocked i x e same = refl
+cell_told rule f Cell.Skipped i x e same = refl
+cell_told rule f Cell.UpstreamFailed i x e same = refl
 
-end-told : (rule : Rule) (f : Instance → Instance) (c : Cell) (i : ℕ) (x : Instance) → instance_of c i ≡ Some x → x.phase ≡ Phase.Running →
+end_told : (rule : Rule) (f : Instance → Instance) (c : Cell) (i : ℕ) (x : Instance) → instance_of c i ≡ Some x → x.phase ≡ Phase.Running →
     stirs_in rule (heard_of_instance (instance_of (change_instance f c i) i)) ≡ false → fires_in rule (counts_of_cell (change_instance f c i)) ≡ fires_in rule (counts_of_cell c)
-end-told rule f c i x e runs h =
-    let none : stirs_in rule (finished_in (f x).phase) ≡ false = subst (λ (o : Option Instance). stirs_in rule (heard_of_instance o) ≡ false) (instance-here f c i x e) h in
-    cell-told rule f c i x e (phase-told rule (f x).phase none ∙ sym (ap (λ (p : Phase). fires_in rule (counts_of_instance p)) runs))
+end_told rule f c i x e runs h =
+    let none : stirs_in rule (finished_in (f x).phase) ≡ false = subst (λ (o : Option Instance). stirs_in rule (heard_of_instance o) ≡ false) (instance_here f c i x e) h in
+    cell_told rule f c i x e (phase_told rule (f x).phase none ∙ sym (ap (λ (p : Phase). fires_in rule (counts_of_instance p)) runs))
 
-put-told : (heard : Cell → Counts) (rule : Rule) (s : State) (k t : ℕ) (c : Cell) → (stirs_in rule (heard c) ≡ false → fires_in rule (counts_of_cell c) ≡ fires_in rule (counts_of_cell (cell_at s k t))) →
+put_told : (heard : Cell → Counts) (rule : Rule) (s : State) (k t : ℕ) (c : Cell) → (stirs_in rule (heard c) ≡ false → fires_in rule (counts_of_cell c) ≡ fires_in rule (counts_of_cell (cell_at s k t))) →
     stirs_in rule (heard (cell_at (put s k t c) k t)) ≡ false → fires_in rule (counts_of_cell (cell_at (put s k t c) k t)) ≡ fires_in rule (counts_of_cell (cell_at s k t))
-put-told heard rule s k t c told h = elim (put-cases s k t c k t) [
+put_told heard rule s k t c told h = elim (put_cases s k t c k t) [
   | inl p ↦ ap (λ (d : Cell). fires_in rule (counts_of_cell d)) p.2 ∙ told (subst (λ (d : Cell). stirs_in rule (heard d) ≡ false) p.2 h)
   | inr e ↦ ap (λ (d : Cell). fires_in rule (counts_of_cell d)) e
 ]
@@ -130,35 +130,35 @@ pub record IsTold (dag : Dag) (s : State) (e : Event) (n : News) : Type 0 where
   pub only : (a b : ℕ) → Touches e a b → (a ≡ n.run) × (b ≡ n.task)
   pub told : (rule : Rule) → stirs_in rule n.counts ≡ false → fires_in rule (counts_of_cell (cell_at (after dag s e) n.run n.task)) ≡ fires_in rule (counts_of_cell (cell_at s n.run n.task))
 
-pub told-settle : (dag : Dag) (limits : Limits) (s : State) (k t : ℕ) → IsEnabled dag limits s (Event.Settle k t) → IsTold dag s (Event.Settle k t) (decided_at (after dag s (Event.Settle k t)) k t)
+pub told_settle : (dag : Dag) (limits : Limits) (s : State) (k t : ℕ) → IsEnabled dag limits s (Event.Settle k t) → IsTold dag s (Event.Settle k t) (decided_at (after dag s (Event.Settle k t)) k t)
 unfolding after
-told-settle dag limits s k t able = record {
+told_settle dag limits s k t able = record {
   only = λ a b x. x;
-  told = λ rule h. put-told heard_of_cell rule s k t (cell_of (decision_in dag s k t))
-      (λ g. decision-told rule (decision_in dag s k t) g ∙ sym (ap (λ (c : Cell). fires_in rule (counts_of_cell c)) able.0.undecided)) h;
+  told = λ rule h. put_told heard_of_cell rule s k t (cell_of (decision_in dag s k t))
+      (λ g. decision_told rule (decision_in dag s k t) g ∙ sym (ap (λ (c : Cell). fires_in rule (counts_of_cell c)) able.0.undecided)) h;
 }
 
-pub told-expand : (dag : Dag) (limits : Limits) (s : State) (k t : ℕ) → IsEnabled dag limits s (Event.Expand k t) → IsTold dag s (Event.Expand k t) (decided_at (after dag s (Event.Expand k t)) k t)
+pub told_expand : (dag : Dag) (limits : Limits) (s : State) (k t : ℕ) → IsEnabled dag limits s (Event.Expand k t) → IsTold dag s (Event.Expand k t) (decided_at (after dag s (Event.Expand k t)) k t)
 unfolding after
-told-expand dag limits s k t able = record {
+told_expand dag limits s k t able = record {
   only = λ a b x. x;
-  told = λ rule h. put-told heard_of_cell rule s k t (cell_of (decision_in dag s k t))
-      (λ g. decision-told rule (decision_in dag s k t) g ∙ sym (ap (λ (c : Cell). fires_in rule (counts_of_cell c)) able.0.undecided)) h;
+  told = λ rule h. put_told heard_of_cell rule s k t (cell_of (decision_in dag s k t))
+      (λ g. decision_told rule (decision_in dag s k t) g ∙ sym (ap (λ (c : Cell). fires_in rule (counts_of_cell c)) able.0.undecided)) h;
 }
 
-pub told-end : (dag : Dag) (limits : Limits) (s : State) (n : JobName) (o : _) → IsEnabled dag limits s (Event.End n o) → IsTold dag s (Event.End n o) (ended_at dag (after dag s (Event.End n o)) n)
+pub told_end : (dag : Dag) (limits : Limits) (s : State) (n : JobName) (o : _) → IsEnabled dag limits s (Event.End n o) → IsTold dag s (Event.End n o) (ended_at dag (after dag s (Event.End n o)) n)
 unfolding after
-told-end dag limits s n o able = record {
+told_end dag limits s n o able = record {
   only = λ a b x. x;
-  told = λ rule h. put-told (λ c. heard_of_instance (instance_of c (place_in dag n))) rule s n.run n.task (change_instance (ended (task_of dag n.task).retries o) (cell_at s n.run n.task) (place_in dag n))
-      (λ g. end-told rule (ended (task_of dag n.task).retries o) (cell_at s n.run n.task) (place_in dag n) able.0.held able.0.is_held able.0.in_phase g) h;
+  told = λ rule h. put_told (λ c. heard_of_instance (instance_of c (place_in dag n))) rule s n.run n.task (change_instance (ended (task_of dag n.task).retries o) (cell_at s n.run n.task) (place_in dag n))
+      (λ g. end_told rule (ended (task_of dag n.task).retries o) (cell_at s n.run n.task) (place_in dag n) able.0.held able.0.is_held able.0.in_phase g) h;
 }
 
 -- ---- what is unfinished
 
-open-instances : (xs : List Instance) → is_some (value_in (Cell.Ran xs)) ≡ false → 0 < (counts_of_instances xs).unfinished
-open-instances [] h = cc
-open-instances (x ∷ xs) h = go x.phase (results xs) h (λ e. open-instances xs e)
+open_instances : (xs : List Instance) → is_some (value_in (Cell.Ran xs)) ≡ false → 0 < (counts_of_instances xs).unfinished
+open_instances [] h = cc
+open_instances (x ∷ xs) h = go x.phase (results xs) h (λ e. open_instances xs e)
   where
     go : (p : Phase) (rs : Option (List TaskResult)) → is_some (elim (cons_result x.attempt p rs) [ None ↦ None | Some r ↦ Some (TaskValue.Ran r) ]) ≡ false →
         (is_some (elim rs [ None ↦ None | Some r ↦ Some (TaskValue.Ran r) ]) ≡ false → 0 < (counts_of_instances xs).unfinished) → 0 < (add (counts_of_instance p) (counts_of_instances xs)).unfinished
@@ -168,18 +168,18 @@ open-instances (x ∷ xs) h = go x.phase (results xs) h (λ e. open-instances xs
     go (Phase.Finished o) (Some rs) e more = cc
 
 -- a cell that isn't settled has something unfinished
-open-counts : (c : Cell) → is_some (value_in c) ≡ false → 0 < (counts_of_cell c).unfinished
-open-counts Cell.Undecided h = omega arith
-open-counts Cell.Blocked h = cc
-open-counts Cell.Skipped h = cc
-open-counts Cell.UpstreamFailed h = cc
-open-counts (Cell.Ran xs) h = open-instances xs h
+open_counts : (c : Cell) → is_some (value_in c) ≡ false → 0 < (counts_of_cell c).unfinished
+open_counts Cell.Undecided h = omega arith
+open_counts Cell.Blocked h = cc
+open_counts Cell.Skipped h = cc
+open_counts Cell.UpstreamFailed h = cc
+open_counts (Cell.Ran xs) h = open_instances xs h
 
-open-over : (s : State) (k : ℕ) (us : List ℕ) → list_all (is_settled s k) us ≡ false → 0 < (counts_over (λ u. seen_in (cell_at s k u)) us).unfinished
-open-over s k [] h = cc
-open-over s k (u ∷ us) h = elim (cases_Bool (is_settled s k u)) [
-  | inr none ↦ let here : 0 < (counts_of_cell (cell_at s k u)).unfinished = open-counts (cell_at s k u) none in omega (arith, here)
-  | inl here ↦ let rest : 0 < (counts_over (λ v. seen_in (cell_at s k v)) us).unfinished = open-over s k us (go (is_settled s k u) here h) in omega (arith, rest)
+open_over : (s : State) (k : ℕ) (us : List ℕ) → list_all (is_settled s k) us ≡ false → 0 < (counts_over (λ u. seen_in (cell_at s k u)) us).unfinished
+open_over s k [] h = cc
+open_over s k (u ∷ us) h = elim (cases_Bool (is_settled s k u)) [
+  | inr none ↦ let here : 0 < (counts_of_cell (cell_at s k u)).unfinished = open_counts (cell_at s k u) none in omega (arith, here)
+  | inl here ↦ let rest : 0 < (counts_over (λ v. seen_in (cell_at s k v)) us).unfinished = open_over s k us (go (is_settled s k u) here h) in omega (arith, rest)
 ]
   where
     go : (b : Bool) → b ≡ true → (b && list_all (is_settled s k) us) ≡ false → list_all (is_settled s k) us ≡ false
@@ -193,42 +193,42 @@ abbrev lines : Bool → Bool → Bool → Verdict → Verdict
 lines all skips blocks v = if not all then Verdict.Wait else (if skips then Verdict.Skip else (if blocks then Verdict.Blocked else v))
 
 -- it is the same for both verdicts, or the verdict itself
-lines-or : (all skips blocks : Bool) (v w : Verdict) → (lines all skips blocks v ≡ lines all skips blocks w) ⊎ (lines all skips blocks v ≡ v)
-lines-or false skips blocks v w = inl refl
-lines-or true true blocks v w = inl refl
-lines-or true false true v w = inl refl
-lines-or true false false v w = inr refl
+lines_or : (all skips blocks : Bool) (v w : Verdict) → (lines all skips blocks v ≡ lines all skips blocks w) ⊎ (lines all skips blocks v ≡ v)
+lines_or false skips blocks v w = inl refl
+lines_or true true blocks v w = inl refl
+lines_or true false true v w = inl refl
+lines_or true false false v w = inr refl
 
-early-or : (rule : Rule) (c : Counts) → 0 < c.unfinished → (verdict rule c ≡ Verdict.Run) ⊎ (verdict rule c ≡ Verdict.Wait)
-early-or rule c p = go (fires_in rule c) (early-verdict rule c p)
+early_or : (rule : Rule) (c : Counts) → 0 < c.unfinished → (verdict rule c ≡ Verdict.Run) ⊎ (verdict rule c ≡ Verdict.Wait)
+early_or rule c p = go (fires_in rule c) (early_verdict rule c p)
   where
     go : (b : Bool) → verdict rule c ≡ (if b then Verdict.Run else Verdict.Wait) → (verdict rule c ≡ Verdict.Run) ⊎ (verdict rule c ≡ Verdict.Wait)
     go true e = inl e
     go false e = inr e
 
-none-if : (o : Option TaskValue) → is_some o ≡ false → o ≡ None
-none-if None e = refl
-none-if (Some v) e = cc
+none_if : (o : Option TaskValue) → is_some o ≡ false → o ≡ None
+none_if None e = refl
+none_if (Some v) e = cc
 
-past-awaited : (dag : Dag) (s : State) (k t : ℕ) → knows_past_in dag s k t ≡ false → (v : Verdict) → (v ≡ Verdict.Run) ⊎ (v ≡ Verdict.Wait) → and_then_past dag k (before_in s k t) t v ≡ Verdict.Wait
-past-awaited dag s k t unaware v (inr e) = rw e
-past-awaited dag s k t unaware v (inl e) =
+past_awaited : (dag : Dag) (s : State) (k t : ℕ) → knows_past_in dag s k t ≡ false → (v : Verdict) → (v ≡ Verdict.Run) ⊎ (v ≡ Verdict.Wait) → and_then_past dag k (before_in s k t) t v ≡ Verdict.Wait
+past_awaited dag s k t unaware v (inr e) = rw e
+past_awaited dag s k t unaware v (inl e) =
     let depends : (task_of dag t).depends_on_past ≡ true = not-false _ (or_parts _ _ unaware).0 in
     let later : (k == 0) ≡ false = (or_parts (k == 0) _ (or_parts (not (task_of dag t).depends_on_past) _ unaware).1).0 in
-    let none : before_in s k t ≡ None = none-if (before_in s k t) (or_parts (k == 0) _ (or_parts (not (task_of dag t).depends_on_past) _ unaware).1).1 in
+    let none : before_in s k t ≡ None = none_if (before_in s k t) (or_parts (k == 0) _ (or_parts (not (task_of dag t).depends_on_past) _ unaware).1).1 in
     rw (e, depends, later, none)
 
 -- ---- news that don't matter
 
 module _ (dag : Dag) (limits : Limits) (s : State) (e : Event) (able : IsEnabled dag limits s e) where
-  all-kept : (k : ℕ) (us : List ℕ) → list_all (is_settled s k) us ≡ true → list_all (is_settled (after dag s e) k) us ≡ true
-  all-kept k [] h = refl
-  all-kept k (u ∷ us) h = and_from _ _ (settled-stays dag limits s e able k u (and_parts _ _ h).0) (all-kept k us (and_parts (is_settled s k u) _ h).1)
+  all_kept : (k : ℕ) (us : List ℕ) → list_all (is_settled s k) us ≡ true → list_all (is_settled (after dag s e) k) us ≡ true
+  all_kept k [] h = refl
+  all_kept k (u ∷ us) h = and_from _ _ (settled_stays dag limits s e able k u (and_parts _ _ h).0) (all_kept k us (and_parts (is_settled s k u) _ h).1)
 
-  unsettled-before : (k : ℕ) (us : List ℕ) → list_all (is_settled (after dag s e) k) us ≡ false → list_all (is_settled s k) us ≡ false
-  unsettled-before k us h = elim (cases_Bool (list_all (is_settled s k) us)) [
+  unsettled_before : (k : ℕ) (us : List ℕ) → list_all (is_settled (after dag s e) k) us ≡ false → list_all (is_settled s k) us ≡ false
+  unsettled_before k us h = elim (cases_Bool (list_all (is_settled s k) us)) [
     | inr before ↦ before
-    | inl all ↦ absurd (both_ways _ h (all-kept k us all))
+    | inl all ↦ absurd (both_ways _ h (all_kept k us all))
   ]
 
   module _ (n : News) (told : IsTold dag s e n) (t : ℕ) (unmoved : matters_in dag (after dag s e) n t ≡ false) where
@@ -241,11 +241,11 @@ module _ (dag : Dag) (limits : Limits) (s : State) (e : Event) (able : IsEnabled
     beyond : looks_beyond_in dag n.task t ≡ false
     beyond = (or_parts _ _ unmoved).0
 
-    quiet-or-unaware : (stirs_in (task_of dag t).rule n.counts ≡ false) ⊎ (knows_past_in dag (after dag s e) n.run t ≡ false)
-    quiet-or-unaware = and_cases (stirs_in (task_of dag t).rule n.counts) (knows_past_in dag (after dag s e) n.run t) (or_parts _ _ (or_parts (looks_beyond_in dag n.task t) _ unmoved).1).0
+    quiet_or_unaware : (stirs_in (task_of dag t).rule n.counts ≡ false) ⊎ (knows_past_in dag (after dag s e) n.run t ≡ false)
+    quiet_or_unaware = and_cases (stirs_in (task_of dag t).rule n.counts) (knows_past_in dag (after dag s e) n.run t) (or_parts _ _ (or_parts (looks_beyond_in dag n.task t) _ unmoved).1).0
 
-    some-open : all_settled dag (after dag s e) n.run t ≡ false
-    some-open = (or_parts (stirs_in (task_of dag t).rule n.counts && knows_past_in dag (after dag s e) n.run t) _ (or_parts (looks_beyond_in dag n.task t) _ unmoved).1).1
+    some_open : all_settled dag (after dag s e) n.run t ≡ false
+    some_open = (or_parts (stirs_in (task_of dag t).rule n.counts && knows_past_in dag (after dag s e) n.run t) _ (or_parts (looks_beyond_in dag n.task t) _ unmoved).1).1
 
     early : is_waiting (task_of dag t).rule ≡ false
     early = (or_parts _ _ beyond).0
@@ -258,96 +258,96 @@ module _ (dag : Dag) (limits : Limits) (s : State) (e : Event) (able : IsEnabled
 
     differs : (v : ℕ) → (v ≡ n.task) ⊎ (now v ≡ was v)
     unfolding now was
-    differs v = elim (touches? e n.run v) [ inl x ↦ inl (told.only n.run v x).1 | inr none ↦ inr (seen-kept dag limits s e able n.run v none) ]
+    differs v = elim (touches? e n.run v) [ inl x ↦ inl (told.only n.run v x).1 | inr none ↦ inr (seen_kept dag limits s e able n.run v none) ]
 
-    one-lets : (v : ℕ) → lets_decide_in dag (task_of dag t) now v ≡ lets_decide_in dag (task_of dag t) was v
-    one-lets v = elim (differs v) [
+    one_lets : (v : ℕ) → lets_decide_in dag (task_of dag t) now v ≡ lets_decide_in dag (task_of dag t) was v
+    one_lets v = elim (differs v) [
       | inr same ↦ ap (λ (x : Seen). is_some x.value || (not (is_waiting (task_of dag t).rule) && not (is_branch_in (task_of dag v)))) same
       | inl is ↦
           let free : (not (is_waiting (task_of dag t).rule) && not (is_branch_in (task_of dag v))) ≡ true = rw (early, is, plain) in
           or_right (is_some (now v).value) _ free ∙ sym (or_right (is_some (was v).value) _ free)
     ]
 
-    all-lets : (us : List ℕ) → list_all (lets_decide_in dag (task_of dag t) now) us ≡ list_all (lets_decide_in dag (task_of dag t) was) us
-    all-lets [] = refl
-    all-lets (u ∷ us) = ap₂ (λ x y. x && y) (one-lets u) (all-lets us)
+    all_lets : (us : List ℕ) → list_all (lets_decide_in dag (task_of dag t) now) us ≡ list_all (lets_decide_in dag (task_of dag t) was) us
+    all_lets [] = refl
+    all_lets (u ∷ us) = ap₂ (λ x y. x && y) (one_lets u) (all_lets us)
 
-    no-branch : (p : TaskValue → Bool) (v : ℕ) → v ≡ n.task → (o : Option TaskValue) → branch_is dag p v o ≡ false
-    no-branch p v is None = refl
-    no-branch p v is (Some x) = rw (is, plain)
+    no_branch : (p : TaskValue → Bool) (v : ℕ) → v ≡ n.task → (o : Option TaskValue) → branch_is dag p v o ≡ false
+    no_branch p v is None = refl
+    no_branch p v is (Some x) = rw (is, plain)
 
-    any-branch : (p : ℕ → TaskValue → Bool) (us : List ℕ) → list_any (λ u. branch_is dag (p u) u (now u).value) us ≡ list_any (λ u. branch_is dag (p u) u (was u).value) us
-    any-branch p [] = refl
-    any-branch p (u ∷ us) = ap₂ (λ x y. x || y) (elim (differs u) [
+    any_branch : (p : ℕ → TaskValue → Bool) (us : List ℕ) → list_any (λ u. branch_is dag (p u) u (now u).value) us ≡ list_any (λ u. branch_is dag (p u) u (was u).value) us
+    any_branch p [] = refl
+    any_branch p (u ∷ us) = ap₂ (λ x y. x || y) (elim (differs u) [
       | inr same ↦ ap (λ (x : Seen). branch_is dag (p u) u x.value) same
-      | inl is ↦ no-branch (p u) u is (now u).value ∙ sym (no-branch (p u) u is (was u).value)
-    ]) (any-branch p us)
+      | inl is ↦ no_branch (p u) u is (now u).value ∙ sym (no_branch (p u) u is (was u).value)
+    ]) (any_branch p us)
 
-    one-fires : stirs_in (task_of dag t).rule n.counts ≡ false → (v : ℕ) → fires_in (task_of dag t).rule (now v).counts ≡ fires_in (task_of dag t).rule (was v).counts
+    one_fires : stirs_in (task_of dag t).rule n.counts ≡ false → (v : ℕ) → fires_in (task_of dag t).rule (now v).counts ≡ fires_in (task_of dag t).rule (was v).counts
     unfolding now was
-    one-fires calm v = elim (differs v) [
+    one_fires calm v = elim (differs v) [
       | inr same ↦ ap (λ (x : Seen). fires_in (task_of dag t).rule x.counts) same
       | inl is ↦ subst (λ (u : ℕ). fires_in (task_of dag t).rule (now u).counts ≡ fires_in (task_of dag t).rule (was u).counts) (sym is) (told.told (task_of dag t).rule calm)
     ]
 
-    all-fire : stirs_in (task_of dag t).rule n.counts ≡ false → (us : List ℕ) → fires_in (task_of dag t).rule (counts_over now us) ≡ fires_in (task_of dag t).rule (counts_over was us)
-    all-fire calm [] = refl
-    all-fire calm (u ∷ us) =
-        fires-add (task_of dag t).rule (now u).counts (counts_over now us) ∙
-        (ap₂ (λ x y. x || y) (one-fires calm u) (all-fire calm us) ∙ sym (fires-add (task_of dag t).rule (was u).counts (counts_over was us)))
+    all_fire : stirs_in (task_of dag t).rule n.counts ≡ false → (us : List ℕ) → fires_in (task_of dag t).rule (counts_over now us) ≡ fires_in (task_of dag t).rule (counts_over was us)
+    all_fire calm [] = refl
+    all_fire calm (u ∷ us) =
+        fires_add (task_of dag t).rule (now u).counts (counts_over now us) ∙
+        (ap₂ (λ x y. x || y) (one_fires calm u) (all_fire calm us) ∙ sym (fires_add (task_of dag t).rule (was u).counts (counts_over was us)))
 
     -- something is unfinished now
-    now-open : 0 < (counts_over now (task_of dag t).upstreams).unfinished
+    now_open : 0 < (counts_over now (task_of dag t).upstreams).unfinished
     unfolding now
-    now-open = open-over (after dag s e) n.run (task_of dag t).upstreams some-open
+    now_open = open_over (after dag s e) n.run (task_of dag t).upstreams some_open
 
-    was-open : 0 < (counts_over was (task_of dag t).upstreams).unfinished
+    was_open : 0 < (counts_over was (task_of dag t).upstreams).unfinished
     unfolding was
-    was-open = open-over s n.run (task_of dag t).upstreams (unsettled-before n.run (task_of dag t).upstreams some-open)
+    was_open = open_over s n.run (task_of dag t).upstreams (unsettled_before n.run (task_of dag t).upstreams some_open)
 
     -- the ruling is as it was but for the verdict on the counts
-    ruling-but : (v : Verdict) → verdict (task_of dag t).rule (counts_over was (task_of dag t).upstreams) ≡ v →
+    ruling_but : (v : Verdict) → verdict (task_of dag t).rule (counts_over was (task_of dag t).upstreams) ≡ v →
         lines (list_all (lets_decide_in dag (task_of dag t) now) (task_of dag t).upstreams) (list_any (λ u. branch_is dag (branch_skips dag t u) u (now u).value) (task_of dag t).upstreams)
         (list_any (λ u. branch_is dag is_blocked_in u (now u).value) (task_of dag t).upstreams) v ≡ ruling_of dag was t
     unfolding ruling_of
-    ruling-but v e = rw (
-      all-lets (task_of dag t).upstreams,
-      any-branch (λ u. branch_skips dag t u) (task_of dag t).upstreams,
-      any-branch (λ u. is_blocked_in) (task_of dag t).upstreams,
+    ruling_but v e = rw (
+      all_lets (task_of dag t).upstreams,
+      any_branch (λ u. branch_skips dag t u) (task_of dag t).upstreams,
+      any_branch (λ u. is_blocked_in) (task_of dag t).upstreams,
       ← e,
     )
 
-    same-ruling : stirs_in (task_of dag t).rule n.counts ≡ false → ruling_of dag now t ≡ ruling_of dag was t
+    same_ruling : stirs_in (task_of dag t).rule n.counts ≡ false → ruling_of dag now t ≡ ruling_of dag was t
     unfolding ruling_of
-    same-ruling calm =
-        ruling-but (verdict (task_of dag t).rule (counts_over now (task_of dag t).upstreams))
-        (sym (same-verdict (task_of dag t).rule (counts_over now (task_of dag t).upstreams) (counts_over was (task_of dag t).upstreams) (all-fire calm (task_of dag t).upstreams) now-open was-open))
+    same_ruling calm =
+        ruling_but (verdict (task_of dag t).rule (counts_over now (task_of dag t).upstreams))
+        (sym (same_verdict (task_of dag t).rule (counts_over now (task_of dag t).upstreams) (counts_over was (task_of dag t).upstreams) (all_fire calm (task_of dag t).upstreams) now_open was_open))
 
-    ruling-or : (ruling_of dag now t ≡ ruling_of dag was t) ⊎ (ruling_of dag now t ≡ verdict (task_of dag t).rule (counts_over now (task_of dag t).upstreams))
+    ruling_or : (ruling_of dag now t ≡ ruling_of dag was t) ⊎ (ruling_of dag now t ≡ verdict (task_of dag t).rule (counts_over now (task_of dag t).upstreams))
     unfolding ruling_of
-    ruling-or = go (lines-or (list_all (lets_decide_in dag (task_of dag t) now) (task_of dag t).upstreams) (list_any (λ u. branch_is dag (branch_skips dag t u) u (now u).value) (task_of dag t).upstreams) (list_any (λ u. branch_is dag is_blocked_in u (now u).value) (task_of dag t).upstreams)
-        (verdict (task_of dag t).rule (counts_over now (task_of dag t).upstreams)) (verdict (task_of dag t).rule (counts_over was (task_of dag t).upstreams))) (ruling-but (verdict (task_of dag t).rule (counts_over was (task_of dag t).upstreams)) refl)
+    ruling_or = go (lines_or (list_all (lets_decide_in dag (task_of dag t) now) (task_of dag t).upstreams) (list_any (λ u. branch_is dag (branch_skips dag t u) u (now u).value) (task_of dag t).upstreams) (list_any (λ u. branch_is dag is_blocked_in u (now u).value) (task_of dag t).upstreams)
+        (verdict (task_of dag t).rule (counts_over now (task_of dag t).upstreams)) (verdict (task_of dag t).rule (counts_over was (task_of dag t).upstreams))) (ruling_but (verdict (task_of dag t).rule (counts_over was (task_of dag t).upstreams)) refl)
       where
         go : {v w : Verdict} → (ruling_of dag now t ≡ v) ⊎ (ruling_of dag now t ≡ w) → v ≡ ruling_of dag was t → (ruling_of dag now t ≡ ruling_of dag was t) ⊎ (ruling_of dag now t ≡ w)
         go (inl same) e = inl (same ∙ e)
         go (inr only) e = inr only
 
     -- a task that waits for its previous run isn't decided by such a verdict
-    not-decided : knows_past_in dag (after dag s e) n.run t ≡ false → ruling_of dag now t ≡ verdict (task_of dag t).rule (counts_over now (task_of dag t).upstreams) → IsDecidable dag (after dag s e) n.run t → ⊥
+    not_decided : knows_past_in dag (after dag s e) n.run t ≡ false → ruling_of dag now t ≡ verdict (task_of dag t).rule (counts_over now (task_of dag t).upstreams) → IsDecidable dag (after dag s e) n.run t → ⊥
     unfolding decision_in decision gate_of now
-    not-decided unaware only due =
+    not_decided unaware only due =
         let waits : gate_of dag n.run now (before_in (after dag s e) n.run t) t ≡ Verdict.Wait =
         ap (and_then_past dag n.run (before_in (after dag s e) n.run t) t) only ∙
-        past-awaited dag (after dag s e) n.run t unaware (verdict (task_of dag t).rule (counts_over now (task_of dag t).upstreams)) (early-or (task_of dag t).rule (counts_over now (task_of dag t).upstreams) now-open) in
+        past_awaited dag (after dag s e) n.run t unaware (verdict (task_of dag t).rule (counts_over now (task_of dag t).upstreams)) (early_or (task_of dag t).rule (counts_over now (task_of dag t).upstreams) now_open) in
         due.decides (ap (after_verdict dag now t) waits)
 
-    rules-as : ruling_of dag now t ≡ ruling_of dag was t → RulesAlike dag (after dag s e) s n.run t
+    rules_as : ruling_of dag now t ≡ ruling_of dag was t → RulesAlike dag (after dag s e) s n.run t
     unfolding now was
-    rules-as same = record { ruling_of = same; source = λ u is. let f : true ≡ false = sym (ap is_some is) ∙ single in cc }
+    rules_as same = record { ruling_of = same; source = λ u is. let f : true ≡ false = sym (ap is_some is) ∙ single in cc }
 
     -- the ruling on a task to which the news don't matter is as it was, or it isn't decided now
-    pub unmoved-rules : IsDecidable dag (after dag s e) n.run t → RulesAlike dag (after dag s e) s n.run t
-    unmoved-rules due = elim quiet-or-unaware [
-      | inl calm ↦ rules-as (same-ruling calm)
-      | inr unaware ↦ elim ruling-or [ inl same ↦ rules-as same | inr only ↦ absurd (not-decided unaware only due) ]
+    pub unmoved_rules : IsDecidable dag (after dag s e) n.run t → RulesAlike dag (after dag s e) s n.run t
+    unmoved_rules due = elim quiet_or_unaware [
+      | inl calm ↦ rules_as (same_ruling calm)
+      | inr unaware ↦ elim ruling_or [ inl same ↦ rules_as same | inr only ↦ absurd (not_decided unaware only due) ]
     ]

@@ -10,10 +10,10 @@ use Rattle.bf_core.specs.declared.state.Phase.{Phase}
 use Rattle.bf_core.specs.declared.event.Event.{Event}
 use Rattle.bf_core.specs.Events.{after, next_run}
 use Rattle.bf_core.specs.Cores.{Backfill, IsReplay, MayCome, moved}
-use Rattle.bf_core.proofs.Enabling.{present-there}
-use Rattle.bf_core.proofs.Kept.{replay-rows, replay-shaped}
-use Rattle.bf_core.proofs.NextRun.{open-before}
-use Rattle.bf_core.proofs.Shape.{open-run}
+use Rattle.bf_core.proofs.Enabling.{present_there}
+use Rattle.bf_core.proofs.Kept.{replay_rows, replay_shaped}
+use Rattle.bf_core.proofs.NextRun.{open_before}
+use Rattle.bf_core.proofs.Shape.{open_run_exists}
 use Rattle.bf_due.specs.declared.agenda.Step.{Step}
 use Rattle.bf_due.specs.declared.agenda.Turn.{Turn}
 use Rattle.bf_due.specs.Steps.{ComesBefore, IsEarlier, IsNextStep, IsStep}
@@ -21,40 +21,40 @@ use Rattle.bf_due.specs.Agendas.{Comes, TurnComes, event_of}
 use Rattle.bf_due.specs.declared.cursors.Cursors.{Cursors}
 use Rattle.bf_due.specs.Cursors.{AreNoted}
 use Rattle.bf_due.specs.Dues.{AsksAll, Concerns, HasAdded, IsPruned, IsOfRunBelow, IsOpening, IsRanked, IsUpToDate, Kept, SpeaksOfTask}
-use Rattle.bf_due.proofs.Adding.{one-rank}
-use Rattle.bf_due.proofs.AgendaFacts.{top-in, no-items}
-use Rattle.bf_due.proofs.Newly.{newly-due}
-use Rattle.bf_due.proofs.Reached.{none-reached, reached-stays}
+use Rattle.bf_due.proofs.Adding.{one_rank}
+use Rattle.bf_due.proofs.AgendaFacts.{top_in, no_items}
+use Rattle.bf_due.proofs.Newly.{newly_due}
+use Rattle.bf_due.proofs.Reached.{none_reached, reached_stays}
 
 -- ---- an event
 
 -- there are as many runs after the event as before
-same-runs : (b now : Backfill) (e : Event) → IsReplay b → IsReplay now → now ≡ moved b e → length now.state.runs ≡ length b.state.runs
-same-runs b now e is was same =
+same_runs : (b now : Backfill) (e : Event) → IsReplay b → IsReplay now → now ≡ moved b e → length now.state.runs ≡ length b.state.runs
+same_runs b now e is was same =
     let runs : now.runs ≡ b.runs = ap (λ (n : Backfill). n.runs) same in
-    (replay-shaped now was).count ∙ (runs ∙ sym (replay-shaped b is).count)
+    (replay_shaped now was).count ∙ (runs ∙ sym (replay_shaped b is).count)
 
-speaks-before : (b : Backfill) → IsReplay b → (e : Event) → MayCome b e → SpeaksOfTask b.dag b.state e
-speaks-before b is Event.Open able = tt
-speaks-before b is (Event.Settle k t) able = (open-run b.state k able.0.0.run_is_open, able.0.0.is_task)
-speaks-before b is (Event.Expand k t) able = (open-run b.state k able.0.0.run_is_open, able.0.0.is_task)
-speaks-before b is (Event.Begin n) able = tt
-speaks-before b is (Event.End n o) able = present-there b.dag b.state (replay-rows b is) n Phase.Running able.0.0
-speaks-before b is (Event.Close k) able = tt
-speaks-before b is (Event.Tick m) able = tt
+speaks_before : (b : Backfill) → IsReplay b → (e : Event) → MayCome b e → SpeaksOfTask b.dag b.state e
+speaks_before b is Event.Open able = tt
+speaks_before b is (Event.Settle k t) able = (open_run_exists b.state k able.0.0.run_is_open, able.0.0.is_task)
+speaks_before b is (Event.Expand k t) able = (open_run_exists b.state k able.0.0.run_is_open, able.0.0.is_task)
+speaks_before b is (Event.Begin n) able = tt
+speaks_before b is (Event.End n o) able = present_there b.dag b.state (replay_rows b is) n Phase.Running able.0.0
+speaks_before b is (Event.Close k) able = tt
+speaks_before b is (Event.Tick m) able = tt
 
-speaks-as : (d e : Dag) (r s : State) → d ≡ e → length r.runs ≡ length s.runs → (x : Event) → SpeaksOfTask e s x → SpeaksOfTask d r x
-speaks-as d e r s dags count Event.Open h = tt
-speaks-as d e r s dags count (Event.Settle k t) h = (omega (arith, count, h.0), rw dags h.1)
-speaks-as d e r s dags count (Event.Expand k t) h = (omega (arith, count, h.0), rw dags h.1)
-speaks-as d e r s dags count (Event.Begin n) h = tt
-speaks-as d e r s dags count (Event.End n o) h = (omega (arith, count, h.0), rw dags h.1)
-speaks-as d e r s dags count (Event.Close k) h = tt
-speaks-as d e r s dags count (Event.Tick m) h = tt
+speaks_as : (d e : Dag) (r s : State) → d ≡ e → length r.runs ≡ length s.runs → (x : Event) → SpeaksOfTask e s x → SpeaksOfTask d r x
+speaks_as d e r s dags count Event.Open h = tt
+speaks_as d e r s dags count (Event.Settle k t) h = (omega (arith, count, h.0), rw dags h.1)
+speaks_as d e r s dags count (Event.Expand k t) h = (omega (arith, count, h.0), rw dags h.1)
+speaks_as d e r s dags count (Event.Begin n) h = tt
+speaks_as d e r s dags count (Event.End n o) h = (omega (arith, count, h.0), rw dags h.1)
+speaks_as d e r s dags count (Event.Close k) h = tt
+speaks_as d e r s dags count (Event.Tick m) h = tt
 
 -- what an event that could come speaks of is there
 pub speaks : (b now : Backfill) (e : Event) → IsReplay b → IsReplay now → MayCome b e → now ≡ moved b e → SpeaksOfTask now.dag now.state e
-speaks b now e is was able same = speaks-as now.dag b.dag now.state b.state (ap (λ (n : Backfill). n.dag) same) (same-runs b now e is was same) e (speaks-before b is e able)
+speaks b now e is was able same = speaks_as now.dag b.dag now.state b.state (ap (λ (n : Backfill). n.dag) same) (same_runs b now e is was same) e (speaks_before b is e able)
 
 -- what is kept is up to date after the event, where it was so before it
 pub keeps : (b now : Backfill) (e : Event) → IsReplay now → MayCome b e → now ≡ moved b e → (old : Kept) → IsUpToDate b old → (rows after : List Cursors) (mid new : List Step) →
@@ -62,7 +62,7 @@ pub keeps : (b now : Backfill) (e : Event) → IsReplay now → MayCome b e → 
 keeps b now e was able same old is rows after mid new asks forgets cleaned room = record {
   replayed = was;
   ranking = subst (λ (d : Dag). Ranking (shape_of d).upstreams) (sym dags) is.ranking;
-  holds = λ x due. cleaned.kept x (elim (newly-due b is.replayed e able x (subst (λ (n : Backfill). MayCome n (event_of x)) same due.1)) [
+  holds = λ x due. cleaned.kept x (elim (newly_due b is.replayed e able x (subst (λ (n : Backfill). MayCome n (event_of x)) same due.1)) [
     | inl before ↦ added.kept x (is.holds x (subst (λ (d : Dag). IsRanked d x) dags due.0, before))
     | inr c ↦ added.added x (subst (λ (n : Backfill). Concerns n.dag n.state e x) (sym same) c) due
   ]) due.1;
@@ -72,7 +72,7 @@ keeps b now e was able same old is rows after mid new asks forgets cleaned room 
 }
   where
     reached : AreNoted now old.progress
-    reached = reached-stays b now e able same old.progress is.reached
+    reached = reached_stays b now e able same old.progress is.reached
 
     added : HasAdded now (Concerns now.dag now.state e) old.steps mid
     added = (asks reached).1
@@ -81,8 +81,8 @@ keeps b now e was able same old is rows after mid new asks forgets cleaned room 
     dags = ap (λ (n : Backfill). n.dag) same
 
 -- room that was made, and rows that were made, leave it up to date
-pub room-made : (b : Backfill) (old new : Kept) → new.steps ≡ old.steps → (AreNoted b old.progress → AreNoted b new.progress) → IsUpToDate b old → IsUpToDate b new
-room-made b old new steps rows is = record {
+pub room_made : (b : Backfill) (old new : Kept) → new.steps ≡ old.steps → (AreNoted b old.progress → AreNoted b new.progress) → IsUpToDate b old → IsUpToDate b new
+room_made b old new steps rows is = record {
   replayed = is.replayed;
   ranking = is.ranking;
   holds = λ x due. subst (λ (xs : List Step). Contains xs x) (sym steps) (is.holds x due);
@@ -92,16 +92,16 @@ room-made b old new steps rows is = record {
 }
 
 -- there are as many runs in the state as in the backfill
-pub runs-are : (b : Backfill) → IsReplay b → length b.state.runs ≡ b.runs
-runs-are b is = (replay-shaped b is).count
+pub runs_are : (b : Backfill) → IsReplay b → length b.state.runs ≡ b.runs
+runs_are b is = (replay_shaped b is).count
 
 -- ---- a look at the whole
 
-opened-step : (b : Backfill) → IsReplay b → (x : Step) → MayCome b (event_of x) → IsOfRunBelow (next_run b.state) x ⊎ IsOpening x
-opened-step b is (Step.Close k) may = inl (open-before b.dag b.runs b.state (replay-shaped b is) k may.0.0)
-opened-step b is Step.Open may = inr tt
-opened-step b is (Step.Settle x) may = inl (open-before b.dag b.runs b.state (replay-shaped b is) x.run may.0.0.run_is_open)
-opened-step b is (Step.Expand x) may = inl (open-before b.dag b.runs b.state (replay-shaped b is) x.run may.0.0.run_is_open)
+opened_step : (b : Backfill) → IsReplay b → (x : Step) → MayCome b (event_of x) → IsOfRunBelow (next_run b.state) x ⊎ IsOpening x
+opened_step b is (Step.Close k) may = inl (open_before b.dag b.runs b.state (replay_shaped b is) k may.0.0)
+opened_step b is Step.Open may = inr tt
+opened_step b is (Step.Settle x) may = inl (open_before b.dag b.runs b.state (replay_shaped b is) x.run may.0.0.run_is_open)
+opened_step b is (Step.Expand x) may = inl (open_before b.dag b.runs b.state (replay_shaped b is) x.run may.0.0.run_is_open)
 
 -- the steps of the opened runs, and then the opening of the next
 pub starts : (b : Backfill) → IsReplay b → Ranking (shape_of b.dag).upstreams → (first second new : List Step) →
@@ -109,13 +109,13 @@ pub starts : (b : Backfill) → IsReplay b → Ranking (shape_of b.dag).upstream
 starts b is ranking first second new runs opening cleaned room rows no_rows = record {
   replayed = is;
   ranking = ranking;
-  holds = λ x due. cleaned.kept x (elim (opened-step b is x due.1) [
+  holds = λ x due. cleaned.kept x (elim (opened_step b is x due.1) [
     | inl l ↦ opening.kept x (runs.added x l due)
     | inr o ↦ opening.added x o due
   ]) due.1;
   ranked = λ x c. opening.ranked (runs.ranked (λ y h. absurd (omega (arith, h.1)))) x (cleaned.fewer x c);
   live = cleaned.live;
-  reached = none-reached b rows no_rows;
+  reached = none_reached b rows no_rows;
 }
 
 -- ---- the first step
@@ -140,45 +140,45 @@ earlier dag x y rank_x rank_y (inl l) = inl l
 earlier dag x y rank_x rank_y (inr h) = inr (
   h.0,
   λ q r is_q is_r.
-      let a : q ≡ x.rank = one-rank (shape_of dag).upstreams x.task q x.rank is_q rank_x in
-      let b : r ≡ y.rank = one-rank (shape_of dag).upstreams y.task r y.rank is_r rank_y in
+      let a : q ≡ x.rank = one_rank (shape_of dag).upstreams x.task q x.rank is_q rank_x in
+      let b : r ≡ y.rank = one_rank (shape_of dag).upstreams y.task r y.rank is_r rank_y in
       elim h.1 [ inl l ↦ inl (omega (arith, a, b, l)) | inr e ↦ inr (omega (arith, a, b, e.0), e.1) ],
 )
 
-comes-before : (dag : Dag) (x y : Step) → IsRanked dag x → IsRanked dag y → Comes x y → ComesBefore dag (event_of x) (event_of y)
-comes-before dag (Step.Close j) (Step.Close k) a b c = c
-comes-before dag (Step.Close j) Step.Open a b c = c
-comes-before dag (Step.Close j) (Step.Settle y) a b c = c
-comes-before dag (Step.Close j) (Step.Expand y) a b c = c
-comes-before dag Step.Open (Step.Close k) a b c = c
-comes-before dag Step.Open Step.Open a b c = c
-comes-before dag Step.Open (Step.Settle y) a b c = c
-comes-before dag Step.Open (Step.Expand y) a b c = c
-comes-before dag (Step.Settle x) (Step.Close k) a b c = c
-comes-before dag (Step.Settle x) Step.Open a b c = c
-comes-before dag (Step.Settle x) (Step.Settle y) a b c = earlier dag x y a b c
-comes-before dag (Step.Settle x) (Step.Expand y) a b c = c
-comes-before dag (Step.Expand x) (Step.Close k) a b c = c
-comes-before dag (Step.Expand x) Step.Open a b c = c
-comes-before dag (Step.Expand x) (Step.Settle y) a b c = c
-comes-before dag (Step.Expand x) (Step.Expand y) a b c = earlier dag x y a b c
+comes_before : (dag : Dag) (x y : Step) → IsRanked dag x → IsRanked dag y → Comes x y → ComesBefore dag (event_of x) (event_of y)
+comes_before dag (Step.Close j) (Step.Close k) a b c = c
+comes_before dag (Step.Close j) Step.Open a b c = c
+comes_before dag (Step.Close j) (Step.Settle y) a b c = c
+comes_before dag (Step.Close j) (Step.Expand y) a b c = c
+comes_before dag Step.Open (Step.Close k) a b c = c
+comes_before dag Step.Open Step.Open a b c = c
+comes_before dag Step.Open (Step.Settle y) a b c = c
+comes_before dag Step.Open (Step.Expand y) a b c = c
+comes_before dag (Step.Settle x) (Step.Close k) a b c = c
+comes_before dag (Step.Settle x) Step.Open a b c = c
+comes_before dag (Step.Settle x) (Step.Settle y) a b c = earlier dag x y a b c
+comes_before dag (Step.Settle x) (Step.Expand y) a b c = c
+comes_before dag (Step.Expand x) (Step.Close k) a b c = c
+comes_before dag (Step.Expand x) Step.Open a b c = c
+comes_before dag (Step.Expand x) (Step.Settle y) a b c = c
+comes_before dag (Step.Expand x) (Step.Expand y) a b c = earlier dag x y a b c
 
-is-step : (x : Step) → IsStep (event_of x)
-is-step (Step.Close k) = omega arith
-is-step Step.Open = omega arith
-is-step (Step.Settle x) = omega arith
-is-step (Step.Expand x) = omega arith
+events_are_steps : (x : Step) → IsStep (event_of x)
+events_are_steps (Step.Close k) = omega arith
+events_are_steps Step.Open = omega arith
+events_are_steps (Step.Settle x) = omega arith
+events_are_steps (Step.Expand x) = omega arith
 
 -- where the agenda is empty no step may come
-pub none-next : (b : Backfill) (kept : Kept) → IsUpToDate b kept → None ≡ slice_get kept.steps 0 → IsNextStep b None
-none-next b kept is e f step may = let x : _ = listed b kept is f step may in no-items kept.steps e x.0 x.1
+pub none_next : (b : Backfill) (kept : Kept) → IsUpToDate b kept → None ≡ slice_get kept.steps 0 → IsNextStep b None
+none_next b kept is e f step may = let x : _ = listed b kept is f step may in no_items kept.steps e x.0 x.1
 
 -- the first step on the agenda is the next
-pub first-next : (b : Backfill) (kept : Kept) → IsUpToDate b kept → (x : Step) → Some x ≡ slice_get kept.steps 0 → ((y : Step) → Contains kept.steps y → Comes x y) → IsNextStep b (Some (event_of x))
-first-next b kept is x e first = record {
-  is_step = is-step x;
+pub first_next : (b : Backfill) (kept : Kept) → IsUpToDate b kept → (x : Step) → Some x ≡ slice_get kept.steps 0 → ((y : Step) → Contains kept.steps y → Comes x y) → IsNextStep b (Some (event_of x))
+first_next b kept is x e first = record {
+  is_step = events_are_steps x;
   may_come = rw (← e) at is.live;
   first = λ f step may.
       let y : _ = listed b kept is f step may in
-      subst (λ (g : Event). ComesBefore b.dag (event_of x) g) y.2 (comes-before b.dag x y.0 (is.ranked x (top-in kept.steps x e)) (is.ranked y.0 y.1) (first y.0 y.1));
+      subst (λ (g : Event). ComesBefore b.dag (event_of x) g) y.2 (comes_before b.dag x y.0 (is.ranked x (top_in kept.steps x e)) (is.ranked y.0 y.1) (first y.0 y.1));
 }

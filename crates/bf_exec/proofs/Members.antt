@@ -13,8 +13,8 @@ use Rattle.bf_core.specs.declared.state.State.{State}
 use Rattle.bf_core.specs.Events.{IsPresent, cell_at, cell_in, given_in, given_of, instance_of, no_run, place_in}
 use Rattle.bf_core.specs.Cores.{Backfill, IsReplay}
 use Rattle.bf_core.specs.Running.{running_by_place, running_tries, sum_by_place, sum_of_running, while_running}
-use Rattle.bf_core.proofs.Placing.{read-row}
-use Rattle.bf_core.proofs.Named.{place-named, present-named}
+use Rattle.bf_core.proofs.Placing.{read_row}
+use Rattle.bf_core.proofs.Named.{place_named, present_named}
 
 -- ---- a sum that isn't 0 has a member that isn't
 
@@ -28,10 +28,10 @@ record IsMember {A : Type 0} (f : ℕ → A → ℕ) (xs : List A) : Type 0 wher
   here : slice_get xs at ≡ Some member
   counts : 0 < f at member
 
-sum-member : {A : Type 0} (f : ℕ → A → ℕ) (xs : List A) → 0 < sum_by_place f xs → IsMember f xs
-sum-member f [] some = absurd (omega (arith, some))
-sum-member f (x ∷ xs) some = elim (none_or_some (f 0 x)) [
-  | inl none ↦ (let rest : IsMember (λ i. f (suc i)) xs = sum-member (λ i. f (suc i)) xs (omega (arith, some, none)) in record { at = suc rest.at; member = rest.member; here = rest.here; counts = rest.counts })
+sum_member : {A : Type 0} (f : ℕ → A → ℕ) (xs : List A) → 0 < sum_by_place f xs → IsMember f xs
+sum_member f [] some = absurd (omega (arith, some))
+sum_member f (x ∷ xs) some = elim (none_or_some (f 0 x)) [
+  | inl none ↦ (let rest : IsMember (λ i. f (suc i)) xs = sum_member (λ i. f (suc i)) xs (omega (arith, some, none)) in record { at = suc rest.at; member = rest.member; here = rest.here; counts = rest.counts })
   | inr counts ↦ record { at = 0; member = x; here = refl; counts = counts }
 ]
 
@@ -45,29 +45,29 @@ pub record HasRunning (f : ℕ → ℕ → ℕ → Instance → ℕ) (s : State)
   pub runs : held.phase ≡ Phase.Running
   pub counts : 0 < f run task place held
 
-while-counts : (p : Phase) (n : ℕ) → 0 < while_running p n → (p ≡ Phase.Running) × (0 < n)
-while-counts Phase.Waiting n some = absurd (omega (arith, some))
-while-counts Phase.Running n some = (refl, some)
-while-counts (Phase.Finished o) n some = absurd (omega (arith, some))
+while_counts : (p : Phase) (n : ℕ) → 0 < while_running p n → (p ≡ Phase.Running) × (0 < n)
+while_counts Phase.Waiting n some = absurd (omega (arith, some))
+while_counts Phase.Running n some = (refl, some)
+while_counts (Phase.Finished o) n some = absurd (omega (arith, some))
 
-in-cell : (f : ℕ → Instance → ℕ) (c : Cell) → 0 < running_by_place f c → (i : ℕ) × (x : Instance) × (instance_of c i ≡ Some x) × (x.phase ≡ Phase.Running) × (0 < f i x)
-in-cell f (Cell.Ran xs) some =
-    let m : IsMember (λ i x. while_running x.phase (f i x)) xs = sum-member (λ i x. while_running x.phase (f i x)) xs some in
-    let w : _ = while-counts m.member.phase (f m.at m.member) m.counts in
+in_cell : (f : ℕ → Instance → ℕ) (c : Cell) → 0 < running_by_place f c → (i : ℕ) × (x : Instance) × (instance_of c i ≡ Some x) × (x.phase ≡ Phase.Running) × (0 < f i x)
+in_cell f (Cell.Ran xs) some =
+    let m : IsMember (λ i x. while_running x.phase (f i x)) xs = sum_member (λ i x. while_running x.phase (f i x)) xs some in
+    let w : _ = while_counts m.member.phase (f m.at m.member) m.counts in
     (m.at, m.member, m.here, w.0, w.1)
-in-cell f Cell.Undecided some = absurd (omega (arith, some))
-in-cell f Cell.Blocked some = absurd (omega (arith, some))
-in-cell f Cell.Skipped some = absurd (omega (arith, some))
-in-cell f Cell.UpstreamFailed some = absurd (omega (arith, some))
+in_cell f Cell.Undecided some = absurd (omega (arith, some))
+in_cell f Cell.Blocked some = absurd (omega (arith, some))
+in_cell f Cell.Skipped some = absurd (omega (arith, some))
+in_cell f Cell.UpstreamFailed some = absurd (omega (arith, some))
 
-running-member : (f : ℕ → ℕ → ℕ → Instance → ℕ) (s : State) → 0 < sum_of_running f s → HasRunning f s
+running_member : (f : ℕ → ℕ → ℕ → Instance → ℕ) (s : State) → 0 < sum_of_running f s → HasRunning f s
 unfolding cell_in
-running-member f s some =
-    let row : IsMember (λ k (r : Run). sum_by_place (λ t c. running_by_place (f k t) c) r.cells) s.runs = sum-member (λ k (r : Run). sum_by_place (λ t c. running_by_place (f k t) c) r.cells) s.runs some in
-    let cell : IsMember (λ t c. running_by_place (f row.at t) c) row.member.cells = sum-member (λ t c. running_by_place (f row.at t) c) row.member.cells row.counts in
-    let found : _ = in-cell (f row.at cell.at) cell.member cell.counts in
-    let row_is : slice_index_or s.runs row.at no_run ≡ row.member = read-row s.runs row.at row.member no_run row.here in
-    let cell_is : slice_index_or row.member.cells cell.at Cell.Undecided ≡ cell.member = read-row row.member.cells cell.at cell.member Cell.Undecided cell.here in
+running_member f s some =
+    let row : IsMember (λ k (r : Run). sum_by_place (λ t c. running_by_place (f k t) c) r.cells) s.runs = sum_member (λ k (r : Run). sum_by_place (λ t c. running_by_place (f k t) c) r.cells) s.runs some in
+    let cell : IsMember (λ t c. running_by_place (f row.at t) c) row.member.cells = sum_member (λ t c. running_by_place (f row.at t) c) row.member.cells row.counts in
+    let found : _ = in_cell (f row.at cell.at) cell.member cell.counts in
+    let row_is : slice_index_or s.runs row.at no_run ≡ row.member = read_row s.runs row.at row.member no_run row.here in
+    let cell_is : slice_index_or row.member.cells cell.at Cell.Undecided ≡ cell.member = read_row row.member.cells cell.at cell.member Cell.Undecided cell.here in
     let is : cell_at s row.at cell.at ≡ cell.member = ap (λ (r : Run). slice_index_or r.cells cell.at Cell.Undecided) row_is ∙ cell_is in
     record { run = row.at; task = cell.at; place = found.0; held = found.1; is_held = ap (λ c. instance_of c found.0) is ∙ found.2; runs = found.3; counts = found.4 }
 
@@ -79,30 +79,30 @@ same_code (gnum a) (gnum b) = nat_eq a b
 same_code (gcons a b) (gcons c d) = same_code a c && same_code b d
 same_code a b = false
 
-code-self : (a : Gv) → same_code a a ≡ true
+code_self : (a : Gv) → same_code a a ≡ true
 unfolding same_code
-code-self gnil = refl
-code-self (gnum a) = eq-eqb a a refl
-code-self (gcons a b) = ap₂ (λ x y. x && y) (code-self a) (code-self b)
+code_self gnil = refl
+code_self (gnum a) = eq-eqb a a refl
+code_self (gcons a b) = ap₂ (λ x y. x && y) (code_self a) (code_self b)
 
-code-same : (a b : Gv) → same_code a b ≡ true → a ≡ b
+code_same : (a b : Gv) → same_code a b ≡ true → a ≡ b
 unfolding same_code
-code-same gnil gnil e = refl
-code-same (gnum a) (gnum b) e = ap gnum (eqb-true a b e)
-code-same (gcons a b) (gcons c d) e = let both : _ = and_parts (same_code a c) (same_code b d) e in ap₂ gcons (code-same a c both.0) (code-same b d both.1)
-code-same a b e = absurd (true≢false (sym e))
+code_same gnil gnil e = refl
+code_same (gnum a) (gnum b) e = ap gnum (eqb-true a b e)
+code_same (gcons a b) (gcons c d) e = let both : _ = and_parts (same_code a c) (same_code b d) e in ap₂ gcons (code_same a c both.0) (code_same b d both.1)
+code_same a b e = absurd (true≢false (sym e))
 
 -- 1 of that try, and 0 of any other
 just : Asked → Asked → ℕ
 just x y = if same_code (ticket.the_row.coded.code x) (ticket.the_row.coded.code y) then 1 else 0
 
-just-self : (x : Asked) → just x x ≡ 1
+just_self : (x : Asked) → just x x ≡ 1
 unfolding just
-just-self x = ap (λ (b : Bool). if b then 1 else 0) (code-self (ticket.the_row.coded.code x))
+just_self x = ap (λ (b : Bool). if b then 1 else 0) (code_self (ticket.the_row.coded.code x))
 
-just-same : (x y : Asked) → 0 < just x y → x ≡ y
+just_same : (x y : Asked) → 0 < just x y → x ≡ y
 unfolding just
-just-same x y counts = ticket.the_row.coded.inj x y (code-same _ _ (by (same_code (ticket.the_row.coded.code x) (ticket.the_row.coded.code y)) counts))
+just_same x y counts = ticket.the_row.coded.inj x y (code_same _ _ (by (same_code (ticket.the_row.coded.code x) (ticket.the_row.coded.code y)) counts))
   where
     by : (b : Bool) → 0 < (if b then 1 else 0) → b ≡ true
     by true l = refl
@@ -115,20 +115,20 @@ pub record Runs (b : Backfill) (x : Asked) : Type 0 where
   pub given : given_in (cell_at b.state x.name.run x.name.task) (place_in b.dag x.name) ≡ x.given
 
 -- the present try of a running instance runs
-named-runs : (b : Backfill) → IsReplay b → (k t i : ℕ) (x : Instance) → instance_of (cell_at b.state k t) i ≡ Some x → x.phase ≡ Phase.Running → Runs b (record { name = name_of b.dag k t i x.attempt; given = x.given })
+named_runs : (b : Backfill) → IsReplay b → (k t i : ℕ) (x : Instance) → instance_of (cell_at b.state k t) i ≡ Some x → x.phase ≡ Phase.Running → Runs b (record { name = name_of b.dag k t i x.attempt; given = x.given })
 unfolding name_of
-named-runs b replayed k t i x is_held runs = record {
-  present = present-named b replayed k t i x is_held Phase.Running runs;
-  given = ap (λ j. given_in (cell_at b.state k t) j) (place-named b replayed k t i x is_held) ∙ ap given_of is_held;
+named_runs b replayed k t i x is_held runs = record {
+  present = present_named b replayed k t i x is_held Phase.Running runs;
+  given = ap (λ j. given_in (cell_at b.state k t) j) (place_named b replayed k t i x is_held) ∙ ap given_of is_held;
 }
 
-pub runs-there : (b : Backfill) → IsReplay b → (x : Asked) → ((h : Asked → ℕ) → h x ≤ running_tries h b.dag b.state) → Runs b x
-runs-there b replayed x weighs =
-    subst (Runs b) (sym (just-same x (record { name = name_of b.dag there.run there.task there.place there.held.attempt; given = there.held.given }) there.counts))
-    (named-runs b replayed there.run there.task there.place there.held there.is_held there.runs)
+pub runs_there : (b : Backfill) → IsReplay b → (x : Asked) → ((h : Asked → ℕ) → h x ≤ running_tries h b.dag b.state) → Runs b x
+runs_there b replayed x weighs =
+    subst (Runs b) (sym (just_same x (record { name = name_of b.dag there.run there.task there.place there.held.attempt; given = there.held.given }) there.counts))
+    (named_runs b replayed there.run there.task there.place there.held there.is_held there.runs)
   where
     some : 0 < running_tries (just x) b.dag b.state
-    some = let w : _ = weighs (just x) in let one : _ = just-self x in omega (arith, w, one)
+    some = let w : _ = weighs (just x) in let one : _ = just_self x in omega (arith, w, one)
 
     there : HasRunning (λ k t i y. just x (record { name = name_of b.dag k t i y.attempt; given = y.given })) b.state
-    there = running-member (λ k t i y. just x (record { name = name_of b.dag k t i y.attempt; given = y.given })) b.state some
+    there = running_member (λ k t i y. just x (record { name = name_of b.dag k t i y.attempt; given = y.given })) b.state some

@@ -23,9 +23,9 @@ ends_with before now event events are is =
     let long : length (before.journal ++ event ∷ []) - 1 ≡ length before.journal = omega (arith, length-append before.journal (event ∷ [])) in
     subst (λ (xs : List Event). slice_get xs (length xs - 1) ≡ Some event) (sym whole) (ap (slice_get (before.journal ++ event ∷ [])) long ∙ last_at before.journal event)
 
-replay-append : (dag : Dag) (state : State) (xs ys : List Event) → replay dag state (xs ++ ys) ≡ replay dag (replay dag state xs) ys
-replay-append dag state [] ys = refl
-replay-append dag state (x ∷ xs) ys = replay-append dag (after dag state x) xs ys
+replay_append : (dag : Dag) (state : State) (xs ys : List Event) → replay dag state (xs ++ ys) ≡ replay dag (replay dag state xs) ys
+replay_append dag state [] ys = refl
+replay_append dag state (x ∷ xs) ys = replay_append dag (after dag state x) xs ys
 
 module _ {S : Type 0} (shows : S → Event → ℕ → S → Type 0) where
   pub shown_last : (old new : S) (now : Backfill) (events : List Event) (seen : Event) (running : ℕ) → events ≡ now.journal → Some seen ≡ slice_get events (length events - 1) → running ≡ running_now now.state →
@@ -59,17 +59,17 @@ module _ {S : Type 0} (shows : S → Event → ℕ → S → Type 0) where
     shown = (new, subst (λ (s : State). shows old event (running_now s) new) (ap (λ (b : Backfill). b.state) is) (last before event is), refl);
   }
 
-  shown-append : (dag : Dag) (state : State) (xs ys : List Event) (old mid new : S) → AreShown shows dag state xs old mid → AreShown shows dag (replay dag state xs) ys mid new → AreShown shows dag state (xs ++ ys) old new
-  shown-append dag state [] ys old mid new h k = subst (λ (o : S). AreShown shows dag state ys o new) h k
-  shown-append dag state (x ∷ xs) ys old mid new h k = (h.0, h.1, shown-append dag (after dag state x) xs ys h.0 mid new h.2 k)
+  shown_append : (dag : Dag) (state : State) (xs ys : List Event) (old mid new : S) → AreShown shows dag state xs old mid → AreShown shows dag (replay dag state xs) ys mid new → AreShown shows dag state (xs ++ ys) old new
+  shown_append dag state [] ys old mid new h k = subst (λ (o : S). AreShown shows dag state ys o new) h k
+  shown_append dag state (x ∷ xs) ys old mid new h k = (h.0, h.1, shown_append dag (after dag state x) xs ys h.0 mid new h.2 k)
 
   pub then_shown : (old mid new : S) (b c d : Backfill) → HasShown shows old mid b c → HasShown shows mid new c d → HasShown shows old new b d
   then_shown old mid new b c d h k = record {
     events = h.events ++ k.events;
     dag_is = k.dag_is ∙ h.dag_is;
     journal_is = k.journal_is ∙ (ap (λ (js : List Event). js ++ k.events) h.journal_is ∙ append_assoc b.journal h.events k.events);
-    state_is = k.state_is ∙ ((λ i. replay (h.dag_is i) (h.state_is i) k.events) ∙ sym (replay-append b.dag b.state h.events k.events));
-    shown = shown-append b.dag b.state h.events k.events old mid new h.shown (subst₂ (λ (dag : Dag) (state : State). AreShown shows dag state k.events mid new) h.dag_is h.state_is k.shown);
+    state_is = k.state_is ∙ ((λ i. replay (h.dag_is i) (h.state_is i) k.events) ∙ sym (replay_append b.dag b.state h.events k.events));
+    shown = shown_append b.dag b.state h.events k.events old mid new h.shown (subst₂ (λ (dag : Dag) (state : State). AreShown shows dag state k.events mid new) h.dag_is h.state_is k.shown);
   }
 
   -- ---- in a turn

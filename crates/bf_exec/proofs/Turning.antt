@@ -21,8 +21,8 @@ use Rattle.bf_sched.specs.Driving.{StaysDriven}
 use Rattle.bf_sched.proofs.Driving.{begun_driven, finished_driven, same_driven, stays_driven, ticked_driven}
 use Rattle.bf_exec.specs.Turns.{AreAmong, AreInStep, EndsAtOnce, EndsBy, EndsWait, HasAwaited, HasCaughtUp, HasStranger, IsHaltBy, IsHaltOf, IsLeftBy, IsStrange, MustAwait}
 use Rattle.bf_exec.specs.declared.turn_fault.TurnFault.{TurnFault}
-use Rattle.bf_exec.proofs.Keeping.{IsStill, begin-in_step, end-in_step, made-in_step, still-in_step, tick-in_step}
-use Rattle.bf_exec.proofs.Sums.{first-idle, some-idle}
+use Rattle.bf_exec.proofs.Keeping.{IsStill, begin_in_step, end_in_step, made_in_step, still_in_step, tick_in_step}
+use Rattle.bf_exec.proofs.Sums.{first_idle, some_idle}
 
 -- ---- driven
 
@@ -50,25 +50,25 @@ caught_up_in_step lanes now s t is before = by is.came is.ticked
   where
     by : (came : Bool) → HasTicked s (int_min now last_moment) came t → AreInStep lanes t
     by true h =
-        moved_in_step lanes lanes s t (Event.Tick (int_min now last_moment)) (λ i. record { backfill = h.0.1 i; workers = h.1 i }) (tick-in_step lanes s.backfill s.workers (int_min now last_moment) before h.0.0)
+        moved_in_step lanes lanes s t (Event.Tick (int_min now last_moment)) (λ i. record { backfill = h.0.1 i; workers = h.1 i }) (tick_in_step lanes s.backfill s.workers (int_min now last_moment) before h.0.0)
     by false h = same_in_step lanes lanes s t before refl (λ i. record { backfill = h.0.1 i; workers = h.1 i })
 
-step-still : (b : Backfill) (e : Event) → IsStep e → IsStill b e
-step-still b Event.Open is = record { none_begins = λ h. refl; none_ends = λ h. refl }
-step-still b (Event.Settle k t) is = record { none_begins = λ h. refl; none_ends = λ h. refl }
-step-still b (Event.Expand k t) is = record { none_begins = λ h. refl; none_ends = λ h. refl }
-step-still b (Event.Close k) is = record { none_begins = λ h. refl; none_ends = λ h. refl }
-step-still b (Event.Begin n) is = absurd (omega (arith, is))
-step-still b (Event.End n o) is = absurd (omega (arith, is))
-step-still b (Event.Tick m) is = record { none_begins = λ h. refl; none_ends = λ h. refl }
+step_still : (b : Backfill) (e : Event) → IsStep e → IsStill b e
+step_still b Event.Open is = record { none_begins = λ h. refl; none_ends = λ h. refl }
+step_still b (Event.Settle k t) is = record { none_begins = λ h. refl; none_ends = λ h. refl }
+step_still b (Event.Expand k t) is = record { none_begins = λ h. refl; none_ends = λ h. refl }
+step_still b (Event.Close k) is = record { none_begins = λ h. refl; none_ends = λ h. refl }
+step_still b (Event.Begin n) is = absurd (omega (arith, is))
+step_still b (Event.End n o) is = absurd (omega (arith, is))
+step_still b (Event.Tick m) is = record { none_begins = λ h. refl; none_ends = λ h. refl }
 
 pub stepped_in_step : (lanes : List Scheduled) (s t : Schedule) → HasStepped s t → AreInStep lanes s → AreInStep lanes t
 stepped_in_step lanes s t h before =
-    moved_in_step lanes lanes s t h.event h.new_is (still-in_step lanes s.backfill s.workers h.event before h.is_first.may_come (step-still s.backfill h.event h.is_first.is_step))
+    moved_in_step lanes lanes s t h.event h.new_is (still_in_step lanes s.backfill s.workers h.event before h.is_first.may_come (step_still s.backfill h.event h.is_first.is_step))
 
 pub begun_in_step : (lanes next : List Scheduled) (s t : Schedule) (at : ℕ) (ticket : Asked) → HasBegun s ticket t → IsSubmitted lanes next at ticket → AreInStep lanes s → AreInStep next t
 begun_in_step lanes next s t at ticket h sent before =
-    moved_in_step lanes next s t (Event.Begin ticket.name) h.new_is (begin-in_step lanes next s.backfill s.workers at ticket before h.is_first.may_begin h.is_ticket.1 sent)
+    moved_in_step lanes next s t (Event.Begin ticket.name) h.new_is (begin_in_step lanes next s.backfill s.workers at ticket before h.is_first.may_begin h.is_ticket.1 sent)
 
 pub gathered_in_step : (lanes next : List Scheduled) (now : ℤ) (s t : Schedule) (at : ℕ) (done : Answered) → EndsBy now done s t → IsGathered lanes next at (Done done) → AreInStep lanes s → AreInStep next t
 gathered_in_step lanes next now s t at done h got before =
@@ -76,7 +76,7 @@ gathered_in_step lanes next now s t at done h got before =
     let present : AreInStep lanes p = caught_up_in_step lanes now s p h.caught_up before in
     let may : MayFinish p.backfill done = h.finished.0 in
     moved_in_step lanes next p t (end_of p.backfill done) h.finished.1
-    (end-in_step lanes next p.backfill p.workers at done (grade_of p.backfill.dag done.name.task done.raw) present may.0 (may.1 may.0.0.0) got)
+    (end_in_step lanes next p.backfill p.workers at done (grade_of p.backfill.dag done.name.task done.raw) present may.0 (may.1 may.0.0.0) got)
 
 pub answered_in_step : (some : JobName → Given → Raw → Type 0) (lanes : List Scheduled) (s m t : Schedule) (ticket : Asked) → HasBegun s ticket m → EndsAtOnce some ticket m t → AreInStep lanes s → AreInStep lanes t
 answered_in_step some lanes s m t ticket begun h before =
@@ -88,7 +88,7 @@ answered_in_step some lanes s m t ticket begun h before =
 
     first : MayFinish c h.answer → IsInStep lanes (moved c (end_of c h.answer)) s.workers
     first may =
-        made-in_step lanes s.backfill s.workers ticket h.answer (grade_of s.backfill.dag h.answer.name.task h.answer.raw) before begun.is_first.may_begin begun.is_ticket.1 may.0 (may.1 may.0.0.0) h.is_name h.is_given
+        made_in_step lanes s.backfill s.workers ticket h.answer (grade_of s.backfill.dag h.answer.name.task h.answer.raw) before begun.is_first.may_begin begun.is_ticket.1 may.0 (may.1 may.0.0.0) h.is_name h.is_given
 
 -- a try that has begun, and whose ticket came back, has begun
 pub left_begun : (s m t : Schedule) (ticket back : Asked) → HasBegun s ticket m → (back ≡ ticket) × (t ≡ m) → HasBegun s back t
@@ -103,10 +103,10 @@ is_idle lane = not (awaits lane)
 pub idle_there : (lanes : List Scheduled) (s t : Schedule) (ticket : Asked) → AreInStep lanes s → HasBegun s ticket t → None ≡ position is_idle lanes → ⊥
 idle_there lanes s t ticket is h is_none =
     let few : running_now s.backfill.state < length lanes = subst (λ (n : ℕ). running_now s.backfill.state < n) (sym is.lane_each) h.worker_free in
-    some-idle lanes (running_now s.backfill.state) is.none_stopped (is.accounted.equal (λ _. 1)) few (sym is_none)
+    some_idle lanes (running_now s.backfill.state) is.none_stopped (is.accounted.equal (λ _. 1)) few (sym is_none)
 
 pub idle_at : (lanes : List Scheduled) (at : ℕ) → Some at ≡ position is_idle lanes → IsIdleAt lanes at
-idle_at lanes at is = first-idle lanes at (sym is)
+idle_at lanes at is = first_idle lanes at (sym is)
 
 -- ---- halts
 

@@ -12,12 +12,12 @@ use Rattle.bf_graph.proofs.PathLemmas.{edge_before, first_edge}
 
 -- ---- marks
 
-pub unmarked_in-set : (marks : List Bool) (t : ℕ) → t < length marks → get_or marks t false ≡ false → suc (unmarked_in (set marks t true)) ≡ unmarked_in marks
-unmarked_in-set [] t h e = absurd (omega arith)
-unmarked_in-set (false ∷ marks) zero h e = refl
-unmarked_in-set (true ∷ marks) zero h e = absurd (true≢false e)
-unmarked_in-set (false ∷ marks) (suc t) h e = ap suc (unmarked_in-set marks t (omega arith) e)
-unmarked_in-set (true ∷ marks) (suc t) h e = unmarked_in-set marks t (omega arith) e
+pub unmarked_in_set : (marks : List Bool) (t : ℕ) → t < length marks → get_or marks t false ≡ false → suc (unmarked_in (set marks t true)) ≡ unmarked_in marks
+unmarked_in_set [] t h e = absurd (omega arith)
+unmarked_in_set (false ∷ marks) zero h e = refl
+unmarked_in_set (true ∷ marks) zero h e = absurd (true≢false e)
+unmarked_in_set (false ∷ marks) (suc t) h e = ap suc (unmarked_in_set marks t (omega arith) e)
+unmarked_in_set (true ∷ marks) (suc t) h e = unmarked_in_set marks t (omega arith) e
 
 all_unmarked : (marks : List Bool) → ((t : ℕ) → get_or marks t false ≡ false) → unmarked_in marks ≡ length marks
 all_unmarked [] clear = refl
@@ -33,7 +33,7 @@ none_marked marks clear = record {
 pub one_marked : (found : List ℕ) (marks : List Bool) (t : ℕ) → AreMarked found marks → t < length marks → is_marked_in marks t ≡ false → AreMarked (found ++ t ∷ []) (set marks t true)
 one_marked found marks t old h clear = record {
   marked = λ s. (forth s, back s);
-  once = (let once = old.once in omega (arith, once, unmarked_in-set marks t h clear, length_push found t, length-set marks t true));
+  once = (let once = old.once in omega (arith, once, unmarked_in_set marks t h clear, length_push found t, length-set marks t true));
 }
   where
     forth : (s : ℕ) → is_marked_in (set marks t true) s ≡ true → Contains (found ++ t ∷ []) s

@@ -20,7 +20,7 @@ use Rattle.bf_value.specs.Views.{list_of, plain_of}
 use Rattle.bf_value.specs.declared.name.JobName.{JobName}
 use Rattle.bf_value.specs.declared.xval.Xval.{Xval}
 use Rattle.bf_value.specs.declared.xval.Xval.TheVariants.{Int, Text}
-use Rattle.bf_value.proofs.TextLemmas.{IsUtf8-text_of, value_of_text-text_of}
+use Rattle.bf_value.proofs.TextLemmas.{IsUtf8-text_of, value_of_text_text_of}
 use Rattle.bf_plan.specs.declared.plan.Dag.{Dag}
 use Rattle.bf_interval.specs.declared.interval.Interval.{Interval}
 use Rattle.bf_moment.specs.Moment.{moment_text}
@@ -127,7 +127,7 @@ bare_tells dag intervals line rest text n o start end code begun nothing behind 
       subst IsUtf8 (sym is) (IsUtf8-text_of value sound),
       record {
         value = value;
-        says = ap (value_of_text 127) is ∙ value_of_text-text_of 127 value sound (omega arith) (omega arith);
+        says = ap (value_of_text 127) is ∙ value_of_text_text_of 127 value sound (omega arith) (omega arith);
         tells = record {
           run = run;
           is_run = is_run;

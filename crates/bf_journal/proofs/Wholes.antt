@@ -6,7 +6,7 @@ use Rattle.std.proofs.lemmas.List.Elements.{All-head, All-tail, All-nil, All-con
 use Rattle.bf_value.specs.declared.xval.Xval.{Xval}
 use Rattle.bf_value.specs.Json.{json_of, value_of_text}
 use Rattle.bf_value.proofs.LackLemmas.{text_lacks}
-use Rattle.bf_value.proofs.TextLemmas.{value_of_text-text_of}
+use Rattle.bf_value.proofs.TextLemmas.{value_of_text_text_of}
 use Rattle.bf_journal.specs.Lines.{IsInLine, text_of_lines, whole_lines}
 use Rattle.bf_journal.specs.Records.{IsTellable}
 use Rattle.bf_journal.specs.Cuts.{ReadsWholeOnes}
@@ -26,7 +26,7 @@ read_back records all zero = refl
 read_back [] all (suc n) = refl
 read_back (x ∷ xs) all (suc n) =
     let one = All-head IsTellable x xs all in
-    ap (λ o. o ∷ map (value_of_text 127) (map json_of (take n xs))) (value_of_text-text_of 127 x one.sound one.shallow (omega arith)) ∙ ap (λ l. Some x ∷ l) (read_back xs (All-tail IsTellable x xs all) n)
+    ap (λ o. o ∷ map (value_of_text 127) (map json_of (take n xs))) (value_of_text_text_of 127 x one.sound one.shallow (omega arith)) ∙ ap (λ l. Some x ∷ l) (read_back xs (All-tail IsTellable x xs all) n)
 
 pub whole_ones : (records : List Xval) → All IsTellable records → (n : ℕ) → ReadsWholeOnes records n
 whole_ones records all n =

@@ -16,7 +16,7 @@ use Rattle.bf_lane.specs.declared.messages.Answer.{Answer}
 use Rattle.bf_lane.specs.Lanes.{asked, answered, all_runs, Answers, IsClosed, IsAllowedBy}
 use Rattle.bf_lane.specs.Open.{IsOpen, awaits, scheduled}
 use Rattle.std.proofs.lemmas.Bool.{ltb-false}
-use Rattle.bf_lane.proofs.Serving.{same_of, all_runs-run, asked-append}
+use Rattle.bf_lane.proofs.Serving.{same_of, all_runs_run, asked_append}
 
 pub open_submitted : {K : Type 0} (q theirs : Queues K) (p s : Pass Job (Log Job)) (r : Pass Answer (Log Answer)) (t : Asked) → IsOpen q theirs p r false
     → IsSamePass p s → view s ≡ log (view p).puts (view p).takes ((view p).put ++ Run t ∷ []) (view p).taken
@@ -28,7 +28,7 @@ open_submitted q theirs p s r t h ls e =
       of_results = h.of_results;
       puts_are = e ∙ (λ i. log (h.puts_are i).puts (h.puts_are i).takes (sym put i) (h.puts_are i).taken);
       gathers_are = h.gathers_are;
-      runs = rw put (all_runs-run (view p).put t h.runs);
+      runs = rw put (all_runs_run (view p).put t h.runs);
       queues_are = h.queues_are;
       one_awaited = rw put (omega (arith, length-append (view p).put (Run t ∷ []), h.one_awaited));
     }
@@ -66,7 +66,7 @@ module _ (may_answer : JobName → Given → Raw → Type 0) (may_give_up : JobN
       → IsClosed may_answer may_give_up (record { submitted = submitted ++ Stop ∷ []; taken = before ++ Stop ∷ []; sent = sent; gathered = gathered })
   closing submitted before items sent gathered s b e h same =
       let all : submitted ≡ before = (nothing_left submitted before items s b e).1 in
-      let stopped : (js : List Job) → asked (js ++ Stop ∷ []) ≡ asked js = λ js. asked-append js (Stop ∷ []) ∙ append-nil (asked js) in
+      let stopped : (js : List Job) → asked (js ++ Stop ∷ []) ≡ asked js = λ js. asked_append js (Stop ∷ []) ∙ append-nil (asked js) in
       let sent_is : answered sent ≡ asked (submitted ++ Stop ∷ []) = h.same ∙ ap asked (sym all) ∙ sym (stopped submitted) in
       record {
         taken_is = ap (λ js. js ++ Stop ∷ []) (sym all);

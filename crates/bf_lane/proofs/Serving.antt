@@ -27,19 +27,19 @@ pub record IsServing {Q A B C : Type 0} (may_answer : JobName → Given → Raw 
   pub sent : view sends ≡ log true false (view sends).put []
   pub answers : Answers may_answer may_give_up (view takes).taken (view sends).put
 
-pub asked-append : (xs ys : List Job) → asked (xs ++ ys) ≡ asked xs ++ asked ys
-asked-append [] ys = refl
-asked-append (Run t ∷ xs) ys = ap (λ l. t ∷ l) (asked-append xs ys)
-asked-append (Stop ∷ xs) ys = asked-append xs ys
+pub asked_append : (xs ys : List Job) → asked (xs ++ ys) ≡ asked xs ++ asked ys
+asked_append [] ys = refl
+asked_append (Run t ∷ xs) ys = ap (λ l. t ∷ l) (asked_append xs ys)
+asked_append (Stop ∷ xs) ys = asked_append xs ys
 
-pub answered-append : (xs ys : List Answer) → answered (xs ++ ys) ≡ answered xs ++ answered ys
-answered-append [] ys = refl
-answered-append (a ∷ xs) ys = ap (λ l. asked_by a ∷ l) (answered-append xs ys)
+pub answered_append : (xs ys : List Answer) → answered (xs ++ ys) ≡ answered xs ++ answered ys
+answered_append [] ys = refl
+answered_append (a ∷ xs) ys = ap (λ l. asked_by a ∷ l) (answered_append xs ys)
 
-pub all_runs-run : (xs : List Job) (t : Asked) → all_runs xs ≡ true → all_runs (xs ++ Run t ∷ []) ≡ true
-all_runs-run [] t h = refl
-all_runs-run (Run s ∷ xs) t h = all_runs-run xs t h
-all_runs-run (Stop ∷ xs) t h = cc
+pub all_runs_run : (xs : List Job) (t : Asked) → all_runs xs ≡ true → all_runs (xs ++ Run t ∷ []) ≡ true
+all_runs_run [] t h = refl
+all_runs_run (Run s ∷ xs) t h = all_runs_run xs t h
+all_runs_run (Stop ∷ xs) t h = cc
 
 all_one : {X : Type 0} (P : X → Type 0) (x : X) → P x → All P (x ∷ [])
 all_one P x p = search rules
@@ -53,7 +53,7 @@ module _ (may_answer : JobName → Given → Raw → Type 0) (may_give_up : JobN
       → Answers may_answer may_give_up (taken ++ Run t ∷ []) (sent ++ a ∷ [])
   answers_more taken sent t a h is ok =
       record {
-        same = answered-append sent (a ∷ []) ∙ (λ i. h.same i ++ is i ∷ []) ∙ sym (asked-append taken (Run t ∷ []));
+        same = answered_append sent (a ∷ []) ∙ (λ i. h.same i ++ is i ∷ []) ∙ sym (asked_append taken (Run t ∷ []));
         allowed = All-append (IsAllowedBy may_answer may_give_up) sent (a ∷ []) h.allowed (all_one (IsAllowedBy may_answer may_give_up) a ok);
       }
 
@@ -70,7 +70,7 @@ module _ (may_answer : JobName → Given → Raw → Type 0) (may_give_up : JobN
       record {
         of_jobs = same_of jobs k l h.of_jobs kl;
         of_results = same_of results r s h.of_results rs;
-        runs = rw taken (all_runs-run (view k).taken t h.runs);
+        runs = rw taken (all_runs_run (view k).taken t h.runs);
         took = el ∙ (λ i. log (h.took i).puts (h.took i).takes (h.took i).put (sym taken i));
         sent = es ∙ (λ i. log (h.sent i).puts (h.sent i).takes (sym put i) (h.sent i).taken);
         answers = subst (λ (p : List Job × List Answer). Answers may_answer may_give_up p.0 p.1) (λ i. (sym taken i, sym put i)) (answers_more (view k).taken (view r).put t a h.answers is ok);

@@ -5,7 +5,7 @@ use Rattle.std.proofs.lemmas.Bool.{cond-true, cond-false, ne_eqb}
 use Rattle.std.proofs.lemmas.List.{drop-map, length-map}
 use Rattle.std.specs.Cmp.Lexicographic.{bytes_decides}
 use Rattle.bf_moment.specs.declared.moment.Moment.{Moment}
-use Rattle.bf_value.proofs.ReadLemmas.{drop-item}
+use Rattle.bf_value.proofs.ReadLemmas.{drop_item}
 use Rattle.bf_moment.specs.Moment.{moment_text}
 use Rattle.bf_marks.specs.declared.label.Scale.{Scale}
 use Rattle.bf_marks.specs.Labels.{are_apart_in, is_behind, counted, counted_on, fitted_of, group_label, group_of, groups_of, groups_text, left, same_first}
@@ -16,7 +16,7 @@ moments starts = map (λ start. start.at.nanosecond) starts
 -- one moment more
 pub apart_more : (least before : ℤ) (starts : List Moment) (i : ℕ) (start : Moment) → i < length starts → start ≡ get_or starts i start →
     are_apart_in least (before ∷ moments (drop i starts)) ≡ (is_behind least before start.at.nanosecond && are_apart_in least (start.at.nanosecond ∷ moments (drop (i + 1) starts)))
-apart_more least before starts i start inside is = ap (λ rest. are_apart_in least (before ∷ moments rest)) (drop-item starts i start inside is)
+apart_more least before starts i start inside is = ap (λ rest. are_apart_in least (before ∷ moments rest)) (drop_item starts i start inside is)
 
 -- ---- groups
 

@@ -19,7 +19,7 @@ use Rattle.bf_moment.specs.Calendar.{last_up_to, has_come, year_on, month_on, da
 use Rattle.bf_moment.specs.Moment.{IsShown, Spells, nearest, day_of}
 use Rattle.bf_moment.specs.Clock.{IsShownDate, SpellsClock}
 use Rattle.bf_moment.proofs.CalendarFacts.{come}
-use Rattle.bf_moment.proofs.MomentFacts.{day_count-zero, shown_date, second_of_clock, date_text_of_clock, moment_text_of_clock}
+use Rattle.bf_moment.proofs.MomentFacts.{day_count_zero, shown_date, second_of_clock, date_text_of_clock, moment_text_of_clock}
 
 record IsLast (p : ℕ → Bool) (n l : ℕ) : Type 0 where
   within : l ≤ n
@@ -103,7 +103,7 @@ date_in_month day y m d month last =
 -- each day from the year 0 to the year 9999 has a date
 date_of_day : (day : ℤ) → neg_ℤ (pos 719_528) ≤ℤ day → day ≤ℤ pos 2_932_896 → (d : Date) × (epoch_day d ≡ day)
 date_of_day day low high =
-    let year : IsLast (λ n. has_come day n 1 1) 9_999 (year_on day) = last_is_last _ 9_999 0 (omega arith) (come day 0 1 1 (omega (arith, signed_arith, days_from_civil-day_count, day_count-zero))) in
+    let year : IsLast (λ n. has_come day n 1 1) 9_999 (year_on day) = last_is_last _ 9_999 0 (omega arith) (come day 0 1 1 (omega (arith, signed_arith, days_from_civil-day_count, day_count_zero))) in
     let month : IsLast (λ n. has_come day (year_on day) n 1) 12 (month_on day) = last_is_last _ 12 1 (omega arith) year.passes in
     let inside = in_month day (year_on day) (month_on day) high year month in
     date_in_month day (year_on day) (month_on day) (day_on day) inside (last_is_last _ 31 1 (omega arith) (come day (year_on day) (month_on day) 1 inside.from))
@@ -143,10 +143,10 @@ range_of_clock at shown =
     let count = days_from_civil-day_count d.year d.month d.day in
     let parts = civil_nanos-parts at in
     by_lt_z (pos 0) d.year
-    (λ lt. (omega (arith, signed_arith, parts, count, day_count-zero, day_count-lt_year (pos 0) 1 1 d.year d.month d.day (search rules) d.day_in.0 lt), (civil_nanos_range at).1))
+    (λ lt. (omega (arith, signed_arith, parts, count, day_count_zero, day_count-lt_year (pos 0) 1 1 d.year d.month d.day (search rules) d.day_in.0 lt), (civil_nanos_range at).1))
     (λ le. let zero_year : d.year ≡ pos 0 = omega (arith, signed_arith) in
     let begun : day_count d.year 1 1 ≡ day_count (pos 0) 1 1 = ap (λ y. day_count y 1 1) zero_year in
-    (omega (arith, signed_arith, parts, count, begun, day_count-zero, day_count-day_of_year d.year d.month d.day d.day_in.0), (civil_nanos_range at).1))
+    (omega (arith, signed_arith, parts, count, begun, day_count_zero, day_count-day_of_year d.year d.month d.day d.day_in.0), (civil_nanos_range at).1))
 
 -- what spells a clock spells its moment
 pub spells_moment : (bytes text : List ℕ) (at : DateTime) → bytes ≡ text → SpellsClock bytes at → Spells text (civil_nanos at)

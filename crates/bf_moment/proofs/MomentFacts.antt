@@ -16,13 +16,13 @@ use Rattle.bf_moment.specs.Moment.{day_of, second_of, date_text, time_text, mome
 use Rattle.bf_moment.specs.Clock.{IsShownDate, clock_text, clock_date_text, clock_time_text}
 use Rattle.bf_moment.proofs.CalendarFacts.{date_on}
 
-pub day_count-zero : day_count (pos 0) 1 1 ≡ 3_652_425
-day_count-zero = day_count-early _ 9999 1 1 refl (omega arith) (omega arith) (omega arith)
+pub day_count_zero : day_count (pos 0) 1 1 ≡ 3_652_425
+day_count_zero = day_count-early _ 9999 1 1 refl (omega arith) (omega arith) (omega arith)
 
 -- a moment of a shown year has a shown date
 pub shown_date : (at : DateTime) (n : ℤ) → civil_nanos at ≡ n → IsShown n → IsShownDate at.date
 shown_date at n e shown =
-    by_lt_z at.date.year (pos 0) (λ lt. absurd (omega (arith, signed_arith, shown.0, civil_nanos-parts at, time_nanos_bound at.time, days_from_civil-day_count at.date.year at.date.month at.date.day, day_count-lt_year at.date.year at.date.month at.date.day (pos 0) 1 1 (civil at.date) (omega arith) lt, day_count-zero)))
+    by_lt_z at.date.year (pos 0) (λ lt. absurd (omega (arith, signed_arith, shown.0, civil_nanos-parts at, time_nanos_bound at.time, days_from_civil-day_count at.date.year at.date.month at.date.day, day_count-lt_year at.date.year at.date.month at.date.day (pos 0) 1 1 (civil at.date) (omega arith) lt, day_count_zero)))
     (λ ge. ge)
 
 pub day_of_clock : (at : DateTime) (n : ℤ) → civil_nanos at ≡ n → day_of n ≡ epoch_day at.date

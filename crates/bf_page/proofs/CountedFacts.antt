@@ -13,18 +13,18 @@ woven [] told = map safe told
 woven (piece ∷ fixed) [] = piece ∷ fixed
 woven (piece ∷ fixed) (text ∷ told) = piece ∷ safe text ∷ woven fixed told
 
-length-woven : (fixed told : List (List ℕ)) → length (concat (woven fixed told)) ≡ length (concat fixed) + length (concat (map safe told))
-length-woven [] told = omega arith
-length-woven (piece ∷ fixed) [] = omega arith
-length-woven (piece ∷ fixed) (text ∷ told) =
-    omega (arith, length-append piece (safe text ++ concat (woven fixed told)), length-append (safe text) (concat (woven fixed told)), length-woven fixed told, length-append piece (concat fixed), length-append (safe text) (concat (map safe told)))
+length_woven : (fixed told : List (List ℕ)) → length (concat (woven fixed told)) ≡ length (concat fixed) + length (concat (map safe told))
+length_woven [] told = omega arith
+length_woven (piece ∷ fixed) [] = omega arith
+length_woven (piece ∷ fixed) (text ∷ told) =
+    omega (arith, length-append piece (safe text ++ concat (woven fixed told)), length-append (safe text) (concat (woven fixed told)), length_woven fixed told, length-append piece (concat fixed), length-append (safe text) (concat (map safe told)))
 
 three_bytes : (b : ℕ) → length (safe_byte b) ≤ 3
 three_bytes = by_byte (λ _ s. length s ≤ 3) (omega arith) (omega arith) (omega arith) (omega arith) (λ b p q r s. omega arith)
 
-length-safe : (text : List ℕ) → length (safe text) ≤ 3 * length text
-length-safe [] = omega arith
-length-safe (b ∷ text) = omega (arith, length-append (safe_byte b) (safe text), three_bytes b, length-safe text)
+length_safe : (text : List ℕ) → length (safe text) ≤ 3 * length text
+length_safe [] = omega arith
+length_safe (b ∷ text) = omega (arith, length-append (safe_byte b) (safe text), three_bytes b, length_safe text)
 
 or_false : (a b : Bool) → (a || b) ≡ false → (a ≡ false) × (b ≡ false)
 or_false true b is = cc
@@ -33,22 +33,22 @@ or_false false b is = (refl, is)
 short : (text : List ℕ) → is_long text ≡ false → length text ≤ 288_230_376_151_711_744
 short text is = grind (arith, nat_tests)
 
-fixed-length : (fixed : List (List ℕ)) → list_any is_long fixed ≡ false → length (concat fixed) ≤ 288_230_376_151_711_744 * length fixed
-fixed-length [] is = omega arith
-fixed-length (piece ∷ fixed) is =
+fixed_length : (fixed : List (List ℕ)) → list_any is_long fixed ≡ false → length (concat fixed) ≤ 288_230_376_151_711_744 * length fixed
+fixed_length [] is = omega arith
+fixed_length (piece ∷ fixed) is =
     let parts = or_false (is_long piece) (list_any is_long fixed) is in
-    omega (arith, length-append piece (concat fixed), short piece parts.0, fixed-length fixed parts.1)
+    omega (arith, length-append piece (concat fixed), short piece parts.0, fixed_length fixed parts.1)
 
-told-length : (told : List (List ℕ)) → list_any is_long told ≡ false → length (concat (map safe told)) ≤ 864_691_128_455_135_232 * length told
-told-length [] is = omega arith
-told-length (text ∷ told) is =
+told_length : (told : List (List ℕ)) → list_any is_long told ≡ false → length (concat (map safe told)) ≤ 864_691_128_455_135_232 * length told
+told_length [] is = omega arith
+told_length (text ∷ told) is =
     let parts = or_false (is_long text) (list_any is_long told) is in
-    omega (arith, length-append (safe text) (concat (map safe told)), length-safe text, short text parts.0, told-length told parts.1)
+    omega (arith, length-append (safe text) (concat (map safe told)), length_safe text, short text parts.0, told_length told parts.1)
 
 -- of so many pieces and texts, none of them long, 64 bits count the bytes
-pub woven-counted : (fixed told : List (List ℕ)) → length fixed ≤ 8 → length told ≤ 7 → list_any is_long fixed ≡ false → list_any is_long told ≡ false
+pub woven_counted : (fixed told : List (List ℕ)) → length fixed ≤ 8 → length told ≤ 7 → list_any is_long fixed ≡ false → list_any is_long told ≡ false
     → length (concat (woven fixed told)) < 18_446_744_073_709_551_616
-woven-counted fixed told eight seven pieces texts = omega (arith, length-woven fixed told, fixed-length fixed pieces, told-length told texts, eight, seven)
+woven_counted fixed told eight seven pieces texts = omega (arith, length_woven fixed told, fixed_length fixed pieces, told_length told texts, eight, seven)
 
 pub unset : (b : Bool) → not b ≡ true → b ≡ false
 unset true is = cc

@@ -12,8 +12,8 @@ pub some_same : {X : Type 0} {x y : X} → Some x ≡ Some y → x ≡ y
 some_same {x = x} e = ap (λ o. unwrap_or o x) e
 
 -- the first that passes, of a list with one more before it
-pub position-cons : {X : Type 0} (p : X → Bool) (x : X) (xs : List X) → position p (x ∷ xs) ≡ (if p x then Some 0 else option_map suc (position p xs))
-position-cons p x xs = by (p x)
+pub position_cons : {X : Type 0} (p : X → Bool) (x : X) (xs : List X) → position p (x ∷ xs) ≡ (if p x then Some 0 else option_map suc (position p xs))
+position_cons p x xs = by (p x)
   where
     n : ℕ
     n = position_or_len p xs

@@ -21,25 +21,25 @@ module _ {X : Type 0} (p q : X → Bool) where
   kept_by_both x xs false false e f = rw f refl
 
   -- what passes one test of what passes another
-  pub filter-filter : (xs : List X) → filter p (filter q xs) ≡ filter (λ x. p x && q x) xs
-  filter-filter [] = refl
-  filter-filter (x ∷ xs) = kept_by_both x xs (p x) (q x) refl refl ∙ ap (λ ys. cond (p x && q x) (x ∷ ys) ys) (filter-filter xs)
+  pub filter_filter : (xs : List X) → filter p (filter q xs) ≡ filter (λ x. p x && q x) xs
+  filter_filter [] = refl
+  filter_filter (x ∷ xs) = kept_by_both x xs (p x) (q x) refl refl ∙ ap (λ ys. cond (p x && q x) (x ∷ ys) ys) (filter_filter xs)
 
-bytes_eq-true : (s t : List ℕ) → bytes_eq s t ≡ true → s ≡ t
-bytes_eq-true s t e = (bytes_decides s t).0 e
+bytes_eq_true : (s t : List ℕ) → bytes_eq s t ≡ true → s ≡ t
+bytes_eq_true s t e = (bytes_decides s t).0 e
 
-pub bytes_eq-sym : (s t : List ℕ) → bytes_eq s t ≡ bytes_eq t s
-bytes_eq-sym s t = go (bytes_eq s t) (bytes_eq t s) refl refl
+pub bytes_eq_sym : (s t : List ℕ) → bytes_eq s t ≡ bytes_eq t s
+bytes_eq_sym s t = go (bytes_eq s t) (bytes_eq t s) refl refl
   where
     go : (a b : Bool) → bytes_eq s t ≡ a → bytes_eq t s ≡ b → a ≡ b
     go true true e f = refl
     go false false e f = refl
-    go true false e f = absurd (true≢false (sym ((bytes_decides t s).1 (sym (bytes_eq-true s t e))) ∙ f))
-    go false true e f = absurd (true≢false (sym ((bytes_decides s t).1 (sym (bytes_eq-true t s f))) ∙ e))
+    go true false e f = absurd (true≢false (sym ((bytes_decides t s).1 (sym (bytes_eq_true s t e))) ∙ f))
+    go false true e f = absurd (true≢false (sym ((bytes_decides s t).1 (sym (bytes_eq_true t s f))) ∙ e))
 
 -- a text that is new after s is new, and isn't s
 new_after : (found : List (List ℕ)) (s t : List ℕ) → is_new (found ++ s ∷ []) t ≡ (is_new found t && not (bytes_eq s t))
-new_after found s t = ap not (list_any-append (bytes_eq t) found (s ∷ [])) ∙ ap (λ b. not (list_any (bytes_eq t) found || (b || false))) (bytes_eq-sym t s) ∙ both (list_any (bytes_eq t) found) (bytes_eq s t)
+new_after found s t = ap not (list_any-append (bytes_eq t) found (s ∷ [])) ∙ ap (λ b. not (list_any (bytes_eq t) found || (b || false))) (bytes_eq_sym t s) ∙ both (list_any (bytes_eq t) found) (bytes_eq s t)
   where
     both : (a b : Bool) → not (a || (b || false)) ≡ (not a && not b)
     both true b = refl
@@ -55,7 +55,7 @@ old_needless : (found : List (List ℕ)) (s t : List ℕ) → list_any (bytes_eq
 old_needless found s t e = go (bytes_eq s t) refl
   where
     go : (b : Bool) → bytes_eq s t ≡ b → (is_new found t && not b) ≡ is_new found t
-    go true f = let same = ap (λ u. list_any (bytes_eq u) found) (bytes_eq-true s t f) in rw (sym same ∙ e) refl
+    go true f = let same = ap (λ u. list_any (bytes_eq u) found) (bytes_eq_true s t f) in rw (sym same ∙ e) refl
     go false f = and_true (is_new found t)
 
 -- these texts, and those after them that are new
@@ -66,14 +66,14 @@ pub new_found : (found ss : List (List ℕ)) (s : List ℕ) → list_any (bytes_
 unfolding distinct_of
 new_found found ss s e =
     append_assoc found (s ∷ []) (filter (is_new (found ++ s ∷ [])) (distinct_of ss))
-    ∙ ap (λ ts. found ++ s ∷ ts) (filter_agree (is_new (found ++ s ∷ [])) (λ t. is_new found t && not (bytes_eq s t)) (new_after found s) (distinct_of ss) ∙ sym (filter-filter (is_new found) (λ t. not (bytes_eq s t)) (distinct_of ss)))
+    ∙ ap (λ ts. found ++ s ∷ ts) (filter_agree (is_new (found ++ s ∷ [])) (λ t. is_new found t && not (bytes_eq s t)) (new_after found s) (distinct_of ss) ∙ sym (filter_filter (is_new found) (λ t. not (bytes_eq s t)) (distinct_of ss)))
     ∙ ap (λ ts. found ++ ts) (sym (rw e refl))
 
 pub old_found : (found ss : List (List ℕ)) (s : List ℕ) → list_any (bytes_eq s) found ≡ true → with_new found ss ≡ with_new found (s ∷ ss)
 unfolding distinct_of
 old_found found ss s e =
     ap (λ ts. found ++ ts) (sym (
-    rw e (filter-filter (is_new found) (λ t. not (bytes_eq s t)) (distinct_of ss)
+    rw e (filter_filter (is_new found) (λ t. not (bytes_eq s t)) (distinct_of ss)
     ∙ filter_agree (λ t. is_new found t && not (bytes_eq s t)) (is_new found) (λ t. old_needless found s t e) (distinct_of ss))))
 
 pub none_found : (ss : List (List ℕ)) → with_new [] ss ≡ distinct_of ss
@@ -88,10 +88,10 @@ unfolding distinct_of
 all_found found = append-nil found
 
 -- no text stands twice among the distinct ones
-pub distinct-AreDistinct : (ss : List (List ℕ)) → AreDistinct (distinct_of ss)
+pub distinct_AreDistinct : (ss : List (List ℕ)) → AreDistinct (distinct_of ss)
 unfolding distinct_of
-distinct-AreDistinct [] = λ i j d lt within. absurd (omega (arith, within))
-distinct-AreDistinct (s ∷ ss) = AllPairs-cons (λ a b. a ≢ b) s (filter (λ t. not (bytes_eq s t)) (distinct_of ss)) others (AllPairs-filter (λ a b. a ≢ b) (λ t. not (bytes_eq s t)) (distinct_of ss) (distinct-AreDistinct ss))
+distinct_AreDistinct [] = λ i j d lt within. absurd (omega (arith, within))
+distinct_AreDistinct (s ∷ ss) = AllPairs-cons (λ a b. a ≢ b) s (filter (λ t. not (bytes_eq s t)) (distinct_of ss)) others (AllPairs-filter (λ a b. a ≢ b) (λ t. not (bytes_eq s t)) (distinct_of ss) (distinct_AreDistinct ss))
   where
     others : All (λ t. s ≢ t) (filter (λ t. not (bytes_eq s t)) (distinct_of ss))
     others k d within same = true≢false (sym (filter_passes (λ t. not (bytes_eq s t)) (distinct_of ss) k d within) ∙ ap not ((bytes_decides s _).1 same))
@@ -124,13 +124,13 @@ module _ (found : List (List ℕ)) (x : Bor (List ℕ)) (before after : Bor (Lis
   pub seen_new : (q : Bor (List ℕ)) → after q ≡ list_any (bytes_eq q.now) (found ++ x.now ∷ [])
   seen_new q =
       updates q ∙ ap (cond (bytes_eq x.now q.now) true) (seen q) ∙ or_here (bytes_eq x.now q.now) (list_any (bytes_eq q.now) found)
-      ∙ ap (λ b. list_any (bytes_eq q.now) found || (b || false)) (bytes_eq-sym x.now q.now) ∙ sym (list_any-append (bytes_eq q.now) found (x.now ∷ []))
+      ∙ ap (λ b. list_any (bytes_eq q.now) found || (b || false)) (bytes_eq_sym x.now q.now) ∙ sym (list_any-append (bytes_eq q.now) found (x.now ∷ []))
 
   pub seen_old : before x ≡ true → (q : Bor (List ℕ)) → after q ≡ list_any (bytes_eq q.now) found
   seen_old old q = updates q ∙ go (bytes_eq x.now q.now) refl
     where
       go : (a : Bool) → bytes_eq x.now q.now ≡ a → cond a true (before q) ≡ list_any (bytes_eq q.now) found
-      go true e = sym (ap (λ t. list_any (bytes_eq t) found) (sym (bytes_eq-true x.now q.now e)) ∙ sym (seen x) ∙ old)
+      go true e = sym (ap (λ t. list_any (bytes_eq t) found) (sym (bytes_eq_true x.now q.now e)) ∙ sym (seen x) ∙ old)
       go false e = seen q
 
 not_not : (a b : Bool) → a ≡ not b → not a ≡ b

@@ -22,12 +22,12 @@ use Rattle.bf_read.proofs.FieldLemmas.{rest_from}
 
 -- ---- how many
 
-items_len-items_view : (vs : List Value) → items_len (items_view vs) ≡ length vs
-items_len-items_view [] = refl
-items_len-items_view (v ∷ vs) = ap suc (items_len-items_view vs)
+items_len_items_view : (vs : List Value) → items_len (items_view vs) ≡ length vs
+items_len_items_view [] = refl
+items_len_items_view (v ∷ vs) = ap suc (items_len_items_view vs)
 
 pub tasks_count : (p : Path) (vs : List Value) → limit_of p (nat_le (items_len (items_view vs)) most_tasks) ≡ limit_of p (nat_le (length vs) most_tasks)
-tasks_count p vs = ap (λ n. limit_of p (nat_le n most_tasks)) (items_len-items_view vs)
+tasks_count p vs = ap (λ n. limit_of p (nat_le n most_tasks)) (items_len_items_view vs)
 
 -- ---- the walk
 

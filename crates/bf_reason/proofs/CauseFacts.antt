@@ -75,9 +75,9 @@ all_passed_is (result ∷ results) = ap (λ rest. not (is_failed result.outcome)
 
 -- ---- the items
 
-length-map : {X Y : Type 0} (f : X → Y) (xs : List X) → length (map f xs) ≡ length xs
-length-map f [] = refl
-length-map f (x ∷ xs) = ap suc (length-map f xs)
+length_map : {X Y : Type 0} (f : X → Y) (xs : List X) → length (map f xs) ≡ length xs
+length_map f [] = refl
+length_map f (x ∷ xs) = ap suc (length_map f xs)
 
 abbrev has_pushed : TaskResult → Bool
 has_pushed ended = is_some (pushed_of ended)
@@ -113,4 +113,4 @@ none_expanded dag task none = expand_beyond dag.tasks task none
 pub cause_counts : (pulled : List (Option Xval)) (given : Items) → cause_by_count (item_count given) ≡ cause_of (by_items pulled given)
 cause_counts pulled Items.Missing = refl
 cause_counts pulled (Items.List []) = refl
-cause_counts pulled (Items.List (first ∷ rest)) = ap (λ n. StateCause.Runs (suc n)) (sym (length-map _ rest))
+cause_counts pulled (Items.List (first ∷ rest)) = ap (λ n. StateCause.Runs (suc n)) (sym (length_map _ rest))

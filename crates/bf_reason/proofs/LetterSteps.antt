@@ -31,9 +31,9 @@ first_of results instances is =
     ap (λ rs. first_by_of (some_has rs (byte "f")) (some_has rs (byte "r")) (some_has rs (byte "s"))) is
     ∙ (λ i. first_by_of (any_of (byte "f") instances i) (any_of (byte "r") instances i) (any_of (byte "s") instances i))
 
-length-map : {X Y : Type 0} (f : X → Y) (xs : List X) → length (map f xs) ≡ length xs
-length-map f [] = refl
-length-map f (x ∷ xs) = ap suc (length-map f xs)
+length_map : {X Y : Type 0} (f : X → Y) (xs : List X) → length (map f xs) ≡ length xs
+length_map f [] = refl
+length_map f (x ∷ xs) = ap suc (length_map f xs)
 
 by_cause : (expanded : Bool) (cause : StateCause) (instances : List InstanceReport) →
     (if expanded && runs_as_in cause (length instances) then upper_of (first_letter_of instances) else expanded_digit_of (first_letter_of instances)) ≡ letter_for expanded cause (TaskReport.Mapped instances)
@@ -44,7 +44,7 @@ pub mapped_by : (expanded : Bool) (cause : StateCause) (results : List TaskResul
     (first : ℕ) → first ≡ first_letter_of instances →
     (if expanded && runs_as_in cause (length results) then upper_of first else expanded_digit_of first) ≡ letter_for expanded cause (TaskReport.Mapped instances)
 mapped_by expanded cause results instances is first same =
-    (λ i. if expanded && runs_as_in cause ((ap length is ∙ length-map _ instances) i) then upper_of (same i) else expanded_digit_of (same i)) ∙ by_cause expanded cause instances
+    (λ i. if expanded && runs_as_in cause ((ap length is ∙ length_map _ instances) i) then upper_of (same i) else expanded_digit_of (same i)) ∙ by_cause expanded cause instances
 
 -- ---- by what a report has
 

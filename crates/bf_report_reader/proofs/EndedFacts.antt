@@ -9,7 +9,7 @@ use Rattle.bf_value.specs.declared.xval.Xval.{Xval}
 use Rattle.bf_value.specs.declared.xval.Xval.TheVariants.{Flag, Int, Text, List as ListOf, Nil}
 use Rattle.bf_value.specs.Plain.{IsSound}
 use Rattle.bf_value.specs.Views.{plain_of}
-use Rattle.bf_value.proofs.TextLemmas.{value_of_line-text_of}
+use Rattle.bf_value.proofs.TextLemmas.{value_of_line_text_of}
 use Rattle.bf_value.proofs.TextLemmas.{IsUtf8-text_of}
 use Rattle.bf_interval.specs.declared.interval.Interval.{Interval}
 use Rattle.bf_interval.specs.Runs.{IsOfRun, IsSecondTo2208}
@@ -35,9 +35,9 @@ use Rattle.bf_core.specs.Events.{IsLegal, replay, after, start, cell_at, value_i
 use Rattle.bf_core.specs.Agreement.{IsOutcome, final_cell, finished_from}
 use Rattle.bf_core.specs.Cores.{IsJournal}
 use Rattle.bf_core.specs.Few.{AreFew, AreFitting, IsFew, IsFitting, HasFitting}
-use Rattle.bf_core.proofs.Attempts.{last_try-from}
-use Rattle.bf_core.proofs.Fitting.{few-after, fitting-after}
-use Rattle.bf_core.proofs.Starting.{start-few, start-fitting}
+use Rattle.bf_core.proofs.Attempts.{last_try_from}
+use Rattle.bf_core.proofs.Fitting.{few_after, fitting_after}
+use Rattle.bf_core.proofs.Starting.{start_few, start_fitting}
 use Rattle.bf_report.specs.Values.{IsSoundOutcome}
 use Rattle.bf_report_reader.specs.Entries.{IsShownValue, IsShownOutcome, IsTries}
 use Rattle.bf_report_reader.specs.Runs.{IsReportMoment, IsRunInterval}
@@ -59,10 +59,10 @@ run_interval i is = record { start = report_moment i.start is.start; end = repor
 
 -- what fits, with sound numbers and texts, is a value that lines have
 shown_value : (x : Xval) → IsSound (plain_of x) → is_value_of_lines_in (Some x) ≡ true → is_short_in (Some x) ≡ true → IsShownValue x
-shown_value (Flag b) sound good short = record { utf8 = IsUtf8-text_of (Flag b) sound; pushed = value_of_line-text_of (Flag b) sound (omega arith) (λ e. cc e); short = grind (arith, nat_tests, short) }
-shown_value (Int n) sound good short = record { utf8 = IsUtf8-text_of (Int n) sound; pushed = value_of_line-text_of (Int n) sound (omega arith) (λ e. cc e); short = grind (arith, nat_tests, short) }
-shown_value (Text t) sound good short = record { utf8 = IsUtf8-text_of (Text t) sound; pushed = value_of_line-text_of (Text t) sound (omega arith) (λ e. cc e); short = grind (arith, nat_tests, short) }
-shown_value (ListOf ps) sound good short = record { utf8 = IsUtf8-text_of (ListOf ps) sound; pushed = value_of_line-text_of (ListOf ps) sound (grind (arith, nat_tests, good)) (λ e. cc e); short = grind (arith, nat_tests, short) }
+shown_value (Flag b) sound good short = record { utf8 = IsUtf8-text_of (Flag b) sound; pushed = value_of_line_text_of (Flag b) sound (omega arith) (λ e. cc e); short = grind (arith, nat_tests, short) }
+shown_value (Int n) sound good short = record { utf8 = IsUtf8-text_of (Int n) sound; pushed = value_of_line_text_of (Int n) sound (omega arith) (λ e. cc e); short = grind (arith, nat_tests, short) }
+shown_value (Text t) sound good short = record { utf8 = IsUtf8-text_of (Text t) sound; pushed = value_of_line_text_of (Text t) sound (omega arith) (λ e. cc e); short = grind (arith, nat_tests, short) }
+shown_value (ListOf ps) sound good short = record { utf8 = IsUtf8-text_of (ListOf ps) sound; pushed = value_of_line_text_of (ListOf ps) sound (grind (arith, nat_tests, good)) (λ e. cc e); short = grind (arith, nat_tests, short) }
 shown_value Nil sound good short = absurd (cc good)
 
 pub shown_outcome : (dag : Dag) (t : ℕ) (o : Outcome) → IsSoundOutcome o → fits_in dag t o ≡ true → IsShownOutcome o
@@ -76,9 +76,9 @@ shown_outcome dag t Skipped sound fit = tt
 
 -- ---- results
 
-last_try-to : (f : ℕ → Outcome) (a left : ℕ) → last_try f a left ≤ a + left
-last_try-to f a zero = omega arith
-last_try-to f a (suc left) = go (is_failed (f a)) (last_try-to f (suc a) left)
+last_try_to : (f : ℕ → Outcome) (a left : ℕ) → last_try f a left ≤ a + left
+last_try_to f a zero = omega arith
+last_try_to f a (suc left) = go (is_failed (f a)) (last_try_to f (suc a) left)
   where
     go : (b : Bool) → last_try f (suc a) left ≤ suc a + left → (if b then last_try f (suc a) left else a) ≤ a + suc left
     go true h = omega arith
@@ -87,19 +87,19 @@ last_try-to f a (suc left) = go (is_failed (f a)) (last_try-to f (suc a) left)
 pub tries_are : (dag : Dag) (ledger : Ledger) (k t i : ℕ) → (task_of dag t).retries ≤ 100 → IsTries (result_of dag ledger k t i).tries
 unfolding result_of
 tries_are dag ledger k t i few =
-    (last_try-from (outcome_at dag ledger k t i) 1 (task_of dag t).retries, omega (arith, last_try-to (outcome_at dag ledger k t i) 1 (task_of dag t).retries))
+    (last_try_from (outcome_at dag ledger k t i) 1 (task_of dag t).retries, omega (arith, last_try_to (outcome_at dag ledger k t i) 1 (task_of dag t).retries))
 
 finished_results : (result : ℕ → TaskResult) (i : ℕ) (gs : List Given) → results (finished_from result i gs) ≡ Some (results_from result i gs)
 finished_results result i [] = refl
 finished_results result i (g ∷ gs) = rw (finished_results result (suc i) gs) refl
 
-length-results_from : (result : ℕ → TaskResult) (i : ℕ) (gs : List Given) → length (results_from result i gs) ≡ length (finished_from result i gs)
-length-results_from result i [] = refl
-length-results_from result i (g ∷ gs) = ap suc (length-results_from result (suc i) gs)
+length_results_from : (result : ℕ → TaskResult) (i : ℕ) (gs : List Given) → length (results_from result i gs) ≡ length (finished_from result i gs)
+length_results_from result i [] = refl
+length_results_from result i (g ∷ gs) = ap suc (length_results_from result (suc i) gs)
 
-pub length-finished_from : (result : ℕ → TaskResult) (i : ℕ) (gs : List Given) → length (finished_from result i gs) ≡ length gs
-length-finished_from result i [] = refl
-length-finished_from result i (g ∷ gs) = ap suc (length-finished_from result (suc i) gs)
+pub length_finished_from : (result : ℕ → TaskResult) (i : ℕ) (gs : List Given) → length (finished_from result i gs) ≡ length gs
+length_finished_from result i [] = refl
+length_finished_from result i (g ∷ gs) = ap suc (length_finished_from result (suc i) gs)
 
 -- ---- tasks
 
@@ -141,12 +141,12 @@ results_fit dag t result i (g ∷ gs) fit = (fit.0, results_fit dag t result (su
 
 kept_by : (dag : Dag) (limits : Limits) (events : List Event) (s : State) → IsLegal dag limits s events → AreFew s → AreFitting dag s → AreFew (replay dag s events) × AreFitting dag (replay dag s events)
 kept_by dag limits [] s legal few fit = (few, fit)
-kept_by dag limits (e ∷ es) s legal few fit = kept_by dag limits es (after dag s e) legal.1 (few-after dag s e few fit) (fitting-after dag limits s e legal.0 fit)
+kept_by dag limits (e ∷ es) s legal few fit = kept_by dag limits es (after dag s e) legal.1 (few_after dag s e few fit) (fitting_after dag limits s e legal.0 fit)
 
 pub journal_keeps : (dag : Dag) (limits : Limits) (runs : ℕ) (journal : List Event) (s : State) → IsJournal dag limits runs journal s → AreFew s × AreFitting dag s
 journal_keeps dag limits runs journal s is =
     let P : State → Type 0 = λ s. AreFew s × AreFitting dag s in
-    subst P is.led_to (kept_by dag limits journal (start dag runs) is.legal (start-few dag runs) (start-fitting dag runs))
+    subst P is.led_to (kept_by dag limits journal (start dag runs) is.legal (start_few dag runs) (start_fitting dag runs))
 
 -- the value of a decided task fits, as what its cell came to does
 value_fits : (dag : Dag) (t : ℕ) (result : ℕ → TaskResult) (d : Decision) (v : TaskValue) → IsFew (final_cell d result) → HasFitting dag t (final_cell d result) → value_in (final_cell d result) ≡ Some v → FitsValue dag t v
@@ -158,7 +158,7 @@ value_fits dag t result (Decision.Instances gs) v few fit is =
     let rs = results_from result 0 gs in
     let ran : option_map TaskValue.Ran (results (finished_from result 0 gs)) ≡ Some (TaskValue.Ran rs) = ap (option_map TaskValue.Ran) (finished_results result 0 gs) in
     let same : TaskValue.Ran rs ≡ v = cc (ran, is) in
-    subst (FitsValue dag t) same (omega (arith, length-results_from result 0 gs, few), results_fit dag t result 0 gs fit)
+    subst (FitsValue dag t) same (omega (arith, length_results_from result 0 gs, few), results_fit dag t result 0 gs fit)
 
 pub out_fits : (dag : Dag) (runs : ℕ) (s : State) → IsOutcome dag runs s → AreFew s → AreFitting dag s → (k t : ℕ) → k < runs → t < length dag.tasks → FitsValue dag t (out dag (entry_in s.ledger) k t)
 out_fits dag runs s is few fit k t l m =

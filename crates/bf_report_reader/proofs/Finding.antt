@@ -1,7 +1,7 @@
 -- What memchr finds.
 use Rattle.std.proofs.Common.{◌≡◌, ℕ, zero, suc, Bool, true, false, true≢false, if◌then◌else◌, List, [], ◌∷◌, Option, None, Some, option_map, position, refl, sym, ap, ◌∙◌, arith}
 use Rattle.memchr.specs.Find.{IsFirstByte}
-use Rattle.bf_plan.proofs.ListLemmas.{position-cons}
+use Rattle.bf_plan.proofs.ListLemmas.{position_cons}
 
 -- where the first byte passes, it is found
 at_once : (test : ℕ → Bool) (x : ℕ) (xs : List ℕ) (found : Option ℕ) → test x ≡ true → IsFirstByte test (x ∷ xs) found → found ≡ Some 0
@@ -26,7 +26,7 @@ later test x xs (Some (suc k)) fails first = (
 pub first_is : (test : ℕ → Bool) (xs : List ℕ) (found : Option ℕ) → IsFirstByte test xs found → found ≡ position test xs
 first_is test [] None first = refl
 first_is test [] (Some k) first = absurd (let high = first.0.high in omega (arith, high))
-first_is test (x ∷ xs) found first = by (test x) refl (λ rest first_of_rest. first_is test xs rest first_of_rest) ∙ sym (position-cons test x xs)
+first_is test (x ∷ xs) found first = by (test x) refl (λ rest first_of_rest. first_is test xs rest first_of_rest) ∙ sym (position_cons test x xs)
   where
     by : (b : Bool) → test x ≡ b → ((rest : Option ℕ) → IsFirstByte test xs rest → rest ≡ position test xs) → found ≡ (if test x then Some 0 else option_map suc (position test xs))
     by true passes rest_is = rw passes (at_once test x xs found passes first)

@@ -9,9 +9,9 @@ use Rattle.bf_value.specs.declared.xval.Xval.TheVariants.{Flag, Int, Text, List 
 use Rattle.bf_value.specs.Json.{json_of}
 use Rattle.bf_value.specs.Plain.{Plains, IsSound, plain_depth, plains_depth}
 use Rattle.bf_value.specs.Views.{plain_of, plains_of, xvals_of, list_of}
-use Rattle.bf_value.proofs.ValueLemmas.{plains_of-xvals_of}
+use Rattle.bf_value.proofs.ValueLemmas.{plains_of_xvals_of}
 use Rattle.bf_value.proofs.SizeLemmas.{item_size, list_size}
-use Rattle.bf_value.proofs.TextLemmas.{value_of_text-text_of, IsUtf8-text_of}
+use Rattle.bf_value.proofs.TextLemmas.{value_of_text_text_of, IsUtf8-text_of}
 use Rattle.bf_plan.specs.declared.plan.Dag.{Dag}
 use Rattle.bf_plan.specs.Plans.{task_of}
 use Rattle.bf_mapped.specs.Items.{items_of}
@@ -34,7 +34,7 @@ pub record IsSized (deepest longest : ℕ) (x : Xval) : Type 0 where
   pub short : length (json_of x) ≤ longest
 
 pub told_value : (n m : ℕ) (x : Xval) → n ≤ 127 → IsSound (plain_of x) → IsSized n m x → IsToldValue n m x
-told_value n m x few sound sized = record { utf8 = IsUtf8-text_of x sound; says = value_of_text-text_of n x sound sized.deep few; short = sized.short }
+told_value n m x few sound sized = record { utf8 = IsUtf8-text_of x sound; says = value_of_text_text_of n x sound sized.deep few; short = sized.short }
 
 -- a pushed value, and one of a pushed list
 abbrev pub IsPushed : Xval → Type 0
@@ -80,7 +80,7 @@ parts_sized (x ∷ xs) deep sum = (record { deep = omega (arith, deep); short = 
 
 -- the items of a pushed list
 items_sized : (ps : Plains) → IsPushed (ListOf ps) → AllByRecursion IsPushed (xvals_of ps)
-items_sized ps sized = go (xvals_of ps) (plains_of-xvals_of ps)
+items_sized ps sized = go (xvals_of ps) (plains_of_xvals_of ps)
   where
     go : (xs : List Xval) → plains_of xs ≡ ps → AllByRecursion IsPushed xs
     go [] same = tt

@@ -6,13 +6,13 @@ use Rattle.std.specs.String.{string_eq}
 use Rattle.std.proofs.lemmas.List.{map-append}
 use Rattle.indexmap.specs.IndexSet.{insert_key}
 use Rattle.bf_graph.specs.Shape.{texts}
-use Rattle.bf_read.proofs.DistinctLemmas.{bytes_eq-sym}
+use Rattle.bf_read.proofs.DistinctLemmas.{bytes_eq_sym}
 
 -- an id is among the texts where its bytes are those of one
 pub any_text : (id : List ℕ) (ks : List (String Global)) → list_any (λ k. bytes_eq id (string_bytes k)) ks ≡ list_any (λ task. bytes_eq task id) (texts ks)
 any_text id [] = refl
 any_text id (k ∷ ks) =
-    ap (λ b. b || list_any (λ k. bytes_eq id (string_bytes k)) ks) (bytes_eq-sym id (string_bytes k))
+    ap (λ b. b || list_any (λ k. bytes_eq id (string_bytes k)) ks) (bytes_eq_sym id (string_bytes k))
     ∙ ap (λ b. bytes_eq (string_bytes k) id || b) (any_text id ks)
 
 -- an id that isn't among the texts goes behind them

@@ -9,7 +9,7 @@ use Rattle.bf_plan.specs.Ids.{is_id_in}
 use Rattle.bf_value.specs.declared.xval.Xval.{Xval}
 use Rattle.bf_value.specs.declared.xval.Xval.TheVariants.{Nil}
 use Rattle.bf_value.specs.Json.{json_of}
-use Rattle.bf_value.proofs.TextLemmas.{IsUtf8-text_of, value_of_text-text_of}
+use Rattle.bf_value.proofs.TextLemmas.{IsUtf8-text_of, value_of_text_text_of}
 use Rattle.bf_report.specs.declared.report.Version.{Version}
 use Rattle.bf_report.specs.declared.report.InstanceReport.{InstanceReport}
 use Rattle.bf_report.specs.declared.report.TaskReport.{TaskReport}
@@ -122,7 +122,7 @@ filled b id given next = rw (given, next) refl
 
 -- an item where one is lacking
 null_told : IsToldItem Nil
-null_told = record { utf8 = IsUtf8-text_of Nil tt; says = value_of_text-text_of 64 Nil tt (omega arith) (omega arith); short = omega arith }
+null_told = record { utf8 = IsUtf8-text_of Nil tt; says = value_of_text_text_of 64 Nil tt (omega arith) (omega arith); short = omega arith }
 
 lacking : (version : Version) (run : Option OpenRun) → is_given_in version run ≡ false → takes_in version run (GivenPart.Item Nil) ≡ true
 lacking version None lacks = absurd (true≢false lacks)

@@ -38,7 +38,7 @@ use Rattle.bf_report.specs.declared.report.RunReport.{RunReport}
 use Rattle.bf_report.specs.declared.report.Report.{Report}
 use Rattle.bf_report.specs.Dated.{pulls_in, instance_report, reported_instance, reported_instances, reported, reports_from, cell_by, AreDated, IsDated, ids_shown}
 use Rattle.bf_report.specs.Values.{IsSoundValue, AreSoundPulls, IsSoundInstance, IsSoundTask, AreSoundTasks, HasSoundValues}
-use Rattle.bf_report.proofs.DatedFacts.{pulls_in_range, length-reports_from}
+use Rattle.bf_report.proofs.DatedFacts.{pulls_in_range, length_reports_from}
 use Rattle.bf_report_reader.specs.Entries.{IsTries}
 use Rattle.bf_report_reader.specs.Parts.{IsToldPull}
 use Rattle.bf_report_reader.specs.Beginning.{has_item}
@@ -46,7 +46,7 @@ use Rattle.bf_report_reader.specs.Rules.{MayHaveItem, AreToldPulls, IsShownInsta
 use Rattle.bf_report_reader.specs.Runs.{IsRunInterval}
 use Rattle.bf_plan.specs.Sound.{IsNamed}
 use Rattle.bf_report_reader.proofs.Given.{FitsValue, told_value, pulled_told}
-use Rattle.bf_report_reader.proofs.EndedFacts.{run_interval, shown_outcome, tries_are, length-finished_from, some_in_run, journal_keeps, out_fits, IsGivenItem, IsGivenSo, given_in_run}
+use Rattle.bf_report_reader.proofs.EndedFacts.{run_interval, shown_outcome, tries_are, length_finished_from, some_in_run, journal_keeps, out_fits, IsGivenItem, IsGivenSo, given_in_run}
 
 -- ---- pulls
 
@@ -134,9 +134,9 @@ finished_reports dag t result i [] = refl
 finished_reports dag t result i (g ∷ gs) =
     ap (λ xs. instance_report dag t g (record { outcome = (result i).outcome; tries = (result i).tries }) ∷ xs) (finished_reports dag t result (suc i) gs)
 
-length-reports_by : (dag : Dag) (t : ℕ) (result : ℕ → TaskResult) (i : ℕ) (gs : List Given) → length (reports_by dag t result i gs) ≡ length gs
-length-reports_by dag t result i [] = refl
-length-reports_by dag t result i (g ∷ gs) = ap suc (length-reports_by dag t result (suc i) gs)
+length_reports_by : (dag : Dag) (t : ℕ) (result : ℕ → TaskResult) (i : ℕ) (gs : List Given) → length (reports_by dag t result i gs) ≡ length gs
+length_reports_by dag t result i [] = refl
+length_reports_by dag t result i (g ∷ gs) = ap suc (length_reports_by dag t result (suc i) gs)
 
 -- an instance that may be shown, where its values are sound
 abbrev MayBeShown : Bool → InstanceReport → Type 0
@@ -184,7 +184,7 @@ read_back_decided dag t result (Decision.Instances gs) pulls told tries given so
     let P : List InstanceReport → Type 0 = λ xs. IsSoundTask (reported_instances expanded xs) → IsShownTask Version.Two (reported_instances expanded xs) in
     subst P (sym (finished_reports dag t result 0 gs))
     (reported_shown expanded (reports_by dag t result 0 gs) (instances_shown dag t expanded pulls told result tries 0 gs fit (given gs refl))
-    (omega (arith, few, length-reports_by dag t result 0 gs, length-finished_from result 0 gs)) (λ e. omega (arith, length-reports_by dag t result 0 gs, some gs refl e)))
+    (omega (arith, few, length_reports_by dag t result 0 gs, length_finished_from result 0 gs)) (λ e. omega (arith, length_reports_by dag t result 0 gs, some gs refl e)))
 
 task_read_back : (dag : Dag) → IsSoundDag dag → IsNamed dag → (runs : ℕ) (s : State) → IsOutcome dag runs s → AreFew s → AreFitting dag s → (k t : ℕ) → k < runs → t < length dag.tasks
     → IsReadBack dag t (cell_by dag (entry_in s.ledger) k t)
@@ -226,16 +226,16 @@ runs_shown dag ledger k (i ∷ is) (r ∷ rs) each back (interval, state, tasks,
       record {
         interval = subst IsRunInterval (sym interval) (run_interval i (each 0 i (omega arith)));
         each = subst B (sym tasks) (tasks_shown dag cell 0 dag.tasks (λ u low high. back k u (omega arith) (omega arith) (omega (arith, high))) (subst A tasks sound.0));
-        all = ap length tasks ∙ length-reports_from dag cell 0 dag.tasks;
+        all = ap length tasks ∙ length_reports_from dag cell 0 dag.tasks;
       },
       runs_shown dag ledger (suc k) is rs (λ j d l. each (suc j) d (omega arith)) (λ j t low high l. back j t (omega arith) (omega arith) l) more sound.1,
     )
 
-length-dated : (dag : Dag) (ledger : Ledger) (k : ℕ) (intervals : List Interval) (runs : List RunReport) → AreDated dag ledger k intervals runs → length runs ≡ length intervals
-length-dated dag ledger k [] [] dated = refl
-length-dated dag ledger k [] (r ∷ rs) dated = absurd dated
-length-dated dag ledger k (i ∷ is) [] dated = absurd dated
-length-dated dag ledger k (i ∷ is) (r ∷ rs) dated = ap suc (length-dated dag ledger (suc k) is rs dated.3)
+length_dated : (dag : Dag) (ledger : Ledger) (k : ℕ) (intervals : List Interval) (runs : List RunReport) → AreDated dag ledger k intervals runs → length runs ≡ length intervals
+length_dated dag ledger k [] [] dated = refl
+length_dated dag ledger k [] (r ∷ rs) dated = absurd dated
+length_dated dag ledger k (i ∷ is) [] dated = absurd dated
+length_dated dag ledger k (i ∷ is) (r ∷ rs) dated = ap suc (length_dated dag ledger (suc k) is rs dated.3)
 
 starts_rise : (dag : Dag) (ledger : Ledger) (k : ℕ) (intervals : List Interval) (runs : List RunReport) → AllPairs (λ i j. i.start.nanosecond <ℤ j.start.nanosecond) intervals → AreDated dag ledger k intervals runs → Rise runs
 starts_rise dag ledger k [] [] rising dated = tt
@@ -290,7 +290,7 @@ written_reports_are_shown dag sound named intervals are limits journal s by is r
       distinct = subst AreDistinct (sym dated.tasks) ids.distinct;
       few_tasks = omega (arith, ap length dated.tasks, ids.few);
       runs = subst V (sym dated.version) (subst R (sym dated.tasks) runs);
-      few_runs = omega (arith, length-dated dag ledger 0 intervals report.runs dated.runs, are.few);
+      few_runs = omega (arith, length_dated dag ledger 0 intervals report.runs dated.runs, are.few);
       rise = starts_rise dag ledger 0 intervals report.runs are.rising dated.runs;
       known = λ none. dated.tasks ∙ none_without_runs dag ledger intervals report.runs dated.runs none;
     }

@@ -7,12 +7,12 @@ use Rattle.bf_rule.specs.declared.rule.Counts.{Counts}
 use Rattle.bf_rule.specs.declared.rule.Verdict.TheVariants.{Wait, Run}
 use Rattle.bf_rule.specs.Verdicts.{verdict_of, fires_in, finished_of, add, IsLater}
 
-pub fires-later : (rule : Rule) (c d : Counts) → IsLater c d → fires_in rule c ≡ true → fires_in rule d ≡ true
-fires-later One_success c d later e = grind (arith, nat_tests, later.success)
-fires-later One_failed c d later e = grind (arith, nat_tests, later.failed, later.upstream_failed)
-fires-later One_done c d later e = grind (arith, nat_tests, later.failed, later.success)
-fires-later Always c d later e = refl
-fires-later _ c d later e = cc
+pub fires_later : (rule : Rule) (c d : Counts) → IsLater c d → fires_in rule c ≡ true → fires_in rule d ≡ true
+fires_later One_success c d later e = grind (arith, nat_tests, later.success)
+fires_later One_failed c d later e = grind (arith, nat_tests, later.failed, later.upstream_failed)
+fires_later One_done c d later e = grind (arith, nat_tests, later.failed, later.success)
+fires_later Always c d later e = refl
+fires_later _ c d later e = cc
 
 or_true : (b : Bool) → (b || true) ≡ true
 or_true true = refl
@@ -29,16 +29,16 @@ not_fired rule c n e f =
     let more : nat_lt 0 c.unfinished ≡ true = grind (arith, nat_tests) in
     rw (f, some, more)
 
-pub verdict-stable : (rule : Rule) (c d : Counts) → IsLater c d → verdict_of rule c ≢ Wait → verdict_of rule c ≡ verdict_of rule d
-verdict-stable rule c d later decides = go c.unfinished refl (fires_in rule c) refl
+pub verdict_stable : (rule : Rule) (c d : Counts) → IsLater c d → verdict_of rule c ≢ Wait → verdict_of rule c ≡ verdict_of rule d
+verdict_stable rule c d later decides = go c.unfinished refl (fires_in rule c) refl
   where
     go : (n : ℕ) → c.unfinished ≡ n → (b : Bool) → fires_in rule c ≡ b → verdict_of rule c ≡ verdict_of rule d
     go zero e b f = ap (verdict_of rule) (later.done e)
-    go (suc n) e true f = fired rule c f ∙ sym (fired rule d (fires-later rule c d later f))
+    go (suc n) e true f = fired rule c f ∙ sym (fired rule d (fires_later rule c d later f))
     go (suc n) e false f = absurd (decides (not_fired rule c n e f))
 
-pub add-later : (a b c d : Counts) → IsLater a c → IsLater b d → IsLater (add a b) (add c d)
-add-later a b c d p q = record {
+pub add_later : (a b c d : Counts) → IsLater a c → IsLater b d → IsLater (add a b) (add c d)
+add_later a b c d p q = record {
   success = omega arith;
   failed = omega arith;
   upstream_failed = omega arith;

@@ -6,23 +6,23 @@ use Rattle.bf_core.specs.Terms.{JobName}
 use Rattle.bf_core.specs.declared.state.Phase.{Phase}
 use Rattle.bf_core.specs.Cores.{Backfill}
 use Rattle.bf_core.specs.Events.{IsPresent, cell_at, given_in, place_in}
-use Rattle.bf_core.proofs.Begun.{begun-given, running-at}
+use Rattle.bf_core.proofs.Begun.{begun_given, running_at}
 use Rattle.bf_sched.specs.Driving.{IsUnderWay}
 use Rattle.bf_sched.specs.Scheduling.{HasBegun, MayFinish, Schedule}
 
 -- a try that has just begun is under way
-pub begun-under_way : (s t : Schedule) (ticket : Asked) → HasBegun s ticket t → IsUnderWay t.backfill ticket
-begun-under_way s t ticket h = subst (λ (x : Schedule). IsUnderWay x.backfill ticket) (sym h.new_is) (record {
-  runs = running-at s.backfill ticket.name waits;
-  gives = begun-given s.backfill ticket.name waits ∙ sym h.is_ticket.1;
+pub begun_under_way : (s t : Schedule) (ticket : Asked) → HasBegun s ticket t → IsUnderWay t.backfill ticket
+begun_under_way s t ticket h = subst (λ (x : Schedule). IsUnderWay x.backfill ticket) (sym h.new_is) (record {
+  runs = running_at s.backfill ticket.name waits;
+  gives = begun_given s.backfill ticket.name waits ∙ sym h.is_ticket.1;
 })
   where
     waits : IsPresent s.backfill.dag s.backfill.state ticket.name Phase.Waiting
     waits = h.is_first.may_begin.0.0
 
 -- its answer ends it
-pub may-finish : (b : Backfill) (ticket : Asked) (done : Answered) → IsUnderWay b ticket → done.name ≡ ticket.name → done.given ≡ ticket.given → MayFinish b done
-may-finish b ticket done way named given =
+pub may_finish : (b : Backfill) (ticket : Asked) (done : Answered) → IsUnderWay b ticket → done.name ≡ ticket.name → done.given ≡ ticket.given → MayFinish b done
+may_finish b ticket done way named given =
     (((runs, grade_fits b.dag done.name.task done.raw), tt), λ at. gives)
   where
     runs : IsPresent b.dag b.state done.name Phase.Running

@@ -10,8 +10,8 @@ use Rattle.bf_core.specs.Driven.{IsDriven, IsOver}
 use Rattle.bf_core.specs.Endings.{Ending, ending_of}
 use Rattle.bf_core.specs.Events.{cell_at, given_in, place_in}
 use Rattle.bf_core.specs.Running.{running_now}
-use Rattle.bf_core.proofs.Driven.{EndsGraded, driven-moved, driven-opening, over}
-use Rattle.bf_core.proofs.RunningTries.{start-idle}
+use Rattle.bf_core.proofs.Driven.{EndsGraded, driven_moved, driven_opening, over}
+use Rattle.bf_core.proofs.RunningTries.{start_idle}
 use Rattle.bf_core.proofs.WorkerLemmas.{IsFree}
 use Rattle.bf_sched.specs.Choices.{IsStep}
 use Rattle.bf_sched.specs.Scheduling.{HasBegun, HasFinished, HasStepped, HasTicked, Schedule, end_of, moved_on}
@@ -20,7 +20,7 @@ use Rattle.bf_sched.specs.Driving.{StaysDriven}
 -- ---- the start
 
 pub opening_idle : (b : Backfill) (dag : Dag) (limits : Limits) (runs : ℕ) → b ≡ opening dag limits runs → running_now b.state ≡ 0
-opening_idle b dag limits runs is = ap (λ (x : Backfill). running_now x.state) is ∙ start-idle dag runs (λ k t i x. 1)
+opening_idle b dag limits runs is = ap (λ (x : Backfill). running_now x.state) is ∙ start_idle dag runs (λ k t i x. 1)
 
 -- ---- on the way
 
@@ -28,7 +28,7 @@ moved_driven : (may : JobName → Given → Raw → Type 0) (s t : Schedule) (e 
 moved_driven may s t e graded free able is = record {
   so = λ dag limits runs d.
       subst (λ (w : ℕ). IsDriven may dag limits runs w t.backfill) (sym (ap (λ (x : Schedule). x.workers) is))
-      (driven-moved may dag limits runs s.workers s.backfill t.backfill e graded free able (ap (λ (x : Schedule). x.backfill) is) d);
+      (driven_moved may dag limits runs s.workers s.backfill t.backfill e graded free able (ap (λ (x : Schedule). x.backfill) is) d);
   workers = ap (λ (x : Schedule). x.workers) is;
 }
 
@@ -42,18 +42,18 @@ pub ticked_driven : (may : JobName → Given → Raw → Type 0) (s t : Schedule
 ticked_driven may s t moment true h = moved_driven may s t (Event.Tick moment) tt tt h.0.0 (λ i. record { backfill = h.0.1 i; workers = h.1 i })
 ticked_driven may s t moment false h = same_driven may s t (λ i. record { backfill = h.0.1 i; workers = h.1 i })
 
-step-still : (may : JobName → Given → Raw → Type 0) (workers : ℕ) (b : Backfill) (e : Event) → IsStep e → EndsGraded may b e × IsFree workers b e
-step-still may workers b Event.Open is = (tt, tt)
-step-still may workers b (Event.Settle k t) is = (tt, tt)
-step-still may workers b (Event.Expand k t) is = (tt, tt)
-step-still may workers b (Event.Close k) is = (tt, tt)
-step-still may workers b (Event.Begin n) is = absurd (omega (arith, is))
-step-still may workers b (Event.End n o) is = absurd (omega (arith, is))
-step-still may workers b (Event.Tick m) is = (tt, tt)
+step_still : (may : JobName → Given → Raw → Type 0) (workers : ℕ) (b : Backfill) (e : Event) → IsStep e → EndsGraded may b e × IsFree workers b e
+step_still may workers b Event.Open is = (tt, tt)
+step_still may workers b (Event.Settle k t) is = (tt, tt)
+step_still may workers b (Event.Expand k t) is = (tt, tt)
+step_still may workers b (Event.Close k) is = (tt, tt)
+step_still may workers b (Event.Begin n) is = absurd (omega (arith, is))
+step_still may workers b (Event.End n o) is = absurd (omega (arith, is))
+step_still may workers b (Event.Tick m) is = (tt, tt)
 
 pub stepped_driven : (may : JobName → Given → Raw → Type 0) (s t : Schedule) → HasStepped s t → StaysDriven may s t
 stepped_driven may s t h =
-    let still = step-still may s.workers s.backfill h.event h.is_first.is_step in
+    let still = step_still may s.workers s.backfill h.event h.is_first.is_step in
     moved_driven may s t h.event still.0 still.1 h.is_first.may_come h.new_is
 
 pub begun_driven : (may : JobName → Given → Raw → Type 0) (s t : Schedule) (ticket : Asked) → HasBegun s ticket t → StaysDriven may s t
@@ -71,7 +71,7 @@ pub driven_first : (may : JobName → Given → Raw → Type 0) (b : Backfill) (
 driven_first may b dag limits runs workers first last sound fit is to stays =
     let opened : first.backfill ≡ opening dag limits runs = ap (λ (x : Schedule). x.backfill) to ∙ is in
     let many : last.workers ≡ workers = stays.workers ∙ ap (λ (x : Schedule). x.workers) to in
-    subst (λ (w : ℕ). IsDriven may dag limits runs w last.backfill) many (stays.so dag limits runs (driven-opening may dag limits runs first.workers first.backfill sound fit opened))
+    subst (λ (w : ℕ). IsDriven may dag limits runs w last.backfill) many (stays.so dag limits runs (driven_opening may dag limits runs first.workers first.backfill sound fit opened))
 
 -- what a backfill that was driven from the start comes to
 pub ends_over : (may : JobName → Given → Raw → Type 0) (b : Backfill) (dag : Dag) (limits : Limits) (runs workers : ℕ) (first last : Schedule) (ending : Ending) → IsSound dag → AreLimits dag limits → b ≡ opening dag limits runs →

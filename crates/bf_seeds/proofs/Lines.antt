@@ -12,15 +12,15 @@ use Rattle.bf_seeds.specs.declared.fault.SeedsFault.{SeedsFault}
 use Rattle.bf_seeds.specs.declared.fault.SeedsFault.TheVariants.{BadFile, BadSeed, Unknown, OutOfMemory}
 use Rattle.bf_seeds.specs.Seeds.{cut_of, is_space, parts, AreSeeds, IsEarliest, IsFaultOfLine, IsFaultOfSeed, IsFirstFault, IsSeedOf, SpellsSeed}
 
-not-below : (n : ℕ) → nat_lt n n ≡ false
-not-below n = grind arith
+not_below : (n : ℕ) → nat_lt n n ≡ false
+not_below n = grind arith
 
 -- what `split_once` gives is the cut
-pub cut-is : (text : List ℕ) (r : Option (Bor (List ℕ) × Bor (List ℕ))) →
+pub cut_is : (text : List ℕ) (r : Option (Bor (List ℕ) × Bor (List ℕ))) →
     MatchOption r (position_or_len is_space text ≡ length text) (λ x. (position_or_len is_space text < length text) × (x.0.now ≡ before_first is_space text) × (x.1.now ≡ after_first is_space text)) →
     option_map (λ p. (p.0.now, p.1.now)) r ≡ cut_of text
-cut-is text None e = sym (ap (λ n. parts (nat_lt n (length text)) text) e ∙ ap (λ b. parts b text) (not-below (length text)))
-cut-is text (Some x) (low, first, rest) = (λ i. Some (first i, rest i)) ∙ sym (ap (λ b. parts b text) (lt-ltb (position_or_len is_space text) (length text) low))
+cut_is text None e = sym (ap (λ n. parts (nat_lt n (length text)) text) e ∙ ap (λ b. parts b text) (not_below (length text)))
+cut_is text (Some x) (low, first, rest) = (λ i. Some (first i, rest i)) ∙ sym (ap (λ b. parts b text) (lt-ltb (position_or_len is_space text) (length text) low))
 
 module _ (dag : Dag) (intervals : List Interval) where
   snoc : (lines : List (List ℕ)) (seeds : List Seed) (line : List ℕ) (seed : Seed) → AreSeeds dag intervals lines seeds → IsSeedOf dag intervals line seed → AreSeeds dag intervals (lines ++ line ∷ []) (seeds ++ seed ∷ [])
@@ -30,9 +30,9 @@ module _ (dag : Dag) (intervals : List Interval) where
   snoc (l ∷ lines) (s ∷ seeds) line seed are is = (are.0, snoc lines seeds line seed are.1 is)
 
   -- one line more
-  pub one-line : (lines : List (List ℕ)) (i : ℕ) (seeds : List Seed) (seed : Seed) → i < length lines → AreSeeds dag intervals (take i lines) seeds → IsSeedOf dag intervals (get_or lines i []) seed →
+  pub one_line : (lines : List (List ℕ)) (i : ℕ) (seeds : List Seed) (seed : Seed) → i < length lines → AreSeeds dag intervals (take i lines) seeds → IsSeedOf dag intervals (get_or lines i []) seed →
       AreSeeds dag intervals (take (i + 1) lines) (seeds ++ seed ∷ [])
-  one-line lines i seeds seed l are is = subst (λ (ls : List (List ℕ)). AreSeeds dag intervals ls (seeds ++ seed ∷ [])) (sym (take_more lines i [] l)) (snoc (take i lines) seeds (get_or lines i []) seed are is)
+  one_line lines i seeds seed l are is = subst (λ (ls : List (List ℕ)). AreSeeds dag intervals ls (seeds ++ seed ∷ [])) (sym (take_more lines i [] l)) (snoc (take i lines) seeds (get_or lines i []) seed are is)
 
   -- the line at which reading ends
   pub earliest : (lines : List (List ℕ)) (i : ℕ) (seeds : List Seed) (fault : SeedsFault) → i < length lines → AreSeeds dag intervals (take i lines) seeds → IsFaultOfLine dag intervals (get_or lines i []) fault →
@@ -51,13 +51,13 @@ module _ (dag : Dag) (intervals : List Interval) where
       go (Unknown why) h = at (Unknown why) h
       go OutOfMemory h = tt
 
-pub if-none : {A P : Type 0} (o : Option A) → P → IfNone o P
-if-none None p = p
-if-none (Some x) p = tt
+pub if_none : {A P : Type 0} (o : Option A) → P → IfNone o P
+if_none None p = p
+if_none (Some x) p = tt
 
 -- why a seed is refused is why its line is
-pub fault-of-line : (dag : Dag) (intervals : List Interval) (line : List ℕ) (seed : Seed) (fault : SeedsFault) → SpellsSeed line seed → IsFaultOfSeed dag intervals seed fault → IsFaultOfLine dag intervals line fault
-fault-of-line dag intervals line seed BadFile spells is = absurd is
-fault-of-line dag intervals line seed (BadSeed bad) spells is = absurd is
-fault-of-line dag intervals line seed (Unknown why) spells is = (seed, spells, is)
-fault-of-line dag intervals line seed OutOfMemory spells is = tt
+pub fault_of_line : (dag : Dag) (intervals : List Interval) (line : List ℕ) (seed : Seed) (fault : SeedsFault) → SpellsSeed line seed → IsFaultOfSeed dag intervals seed fault → IsFaultOfLine dag intervals line fault
+fault_of_line dag intervals line seed BadFile spells is = absurd is
+fault_of_line dag intervals line seed (BadSeed bad) spells is = absurd is
+fault_of_line dag intervals line seed (Unknown why) spells is = (seed, spells, is)
+fault_of_line dag intervals line seed OutOfMemory spells is = tt

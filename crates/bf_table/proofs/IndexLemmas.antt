@@ -3,19 +3,19 @@ use Rattle.std.proofs.Common.{◌≡◌, ℕ, suc, ◌<◌, ◌+◌, Bool, true,
 use Rattle.std.specs.Ordering.{is_eq, eq_by_cmp}
 use Rattle.std.specs.Cmp.{IsTotalOrder, nat_cmp_total, int_cmp_total, then_total, on_total, eq_by_cmp_equiv}
 use Rattle.std.specs.Cmp.Lexicographic.{options_total, lists_total}
-use Rattle.bf_value.proofs.ReadLemmas.{drop-item}
-use Rattle.bf_plan.proofs.ListLemmas.{position-cons}
+use Rattle.bf_value.proofs.ReadLemmas.{drop_item}
+use Rattle.bf_plan.proofs.ListLemmas.{position_cons}
 use Rattle.bf_table.specs.declared.table.TableEntry.{TableEntry}
 use Rattle.bf_table.specs.declared.table_index.Pattern.{Pattern}
 use Rattle.bf_table.specs.TableIndex.{earlier_of, first_of_key, first_of_keys, is_pattern, pattern_cmp, pattern_in}
 
 -- ---- the earliest
 
-pub earlier-assoc : (a b c : Option ℕ) → earlier_of (earlier_of a b) c ≡ earlier_of a (earlier_of b c)
-earlier-assoc None b c = refl
-earlier-assoc (Some a) None c = refl
-earlier-assoc (Some a) (Some b) None = refl
-earlier-assoc (Some a) (Some b) (Some c) = ap Some (omega arith)
+pub earlier_assoc : (a b c : Option ℕ) → earlier_of (earlier_of a b) c ≡ earlier_of a (earlier_of b c)
+earlier_assoc None b c = refl
+earlier_assoc (Some a) None c = refl
+earlier_assoc (Some a) (Some b) None = refl
+earlier_assoc (Some a) (Some b) (Some c) = ap Some (omega arith)
 
 -- what is found for two keys
 pub two_keys : (get : Pattern → Option ℕ) (one other : Pattern) → earlier_of (get one) (get other) ≡ first_of_keys get (one ∷ other ∷ [])
@@ -28,7 +28,7 @@ two_keys get one other = ap (earlier_of (get one)) (alone (get other))
 -- what is found for two groups of keys
 pub two_groups : (get : Pattern → Option ℕ) (ones others : List Pattern) → earlier_of (first_of_keys get ones) (first_of_keys get others) ≡ first_of_keys get (ones ++ others)
 two_groups get [] others = refl
-two_groups get (key ∷ keys) others = earlier-assoc (get key) (first_of_keys get keys) (first_of_keys get others) ∙ ap (earlier_of (get key)) (two_groups get keys others)
+two_groups get (key ∷ keys) others = earlier_assoc (get key) (first_of_keys get keys) (first_of_keys get others) ∙ ap (earlier_of (get key)) (two_groups get keys others)
 
 -- ---- each pattern's first entry
 
@@ -52,8 +52,8 @@ module _ (ids : List (List ℕ)) (entries : List TableEntry) (n : ℕ) (e : Tabl
 
   opened : (key : Pattern) → from key n ≡ option_map (λ k. n + k) (if is_pattern key (pattern_in ids e) then Some 0 else option_map suc (first_of_key ids (drop (n + 1) entries) key))
   opened key =
-      ap (λ es. option_map (λ k. n + k) (first_of_key ids es key)) (drop-item entries n e within is)
-      ∙ ap (option_map (λ k. n + k)) (position-cons (λ x. is_pattern key (pattern_in ids x)) e (drop (n + 1) entries))
+      ap (λ es. option_map (λ k. n + k) (first_of_key ids es key)) (drop_item entries n e within is)
+      ∙ ap (option_map (λ k. n + k)) (position_cons (λ x. is_pattern key (pattern_in ids x)) e (drop (n + 1) entries))
 
   pub pattern_noted : (p : Pattern) (key : Pattern) (old new : Option ℕ) → pattern_in ids e ≡ Some p → new ≡ cond (is_eq (pattern_cmp p key)) (Some n) old → old ≡ from key (n + 1) → new ≡ from key n
   pattern_noted p key old new has step before =

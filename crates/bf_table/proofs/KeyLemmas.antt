@@ -17,7 +17,7 @@ use Rattle.bf_table.specs.declared.table.TableEntry.{TableEntry}
 use Rattle.bf_table.specs.declared.table_index.Pattern.{Pattern}
 use Rattle.bf_table.specs.Tables.{answers_for_in, is_number_in, is_text_in}
 use Rattle.bf_table.specs.TableIndex.{date_named, earlier_of, first_of_keys, is_pattern, keys_of, keys_with_date, keys_with_index, keys_with_task, number_named, pattern_cmp, pattern_in, IsIndexOf, pattern_of_try}
-use Rattle.bf_plan.proofs.ListLemmas.{position-cons}
+use Rattle.bf_plan.proofs.ListLemmas.{position_cons}
 use Rattle.bf_try.proofs.Pushes.{same_answer}
 
 -- ---- the first that passes
@@ -25,11 +25,11 @@ use Rattle.bf_try.proofs.Pushes.{same_answer}
 pass_same : {X : Type 0} (p q : X → Bool) (xs : List X) → ((x : X) → p x ≡ q x) → position p xs ≡ position q xs
 pass_same p q [] same = refl
 pass_same p q (x ∷ xs) same =
-    position-cons p x xs ∙ ap₂ (λ b o. if b then Some 0 else option_map suc o) (same x) (pass_same p q xs same) ∙ sym (position-cons q x xs)
+    position_cons p x xs ∙ ap₂ (λ b o. if b then Some 0 else option_map suc o) (same x) (pass_same p q xs same) ∙ sym (position_cons q x xs)
 
 never_passes : {X : Type 0} (xs : List X) → position (λ x. false) xs ≡ None
 never_passes [] = refl
-never_passes (x ∷ xs) = position-cons (λ y. false) x xs ∙ ap (option_map suc) (never_passes xs)
+never_passes (x ∷ xs) = position_cons (λ y. false) x xs ∙ ap (option_map suc) (never_passes xs)
 
 either : (a b : Bool) (m n : Option ℕ) → (if a || b then Some 0 else option_map suc (earlier_of m n)) ≡ earlier_of (if a then Some 0 else option_map suc m) (if b then Some 0 else option_map suc n)
 either true true m n = refl
@@ -45,12 +45,12 @@ either false false (Some m) (Some n) = ap Some (omega arith)
 one_passes : {X : Type 0} (p q : X → Bool) (xs : List X) → position (λ x. p x || q x) xs ≡ earlier_of (position p xs) (position q xs)
 one_passes p q [] = refl
 one_passes p q (x ∷ xs) =
-    position-cons (λ y. p y || q y) x xs ∙ ap (λ o. if p x || q x then Some 0 else option_map suc o) (one_passes p q xs)
-    ∙ either (p x) (q x) (position p xs) (position q xs) ∙ ap₂ earlier_of (sym (position-cons p x xs)) (sym (position-cons q x xs))
+    position_cons (λ y. p y || q y) x xs ∙ ap (λ o. if p x || q x then Some 0 else option_map suc o) (one_passes p q xs)
+    ∙ either (p x) (q x) (position p xs) (position q xs) ∙ ap₂ earlier_of (sym (position_cons p x xs)) (sym (position_cons q x xs))
 
 find_passing : {X : Type 0} (p : X → Bool) (xs : List X) → find p xs ≡ option_and_then (slice_get xs) (position p xs)
 find_passing p [] = refl
-find_passing p (x ∷ xs) = by (p x) (position p xs) (find_passing p xs) ∙ ap (option_and_then (slice_get (x ∷ xs))) (sym (position-cons p x xs))
+find_passing p (x ∷ xs) = by (p x) (position p xs) (find_passing p xs) ∙ ap (option_and_then (slice_get (x ∷ xs))) (sym (position_cons p x xs))
   where
     by : (b : Bool) (o : Option ℕ) → find p xs ≡ option_and_then (slice_get xs) o → (if b then Some x else find p xs) ≡ option_and_then (slice_get (x ∷ xs)) (if b then Some 0 else option_map suc o)
     by true o e = refl

@@ -9,7 +9,7 @@ use Rattle.serde_json.specs.Data.{Data}
 use Rattle.serde_json.specs.Read.{read}
 use Rattle.serde_json.specs.View.{view, items_view, members_view}
 use Rattle.serde_json.specs.declared.value.Value.{Value}
-use Rattle.bf_value.proofs.ReadLemmas.{drop-item}
+use Rattle.bf_value.proofs.ReadLemmas.{drop_item}
 use Rattle.bf_table.specs.declared.table.TableEntry.{TableEntry}
 use Rattle.bf_table.specs.declared.table.TableFault.{TableFault}
 use Rattle.bf_table.specs.Tables.{is_key_in, has_known_keys_in, entry_of, entries_of, entries_from, longest_table, json_of_file}
@@ -34,7 +34,7 @@ abbrev at : List TableEntry → ℕ → List Value → Option TableEntry → Res
 at es n vs o = after es (entries_from n (o ∷ entries_of (items_view (drop (n + 1) vs))))
 
 next : (es : List TableEntry) (vs : List Value) (n : ℕ) (v : Value) → n < length vs → v ≡ get_or vs n v → after es (read_from n vs) ≡ at es n vs (entry_of (view v))
-next es vs n v h is = ap (λ us. after es (entries_from n (entries_of (items_view us)))) (drop-item vs n v h is)
+next es vs n v h is = ap (λ us. after es (entries_from n (entries_of (items_view us)))) (drop_item vs n v h is)
 
 -- ---- the file
 

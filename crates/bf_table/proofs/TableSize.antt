@@ -31,10 +31,10 @@ lexed_byte in_string space x xs k h = omega (arith, h in_string)
 lexed_byte in_string other x xs k h = omega (arith, h in_string)
 lexed_byte in_escape c x xs k h = omega (arith, h in_string)
 
-length-lex : (m : Mode) (xs : List ℕ) → length (lex m xs) ≤ length xs
+length_lex : (m : Mode) (xs : List ℕ) → length (lex m xs) ≤ length xs
 unfolding lex
-length-lex m [] = omega arith
-length-lex m (x ∷ xs) = lexed_byte m (class x) x xs (λ next. lex next xs) (λ next. length-lex next xs)
+length_lex m [] = omega arith
+length_lex m (x ∷ xs) = lexed_byte m (class x) x xs (λ next. lex next xs) (λ next. length_lex next xs)
 
 allowed : (b : Bool) (t : Token) (k : Place → List Token) (next : Place) (n : ℕ) → ((p : Place) → length (k p) ≤ n) → length (if_allowed b t k next) ≤ suc n
 allowed true t k next n h = omega (arith, h next)
@@ -53,27 +53,27 @@ placed p (boolean v) b k n h = allowed _ _ k _ n h
 placed p null b k n h = allowed _ _ k _ n h
 placed p bad b k n h = omega arith
 
-length-punctuate : (p : Place) (ls : List Lexeme) → length (punctuate p ls) ≤ suc (length ls)
+length_punctuate : (p : Place) (ls : List Lexeme) → length (punctuate p ls) ≤ suc (length ls)
 unfolding punctuate
-length-punctuate fresh [] = omega arith
-length-punctuate after_value [] = omega arith
-length-punctuate after_comma [] = omega arith
-length-punctuate after_key [] = omega arith
-length-punctuate fresh (token t ∷ ls) = placed fresh t (begins_colon ls) (λ next. punctuate next ls) (suc (length ls)) (λ q. length-punctuate q ls)
-length-punctuate after_value (token t ∷ ls) = placed after_value t (begins_colon ls) (λ next. punctuate next ls) (suc (length ls)) (λ q. length-punctuate q ls)
-length-punctuate after_comma (token t ∷ ls) = placed after_comma t (begins_colon ls) (λ next. punctuate next ls) (suc (length ls)) (λ q. length-punctuate q ls)
-length-punctuate after_key (token t ∷ ls) = placed after_key t (begins_colon ls) (λ next. punctuate next ls) (suc (length ls)) (λ q. length-punctuate q ls)
-length-punctuate fresh (comma ∷ ls) = omega arith
-length-punctuate after_value (comma ∷ ls) = omega (arith, length-punctuate after_comma ls)
-length-punctuate after_comma (comma ∷ ls) = omega arith
-length-punctuate after_key (comma ∷ ls) = omega arith
-length-punctuate fresh (colon ∷ ls) = omega arith
-length-punctuate after_value (colon ∷ ls) = omega arith
-length-punctuate after_comma (colon ∷ ls) = omega arith
-length-punctuate after_key (colon ∷ ls) = omega (arith, length-punctuate fresh ls)
+length_punctuate fresh [] = omega arith
+length_punctuate after_value [] = omega arith
+length_punctuate after_comma [] = omega arith
+length_punctuate after_key [] = omega arith
+length_punctuate fresh (token t ∷ ls) = placed fresh t (begins_colon ls) (λ next. punctuate next ls) (suc (length ls)) (λ q. length_punctuate q ls)
+length_punctuate after_value (token t ∷ ls) = placed after_value t (begins_colon ls) (λ next. punctuate next ls) (suc (length ls)) (λ q. length_punctuate q ls)
+length_punctuate after_comma (token t ∷ ls) = placed after_comma t (begins_colon ls) (λ next. punctuate next ls) (suc (length ls)) (λ q. length_punctuate q ls)
+length_punctuate after_key (token t ∷ ls) = placed after_key t (begins_colon ls) (λ next. punctuate next ls) (suc (length ls)) (λ q. length_punctuate q ls)
+length_punctuate fresh (comma ∷ ls) = omega arith
+length_punctuate after_value (comma ∷ ls) = omega (arith, length_punctuate after_comma ls)
+length_punctuate after_comma (comma ∷ ls) = omega arith
+length_punctuate after_key (comma ∷ ls) = omega arith
+length_punctuate fresh (colon ∷ ls) = omega arith
+length_punctuate after_value (colon ∷ ls) = omega arith
+length_punctuate after_comma (colon ∷ ls) = omega arith
+length_punctuate after_key (colon ∷ ls) = omega (arith, length_punctuate fresh ls)
 
-length-tokens : (text : List ℕ) → length (tokens text) ≤ suc (length text)
-length-tokens text = omega (arith, length-punctuate fresh (lex between text), length-lex between text)
+length_tokens : (text : List ℕ) → length (tokens text) ≤ suc (length text)
+length_tokens text = omega (arith, length_punctuate fresh (lex between text), length_lex between text)
 
 -- ---- at most one item a token
 
@@ -195,7 +195,7 @@ few_items bytes d there ds is =
     let few : DataAtMost (length (tokens bytes)) (read bytes) = few_in_data _ (json.value max_depth (tokens bytes)) (few_in_value 126 (tokens bytes)) in
     let short : length bytes ≤ longest_table = leb-true _ _ both.0 in
     let fits : items_len ds ≤ length (tokens bytes) = array_of _ d ds (subst (λ (r : Option Data). DataAtMost (length (tokens bytes)) r) both.1 few) is in
-    omega (arith, length-tokens bytes)
+    omega (arith, length_tokens bytes)
   where
     was_read : (short text : Bool) (o : Option Data) (d : Data) → (if short && text then o else None) ≡ Some d → (short ≡ true) × (o ≡ Some d)
     was_read true true o d e = (refl, e)

@@ -9,7 +9,7 @@ use Rattle.serde_json.specs.Read.{read}
 use Rattle.bf_value.specs.Json.{deepest, plain_in, plains_in, pushed_of, json_of, value_of_line, value_or_text}
 use Rattle.bf_value.specs.Plain.{Plain, flag, int, text, list, nil, Plains, none, more, plain_depth, plains_depth}
 use Rattle.bf_value.specs.Views.{plain_of}
-use Rattle.bf_value.proofs.TextLemmas.{IsUtf8-text_of, value_of_line-text_of}
+use Rattle.bf_value.proofs.TextLemmas.{IsUtf8-text_of, value_of_line_text_of}
 use Rattle.bf_value.specs.declared.xval.Xval.{Xval}
 use Rattle.bf_value.specs.declared.xval.Xval.TheVariants.{Flag, Int, Text, List as ListOf, Nil}
 use Rattle.bf_plan.specs.declared.plan.Dag.{Dag}
@@ -19,9 +19,9 @@ use Rattle.bf_try.specs.declared.answers.Line.{Line}
 use Rattle.bf_try.specs.declared.answers.Raw.{Raw}
 use Rattle.bf_try.specs.Grades.{HasSoundValue, fits_in, grade_of, grade_answer, grade_line_of, grade_status, grade_value, is_status, is_value_of_lines_in, may_push_in}
 
-int-some : (o : Option ℤ) (p : Plain) → option_map int o ≡ Some p → plain_depth p ≤ 0
-int-some None p e = cc
-int-some (Some z) p e = let is : int z ≡ p = cc in subst (λ (q : Plain). plain_depth q ≤ 0) is (omega arith)
+int_some : (o : Option ℤ) (p : Plain) → option_map int o ≡ Some p → plain_depth p ≤ 0
+int_some None p e = cc
+int_some (Some z) p e = let is : int z ≡ p = cc in subst (λ (q : Plain). plain_depth q ≤ 0) is (omega arith)
 
 listed : (n : ℕ) (o : Option Plains) (p : Plain) → ((ps : Plains) → o ≡ Some ps → plains_depth ps ≤ suc n) → option_map list o ≡ Some p → plain_depth p ≤ suc n
 listed n None p deep e = cc
@@ -39,109 +39,109 @@ joined n (Some p) (Some qs) ps deep deeper e =
 
 -- lists of data that is read n deep nest no deeper
 mutual
-  depth-read : (n : ℕ) (d : Data) (p : Plain) → plain_in n d ≡ Some p → plain_depth p ≤ n
-  depth-read n null p e = let is : nil ≡ p = cc in subst (λ (q : Plain). plain_depth q ≤ n) is (omega arith)
-  depth-read n (boolean b) p e = let is : flag b ≡ p = cc in subst (λ (q : Plain). plain_depth q ≤ n) is (omega arith)
-  depth-read n (number x) p e = let low : plain_depth p ≤ 0 = int-some (as_i64 x) p e in omega (arith, low)
-  depth-read n (string s) p e = let is : text s ≡ p = cc in subst (λ (q : Plain). plain_depth q ≤ n) is (omega arith)
-  depth-read zero (array ds) p e = cc
-  depth-read (suc n) (array ds) p e = listed n (plains_in n ds) p (λ ps h. depths-read n ds ps h) e
-  depth-read n (object ms) p e = cc
+  depth_read : (n : ℕ) (d : Data) (p : Plain) → plain_in n d ≡ Some p → plain_depth p ≤ n
+  depth_read n null p e = let is : nil ≡ p = cc in subst (λ (q : Plain). plain_depth q ≤ n) is (omega arith)
+  depth_read n (boolean b) p e = let is : flag b ≡ p = cc in subst (λ (q : Plain). plain_depth q ≤ n) is (omega arith)
+  depth_read n (number x) p e = let low : plain_depth p ≤ 0 = int_some (as_i64 x) p e in omega (arith, low)
+  depth_read n (string s) p e = let is : text s ≡ p = cc in subst (λ (q : Plain). plain_depth q ≤ n) is (omega arith)
+  depth_read zero (array ds) p e = cc
+  depth_read (suc n) (array ds) p e = listed n (plains_in n ds) p (λ ps h. depths_read n ds ps h) e
+  depth_read n (object ms) p e = cc
 
-  depths-read : (n : ℕ) (ds : Items) (ps : Plains) → plains_in n ds ≡ Some ps → plains_depth ps ≤ suc n
-  depths-read n no_items ps e = let is : none ≡ ps = cc in subst (λ (q : Plains). plains_depth q ≤ suc n) is (omega arith)
-  depths-read n (item d ds) ps e = joined n (plain_in n d) (plains_in n ds) ps (λ p h. depth-read n d p h) (λ qs h. depths-read n ds qs h) e
+  depths_read : (n : ℕ) (ds : Items) (ps : Plains) → plains_in n ds ≡ Some ps → plains_depth ps ≤ suc n
+  depths_read n no_items ps e = let is : none ≡ ps = cc in subst (λ (q : Plains). plains_depth q ≤ suc n) is (omega arith)
+  depths_read n (item d ds) ps e = joined n (plain_in n d) (plains_in n ds) ps (λ p h. depth_read n d p h) (λ qs h. depths_read n ds qs h) e
 
 -- what is read is null only where the data is
-not-nil : (n : ℕ) (d : Data) → d ≢ null → plain_in n d ≡ Some nil → ⊥
-not-nil n null other e = other refl
-not-nil n (boolean b) other e = cc
-not-nil n (number x) other e = none_in (as_i64 x) e
+not_nil : (n : ℕ) (d : Data) → d ≢ null → plain_in n d ≡ Some nil → ⊥
+not_nil n null other e = other refl
+not_nil n (boolean b) other e = cc
+not_nil n (number x) other e = none_in (as_i64 x) e
   where
     none_in : (o : Option ℤ) → option_map int o ≡ Some nil → ⊥
     none_in None h = cc
     none_in (Some z) h = cc
-not-nil n (string s) other e = cc
-not-nil zero (array ds) other e = cc
-not-nil (suc n) (array ds) other e = none_in (plains_in n ds) e
+not_nil n (string s) other e = cc
+not_nil zero (array ds) other e = cc
+not_nil (suc n) (array ds) other e = none_in (plains_in n ds) e
   where
     none_in : (o : Option Plains) → option_map list o ≡ Some nil → ⊥
     none_in None h = cc
     none_in (Some ps) h = cc
-not-nil n (object ms) other e = cc
+not_nil n (object ms) other e = cc
 
-read-values : (line : List ℕ) (d : Data) → d ≢ null → is_value_of_lines_in (Some (value_or_text line (plain_in deepest d))) ≡ true
-read-values line d other = by (plain_in deepest d) refl
+read_values : (line : List ℕ) (d : Data) → d ≢ null → is_value_of_lines_in (Some (value_or_text line (plain_in deepest d))) ≡ true
+read_values line d other = by (plain_in deepest d) refl
   where
     by : (o : Option Plain) → plain_in deepest d ≡ o → is_value_of_lines_in (Some (value_or_text line o)) ≡ true
     by None e = refl
     by (Some (flag b)) e = refl
     by (Some (int z)) e = refl
     by (Some (text s)) e = refl
-    by (Some (list ps)) e = let low : plain_depth (list ps) ≤ deepest = depth-read deepest d (list ps) e in le-leb _ _ low
-    by (Some nil) e = absurd (not-nil deepest d other e)
+    by (Some (list ps)) e = let low : plain_depth (list ps) ≤ deepest = depth_read deepest d (list ps) e in le-leb _ _ low
+    by (Some nil) e = absurd (not_nil deepest d other e)
 
-pushed-values : (line : List ℕ) (o : Option Data) → is_value_of_lines_in (pushed_of line o) ≡ true
-pushed-values line None = refl
-pushed-values line (Some null) = refl
-pushed-values line (Some (boolean b)) = read-values line (boolean b) (λ e. cc)
-pushed-values line (Some (number x)) = read-values line (number x) (λ e. cc)
-pushed-values line (Some (string s)) = read-values line (string s) (λ e. cc)
-pushed-values line (Some (array ds)) = read-values line (array ds) (λ e. cc)
-pushed-values line (Some (object ms)) = read-values line (object ms) (λ e. cc)
+pushed_values : (line : List ℕ) (o : Option Data) → is_value_of_lines_in (pushed_of line o) ≡ true
+pushed_values line None = refl
+pushed_values line (Some null) = refl
+pushed_values line (Some (boolean b)) = read_values line (boolean b) (λ e. cc)
+pushed_values line (Some (number x)) = read_values line (number x) (λ e. cc)
+pushed_values line (Some (string s)) = read_values line (string s) (λ e. cc)
+pushed_values line (Some (array ds)) = read_values line (array ds) (λ e. cc)
+pushed_values line (Some (object ms)) = read_values line (object ms) (λ e. cc)
 
 -- a line pushes nothing or a value of lines
-lines-values : (line : List ℕ) → is_value_of_lines_in (value_of_line line) ≡ true
-lines-values [] = refl
-lines-values (b ∷ bs) = pushed-values (b ∷ bs) (read (b ∷ bs))
+lines_values : (line : List ℕ) → is_value_of_lines_in (value_of_line line) ≡ true
+lines_values [] = refl
+lines_values (b ∷ bs) = pushed_values (b ∷ bs) (read (b ∷ bs))
 
-value-fits : (dag : Dag) (t : ℕ) (v : Option Xval) → is_value_of_lines_in v ≡ true → fits_in dag t (grade_value dag t v) ≡ true
+value_fits : (dag : Dag) (t : ℕ) (v : Option Xval) → is_value_of_lines_in v ≡ true → fits_in dag t (grade_value dag t v) ≡ true
 unfolding fits_in
-value-fits dag t v ok = by (may_push_in dag t v) refl
+value_fits dag t v ok = by (may_push_in dag t v) refl
   where
     by : (b : Bool) → may_push_in dag t v ≡ b → fits_in dag t (if b then Outcome.Success v else Outcome.Failed) ≡ true
     by true e = rw (ok, e) refl
     by false e = refl
 
-line-fits : (dag : Dag) (t : ℕ) (line : List ℕ) → fits_in dag t (grade_line_of dag t line) ≡ true
+line_fits : (dag : Dag) (t : ℕ) (line : List ℕ) → fits_in dag t (grade_line_of dag t line) ≡ true
 unfolding fits_in
-line-fits dag t line = by (is_utf8 line)
+line_fits dag t line = by (is_utf8 line)
   where
     by : (b : Bool) → fits_in dag t (if b then grade_value dag t (value_of_line line) else Outcome.Failed) ≡ true
-    by true = value-fits dag t (value_of_line line) (lines-values line)
+    by true = value_fits dag t (value_of_line line) (lines_values line)
     by false = refl
 
-status-fits : (dag : Dag) (t : ℕ) (status : ℤ) (line : List ℕ) → fits_in dag t (grade_status dag t status line) ≡ true
+status_fits : (dag : Dag) (t : ℕ) (status : ℤ) (line : List ℕ) → fits_in dag t (grade_status dag t status line) ≡ true
 unfolding fits_in
-status-fits dag t status line = by (is_status 99 status) (is_status 0 status)
+status_fits dag t status line = by (is_status 99 status) (is_status 0 status)
   where
     by : (skips succeeds : Bool) → fits_in dag t (if skips then Outcome.Skipped else (if succeeds then grade_line_of dag t line else Outcome.Failed)) ≡ true
     by true b = refl
-    by false true = line-fits dag t line
+    by false true = line_fits dag t line
     by false false = refl
 
-answer-fits : (dag : Dag) (t : ℕ) (exit : Exit) (line : Line) → fits_in dag t (grade_answer dag t exit line) ≡ true
+answer_fits : (dag : Dag) (t : ℕ) (exit : Exit) (line : Line) → fits_in dag t (grade_answer dag t exit line) ≡ true
 unfolding fits_in
-answer-fits dag t (Exit.Code status) (Line.Bytes line) = status-fits dag t status line
-answer-fits dag t _ _ = refl
+answer_fits dag t (Exit.Code status) (Line.Bytes line) = status_fits dag t status line
+answer_fits dag t _ _ = refl
 
 -- a grade fits
 pub grade_fits : (dag : Dag) (t : ℕ) (raw : Raw) → fits_in dag t (grade_of dag t raw) ≡ true
 unfolding grade_of
-grade_fits dag t raw = answer-fits dag t raw.exit raw.line
+grade_fits dag t raw = answer_fits dag t raw.exit raw.line
 
 -- ---- and what fits is a grade
 
-value-fact : (x : Xval) → is_value_of_lines_in (Some x) ≡ true → (x ≢ Nil) × (plain_depth (plain_of x) ≤ deepest)
-value-fact (Flag b) e = (λ h. cc, omega arith)
-value-fact (Int z) e = (λ h. cc, omega arith)
-value-fact (Text s) e = (λ h. cc, omega arith)
-value-fact (ListOf ps) e = (λ h. cc, leb-true _ _ e)
-value-fact Nil e = cc
+value_fact : (x : Xval) → is_value_of_lines_in (Some x) ≡ true → (x ≢ Nil) × (plain_depth (plain_of x) ≤ deepest)
+value_fact (Flag b) e = (λ h. cc, omega arith)
+value_fact (Int z) e = (λ h. cc, omega arith)
+value_fact (Text s) e = (λ h. cc, omega arith)
+value_fact (ListOf ps) e = (λ h. cc, leb-true _ _ e)
+value_fact Nil e = cc
 
 -- the text of a value that lines may have is a line with this value
 pub line_reads_back : (x : Xval) (line : List ℕ) → (x ≢ Nil → plain_depth (plain_of x) ≤ deepest → value_of_line line ≡ Some x) → is_value_of_lines_in (Some x) ≡ true → value_of_line line ≡ Some x
-line_reads_back x line back e = let fact = value-fact x e in back fact.0 fact.1
+line_reads_back x line back e = let fact = value_fact x e in back fact.0 fact.1
 
 success_parts : (dag : Dag) (t : ℕ) (v : Option Xval) → fits_in dag t (Outcome.Success v) ≡ true → (is_value_of_lines_in v ≡ true) × (may_push_in dag t v ≡ true)
 unfolding fits_in
@@ -177,6 +177,6 @@ coded status line = record { exit = Exit.Code (pos status); line = Line.Bytes li
 pub fit_graded : (dag : Dag) (t : ℕ) (o : Outcome) → HasSoundValue o → fits_in dag t o ≡ true → (raw : Raw) × (grade_of dag t raw ≡ o)
 fit_graded dag t (Outcome.Success None) sound e = (coded 0 [], success_graded dag t None [] IsUtf8-nil (λ _. refl) e)
 fit_graded dag t (Outcome.Success (Some x)) sound e =
-    (coded 0 (json_of x), success_graded dag t (Some x) (json_of x) (IsUtf8-text_of x sound) (line_reads_back x (json_of x) (λ some deep. value_of_line-text_of x sound deep some)) e)
+    (coded 0 (json_of x), success_graded dag t (Some x) (json_of x) (IsUtf8-text_of x sound) (line_reads_back x (json_of x) (λ some deep. value_of_line_text_of x sound deep some)) e)
 fit_graded dag t Outcome.Failed sound e = (coded 1 [], failed_answered Outcome.Failed (coded 1 []) [] refl refl dag t)
 fit_graded dag t Outcome.Skipped sound e = (coded 99 [], skipped_answered Outcome.Skipped (coded 99 []) [] refl refl dag t)

@@ -33,34 +33,34 @@ below_power = decimal_by_steps (λ m ds. m < 10 ^ length ds) (λ m l. omega arit
         let longer : length (ds ++ ((48 + m % 10) ∷ [])) ≡ suc (length ds) = omega (arith, length-append ds ((48 + m % 10) ∷ [])) in
         rw (longer, pow-succ' 10 (length ds)) (omega arith)
 
-pub length-decimal_zero : length (decimal 0) ≡ 1
-length-decimal_zero = ap length (decimal_digit 0 (omega arith))
+pub length_decimal_zero : length (decimal 0) ≡ 1
+length_decimal_zero = ap length (decimal_digit 0 (omega arith))
 
-pub length-decimal : (n k : ℕ) → n < 2 ^ 64 → 10 ^ k ≤ n → n < 10 * 10 ^ k → length (decimal n) ≡ k + 1
-length-decimal n k small low high =
+pub length_decimal : (n k : ℕ) → n < 2 ^ 64 → 10 ^ k ≤ n → n < 10 * 10 ^ k → length (decimal n) ≡ k + 1
+length_decimal n k small low high =
     let above : length (decimal n) ≤ k → ⊥ = λ h. omega (arith, pow-le-pow_right {n = 10} (omega arith) h, below_power n small) in
     let below : n < 10 ^ suc k = rw (pow-succ' 10 k) high in
     omega (arith, above, length-decimal-le (suc k) n (omega arith) below small)
 
 -- ---- texts
 
-length-cond : (b c : Bool) (xs ys zs : List ℕ) → length (cond b xs (cond c ys zs)) ≡ cond b (length xs) (cond c (length ys) (length zs))
-length-cond true c xs ys zs = refl
-length-cond false true xs ys zs = refl
-length-cond false false xs ys zs = refl
+length_cond : (b c : Bool) (xs ys zs : List ℕ) → length (cond b xs (cond c ys zs)) ≡ cond b (length xs) (cond c (length ys) (length zs))
+length_cond true c xs ys zs = refl
+length_cond false true xs ys zs = refl
+length_cond false false xs ys zs = refl
 
-pub length-escape_byte : (x : ℕ) → length (escape_byte x) ≡ cond (nat_lt 0 (escape_letter x)) 2 (cond (nat_lt x 32) 6 1)
+pub length_escape_byte : (x : ℕ) → length (escape_byte x) ≡ cond (nat_lt 0 (escape_letter x)) 2 (cond (nat_lt x 32) 6 1)
 unfolding escape_byte
-length-escape_byte x = length-cond (nat_lt 0 (escape_letter x)) (nat_lt x 32) _ _ _
+length_escape_byte x = length_cond (nat_lt 0 (escape_letter x)) (nat_lt x 32) _ _ _
 
-pub ruleset escape_lengths = (length-escape_byte)
+pub ruleset escape_lengths = (length_escape_byte)
 
 -- the bytes that a byte of a text takes
 abbrev pub byte_size : ℕ → ℕ
 byte_size x = length (escape_byte x)
 
-pub length-quoted : (s : List ℕ) → length (quoted s) ≡ 2 + sum_by byte_size s
-length-quoted s = omega (arith, length-append (escape s) (34 ∷ []), length-flat_map escape_byte s)
+pub length_quoted : (s : List ℕ) → length (quoted s) ≡ 2 + sum_by byte_size s
+length_quoted s = omega (arith, length-append (escape s) (34 ∷ []), length-flat_map escape_byte s)
 
 -- ---- lists
 
@@ -72,15 +72,15 @@ all_below (x ∷ xs) n some below = omega (arith, below 0 x (omega arith), all_b
 abbrev pub item_size : Xval → ℕ
 item_size x = length (json_of x) + 1
 
-rest-size : (xs : List Xval) → length (items_text true (data_items (plains_of xs))) ≡ 1 + sum_by item_size xs
-rest-size [] = refl
-rest-size (x ∷ xs) = omega (arith, length-append (json_of x) (items_text true (data_items (plains_of xs))), rest-size xs, sum_by-cons item_size x xs)
+rest_size : (xs : List Xval) → length (items_text true (data_items (plains_of xs))) ≡ 1 + sum_by item_size xs
+rest_size [] = refl
+rest_size (x ∷ xs) = omega (arith, length-append (json_of x) (items_text true (data_items (plains_of xs))), rest_size xs, sum_by-cons item_size x xs)
 
-length-list_text : (xs : List Xval) → (length xs == 0) ≡ false → length (list_text (plains_of xs)) ≡ 1 + sum_by item_size xs
-length-list_text [] some = cc
-length-list_text (x ∷ xs) some = omega (arith, length-append (json_of x) (items_text true (data_items (plains_of xs))), rest-size xs, sum_by-cons item_size x xs)
+length_list_text : (xs : List Xval) → (length xs == 0) ≡ false → length (list_text (plains_of xs)) ≡ 1 + sum_by item_size xs
+length_list_text [] some = cc
+length_list_text (x ∷ xs) some = omega (arith, length-append (json_of x) (items_text true (data_items (plains_of xs))), rest_size xs, sum_by-cons item_size x xs)
 
 -- the text of a list that holds these items, and not none
 pub list_size : (ps : Plains) (items : List Xval) (count : ℕ) → plains_of items ≡ ps → length items ≡ count → false ≡ (count == 0) → length (list_text ps) ≡ 1 + sum_by item_size items
 list_size ps items count seen many some =
-    ap (λ qs. length (list_text qs)) (sym seen) ∙ length-list_text items (ap (λ n. n == 0) many ∙ sym some)
+    ap (λ qs. length (list_text qs)) (sym seen) ∙ length_list_text items (ap (λ n. n == 0) many ∙ sym some)

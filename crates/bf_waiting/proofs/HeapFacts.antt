@@ -6,7 +6,7 @@ use Rattle.std.specs.BinaryHeap.{IsUpperBound}
 use Rattle.std.proofs.lemmas.Cmp.{ranked, int_ranked}
 use Rattle.std.proofs.lemmas.Int.{ints}
 use Rattle.std.proofs.lemmas.List.Sorted.{Contains-permutation, IsPermutation-sym}
-use Rattle.bf_core.proofs.Members.{contains-first, contains-rest, contains-cases}
+use Rattle.bf_core.proofs.Members.{contains_first, contains_rest, contains_cases}
 use Rattle.bf_waiting.specs.declared.batches.Batch.{Batch}
 use Rattle.bf_waiting.specs.declared.delays.Delay.{Delay}
 use Rattle.bf_waiting.specs.Classes.{AreReleased, batch_of}
@@ -25,27 +25,27 @@ HasLost old x new = HasGained new x old
 module _ {X : Type 0} where
   pub gained : (x : X) (old new : List X) → IsPermutation (x ∷ old) new → HasGained old x new
   gained x old new p = record {
-    kept = λ y c. Contains-permutation (x ∷ old) new y p (contains-rest x old y c);
-    gained = Contains-permutation (x ∷ old) new x p (contains-first x old);
-    no_more = λ y c. contains-cases x old y (Contains-permutation new (x ∷ old) y (IsPermutation-sym (x ∷ old) new p) c);
+    kept = λ y c. Contains-permutation (x ∷ old) new y p (contains_rest x old y c);
+    gained = Contains-permutation (x ∷ old) new x p (contains_first x old);
+    no_more = λ y c. contains_cases x old y (Contains-permutation new (x ∷ old) y (IsPermutation-sym (x ∷ old) new p) c);
   }
 
   pub lost : (x : X) (old new : List X) → IsPermutation old (x ∷ new) → HasLost old x new
   lost x old new p = gained x new old (IsPermutation-sym old (x ∷ new) p)
 
-  pub top-in : (xs : List X) (x : X) → Some x ≡ slice_get xs 0 → Contains xs x
-  top-in [] x e = cc
-  top-in (y ∷ ys) x e = let same : y ≡ x = cc in (0, omega arith, same)
+  pub top_in : (xs : List X) (x : X) → Some x ≡ slice_get xs 0 → Contains xs x
+  top_in [] x e = cc
+  top_in (y ∷ ys) x e = let same : y ≡ x = cc in (0, omega arith, same)
 
   -- what holds of the one that was taken holds of the one that was first
-  pub that-one : (P : X → Type 0) (taken first : Option X) (x : X) → taken ≡ first → Some x ≡ first → IfSome taken P → P x
-  that-one P None first x e f h = cc
-  that-one P (Some y) first x e f h = let both : Some y ≡ Some x = e ∙ sym f in let same : y ≡ x = cc in subst P same h
+  pub that_one : (P : X → Type 0) (taken first : Option X) (x : X) → taken ≡ first → Some x ≡ first → IfSome taken P → P x
+  that_one P None first x e f h = cc
+  that_one P (Some y) first x e f h = let both : Some y ≡ Some x = e ∙ sym f in let same : y ≡ x = cc in subst P same h
 
   -- what is bounded by x in an order is so related to it
   pub bounded : (R : X → X → Ordering) (P : X → X → Type 0) → ((x y : X) → is_lt (R x y) ≡ false → P x y) → (x : X) (xs : List X) → IsUpperBound R x xs → (y : X) → Contains xs y → P x y
   bounded R P holds x [] b y c = absurd (omega (arith, c.1))
-  bounded R P holds x (z ∷ zs) b y c = elim (contains-cases z zs y c) [ inl same ↦ rw same (holds x z b.0) | inr d ↦ bounded R P holds x zs b.1 y d ]
+  bounded R P holds x (z ∷ zs) b y c = elim (contains_cases z zs y c) [ inl same ↦ rw same (holds x z b.0) | inr d ↦ bounded R P holds x zs b.1 y d ]
 
 -- the order by two numbers and what follows, of which the lesser comes first
 lesser : (a b : ℕ) (q : Ordering) → is_lt (ordering_then (nat_cmp b a) q) ≡ false → (a < b) ⊎ ((a ≡ b) × (is_lt q ≡ false))
@@ -74,8 +74,8 @@ leads x y e = elim (lesser y.weight x.weight _ e) [
   )
 ]
 
-pub no-later : (x y : Delay) → is_lt (delay_cmp x y) ≡ false → x.moment.0 ≤ℤ y.moment.0
-no-later x y e = go (int_cmp y.moment.0 x.moment.0) refl _ e
+pub no_later : (x y : Delay) → is_lt (delay_cmp x y) ≡ false → x.moment.0 ≤ℤ y.moment.0
+no_later x y e = go (int_cmp y.moment.0 x.moment.0) refl _ e
   where
     go : (m : Ordering) → m ≡ int_cmp y.moment.0 x.moment.0 → (q : Ordering) → is_lt (ordering_then m q) ≡ false → x.moment.0 ≤ℤ y.moment.0
     go Less a q e = cc
@@ -83,9 +83,9 @@ no-later x y e = go (int_cmp y.moment.0 x.moment.0) refl _ e
     go Equal a q e = let h = int_ranked y.moment.0 x.moment.0 Equal a in omega (arith, ints, h)
 
 -- one more delay is released
-pub released-more : (now : ℤ) (weights : List ℕ) (batches mid new : List Batch) (delays mid_delays new_delays : List Delay) (d : Delay) → AreReleased now weights batches delays mid mid_delays → d.moment.0 ≤ℤ now →
+pub released_more : (now : ℤ) (weights : List ℕ) (batches mid new : List Batch) (delays mid_delays new_delays : List Delay) (d : Delay) → AreReleased now weights batches delays mid mid_delays → d.moment.0 ≤ℤ now →
     IsPermutation mid_delays (d ∷ new_delays) → IsPermutation (batch_of weights d.run d.task d.place ∷ mid) new → AreReleased now weights batches delays new new_delays
-released-more now weights batches mid new delays mid_delays new_delays d is come taken added = record {
+released_more now weights batches mid new delays mid_delays new_delays d is come taken added = record {
   kept = λ x c. more.kept x (is.kept x c);
   no_more = λ x c. elim (more.no_more x c) [ inl e ↦ inr (d, is.fewer d less.gained, e) | inr m ↦ is.no_more x m ];
   fewer = λ x c. is.fewer x (less.kept x c);

@@ -13,12 +13,12 @@ use Rattle.bf_waiting.specs.Standings.{IsReadyAt}
 use Rattle.bf_waiting.proofs.HeapFacts.{HasGained, gained, lost}
 
 -- another place than the first is a later one
-pub not-first : (found : Option ℕ) (f p : ℕ) → false ≡ option_eq nat_eq found (Some f) → found ≡ Some p → f ≤ p → f < p
-not-first found f p e is l = let g : false ≡ nat_eq p f = e ∙ ap (λ (o : Option ℕ). option_eq nat_eq o (Some f)) is in grind (arith, nat_tests, g)
+pub not_first : (found : Option ℕ) (f p : ℕ) → false ≡ option_eq nat_eq found (Some f) → found ≡ Some p → f ≤ p → f < p
+not_first found f p e is l = let g : false ≡ nat_eq p f = e ∙ ap (λ (o : Option ℕ). option_eq nat_eq o (Some f)) is in grind (arith, nat_tests, g)
 
-pub found-none : (found : Option ℕ) (Q : Type 0) → ((p : ℕ) → found ≡ Some p → ⊥) → IfNone found Q → Q
-found-none None Q never q = q
-found-none (Some p) Q never q = absurd (never p refl)
+pub found_none : (found : Option ℕ) (Q : Type 0) → ((p : ℕ) → found ≡ Some p → ⊥) → IfNone found Q → Q
+found_none None Q never q = q
+found_none (Some p) Q never q = absurd (never p refl)
 
 -- how many places the batch has, and one
 abbrev pub places_left : Batch → ℕ
@@ -39,11 +39,11 @@ module _ (b : Backfill) (old mid : List Batch) (passed : ArePassed b old mid) (x
       less : HasGained new x mid
       less = lost x mid new taken
 
-      none-of : (k t i : ℕ) → IsReadyAt b k t i → Covers x k t i → ⊥
-      none-of k t i r c = none i c.from c.to (subst (λ (a : ℕ). IsReadyAt b a x.task.0 i) (sym c.run) (subst (λ (u : ℕ). IsReadyAt b k u i) (sym c.task) r))
+      none_of : (k t i : ℕ) → IsReadyAt b k t i → Covers x k t i → ⊥
+      none_of k t i r c = none i c.from c.to (subst (λ (a : ℕ). IsReadyAt b a x.task.0 i) (sym c.run) (subst (λ (u : ℕ). IsReadyAt b k u i) (sym c.task) r))
 
       go : (k t i : ℕ) → IsReadyAt b k t i → HasBatch mid k t i → HasBatch new k t i
-      go k t i r h = elim (less.no_more h.0 h.1) [ inl same ↦ absurd (none-of k t i r (subst (λ (y : Batch). Covers y k t i) same h.2)) | inr n ↦ (h.0, n, h.2) ]
+      go k t i r h = elim (less.no_more h.0 h.1) [ inl same ↦ absurd (none_of k t i r (subst (λ (y : Batch). Covers y k t i) same h.2)) | inr n ↦ (h.0, n, h.2) ]
 
   -- a batch goes on at the first that is ready
   pub advanced : (taken new : List Batch) (p : ℕ) → IsPermutation mid (x ∷ taken) → IsPermutation (from_place x p ∷ taken) new → x.first.0 ≤ p →
@@ -69,8 +69,8 @@ module _ (b : Backfill) (old mid : List Batch) (passed : ArePassed b old mid) (x
       ]
 
 -- fewer places are left
-pub fewer-dropped : (x : Batch) (mid new : List Batch) → IsPermutation mid (x ∷ new) → sum_by places_left new < sum_by places_left mid
-fewer-dropped x mid new taken = omega (arith, sum_by_popped places_left x mid new taken)
+pub fewer_dropped : (x : Batch) (mid new : List Batch) → IsPermutation mid (x ∷ new) → sum_by places_left new < sum_by places_left mid
+fewer_dropped x mid new taken = omega (arith, sum_by_popped places_left x mid new taken)
 
-pub fewer-advanced : (x : Batch) (p : ℕ) (mid taken new : List Batch) → IsPermutation mid (x ∷ taken) → IsPermutation (from_place x p ∷ taken) new → x.first.0 < p → p ≤ x.last → sum_by places_left new < sum_by places_left mid
-fewer-advanced x p mid taken new out added later within = omega (arith, sum_by_popped places_left x mid taken out, sum_by_pushed places_left (from_place x p) taken new added, later, within)
+pub fewer_advanced : (x : Batch) (p : ℕ) (mid taken new : List Batch) → IsPermutation mid (x ∷ taken) → IsPermutation (from_place x p ∷ taken) new → x.first.0 < p → p ≤ x.last → sum_by places_left new < sum_by places_left mid
+fewer_advanced x p mid taken new out added later within = omega (arith, sum_by_popped places_left x mid taken out, sum_by_pushed places_left (from_place x p) taken new added, later, within)

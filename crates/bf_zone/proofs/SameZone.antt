@@ -73,9 +73,9 @@ same_rule a b dt e = same_dst a.std_offset b.std_offset a.dst b.dst dt (same_off
 
 -- ---- tables
 
-prefix_len-map : {X Y : Type 0} (p : Y → Bool) (f : X → Y) (xs : List X) → prefix_len p (map f xs) ≡ prefix_len (λ x. p (f x)) xs
-prefix_len-map p f [] = refl
-prefix_len-map p f (x ∷ xs) = ap (λ n. cond (p (f x)) (1 + n) 0) (prefix_len-map p f xs)
+prefix_len_map : {X Y : Type 0} (p : Y → Bool) (f : X → Y) (xs : List X) → prefix_len p (map f xs) ≡ prefix_len (λ x. p (f x)) xs
+prefix_len_map p f [] = refl
+prefix_len_map p f (x ∷ xs) = ap (λ n. cond (p (f x)) (1 + n) 0) (prefix_len_map p f xs)
 
 -- two tables that say the same
 abbrev Alike : Tzif → Tzif → Type 0
@@ -96,9 +96,9 @@ same_text z w i e = text_is z i ∙ (λ j. get_or (rows z w e j) i (stand_in ((e
 
 same_count : (z w : Tzif) (s : ℤ) → Alike z w → civil_count_at z s ≡ civil_count_at w s
 same_count z w s e =
-    sym (prefix_len-map (λ r. int_le (Text.civil_start r) s) transition_text z.transitions.items)
+    sym (prefix_len_map (λ r. int_le (Text.civil_start r) s) transition_text z.transitions.items)
     ∙ ap (prefix_len (λ r. int_le (Text.civil_start r) s)) (rows z w e)
-    ∙ prefix_len-map (λ r. int_le (Text.civil_start r) s) transition_text w.transitions.items
+    ∙ prefix_len_map (λ r. int_le (Text.civil_start r) s) transition_text w.transitions.items
 
 same_inside : (z w : Tzif) (n : ℕ) (s : ℤ) → Alike z w → is_inside z n s ≡ is_inside w n s
 same_inside z w n s e = ap (λ r. cond (n == 0) false (int_lt s (Text.civil_end r))) (same_text z w (n - 1) e)

@@ -10,7 +10,7 @@ use Rattle.bf_plan.specs.declared.plan.Task.{Task}
 use Rattle.bf_check.specs.declared.pulls.Pulls.{Pulls}
 use Rattle.bf_check.specs.Checking.{ids_of, task_in}
 use Rattle.bf_check.specs.Looks.{pulls_in}
-use Rattle.bf_check.proofs.ListLemmas.{map-then, pair_at, zip_ended}
+use Rattle.bf_check.proofs.ListLemmas.{map_then, pair_at, zip_ended}
 use Rattle.bf_check.proofs.TaskLemmas.{comes_next, has_links, links_are, pulls_found}
 use Rattle.bf_check.proofs.tasks.tasks_of.Goals as goal
 
@@ -75,4 +75,4 @@ returns c =
     let ended = zip_ended (into_iter_items c.loop-draft.draft-iterator.a) (into_iter_items c.loop-draft.draft-iterator.b) (elim c.in-None.ensures.steps [ inl none ↦ inl (let zero = none.1.0 in let ok = c.loop-draft.draft-iterator.a.rest.ok in omega (arith, zero, ok)) | inr none ↦ inr (let zero = none.1.0 in let ok = c.loop-draft.draft-iterator.b.rest.ok in omega (arith, zero, ok)) ]) in
     let all : yielded ≡ zip drafts pulls = sym (append-nil yielded) ∙ ap (λ (pairs : List (TaskDraft × Pulls)). yielded ++ pairs) (sym ended) ∙ c.loop-draft.invariant.left in
     let same = ap length c.requires.found.pulls_are ∙ length-map drafts (pulls_in (ids_of drafts)) in
-    c.loop-draft.invariant.made ∙ ap (map (made drafts)) all ∙ sym (map-then (λ (both : TaskDraft × Pulls). both.0) (task_in (ids_of drafts)) (zip drafts pulls)) ∙ ap (map (task_in (ids_of drafts))) (firsts-zip drafts pulls same)
+    c.loop-draft.invariant.made ∙ ap (map (made drafts)) all ∙ sym (map_then (λ (both : TaskDraft × Pulls). both.0) (task_in (ids_of drafts)) (zip drafts pulls)) ∙ ap (map (task_in (ids_of drafts))) (firsts-zip drafts pulls same)

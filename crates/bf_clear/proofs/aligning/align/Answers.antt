@@ -4,7 +4,7 @@ use Rattle.std.specs.Str.{bytes_eq}
 use Rattle.bf_interval.specs.declared.interval.Interval.{Interval}
 use Rattle.bf_core.specs.Terms.{Dag, Task}
 use Rattle.bf_clear.specs.Aligning.{AreAligned, AreApart}
-use Rattle.bf_clear.proofs.Aligned.{aligned-by-ids, tasks-apart}
+use Rattle.bf_clear.proofs.Aligned.{aligned_by_ids, tasks_apart}
 use Rattle.bf_clear.proofs.aligning.align.Goals as goal
 
 pub runs_by-requires-clause-apart : goal.runs_by-requires-clause-apart
@@ -14,7 +14,7 @@ runs_by-requires-clause-apart c =
     let all : c.as_slice-tasks.result.now ≡ tasks = c.as_slice-tasks.ensures ∙ ap (λ (dag : Dag). dag.tasks) c.dag-dag.ensures.dag in
     let are : c.as_slice-2.result.now ≡ map (λ (task : Task). position (bytes_eq task.id) ids) tasks =
     c.as_slice-2.ensures.value ∙ (c.in_ok-places.ensures ∙ (λ k. map (λ (task : Task). position (bytes_eq task.id) (c.as_slice.ensures k)) (all k))) in
-    subst AreApart (sym are) (tasks-apart ids tasks c.dag-dag.ensures.named.distinct)
+    subst AreApart (sym are) (tasks_apart ids tasks c.dag-dag.ensures.named.distinct)
 
 pub returns : goal.returns
 returns c =
@@ -24,7 +24,7 @@ returns c =
     let are : c.as_slice-2.result.now ≡ map (λ (task : Task). position (bytes_eq task.id) ids) dag.tasks =
     c.as_slice-2.ensures.value ∙ (c.in_ok-places.ensures ∙ (λ k. map (λ (task : Task). position (bytes_eq task.id) (c.as_slice.ensures k)) (all k))) in
     let runs : AreAligned dag c.args.report c.intervals.result.now c.in_ok-runs.runs =
-    aligned-by-ids c.as_slice-2.result.now c.into_vec.result.items dag c.args.report c.into_vec.ensures are c.intervals.result.now c.in_ok-runs.runs c.in_ok-runs.ensures in
+    aligned_by_ids c.as_slice-2.result.now c.into_vec.result.items dag c.args.report c.into_vec.ensures are c.intervals.result.now c.in_ok-runs.runs c.in_ok-runs.ensures in
     record {
       version = refl;
       dag_id = refl;

@@ -5,7 +5,7 @@ use Rattle.bf_interval.specs.declared.interval.Interval.{Interval}
 use Rattle.bf_report.specs.declared.report.RunReport.{RunReport}
 use Rattle.bf_report.specs.declared.report.TaskReport.{TaskReport}
 use Rattle.bf_clear.specs.Aligning.{AreAlignedBy, tasks_at, told_at}
-use Rattle.bf_clear.proofs.Aligned.{aligned-more}
+use Rattle.bf_clear.proofs.Aligned.{aligned_more}
 use Rattle.bf_clear.proofs.aligning.runs_by.Goals as goal
 
 pub loop-i-preserved : goal.loop-i-preserved
@@ -21,7 +21,7 @@ loop-i-preserved c =
     record {
       so_far = subst (λ (done : List Interval). AreAlignedBy c.args.places.now told done c.push.new.self.items) (sym (take_more intervals i interval within))
           (subst (λ (runs : List RunReport). AreAlignedBy c.args.places.now told (take i intervals ++ get_or intervals i interval ∷ []) runs) (sym {A = List RunReport} c.in_ok-push.ensures.items)
-          (aligned-more c.args.places.now told (take i intervals) c.loop-i.runs.items (get_or intervals i interval) _ c.loop-i.invariant.so_far is counts));
+          (aligned_more c.args.places.now told (take i intervals) c.loop-i.runs.items (get_or intervals i interval) _ c.loop-i.invariant.so_far is counts));
       left = λ k d le below.
           (let rises = c.requires.of_runs.rising i k d (omega (arith, le)) below in
           let here : interval ≡ get_or intervals i d = is ∙ get_or_default intervals i interval d within in

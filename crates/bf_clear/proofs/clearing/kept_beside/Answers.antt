@@ -4,7 +4,7 @@ use Rattle.bf_dependents.specs.declared.place.Place.{Place}
 use Rattle.bf_dependents.specs.Dependents.{AreDependents}
 use Rattle.bf_clear.specs.Entries.{IsWithin}
 use Rattle.bf_clear.specs.Keeping.{AreKept, Clearance, kept_in}
-use Rattle.bf_clear.proofs.Lookups.{kept-told}
+use Rattle.bf_clear.proofs.Lookups.{kept_told}
 use Rattle.bf_clear.proofs.clearing.kept_beside.Goals as goal
 
 pub returns-clause-kept : goal.returns-clause-kept
@@ -15,7 +15,7 @@ returns-clause-kept c =
     let places : List Place = c.args.places.now in
     let are : AreDependents dag places (length intervals) c.in_ok-cleared.cleared = c.in_ok-cleared.ensures in
     let within = subst (λ (found : List Interval). IsWithin dag (length found) report) (sym c.intervals-intervals.ensures.intervals) c.requires in
-    subst (λ (k : Clearance). AreKept dag places report (kept_in k)) (sym c.new.ensures) (kept-told dag places (length intervals) c.in_ok-cleared.cleared report are within)
+    subst (λ (k : Clearance). AreKept dag places report (kept_in k)) (sym c.new.ensures) (kept_told dag places (length intervals) c.in_ok-cleared.cleared report are within)
 
 pub returns-clause-follows : goal.returns-clause-follows
 returns-clause-follows c = rw (c.new.ensures, ← c.intervals-intervals.ensures.intervals) c.in_ok-cleared.ensures

@@ -4,7 +4,7 @@ use Rattle.bf_core.specs.Terms.{JobName}
 use Rattle.bf_dependents.specs.declared.place.Place.{Place}
 use Rattle.bf_dependents.specs.Listing.{up_to}
 use Rattle.bf_clear.specs.Failing.{failed_at}
-use Rattle.bf_dependents.proofs.Listed.{up_to-more}
+use Rattle.bf_dependents.proofs.Listed.{up_to_more}
 use Rattle.bf_clear.proofs.failing.add_of_task.Goals as goal
 
 pub loop-place-preserved : goal.loop-place-preserved
@@ -21,4 +21,4 @@ loop-place-preserved c =
     let here = name ∙ ap (failed_at report c.args.run c.args.task) index in
     c.in_ok-add_failed-2.ensures
     ∙ (ap (λ xs. xs ++ failed_at report c.first_try-in-loop-place.result.run c.first_try-in-loop-place.result.task c.first_try-in-loop-place.result.index) c.loop-place.invariant
-    ∙ (ap (λ ys. (before ++ up_to f place) ++ ys) here ∙ up_to-more f before place))
+    ∙ (ap (λ ys. (before ++ up_to f place) ++ ys) here ∙ up_to_more f before place))

@@ -1,28 +1,28 @@
 use Rattle.std.proofs.Common.{sym, ap, ◌∙◌}
 use Rattle.bf_core.specs.Terms.{verdict}
 use Rattle.bf_core.specs.Events.{cell_at, seen_in}
-use Rattle.bf_core.proofs.Branching.{ruling-blocks, ruling-rules, ruling-skips, ruling-waits}
+use Rattle.bf_core.proofs.Branching.{ruling_blocks, ruling_rules, ruling_skips, ruling_waits}
 use Rattle.bf_core.proofs.upstreams.ruling.Goals as goal
 
 pub returns-then-not-all_let_decide : goal.returns-then-not-all_let_decide
 returns-then-not-all_let_decide c =
-    ruling-waits c.args.plan.now.dag (λ u. seen_in (cell_at c.args.state.now c.args.run u)) c.args.task c.dag-dag.result.now c.dag-dag.ensures.dag c.task-decided.result.now c.task-decided.ensures
+    ruling_waits c.args.plan.now.dag (λ u. seen_in (cell_at c.args.state.now c.args.run u)) c.args.task c.dag-dag.result.now c.dag-dag.ensures.dag c.task-decided.result.now c.task-decided.ensures
     c.as_slice-upstreams.result.now c.as_slice-upstreams.ensures (sym c.if-not-all_let_decide.true ∙ c.all_let_decide.ensures)
 
 pub returns-then-any_skips : goal.returns-then-any_skips
 returns-then-any_skips c =
-    ruling-skips c.args.plan.now.dag (λ u. seen_in (cell_at c.args.state.now c.args.run u)) c.args.task c.dag-dag.result.now c.dag-dag.ensures.dag c.task-decided.result.now c.task-decided.ensures
+    ruling_skips c.args.plan.now.dag (λ u. seen_in (cell_at c.args.state.now c.args.run u)) c.args.task c.dag-dag.result.now c.dag-dag.ensures.dag c.task-decided.result.now c.task-decided.ensures
     c.as_slice-upstreams.result.now c.as_slice-upstreams.ensures (sym c.if-not-all_let_decide.false ∙ c.all_let_decide.ensures) (sym c.if-any_skips.true ∙ c.any_skips.ensures)
 
 pub returns-then-any_blocks : goal.returns-then-any_blocks
 returns-then-any_blocks c =
-    ruling-blocks c.args.plan.now.dag (λ u. seen_in (cell_at c.args.state.now c.args.run u)) c.args.task c.dag-dag.result.now c.dag-dag.ensures.dag c.task-decided.result.now c.task-decided.ensures
+    ruling_blocks c.args.plan.now.dag (λ u. seen_in (cell_at c.args.state.now c.args.run u)) c.args.task c.dag-dag.result.now c.dag-dag.ensures.dag c.task-decided.result.now c.task-decided.ensures
     c.as_slice-upstreams.result.now c.as_slice-upstreams.ensures (sym c.if-not-all_let_decide.false ∙ c.all_let_decide.ensures) (sym c.if-any_skips.false ∙ c.any_skips.ensures)
     (sym c.if-any_blocks.true ∙ c.any_blocks.ensures)
 
 pub returns-else-any_blocks : goal.returns-else-any_blocks
 returns-else-any_blocks c =
     c.verdict.ensures ∙ ap (verdict c.task-decided.result.now.rule) c.counts_of_upstreams-counts.ensures
-    ∙ ruling-rules c.args.plan.now.dag (λ u. seen_in (cell_at c.args.state.now c.args.run u)) c.args.task c.dag-dag.result.now c.dag-dag.ensures.dag c.task-decided.result.now c.task-decided.ensures
+    ∙ ruling_rules c.args.plan.now.dag (λ u. seen_in (cell_at c.args.state.now c.args.run u)) c.args.task c.dag-dag.result.now c.dag-dag.ensures.dag c.task-decided.result.now c.task-decided.ensures
     c.as_slice-upstreams.result.now c.as_slice-upstreams.ensures (sym c.if-not-all_let_decide.false ∙ c.all_let_decide.ensures) (sym c.if-any_skips.false ∙ c.any_skips.ensures)
     (sym c.if-any_blocks.false ∙ c.any_blocks.ensures)

@@ -1,19 +1,19 @@
 use Rattle.std.proofs.Common.{arith, sym, ◌∙◌}
-use Rattle.bf_due.proofs.Adding.{around-asked, around-open, row-asked}
-use Rattle.bf_due.proofs.Reached.{held-at}
+use Rattle.bf_due.proofs.Adding.{around_asked, around_open, row_asked}
+use Rattle.bf_due.proofs.Reached.{held_at}
 use Rattle.bf_due.proofs.asking.ask_around.Goals as goal
 
 pub returns-then-is_settled : goal.returns-then-is_settled
 returns-then-is_settled c =
-    around-asked c.args.core.now c.args.core.now.state c.args.news c.args.rows.now.items _ c.ask_in.new.rows.items _ _ _
-    (row-asked c.args.core.now c.args.news.run _ c.args.rows.now.items c.index_mut-row.result.now c.is_settled.new.self _ _ (omega (arith, c.requires.there.0, c.requires.rows)) c.index_mut-row.ensures.value
+    around_asked c.args.core.now c.args.core.now.state c.args.news c.args.rows.now.items _ c.ask_in.new.rows.items _ _ _
+    (row_asked c.args.core.now c.args.news.run _ c.args.rows.now.items c.index_mut-row.result.now c.is_settled.new.self _ _ (omega (arith, c.requires.there.0, c.requires.rows)) c.index_mut-row.ensures.value
     (λ is. (c.is_settled.ensures.reached (c.ask_under.ensures.asks is).0, (c.ask_under.ensures.asks is).1)))
     c.ask_in.ensures
 
 pub returns-else-is_settled : goal.returns-else-is_settled
 returns-else-is_settled c =
-    around-open c.args.core.now c.args.core.now.state c.args.news c.args.rows.now.items _ _ _
-    (row-asked c.args.core.now c.args.news.run _ c.args.rows.now.items c.index_mut-row.result.now c.is_settled.new.self _ _ (omega (arith, c.requires.there.0, c.requires.rows)) c.index_mut-row.ensures.value
+    around_open c.args.core.now c.args.core.now.state c.args.news c.args.rows.now.items _ _ _
+    (row_asked c.args.core.now c.args.news.run _ c.args.rows.now.items c.index_mut-row.result.now c.is_settled.new.self _ _ (omega (arith, c.requires.there.0, c.requires.rows)) c.index_mut-row.ensures.value
     (λ is. (c.is_settled.ensures.reached (c.ask_under.ensures.asks is).0, (c.ask_under.ensures.asks is).1)))
     (λ reached. sym (c.is_settled.ensures.settled (c.ask_under.ensures.asks (reached c.args.news.run c.index_mut-row.result.now
-    (held-at c.args.rows.now.items c.args.news.run c.index_mut-row.result.now (omega (arith, c.requires.there.0, c.requires.rows)) c.index_mut-row.ensures.value))).0) ∙ c.if-is_settled.false)
+    (held_at c.args.rows.now.items c.args.news.run c.index_mut-row.result.now (omega (arith, c.requires.there.0, c.requires.rows)) c.index_mut-row.ensures.value))).0) ∙ c.if-is_settled.false)

@@ -3,7 +3,7 @@ use Rattle.bf_graph.specs.Edges.{IsUpstream}
 use Rattle.bf_graph.specs.Shape.{Shape}
 use Rattle.bf_graph.specs.Lookups.{IsRisingListOf}
 use Rattle.bf_plan.specs.Plans.{shape_of}
-use Rattle.bf_due.proofs.Adding.{below-there, few-rising}
+use Rattle.bf_due.proofs.Adding.{below_there, few_rising}
 use Rattle.bf_due.proofs.asking.downstreams.Goals as goal
 
 pub returns : goal.returns
@@ -13,6 +13,6 @@ returns c =
     subst (λ (g : Shape). IsRisingListOf (IsUpstream g.upstreams c.args.task) c.downstreams.result.now) same c.downstreams.ensures in
     record {
       rising = rising;
-      tasks = below-there c.args.core.now.dag c.args.task c.downstreams.result.now rising;
-      few = few-rising c.downstreams.result.now _ rising.rising (below-there c.args.core.now.dag c.args.task c.downstreams.result.now rising);
+      tasks = below_there c.args.core.now.dag c.args.task c.downstreams.result.now rising;
+      few = few_rising c.downstreams.result.now _ rising.rising (below_there c.args.core.now.dag c.args.task c.downstreams.result.now rising);
     }

@@ -1,10 +1,10 @@
 use Rattle.std.proofs.Common.{List, [], subst}
 use Rattle.bf_due.specs.declared.agenda.Step.{Step}
 use Rattle.bf_due.specs.Dues.{HasAdded, IsOfRun}
-use Rattle.bf_due.proofs.Adding.{one-run-more}
+use Rattle.bf_due.proofs.Adding.{one_run_more}
 use Rattle.bf_due.proofs.due.steps_of_runs.Goals as goal
 
 pub loop-run-preserved : goal.loop-run-preserved
 loop-run-preserved c =
-    one-run-more c.args.core.now c.loop-run.run [] c.loop-run.agenda.items c.ask_run.new.agenda.items c.loop-run.invariant
+    one_run_more c.args.core.now c.loop-run.run [] c.loop-run.agenda.items c.ask_run.new.agenda.items c.loop-run.invariant
     (subst (λ (xs : List Step). HasAdded c.args.core.now (IsOfRun c.loop-run.run) xs c.ask_run.new.agenda.items) c.make_room.ensures.items (c.ask_run.ensures (c.unknown-row.ensures c.args.core.now c.loop-run.run)).1)

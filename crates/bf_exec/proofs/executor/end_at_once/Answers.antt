@@ -1,11 +1,11 @@
 use Rattle.std.proofs.Common.{ap}
 use Rattle.bf_sched.specs.Scheduling.{Schedule, end_of}
-use Rattle.bf_sched.proofs.Answering.{may-finish}
+use Rattle.bf_sched.proofs.Answering.{may_finish}
 use Rattle.bf_exec.proofs.Shown.{one_shown, same_shown, still_shown}
 use Rattle.bf_exec.proofs.executor.end_at_once.Goals as goal
 
 pub finish_running-requires : goal.finish_running-requires
-finish_running-requires g c = may-finish c.args.scheduler.now.backfill c.args.ticket c.in-Ok.done c.requires c.in-Ok.ensures.ok.0 c.in-Ok.ensures.ok.1
+finish_running-requires g c = may_finish c.args.scheduler.now.backfill c.args.ticket c.in-Ok.done c.requires c.in-Ok.ensures.ok.0 c.in-Ok.ensures.ok.1
 
 pub returns-in_ok-finish_running-in-Ok-clause-none : goal.returns-in_ok-finish_running-in-Ok-clause-none
 returns-in_ok-finish_running-in-Ok-clause-none g c = record { answer = c.in-Ok.done; is_name = c.in-Ok.ensures.ok.0; is_given = c.in-Ok.ensures.ok.1; may_be = c.in-Ok.ensures.ok.2; finished = c.in_ok-finish_running-in-Ok.ensures.ok }

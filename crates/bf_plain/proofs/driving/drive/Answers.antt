@@ -3,7 +3,7 @@ use Rattle.bf_core.specs.Driven.{IsDriven, IsOver}
 use Rattle.bf_core.specs.Running.{running_now}
 use Rattle.bf_sched.specs.Scheduling.{Schedule}
 use Rattle.bf_sched.proofs.Driving.{driven_first, ends_over, opening_idle}
-use Rattle.bf_plain.proofs.Ticking.{ends-so}
+use Rattle.bf_plain.proofs.Ticking.{ends_so}
 use Rattle.bf_plain.proofs.driving.drive.Goals as goal
 
 pub new-requires-2 : goal.new-requires-2
@@ -26,5 +26,5 @@ returns-clause-ticks g c =
     let last = c.all_turns.new.scheduler in
     let driven : IsDriven may dag limits (g.N.RunCount.runs c.args.runs.now) c.one.result last.backfill = driven_first may c.in_ok-core.core dag limits _ _ c.in_ok-scheduler.scheduler last c.dag-sound.ensures.sound c.limits-fit.ensures.fit
     (c.in_ok-core.ensures {u = tt}) (c.in_ok-scheduler.ensures {u = tt}) c.in_ok-all_turns.ensures.driven in
-    ends-so c.in_ok-core.core dag limits _ _ c.in_ok-scheduler.scheduler last c.in-Ok.ended (c.in_ok-core.ensures {u = tt}) (c.in_ok-scheduler.ensures {u = tt}) c.in_ok-all_turns.ensures.ticks
+    ends_so c.in_ok-core.core dag limits _ _ c.in_ok-scheduler.scheduler last c.in-Ok.ended (c.in_ok-core.ensures {u = tt}) (c.in_ok-scheduler.ensures {u = tt}) c.in_ok-all_turns.ensures.ticks
     driven.dag driven.limits driven.runs c.in-Ok.ensures.ok

@@ -2,7 +2,7 @@ use Rattle.std.proofs.Common.{◌≡◌, ◌<◌, ◌+◌, ℕ, List, [], Bor, l
 use Rattle.std.proofs.lemmas.List.{get_or-map, length-map}
 use Rattle.bf_dependents.specs.declared.seeds.Seed.{Seed}
 use Rattle.bf_seeds.specs.Seeds.{AreSeeds, IsFaultOfLine, IsSeedOf}
-use Rattle.bf_seeds.proofs.Lines.{earliest, one-line}
+use Rattle.bf_seeds.proofs.Lines.{earliest, one_line}
 use Rattle.bf_seeds.proofs.reading.seeds_of.Goals as goal
 
 pub returns-in-Err-clause-err : goal.returns-in-Err-clause-err
@@ -29,5 +29,5 @@ loop-line-preserved c =
     let low : i < length texts = omega (arith, test, length-map all (λ (s : Bor (List ℕ)). s.now)) in
     let here : get_or texts i [] ≡ (get_or all i none).now = get_or-map (λ (s : Bor (List ℕ)). s.now) all i none [] test in
     subst (λ (ss : List Seed). AreSeeds dag c.args.intervals.now (take (i + 1) texts) ss) (sym c.in_ok-add-in-Ok.ensures)
-    (one-line dag c.args.intervals.now texts i c.loop-line.seeds.items c.in-Ok.seed low c.loop-line.invariant
+    (one_line dag c.args.intervals.now texts i c.loop-line.seeds.items c.in-Ok.seed low c.loop-line.invariant
     (subst (λ (t : List ℕ). IsSeedOf dag c.args.intervals.now t c.in-Ok.seed) (sym here) c.in-Ok.ensures.ok))

@@ -1,11 +1,11 @@
 use Rattle.bf_waiting.proofs.Each.{got}
-use Rattle.bf_waiting.proofs.Leading.{all-best, best-more}
+use Rattle.bf_waiting.proofs.Leading.{all_best, best_more}
 use Rattle.bf_waiting.proofs.waiting.best_of.Goals as goal
 
 pub loop-class-preserved : goal.loop-class-preserved
 loop-class-preserved c =
-    best-more c.args.core.now c.args.classes.now c.loop-class.class-index c.loop-class.best c.candidate.result c.leading-best.result c.class-item.result (got _ _ _ c.loop-class-test.true c.class-item.is)
+    best_more c.args.core.now c.args.classes.now c.loop-class.class-index c.loop-class.best c.candidate.result c.leading-best.result c.class-item.result (got _ _ _ c.loop-class-test.true c.class-item.is)
     c.candidate.ensures.some c.candidate.ensures.first c.candidate.ensures.none c.leading-best.ensures c.loop-class.invariant
 
 pub returns : goal.returns
-returns c = all-best c.args.core.now c.args.classes.now c.loop-class.class-index c.loop-class.best c.loop-class-test.false c.loop-class.invariant
+returns c = all_best c.args.core.now c.args.classes.now c.loop-class.class-index c.loop-class.best c.loop-class-test.false c.loop-class.invariant

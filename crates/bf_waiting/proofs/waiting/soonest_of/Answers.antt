@@ -1,10 +1,10 @@
 use Rattle.bf_waiting.proofs.Each.{got}
-use Rattle.bf_waiting.proofs.Soonest.{all-soonest, soonest-more}
+use Rattle.bf_waiting.proofs.Soonest.{all_soonest, soonest_more}
 use Rattle.bf_waiting.proofs.waiting.soonest_of.Goals as goal
 
 pub loop-class-preserved : goal.loop-class-preserved
 loop-class-preserved c =
-    rw c.sooner-soonest.ensures (soonest-more c.args.classes.now c.loop-class.class-index c.loop-class.soonest c.moment.result c.class-item.result (got _ _ _ c.loop-class-test.true c.class-item.is) c.moment.ensures.one c.moment.ensures.first c.moment.ensures.none c.loop-class.invariant)
+    rw c.sooner-soonest.ensures (soonest_more c.args.classes.now c.loop-class.class-index c.loop-class.soonest c.moment.result c.class-item.result (got _ _ _ c.loop-class-test.true c.class-item.is) c.moment.ensures.one c.moment.ensures.first c.moment.ensures.none c.loop-class.invariant)
 
 pub returns : goal.returns
-returns c = all-soonest c.args.classes.now c.loop-class.class-index c.loop-class.soonest c.loop-class-test.false c.loop-class.invariant
+returns c = all_soonest c.args.classes.now c.loop-class.class-index c.loop-class.soonest c.loop-class-test.false c.loop-class.invariant

@@ -7,7 +7,7 @@ use Rattle.bf_check.specs.Checking.{ids_of, number_or_0}
 use Rattle.bf_check.specs.Looks.{numbers_in}
 use Rattle.bf_check.specs.Refusals.{has_unknown_upstream}
 use Rattle.bf_check.proofs.FaultLemmas.{told_by_each}
-use Rattle.bf_check.proofs.ListLemmas.{each_found, map-then, none_by_test, none_mapped}
+use Rattle.bf_check.proofs.ListLemmas.{each_found, map_then, none_by_test, none_mapped}
 use Rattle.bf_check.proofs.NumberLemmas.{all_known}
 use Rattle.bf_check.proofs.looks.Looks.upstreams.Goals as goal
 
@@ -28,5 +28,5 @@ returns-clause-upstreams c =
     let ids = ids_of draft.tasks in
     let numbers = c.in_ok-found.ensures ∙ ap (map (λ (task : TaskDraft). numbers_in c.args.self.now.ids.now task.upstreams)) c.as_slice.ensures ∙ ap (λ (xs : List (List ℕ)). map (λ (task : TaskDraft). numbers_in xs task.upstreams) draft.tasks) c.args.self.now.of_draft in
     IfOk-weaker _ _ _ (λ (each : Vec (Vec ℕ Global) Global) found. each_found (λ (task : TaskDraft). numbers_in ids task.upstreams) (λ (task : TaskDraft). map (number_or_0 ids) task.upstreams) draft.tasks (lists each.items)
-    (map-then items Some each.items ∙ sym (map-then Some (option_map items) each.items) ∙ ap (map (option_map items)) found ∙ numbers)
+    (map_then items Some each.items ∙ sym (map_then Some (option_map items) each.items) ∙ ap (map (option_map items)) found ∙ numbers)
     (λ task row is. (all_known ids task.upstreams row is).1)) c.found_of_each.ensures.found

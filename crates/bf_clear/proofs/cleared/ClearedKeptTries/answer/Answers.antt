@@ -6,7 +6,7 @@ use Rattle.bf_core.specs.Terms.{Dag}
 use Rattle.bf_kept.specs.Kept.{IsAnsweredBy}
 use Rattle.bf_dependents.specs.Dependents.{has_in}
 use Rattle.bf_clear.specs.Keeping.{Clearance, kept_in}
-use Rattle.bf_clear.proofs.Replies.{answers-here, answers-none}
+use Rattle.bf_clear.proofs.Replies.{answers_here, answers_none}
 use Rattle.bf_clear.proofs.cleared.ClearedKeptTries.answer.Goals as goal
 
 pub returns-in-Some : goal.returns-in-Some
@@ -17,7 +17,7 @@ returns-in-Some c =
     let index : to_z w32 (of_z w32 c.args.name.index) ≡ c.args.name.index = to_z-of_z w32 c.args.name.index fits in
     IfOk-weaker c.answer_of_instance.result _ _ (λ o is.
     subst (λ (k : Clearance). IsAnsweredBy (kept_in k) c.args.name c.args.given.now o) c.self.view_is
-    (answers-here inside c.args.name c.args.given.now c.in-Some.instance.now o
+    (answers_here inside c.args.name c.args.given.now c.in-Some.instance.now o
     (grind (arith, c.if-not-is_task.false, c.len.ensures, few))
     (sym (ap (λ (d : Dag). has_in d c.self.inside.cleared c.args.name.run c.args.name.task c.args.name.index) c.dag-dag.ensures.dag) ∙ (ap (has_in c.dag-dag.result.now c.self.inside.cleared c.args.name.run c.args.name.task) (sym index) ∙ (sym c.has.ensures ∙ c.if-has.false)))
     (sym c.instance_at.ensures ∙ ap option_copied c.in-Some.is) is))
@@ -27,4 +27,4 @@ pub returns-in-None : goal.returns-in-None
 returns-in-None c =
     let inside : Clearance = record { dag = c.self.inside.plan.now.dag; cleared = c.self.inside.cleared; report = c.self.inside.report } in
     subst (λ (k : Clearance). IsAnsweredBy (kept_in k) c.args.name c.args.given.now None) c.self.view_is
-    (answers-none inside c.args.name c.args.given.now (sym c.instance_at.ensures ∙ ap option_copied c.in-None.is))
+    (answers_none inside c.args.name c.args.given.now (sym c.instance_at.ensures ∙ ap option_copied c.in-None.is))

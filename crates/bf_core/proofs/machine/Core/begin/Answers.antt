@@ -1,32 +1,32 @@
 use Rattle.std.proofs.Common.{refl, ap, ◌∙◌}
 use Rattle.bf_core.specs.Terms.{Dag, Event, Phase}
 use Rattle.bf_core.specs.Events.{place_in}
-use Rattle.bf_core.proofs.Kept.{core-moved, moved-is, replay-rows}
+use Rattle.bf_core.proofs.Kept.{core_moved, moved_is, replay_rows}
 use Rattle.bf_core.proofs.Timing.{forgets}
-use Rattle.bf_core.proofs.Moving.{may-begin, begun-state, begun-slots}
-use Rattle.bf_core.proofs.Enabling.{present-there, present-cell}
+use Rattle.bf_core.proofs.Moving.{may_begin, begun_state, begun_slots}
+use Rattle.bf_core.proofs.Enabling.{present_there, present_cell}
 use Rattle.bf_core.proofs.machine.Core.begin.Goals as goal
 
 pub change-requires-clause-run : goal.change-requires-clause-run
 change-requires-clause-run c =
     let is : _ = rw (← c.self.view_is) at c.in_ok-demand.ensures.ok in
-    (present-there c.self.inside.plan.now.dag c.self.inside.state (replay-rows _ c.self.invariant.replayed) c.args.name Phase.Waiting is.present).0
+    (present_there c.self.inside.plan.now.dag c.self.inside.state (replay_rows _ c.self.invariant.replayed) c.args.name Phase.Waiting is.present).0
 
 pub change-requires-clause-task : goal.change-requires-clause-task
 change-requires-clause-task c =
     let is : _ = rw (← c.self.view_is) at c.in_ok-demand.ensures.ok in
-    present-cell c.self.inside.plan.now.dag c.self.inside.state (replay-rows _ c.self.invariant.replayed) c.args.name Phase.Waiting is.present
+    present_cell c.self.inside.plan.now.dag c.self.inside.state (replay_rows _ c.self.invariant.replayed) c.args.name Phase.Waiting is.present
 
 pub invariant_of-self-in-Ok : goal.invariant_of-self-in-Ok
 invariant_of-self-in-Ok c =
     let is : _ = rw (← c.self.view_is) at c.in_ok-demand.ensures.ok in
-    core-moved _ c.self.inside.pools (Event.Begin c.args.name) c.change.new.self _ c.push_reserved.new.self.items c.take.new.self _ c.self.invariant
-    (may-begin _ _ _ _ _ c.self.invariant c.args.name _ is (c.in-Ok.ensures.fits.0 refl))
-    (c.change.ensures ∙ begun-state _ _ _ _ _ c.self.invariant c.args.name _ is _ (c.place_of-place.ensures ∙ ap (λ (d : Dag). place_in d c.args.name) c.dag.ensures.dag))
+    core_moved _ c.self.inside.pools (Event.Begin c.args.name) c.change.new.self _ c.push_reserved.new.self.items c.take.new.self _ c.self.invariant
+    (may_begin _ _ _ _ _ c.self.invariant c.args.name _ is (c.in-Ok.ensures.fits.0 refl))
+    (c.change.ensures ∙ begun_state _ _ _ _ _ c.self.invariant c.args.name _ is _ (c.place_of-place.ensures ∙ ap (λ (d : Dag). place_in d c.args.name) c.dag.ensures.dag))
     (forgets c.self.inside.clock c.args.name c.forget.new.self c.forget.ensures)
     (c.push_reserved.ensures.items ∙ rw c.in_ok-reserve.ensures.items)
     c.in-Ok.ensures.ok.sizes
-    (begun-slots _ _ _ _ _ c.self.invariant c.args.name _ is c.take.new.self c.in-Ok.ensures.ok)
+    (begun_slots _ _ _ _ _ c.self.invariant c.args.name _ is c.take.new.self c.in-Ok.ensures.ok)
     refl
     refl
 
@@ -34,9 +34,9 @@ pub returns-in-Ok-clause-ok : goal.returns-in-Ok-clause-ok
 returns-in-Ok-clause-ok c =
     let is : _ = rw (← c.self.view_is) at c.in_ok-demand.ensures.ok in
     rw (← c.self.view_is) (
-      may-begin _ _ _ _ _ c.self.invariant c.args.name _ is (c.in-Ok.ensures.fits.0 refl),
-      moved-is _ (Event.Begin c.args.name) _ _ _
-          (c.change.ensures ∙ begun-state _ _ _ _ _ c.self.invariant c.args.name _ is _ (c.place_of-place.ensures ∙ ap (λ (d : Dag). place_in d c.args.name) c.dag.ensures.dag))
+      may_begin _ _ _ _ _ c.self.invariant c.args.name _ is (c.in-Ok.ensures.fits.0 refl),
+      moved_is _ (Event.Begin c.args.name) _ _ _
+          (c.change.ensures ∙ begun_state _ _ _ _ _ c.self.invariant c.args.name _ is _ (c.place_of-place.ensures ∙ ap (λ (d : Dag). place_in d c.args.name) c.dag.ensures.dag))
           (forgets c.self.inside.clock c.args.name c.forget.new.self c.forget.ensures)
           (c.push_reserved.ensures.items ∙ rw c.in_ok-reserve.ensures.items),
     )

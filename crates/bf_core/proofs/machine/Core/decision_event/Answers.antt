@@ -3,19 +3,19 @@ use Rattle.bf_core.specs.Terms.{Dag, State}
 use Rattle.bf_core.specs.Cores.{deciding}
 use Rattle.bf_core.specs.Deciding.{after_verdict}
 use Rattle.bf_core.specs.Events.{decision_in, goes_on_in, seen_in, cell_at}
-use Rattle.bf_core.proofs.Kept.{replay-rows}
-use Rattle.bf_core.proofs.Shape.{open-run}
-use Rattle.bf_core.proofs.Enabling.{decide-able, decision-by, goes_on-by, untimed}
+use Rattle.bf_core.proofs.Kept.{replay_rows}
+use Rattle.bf_core.proofs.Shape.{open_run_exists}
+use Rattle.bf_core.proofs.Enabling.{decide_able, decision_by, goes_on_by, untimed}
 use Rattle.bf_core.proofs.machine.Core.decision_event.Goals as goal
 
 pub is_undecided-requires : goal.is_undecided-requires
-is_undecided-requires c = rw c.dag-dag.ensures.dag (replay-rows _ c.self.invariant.replayed)
+is_undecided-requires c = rw c.dag-dag.ensures.dag (replay_rows _ c.self.invariant.replayed)
 
 pub returns-then-not-is_undecided-clause-none : goal.returns-then-not-is_undecided-clause-none
 returns-then-not-is_undecided-clause-none c =
     let is : _ = rw c.dag-dag.ensures.dag at c.is_undecided.ensures in
     rw (← c.self.view_is) (λ able.
-    let yes : c.is_undecided.result ≡ true = is.1 ((open-run c.self.inside.state c.args.run able.run_is_open, able.is_task), (able.run_is_open, able.undecided)) in
+    let yes : c.is_undecided.result ≡ true = is.1 ((open_run_exists c.self.inside.state c.args.run able.run_is_open, able.is_task), (able.run_is_open, able.undecided)) in
     let no : c.is_undecided.result ≡ false = c.if-not-is_undecided.true in
     let f : true ≡ false = sym yes ∙ no in
     cc)
@@ -25,7 +25,7 @@ returns-then-awaits-clause-none c =
     let dag : Dag = c.self.inside.plan.now.dag in
     let s : State = c.self.inside.state in
     let is : after_verdict c.dag-dag.result.now (λ u. seen_in (cell_at s c.args.run u)) c.args.task c.gate-verdict.result ≡ decision_in dag s c.args.run c.args.task =
-    decision-by dag c.dag-dag.result.now s c.args.run c.args.task c.gate-verdict.result _ c.dag-dag.ensures.dag c.gate-verdict.ensures refl in
+    decision_by dag c.dag-dag.result.now s c.args.run c.args.task c.gate-verdict.result _ c.dag-dag.ensures.dag c.gate-verdict.ensures refl in
     rw (← c.self.view_is) (λ able. able.decides (sym is ∙ c.awaits.ensures.0 c.if-awaits.true))
 
 pub returns-clause-may_come : goal.returns-clause-may_come
@@ -33,12 +33,12 @@ returns-clause-may_come c =
     let dag : Dag = c.self.inside.plan.now.dag in
     let s : State = c.self.inside.state in
     let now : _ = rw c.dag-dag.ensures.dag at (c.is_undecided.ensures.0 c.if-not-is_undecided.false) in
-    let on : c.goes_on.result ≡ goes_on_in dag s c.args.run c.args.task = goes_on-by dag c.dag-dag.result.now s c.args.run c.args.task c.gate-verdict.result c.goes_on.result c.dag-dag.ensures.dag c.gate-verdict.ensures c.goes_on.ensures in
+    let on : c.goes_on.result ≡ goes_on_in dag s c.args.run c.args.task = goes_on_by dag c.dag-dag.result.now s c.args.run c.args.task c.gate-verdict.result c.goes_on.result c.dag-dag.ensures.dag c.gate-verdict.ensures c.goes_on.ensures in
     let is : after_verdict c.dag-dag.result.now (λ u. seen_in (cell_at s c.args.run u)) c.args.task c.gate-verdict.result ≡ decision_in dag s c.args.run c.args.task =
-    decision-by dag c.dag-dag.result.now s c.args.run c.args.task c.gate-verdict.result _ c.dag-dag.ensures.dag c.gate-verdict.ensures refl in
+    decision_by dag c.dag-dag.result.now s c.args.run c.args.task c.gate-verdict.result _ c.dag-dag.ensures.dag c.gate-verdict.ensures refl in
     let named : c.deciding.result ≡ deciding (goes_on_in dag s c.args.run c.args.task) c.args.run c.args.task = c.deciding.ensures ∙ ap (λ g. deciding g c.args.run c.args.task) on in
     rw (← c.self.view_is, named) (
-      decide-able dag c.self.inside.plan.now.limits s c.args.run c.args.task (goes_on_in dag s c.args.run c.args.task) _ now refl is
+      decide_able dag c.self.inside.plan.now.limits s c.args.run c.args.task (goes_on_in dag s c.args.run c.args.task) _ now refl is
           (λ e. let f : true ≡ false = sym (c.awaits.ensures.1 e) ∙ c.if-awaits.false in cc),
       untimed c.self.inside.clock c.args.run c.args.task (goes_on_in dag s c.args.run c.args.task),
     )
@@ -47,5 +47,5 @@ pub returns-clause-decides : goal.returns-clause-decides
 returns-clause-decides c =
     let dag : Dag = c.self.inside.plan.now.dag in
     let s : State = c.self.inside.state in
-    let on : c.goes_on.result ≡ goes_on_in dag s c.args.run c.args.task = goes_on-by dag c.dag-dag.result.now s c.args.run c.args.task c.gate-verdict.result c.goes_on.result c.dag-dag.ensures.dag c.gate-verdict.ensures c.goes_on.ensures in
+    let on : c.goes_on.result ≡ goes_on_in dag s c.args.run c.args.task = goes_on_by dag c.dag-dag.result.now s c.args.run c.args.task c.gate-verdict.result c.goes_on.result c.dag-dag.ensures.dag c.gate-verdict.ensures c.goes_on.ensures in
     rw (← c.self.view_is) (c.deciding.ensures ∙ ap (λ g. deciding g c.args.run c.args.task) on)

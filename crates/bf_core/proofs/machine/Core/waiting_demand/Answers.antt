@@ -1,16 +1,16 @@
 use Rattle.std.proofs.Common.{true≢false, sym, ◌∙◌}
 use Rattle.bf_core.specs.Terms.{Phase}
-use Rattle.bf_core.proofs.Kept.{replay-rows}
-use Rattle.bf_core.proofs.Enabling.{present-known, present-there}
+use Rattle.bf_core.proofs.Kept.{replay_rows}
+use Rattle.bf_core.proofs.Enabling.{present_known, present_there}
 use Rattle.bf_core.proofs.machine.Core.waiting_demand.Goals as goal
 
 pub required-requires : goal.required-requires
-required-requires c = rw c.dag.ensures.dag (replay-rows _ c.self.invariant.replayed)
+required-requires c = rw c.dag.ensures.dag (replay_rows _ c.self.invariant.replayed)
 
 pub demand-requires : goal.demand-requires
 demand-requires c =
     let present : _ = rw c.dag.ensures.dag at c.in_ok-required.ensures.ok in
-    (present-there c.self.inside.plan.now.dag c.self.inside.state (replay-rows _ c.self.invariant.replayed) c.args.name Phase.Waiting present).1
+    (present_there c.self.inside.plan.now.dag c.self.inside.state (replay_rows _ c.self.invariant.replayed) c.args.name Phase.Waiting present).1
 
 pub returns-clause-ok : goal.returns-clause-ok
 returns-clause-ok c =
@@ -25,4 +25,4 @@ returns-clause-ok c =
 pub returns-then-not-lets_begin-clause-err : goal.returns-then-not-lets_begin-clause-err
 returns-then-not-lets_begin-clause-err c =
     let present : _ = rw c.dag.ensures.dag at c.in_ok-required.ensures.ok in
-    rw (← c.self.view_is) (present-known _ c.self.invariant.replayed c.args.name Phase.Waiting present, λ able. true≢false (sym (c.lets_begin.ensures.1 able.1) ∙ c.if-not-lets_begin.true))
+    rw (← c.self.view_is) (present_known _ c.self.invariant.replayed c.args.name Phase.Waiting present, λ able. true≢false (sym (c.lets_begin.ensures.1 able.1) ∙ c.if-not-lets_begin.true))

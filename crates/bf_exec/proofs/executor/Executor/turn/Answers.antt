@@ -6,7 +6,7 @@ use Rattle.bf_sched.specs.Scheduling.{HasBegun, HasStepped, IsNext, MustWait, Sc
 use Rattle.bf_core.specs.declared.event.Event.{Event}
 use Rattle.bf_core.specs.Events.{HasEnded}
 use Rattle.bf_exec.specs.Turns.{AreInStep, EndsAtOnce}
-use Rattle.bf_sched.proofs.Answering.{begun-under_way}
+use Rattle.bf_sched.proofs.Answering.{begun_under_way}
 use Rattle.bf_sched.proofs.Driving.{begun_driven, same_driven, stays_driven, stepped_driven}
 use Rattle.bf_exec.proofs.Shown.{acted_shown, awaited_shown, begun_shown, idle_shown}
 use Rattle.bf_exec.proofs.Turning.{answered_driven, answered_in_step, awaited, awaited_driven, awaited_in_step, begun_in_step, caught_up_driven, caught_up_in_step, idle_at, idle_there, left_begun, must_until, must_wait, stepped_in_step}
@@ -57,7 +57,7 @@ pub end_at_once-requires : goal.end_at_once-requires
 end_at_once-requires g c =
     let p = c.catch_up.new.scheduler in
     let begun : HasBegun p c.in-Go.ticket c.next.new.self = subst (λ (n : Next). IsNext p n c.next.new.self) c.in-Go.is c.in_ok-next.ensures.ok in
-    begun-under_way p c.next.new.self c.in-Go.ticket begun
+    begun_under_way p c.next.new.self c.in-Go.ticket begun
 
 pub returns-in-Some-2-clause-ok : goal.returns-in-Some-2-clause-ok
 returns-in-Some-2-clause-ok g c =

@@ -3,8 +3,8 @@ use Rattle.std.proofs.lemmas.List.{get_or_default}
 use Rattle.bf_graph.specs.Edges.{lists}
 use Rattle.bf_graph.specs.Ranks.{rank_at, unranked}
 use Rattle.bf_graph.specs.Climbs.{IsClimb}
-use Rattle.bf_graph.proofs.RankLemmas.{in_range_read, unranked-set}
-use Rattle.bf_graph.proofs.ReachingLemmas.{unmarked_in-set}
+use Rattle.bf_graph.proofs.RankLemmas.{in_range_read, unranked_set}
+use Rattle.bf_graph.proofs.ReachingLemmas.{unmarked_in_set}
 use Rattle.bf_graph.proofs.ClimbLemmas.{keeps_rank, still_marked, none_unranked, taken_off, are_read, next_above, down_one, up_one, closes}
 use Rattle.bf_graph.proofs.climb.Climb.climb.Goals as goal
 
@@ -37,7 +37,7 @@ pub climb-smaller-in_default-found : goal.climb-smaller-in_default-found
 climb-smaller-in_default-found c =
     let task = taken_off _ _ _ _ c.in-Some.ensures.items c.climb.invariant.climbing in
     let set_there = c.in_ok-rank.ensures.set_there in
-    omega (arith, ap unranked set_there, unranked-set c.climb.self.found.ranks.items _ c.in_ok-rank.ensures.rank task.in_ranks task.unranked)
+    omega (arith, ap unranked set_there, unranked_set c.climb.self.found.ranks.items _ c.in_ok-rank.ensures.rank task.in_ranks task.unranked)
 
 pub climb-preserved-in_default-found : goal.climb-preserved-in_default-found
 climb-preserved-in_default-found c =
@@ -85,7 +85,7 @@ climb-smaller c =
     let read = are_read _ _ _ _ _ _ _ task c.index-edges-task.is c.as_slice-upstreams.ensures.value c.index-passed.ensures in
     let next = next_above _ _ _ _ _ _ _ _ c.requires.in_range task read c.as_slice.ensures.value c.in-Some-found.ensures in
     let clear = get_or_default c.climb.self.seen.items _ false c.index.result.now next.in_seen ∙ sym c.index.ensures ∙ c.if-index.false in
-    omega (arith, unmarked_in-set c.climb.self.seen.items _ next.in_seen clear)
+    omega (arith, unmarked_in_set c.climb.self.seen.items _ next.in_seen clear)
 
 pub climb-preserved : goal.climb-preserved
 climb-preserved c =

@@ -2,12 +2,12 @@ use Rattle.std.proofs.Common.{◌∙◌, List, sym, subst₂}
 use Rattle.bf_waiting.specs.declared.batches.Batch.{Batch}
 use Rattle.bf_waiting.specs.declared.delays.Delay.{Delay}
 use Rattle.bf_waiting.specs.Keeping.{Anywhere, HasDelayed, HasTakenUp}
-use Rattle.bf_waiting.proofs.FillFacts.{fill-more}
+use Rattle.bf_waiting.proofs.FillFacts.{fill_more}
 use Rattle.bf_waiting.proofs.class.Class.take_in.Goals as goal
 
 pub returns-clause-keeps : goal.returns-clause-keeps
 returns-clause-keeps c = λ class_of class own keeps.
-    fill-more c.args.core.now c.args.weights.now class_of c.args.run c.args.task class c.args.self.now c.delay_all.new.self c.clean.new.self own keeps
+    fill_more c.args.core.now c.args.weights.now class_of c.args.run c.args.task class c.args.self.now c.delay_all.new.self c.clean.new.self own keeps
     (subst₂ (λ (old new : List Batch). HasTakenUp c.args.core.now c.args.weights.now c.args.run c.args.task Anywhere old new) c.make_room.ensures.batches (sym c.delay_all.ensures.batches) c.take_up.ensures.taken)
     (subst₂ (λ (old new : List Delay). HasDelayed c.args.core.now c.args.run c.args.task Anywhere old new) (c.take_up.ensures.delays ∙ c.make_room.ensures.delays) (λ i. c.delay_all.new.self.delays.items) c.in_ok-delay_all.ensures.delayed)
     c.clean.ensures.cleaned c.clean.ensures.delays

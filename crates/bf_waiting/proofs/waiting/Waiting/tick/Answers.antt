@@ -3,7 +3,7 @@ use Rattle.std.proofs.lemmas.Int.{to_z-of_z}
 use Rattle.bf_core.specs.declared.event.Event.{Event}
 use Rattle.bf_waiting.specs.Classes.{Waits}
 use Rattle.bf_waiting.specs.Keeping.{KeepsOver}
-use Rattle.bf_waiting.proofs.Each.{AreEachKept, AreKeptTo, each-kept, got, one-more, ticked-over, whole}
+use Rattle.bf_waiting.proofs.Each.{AreEachKept, AreKeptTo, each_kept, got, one_more, ticked_over, whole}
 use Rattle.bf_waiting.proofs.waiting.Waiting.tick.Goals as goal
 
 pub loop-class-preserved : goal.loop-class-preserved
@@ -13,7 +13,7 @@ loop-class-preserved c =
     let keeps : (class_of : List ℕ) → KeepsOver (Event.Tick c.args.now) c.args.core.now c.args.self.now.weights.items class_of c.loop-class.class-index c.class-item.result c.tick.new.self =
     λ class_of. subst (λ (w : Waits). KeepsOver (Event.Tick c.args.now) c.args.core.now c.args.self.now.weights.items class_of c.loop-class.class-index w c.tick.new.self) (sym c.class-item.is)
     (rw (c.as_slice.ensures.value, to_z-of_z w64 c.args.now c.ranges.now) at (c.tick.ensures.keeps class_of c.loop-class.class-index)) in
-    one-more _ c.args.core.now c.args.self.now.weights.items c.loop-class.class-index c.deref_mut-class-items.result.now c.loop-class.class-items c.class-item.result c.tick.new.self c.loop-class.invariant there
+    one_more _ c.args.core.now c.args.self.now.weights.items c.loop-class.class-index c.deref_mut-class-items.result.now c.loop-class.class-items c.class-item.result c.tick.new.self c.loop-class.invariant there
     (subst (λ (w : Waits). c.tick.new.self.task ≡ w.task) (sym c.class-item.is) c.tick.ensures.task)
     (rw (to_z-of_z w64 c.args.now c.ranges.now) keeps)
 
@@ -25,6 +25,6 @@ returns c = λ b able at kept.
     let kept_to : AreKeptTo (Event.Tick c.args.now) c.args.core.now c.args.self.now.weights.items c.loop-class.class-index c.args.self.now.classes.items c.loop-class.class-items =
     rw (to_z-of_z w64 c.args.now c.ranges.now, same) at c.loop-class.invariant in
     let each : AreEachKept (Event.Tick c.args.now) c.args.core.now c.args.self.now.weights.items c.args.self.now.classes.items c.loop-class.class-items =
-    each-kept _ _ _ c.loop-class.class-index _ _ kept_to (omega (arith, c.loop-class-test.false, ap length same)) in
+    each_kept _ _ _ c.loop-class.class-index _ _ kept_to (omega (arith, c.loop-class-test.false, ap length same)) in
     rw (whole c.args.self.now.classes.len c.loop-class.class-items c.args.self.now.classes.items (count ∙ is_len) is_len)
-    (ticked-over c.args.self.now.weights.items c.args.self.now.class_of.items c.args.self.now.classes.items c.loop-class.class-items c.args.core.now c.args.now count each b able at kept)
+    (ticked_over c.args.self.now.weights.items c.args.self.now.class_of.items c.args.self.now.classes.items c.loop-class.class-items c.args.core.now c.args.now count each b able at kept)
