@@ -20,26 +20,39 @@ number_of (Some index) = pos index
 -- the entry that answers one try alone
 abbrev pub entry_at : List ℕ → List ℕ → ℤ → ℕ → ℕ → List ℕ → TableEntry
 entry_at run id index attempt status line =
-    record { task = Some id; index = Some index; run = Some run; attempt = Some (pos attempt); status = status; line = line }
+    record {
+      task = Some id;
+      index = Some index;
+      run = Some run;
+      attempt = Some (pos attempt);
+      status = status;
+      line = line;
+    }
 
 -- the entry by which a try ends so; a success that pushes nothing needs none
 abbrev pub entries_for : List ℕ → List ℕ → ℤ → ℕ → Outcome → List TableEntry
 entries_for run id index attempt (Success None) = []
-entries_for run id index attempt (Success (Some value)) = entry_at run id index attempt 0 (json_of value) ∷ []
+entries_for run id index attempt (Success (Some value)) =
+    entry_at run id index attempt 0 (json_of value) ∷ []
 entries_for run id index attempt Failed = entry_at run id index attempt 1 [] ∷ []
 entries_for run id index attempt Skipped = entry_at run id index attempt 99 [] ∷ []
 
 -- the tries before the last, which failed
 abbrev pub retried_entries : List ℕ → List ℕ → ℤ → ℕ → List TableEntry
-retried_entries run id index tries = map (λ attempt. entry_at run id index attempt 1 []) (range_with_len 1 (tries - 1))
+retried_entries run id index tries =
+    map (λ attempt. entry_at run id index attempt 1 []) (range_with_len 1 (tries - 1))
 
 -- the tries of an instance
 abbrev pub instance_entries : List ℕ → List ℕ → ℤ → TaskResult → List TableEntry
-instance_entries run id index result = retried_entries run id index result.tries ++ entries_for run id index result.tries result.outcome
+instance_entries run id index result =
+    retried_entries run id index result.tries
+    ++ entries_for run id index result.tries result.outcome
 
 -- the instances of an expanded task, by map index from 0
 abbrev pub mapped_entries : List ℕ → List ℕ → List InstanceReport → List TableEntry
-mapped_entries run id instances = flat_map (λ pair. instance_entries run id (pos pair.0) pair.1.result) (enumerate_from 0 instances)
+mapped_entries run id instances =
+    flat_map (λ pair. instance_entries run id (pos pair.0) pair.1.result)
+    (enumerate_from 0 instances)
 
 -- the instances of a task; one that was decided without a try has none
 abbrev pub task_entries : List ℕ → List ℕ → TaskReport → List TableEntry

@@ -11,8 +11,14 @@ use Rattle.bf_answers.specs.Answers.{answers_in}
 
 -- it answers tries of these tasks in runs over these data intervals
 abbrev pub answering : Dag → List Interval → Report → Answering
-answering dag intervals report = record { dag = dag; dates = dates_in (map (λ interval. interval.start) intervals); entries = answers_in report }
+answering dag intervals report =
+    record {
+      dag = dag;
+      dates = dates_in (map (λ interval. interval.start) intervals);
+      entries = answers_in report;
+    }
 
 -- its answer to a try, whatever that is given
 abbrev pub MayAnswer : Dag → List Interval → Report → JobName → Given → Raw → Type 0
-MayAnswer dag intervals report name given raw = raw ≡ answer_of (answering dag intervals report) name
+MayAnswer dag intervals report name given raw =
+    raw ≡ answer_of (answering dag intervals report) name

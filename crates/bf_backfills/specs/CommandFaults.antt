@@ -50,24 +50,33 @@ IsFaultOfFiles files paths Has fault = AreReadable files paths × Has
 -- the first fault of the files and of the graph
 abbrev pub IsCheckFault : Files → GraphAsked → CommandFault → Type 0
 IsCheckFault files asked (CannotWrite n) = AreReadable files (graph_paths asked)
-IsCheckFault files asked fault = IsFaultOfFiles files (graph_paths asked) (OfFiles files asked (λ graph zone. IsFaultIn graph zone fault)) fault
+IsCheckFault files asked fault =
+    IsFaultOfFiles files (graph_paths asked)
+    (OfFiles files asked (λ graph zone. IsFaultIn graph zone fault)) fault
 
 -- moments come first: a text is no moment, or no days; or they mean a range, and the fault is the first of the files, the graph and the range
 abbrev pub IsListFault : Files → ListAsked → CommandFault → Type 0
 IsListFault files asked BadMoment = IsNoStarts asked.range.starts
-IsListFault files asked fault = (range : RunRange) × MeansRange asked.range range × IsFaultOfFiles files (graph_paths asked.graph)
+IsListFault files asked fault =
+    (range : RunRange) × MeansRange asked.range range
+    × IsFaultOfFiles files (graph_paths asked.graph)
     (OfFiles files asked.graph (λ graph zone. ListFault graph zone range fault)) fault
 
 -- the moment comes first: the text is none; or it means one, and the fault is the first of the files, the graph, the table and the moment
 abbrev pub IsSingleFault : Files → SingleAsked → CommandFault → Type 0
 IsSingleFault files asked BadMoment = IsNoMoment (string_bytes asked.at)
-IsSingleFault files asked fault = (at : Timestamp) × Means (string_bytes asked.at) at × IsFaultOfFiles files (table_paths asked.graph (string_bytes asked.table))
-    (OfFilesAndTable files asked.graph (string_bytes asked.table) (λ graph zone table. SingleFault graph zone table at fault)) fault
+IsSingleFault files asked fault =
+    (at : Timestamp) × Means (string_bytes asked.at) at
+    × IsFaultOfFiles files (table_paths asked.graph (string_bytes asked.table))
+    (OfFilesAndTable files asked.graph (string_bytes asked.table)
+    (λ graph zone table. SingleFault graph zone table at fault)) fault
 
 -- moments come first: a text is no moment, or no days; or they mean a range, and the fault is the first of the files, the graph, the table and the range
 abbrev pub IsDryFault : Files → DryAsked → CommandFault → Type 0
 IsDryFault files asked BadMoment = IsNoStarts asked.range.starts
-IsDryFault files asked fault = (range : RunRange) × MeansRange asked.range range × IsFaultOfFiles files (table_paths asked.graph (string_bytes asked.table))
+IsDryFault files asked fault =
+    (range : RunRange) × MeansRange asked.range range
+    × IsFaultOfFiles files (table_paths asked.graph (string_bytes asked.table))
     (OfFilesAndTable files asked.graph (string_bytes asked.table) (λ graph zone table.
     DryFault (is_alone_in asked.progress) graph zone table range fault)) fault
 
@@ -77,108 +86,165 @@ HasRuns range graph zone = (found : List Interval) × HasListing graph zone rang
 
 -- the fault is the first of the files, the graph and the range; or runs lie in it, and the journal can't be opened, or is refused, or
 -- can't be written, or else it is what stops the backfill that goes on from the journal
-abbrev pub IsRecordedRunFault : Option (List ℕ) → Files → Files → GraphAsked → JournalAsked → RunRange → CommandFault → Type 0
-IsRecordedRunFault logs files journals graph asked range (CannotRead path) = IsFirstUntold files (graph_paths graph) path
-    ⊎ (AreReadable files (graph_paths graph) × (path ≡ string_bytes asked.path) × IsUnopened journals asked × OfFiles files graph (HasRuns range))
-IsRecordedRunFault logs files journals graph asked range JournalInUse = AreReadable files (graph_paths graph) × IsUnopened journals asked × OfFiles files graph (HasRuns range)
-IsRecordedRunFault logs files journals graph asked range (CannotWriteFile path) = AreReadable files (graph_paths graph) × (path ≡ string_bytes asked.path) × OfFiles files graph (HasRuns range)
-IsRecordedRunFault logs files journals graph asked range (BadJournal fault) = AreReadable files (graph_paths graph) × OfFiles files graph (λ bytes zone. OfJournal journals asked (λ held.
+abbrev pub IsRecordedRunFault : Option (List ℕ) → Files → Files → GraphAsked → JournalAsked
+    → RunRange → CommandFault → Type 0
+IsRecordedRunFault logs files journals graph asked range (CannotRead path) =
+    IsFirstUntold files (graph_paths graph) path
+    ⊎ (AreReadable files (graph_paths graph) × (path ≡ string_bytes asked.path)
+    × IsUnopened journals asked × OfFiles files graph (HasRuns range))
+IsRecordedRunFault logs files journals graph asked range JournalInUse =
+    AreReadable files (graph_paths graph) × IsUnopened journals asked
+    × OfFiles files graph (HasRuns range)
+IsRecordedRunFault logs files journals graph asked range (CannotWriteFile path) =
+    AreReadable files (graph_paths graph) × (path ≡ string_bytes asked.path)
+    × OfFiles files graph (HasRuns range)
+IsRecordedRunFault logs files journals graph asked range (BadJournal fault) =
+    AreReadable files (graph_paths graph)
+    × OfFiles files graph (λ bytes zone. OfJournal journals asked (λ held.
     GoesWrong asked.stop_after logs bytes zone asked.retry_failed held range (BadJournal fault)))
 IsRecordedRunFault logs files journals graph asked range (Stopped StopFault.CannotRecord) = ⊥
-IsRecordedRunFault logs files journals graph asked range (Stopped stop) = AreReadable files (graph_paths graph) × OfFiles files graph (λ bytes zone. OfJournal journals asked (λ held.
+IsRecordedRunFault logs files journals graph asked range (Stopped stop) =
+    AreReadable files (graph_paths graph)
+    × OfFiles files graph (λ bytes zone. OfJournal journals asked (λ held.
     GoesWrong asked.stop_after logs bytes zone asked.retry_failed held range (Stopped stop)))
-IsRecordedRunFault logs files journals graph asked range fault = IsFaultOfFiles files (graph_paths graph)
+IsRecordedRunFault logs files journals graph asked range fault =
+    IsFaultOfFiles files (graph_paths graph)
     (OfFiles files graph (λ bytes zone. ListFault bytes zone range fault)) fault
 
 -- where no journal is named it is the first of the files, the graph, the range and what stops the backfill
-abbrev pub IsRunFaultBy : LaunchingOf → Losing → Files → Files → GraphAsked → Option JournalAsked → RunRange → CommandFault → Type 0
-IsRunFaultBy launching may_lose files journals graph None range fault = IsFaultOfFiles files (graph_paths graph)
+abbrev pub IsRunFaultBy : LaunchingOf → Losing → Files → Files → GraphAsked → Option JournalAsked
+    → RunRange → CommandFault → Type 0
+IsRunFaultBy launching may_lose files journals graph None range fault =
+    IsFaultOfFiles files (graph_paths graph)
     (OfFiles files graph (λ bytes zone. RunFault launching may_lose bytes zone range fault)) fault
-IsRunFaultBy launching may_lose files journals graph (Some asked) range fault = IsRecordedRunFault launching.logs files journals graph asked range fault
+IsRunFaultBy launching may_lose files journals graph (Some asked) range fault =
+    IsRecordedRunFault launching.logs files journals graph asked range fault
 
 -- moments come first: a text is no moment, or no days; or the launcher can't be started; or they mean a range, and the fault is the first of what
 -- they are used for
 abbrev pub IsRunFault : Losing → Files → Machine → RunAsked → CommandFault → Type 0
 IsRunFault may_lose files machine asked BadMoment = IsNoStarts asked.range.starts
-IsRunFault may_lose files machine asked (CannotLaunch path) = IsUnlaunchable machine.startable (option_map string_bytes asked.launcher) path
+IsRunFault may_lose files machine asked (CannotLaunch path) =
+    IsUnlaunchable machine.startable (option_map string_bytes asked.launcher) path
 IsRunFault may_lose files machine asked fault = (range : RunRange) × MeansRange asked.range range
-    × IsRunFaultBy (launching_asked_of asked.launcher asked.logs) may_lose files machine.journals asked.graph asked.journal range fault
+    × IsRunFaultBy (launching_asked_of asked.launcher asked.logs) may_lose files machine.journals
+    asked.graph asked.journal range fault
 
 -- the files but for the report can be read, this is to be cleared, and so it is with what they and the report hold
-abbrev pub OfReadClearFiles : Files → ClearInput → (ToClear → List ℕ → Option (List ℕ) → Option (List ℕ) → List ℕ → Type 0) → Type 0
-OfReadClearFiles files input P = AreReadable files (first_paths input) × IsReadable (files input.report)
+abbrev pub OfReadClearFiles : Files → ClearInput
+    → (ToClear → List ℕ → Option (List ℕ) → Option (List ℕ) → List ℕ → Type 0) → Type 0
+OfReadClearFiles files input P =
+    AreReadable files (first_paths input) × IsReadable (files input.report)
     × (what : ToClear) × MeansCleared files input.cleared what × OfClearFiles files input (P what)
 
 -- they can be read, and this is the first fault of the graph, the table and the range
 abbrev pub IsFaultBeforeReport : Files → ClearInput → RunRange → CommandFault → Type 0
 IsFaultBeforeReport files input range fault = AreReadable files (first_paths input)
-    × OfFilesAndNamedTable files input.graph input.table (λ graph zone table. IsFaultBefore graph zone table range fault)
+    × OfFilesAndNamedTable files input.graph input.table
+    (λ graph zone table. IsFaultBefore graph zone table range fault)
 
 -- they can be read, and the graph, the table and the range have no fault, but the report of this path can't be read
 abbrev pub LacksReport : Files → ClearInput → RunRange → List ℕ → Type 0
-LacksReport files input range path = AreReadable files (first_paths input) × (path ≡ input.report) × IsUntold (files path)
-    × OfFilesAndNamedTable files input.graph input.table (λ graph zone table. IsReady graph zone table range)
+LacksReport files input range path =
+    AreReadable files (first_paths input) × (path ≡ input.report) × IsUntold (files path)
+    × OfFilesAndNamedTable files input.graph input.table
+    (λ graph zone table. IsReady graph zone table range)
 
 -- a file can't be read, the first of those that are read before anything is looked at; or these can be read, and the fault is the first
 -- of the graph, the table and the range; or these have none, and the report can't be read; or it can be, and the fault is its own, or
 -- of what is to be cleared
 abbrev pub IsFaultOfClearing : Files → ClearInput → RunRange → CommandFault → Type 0
-IsFaultOfClearing files input range (CannotRead path) = IsFirstUntold files (first_paths input) path ⊎ LacksReport files input range path
-IsFaultOfClearing files input range (NotRead fault) = IsFaultBeforeReport files input range (NotRead fault)
-IsFaultOfClearing files input range (NotSound fault) = IsFaultBeforeReport files input range (NotSound fault)
-IsFaultOfClearing files input range (BadTable fault) = IsFaultBeforeReport files input range (BadTable fault)
-IsFaultOfClearing files input range (BadRange fault) = IsFaultBeforeReport files input range (BadRange fault)
+IsFaultOfClearing files input range (CannotRead path) =
+    IsFirstUntold files (first_paths input) path ⊎ LacksReport files input range path
+IsFaultOfClearing files input range (NotRead fault) =
+    IsFaultBeforeReport files input range (NotRead fault)
+IsFaultOfClearing files input range (NotSound fault) =
+    IsFaultBeforeReport files input range (NotSound fault)
+IsFaultOfClearing files input range (BadTable fault) =
+    IsFaultBeforeReport files input range (BadTable fault)
+IsFaultOfClearing files input range (BadRange fault) =
+    IsFaultBeforeReport files input range (BadRange fault)
 IsFaultOfClearing files input range (BadReport ReportFault.Io) = ⊥
-IsFaultOfClearing files input range (BadReport fault) = OfReadClearFiles files input (λ what graph zone table report.
+IsFaultOfClearing files input range (BadReport fault) =
+    OfReadClearFiles files input (λ what graph zone table report.
     IsReady graph zone table range × TellsFault report fault)
-IsFaultOfClearing files input range (NotCleared fault) = OfReadClearFiles files input (λ what graph zone table report.
+IsFaultOfClearing files input range (NotCleared fault) =
+    OfReadClearFiles files input (λ what graph zone table report.
     IsUnclearable graph zone table report range what (NotCleared fault))
-IsFaultOfClearing files input range (BadSeeds fault) = OfReadClearFiles files input (λ what graph zone table report.
+IsFaultOfClearing files input range (BadSeeds fault) =
+    OfReadClearFiles files input (λ what graph zone table report.
     IsUnclearable graph zone table report range what (BadSeeds fault))
-IsFaultOfClearing files input range (CannotWrite n) = AreReadable files (first_paths input) × IsReadable (files input.report)
+IsFaultOfClearing files input range (CannotWrite n) =
+    AreReadable files (first_paths input) × IsReadable (files input.report)
 IsFaultOfClearing files input range OutOfMemory = Unit {0}
 IsFaultOfClearing files input range fault = ⊥
 
 -- so it is; or there is none of these, and it is what stops the backfill
 abbrev pub IsFaultOfClear : Losing → Files → ClearAsked → RunRange → CommandFault → Type 0
-IsFaultOfClear may_lose files asked range (Stopped stop) = OfReadClearFiles files (clear_input asked) (λ what graph zone table report.
-    StopsClearing (is_alone_in asked.progress) (launching_asked_of asked.launcher asked.logs) may_lose graph zone table report range what stop)
-IsFaultOfClear may_lose files asked range fault = IsFaultOfClearing files (clear_input asked) range fault
+IsFaultOfClear may_lose files asked range (Stopped stop) =
+    OfReadClearFiles files (clear_input asked) (λ what graph zone table report.
+    StopsClearing (is_alone_in asked.progress)
+    (launching_asked_of asked.launcher asked.logs) may_lose graph zone table report range what
+    stop)
+IsFaultOfClear may_lose files asked range fault =
+    IsFaultOfClearing files (clear_input asked) range fault
 
 -- nothing keeps this from being cleared in the report
 abbrev pub CanClear : Files → ClearAsked → RunRange → Type 0
-CanClear files asked range = OfReadClearFiles files (clear_input asked) (λ what graph zone table report. IsClearable graph zone table report range what)
+CanClear files asked range =
+    OfReadClearFiles files (clear_input asked)
+    (λ what graph zone table report. IsClearable graph zone table report range what)
 
 -- the backfill goes wrong that clears in the report, and goes on from the journal
-abbrev pub GoesWrongOver : Files → Files → ClearAsked → JournalAsked → RunRange → CommandFault → Type 0
-GoesWrongOver files journals asked journal range fault = OfReadClearFiles files (clear_input asked) (λ what graph zone table report. OfJournal journals journal (λ held.
-    GoesWrongClearing journal.stop_after (option_map string_bytes asked.logs) graph zone table report journal.retry_failed held range what fault))
+abbrev pub GoesWrongOver : Files → Files → ClearAsked → JournalAsked → RunRange → CommandFault
+    → Type 0
+GoesWrongOver files journals asked journal range fault =
+    OfReadClearFiles files (clear_input asked)
+    (λ what graph zone table report. OfJournal journals journal (λ held.
+    GoesWrongClearing journal.stop_after
+    (option_map string_bytes asked.logs) graph zone table report journal.retry_failed held range
+    what fault))
 
 -- the fault is the first of the files, of what they hold, and of what is to be cleared; or that can be cleared, and the journal can't be
 -- opened, or is refused, or can't be written, or else it is what stops the backfill that goes on from the journal
-abbrev pub IsRecordedClearFault : Files → Files → ClearAsked → JournalAsked → RunRange → CommandFault → Type 0
-IsRecordedClearFault files journals asked journal range (CannotRead path) = IsFaultOfClearing files (clear_input asked) range (CannotRead path)
-    ⊎ ((path ≡ string_bytes journal.path) × IsUnopened journals journal × CanClear files asked range)
-IsRecordedClearFault files journals asked journal range JournalInUse = IsUnopened journals journal × CanClear files asked range
-IsRecordedClearFault files journals asked journal range (CannotWriteFile path) = (path ≡ string_bytes journal.path) × CanClear files asked range
-IsRecordedClearFault files journals asked journal range (BadJournal fault) = GoesWrongOver files journals asked journal range (BadJournal fault)
+abbrev pub IsRecordedClearFault : Files → Files → ClearAsked → JournalAsked → RunRange
+    → CommandFault → Type 0
+IsRecordedClearFault files journals asked journal range (CannotRead path) =
+    IsFaultOfClearing files (clear_input asked) range (CannotRead path)
+    ⊎ ((path ≡ string_bytes journal.path) × IsUnopened journals journal
+    × CanClear files asked range)
+IsRecordedClearFault files journals asked journal range JournalInUse =
+    IsUnopened journals journal × CanClear files asked range
+IsRecordedClearFault files journals asked journal range (CannotWriteFile path) =
+    (path ≡ string_bytes journal.path) × CanClear files asked range
+IsRecordedClearFault files journals asked journal range (BadJournal fault) =
+    GoesWrongOver files journals asked journal range (BadJournal fault)
 IsRecordedClearFault files journals asked journal range (Stopped StopFault.CannotRecord) = ⊥
-IsRecordedClearFault files journals asked journal range (Stopped stop) = GoesWrongOver files journals asked journal range (Stopped stop)
-IsRecordedClearFault files journals asked journal range fault = IsFaultOfClearing files (clear_input asked) range fault
+IsRecordedClearFault files journals asked journal range (Stopped stop) =
+    GoesWrongOver files journals asked journal range (Stopped stop)
+IsRecordedClearFault files journals asked journal range fault =
+    IsFaultOfClearing files (clear_input asked) range fault
 
-abbrev pub IsClearFaultBy : Losing → Files → Files → ClearAsked → Option JournalAsked → RunRange → CommandFault → Type 0
-IsClearFaultBy may_lose files journals asked None range fault = IsFaultOfClear may_lose files asked range fault
-IsClearFaultBy may_lose files journals asked (Some journal) range fault = IsRecordedClearFault files journals asked journal range fault
+abbrev pub IsClearFaultBy : Losing → Files → Files → ClearAsked → Option JournalAsked → RunRange
+    → CommandFault → Type 0
+IsClearFaultBy may_lose files journals asked None range fault =
+    IsFaultOfClear may_lose files asked range fault
+IsClearFaultBy may_lose files journals asked (Some journal) range fault =
+    IsRecordedClearFault files journals asked journal range fault
 
 -- moments come first: a text is no moment, or no days; or the launcher can't be started; or they mean a range, and the fault is the first of what
 -- they are used for
 abbrev pub IsClearFault : Losing → Files → Machine → ClearAsked → CommandFault → Type 0
-IsClearFault may_lose files machine asked BadMoment = IsNoStarts asked.range.starts ⊎ HasNoMoment asked.cleared
-IsClearFault may_lose files machine asked (CannotLaunch path) = IsUnlaunchable machine.startable (launcher_used_of asked.table asked.launcher) path
+IsClearFault may_lose files machine asked BadMoment =
+    IsNoStarts asked.range.starts ⊎ HasNoMoment asked.cleared
+IsClearFault may_lose files machine asked (CannotLaunch path) =
+    IsUnlaunchable machine.startable (launcher_used_of asked.table asked.launcher) path
 IsClearFault may_lose files machine asked fault = (range : RunRange) × MeansRange asked.range range
     × IsClearFaultBy may_lose files machine.journals asked asked.journal range fault
 
 -- moments come first, as where it is cleared; and then the files, and what is to be cleared
 abbrev pub IsClearPlanFault : Files → ClearPlanAsked → CommandFault → Type 0
 IsClearPlanFault files asked BadMoment = IsNoStarts asked.range.starts ⊎ HasNoMoment asked.cleared
-IsClearPlanFault files asked fault = (range : RunRange) × MeansRange asked.range range × IsFaultOfClearing files (plan_input asked) range fault
+IsClearPlanFault files asked fault =
+    (range : RunRange) × MeansRange asked.range range
+    × IsFaultOfClearing files (plan_input asked) range fault

@@ -16,26 +16,36 @@ use Rattle.bf_disk.specs.Files.{AreReadable, Files}
 use Rattle.bf_input.specs.Inputs.{OfFilesAndNamedTable, clear_paths, AreAlike, IsReadOf, IsReadingFault, IsReportFault}
 
 -- this holds of bytes that say what the graph file and the table are told to hold, where one is named
-pub record IsOfBytes (files : Files) (asked : GraphAsked) (path : Option (List ℕ)) (P : List ℕ → Option (List ℕ) → Option (List ℕ) → Type 0) : Type 0 where
+pub record IsOfBytes (files : Files) (asked : GraphAsked) (path : Option (List ℕ)) (P : List ℕ
+    → Option (List ℕ) → Option (List ℕ) → Type 0) : Type 0 where
   pub graph : List ℕ
   pub zone : Option (List ℕ)
   pub table : Option (List ℕ)
-  pub alike : OfFilesAndNamedTable files asked path (λ held zone_held other. AreAlike graph held zone zone_held × (option_map table_in table ≡ option_map table_in other))
+  pub alike : OfFilesAndNamedTable files asked path
+      (λ held zone_held other. AreAlike graph held zone zone_held
+      × (option_map table_in table ≡ option_map table_in other))
   pub holds : P graph zone table
 
 -- the first fault of the files, the graph, the table and the range
-abbrev pub IsPreparingFault : Files → GraphAsked → Option (List ℕ) → Option (List ℕ) → RunRange → CommandFault → Type 0
+abbrev pub IsPreparingFault : Files → GraphAsked → Option (List ℕ) → Option (List ℕ) → RunRange
+    → CommandFault → Type 0
 IsPreparingFault files asked path seeds range fault =
     IsReadingFault files (clear_paths asked path seeds) fault
-    ⊎ (AreReadable files (clear_paths asked path seeds) × IsOfBytes files asked path (λ graph zone table. IsFaultBefore graph zone table range fault))
+    ⊎ (AreReadable files (clear_paths asked path seeds)
+    × IsOfBytes files asked path (λ graph zone table. IsFaultBefore graph zone table range
+    fault))
 
 -- the report of the backfill that goes on from that of a file, and whether each run of it is a success
-pub record IsReportAfterFile (may_hear : HearingTries) (answers : Option (List TableEntry)) (dag : Dag) (found : List Interval) (file : Option (Option (List ℕ))) (what : ToClear) (text : List ℕ) (success : Bool) : Type 0 where
+pub record IsReportAfterFile (may_hear : HearingTries) (answers : Option (List TableEntry))
+    (dag : Dag) (found : List Interval) (file : Option (Option (List ℕ))) (what : ToClear)
+    (text : List ℕ) (success : Bool) : Type 0 where
   pub was : Report
   pub read : IsReadOf file was
   pub reported : IsReportAfter may_hear answers dag found was what text success
 
 -- the fault of a report's file, or else of the backfill that goes on from its report
-abbrev pub IsFaultAfterFile : Bool → LaunchingOf → Losing → Option (List TableEntry) → Dag → List Interval → List ℕ → Option (Option (List ℕ)) → ToClear → CommandFault → Type 0
+abbrev pub IsFaultAfterFile : Bool → LaunchingOf → Losing → Option (List TableEntry) → Dag
+    → List Interval → List ℕ → Option (Option (List ℕ)) → ToClear → CommandFault → Type 0
 IsFaultAfterFile alone launching may_lose answers dag found path file what fault =
-    IsReportFault path file fault ⊎ ((was : Report) × IsReadOf file was × ClearingFault alone launching may_lose answers dag found was what fault)
+    IsReportFault path file fault ⊎ ((was : Report) × IsReadOf file was
+    × ClearingFault alone launching may_lose answers dag found was what fault)

@@ -38,7 +38,8 @@ IsUnmeant HasNone fault = ⊥
 -- this is to be cleared, by the file's bytes where one is named
 abbrev pub IsReadFor : Files → Named → ToClear → Type 0
 IsReadFor files (named.Seeds seeds) (to_clear.Seeds same) = same ≡ seeds
-IsReadFor files (named.File path) (to_clear.File bytes) = IfSome (files (string_bytes path)) (λ held. IsWholeUpTo 8_388_608 held bytes.items)
+IsReadFor files (named.File path) (to_clear.File bytes) =
+    IfSome (files (string_bytes path)) (λ held. IsWholeUpTo 8_388_608 held bytes.items)
 IsReadFor files named.Failed to_clear.Failed = Unit {0}
 IsReadFor files named.Nothing to_clear.Nothing = Unit {0}
 IsReadFor files _ _ = ⊥

@@ -5,4 +5,6 @@ use Rattle.bf_moment.specs.Moment.{IsWhole}
 use Rattle.bf_report.specs.declared.report.RunReport.{RunReport}
 
 abbrev pub HasWholeMoments : List RunReport → Type 0
-HasWholeMoments runs = AllByRecursion (λ run. IsWhole run.interval.start.nanosecond × IsWhole run.interval.end.nanosecond) runs
+HasWholeMoments runs =
+    AllByRecursion (λ run. IsWhole run.interval.start.nanosecond
+    × IsWhole run.interval.end.nanosecond) runs

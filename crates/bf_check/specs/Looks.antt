@@ -24,7 +24,8 @@ pub record IsFirstAt (draft : Draft) (fault : TaskFault) (t : ℕ) : Type 0 wher
   pub task : TaskDraft
   pub there : slice_get draft.tasks t ≡ Some task
   pub has : Has draft fault t task
-  pub none_before : (s : ℕ) (other : TaskDraft) → s < t → slice_get draft.tasks s ≡ Some other → ¬ (Has draft fault s other)
+  pub none_before : (s : ℕ) (other : TaskDraft) → s < t → slice_get draft.tasks s ≡ Some other
+      → ¬ (Has draft fault s other)
 
 -- where the first task with this fault stands, if one has it
 abbrev pub IsPlaceOfFirst : Draft → TaskFault → Option ℕ → Type 0
@@ -35,11 +36,14 @@ IsPlaceOfFirst draft fault None = NoneHas draft fault
 
 -- the numbers of the tasks with these ids, where all are there
 abbrev pub numbers_in : List (List ℕ) → List (List ℕ) → Option (List ℕ)
-numbers_in ids names = if list_any (λ id. is_none (number_of ids id)) names then None else Some (map (number_or_0 ids) names)
+numbers_in ids names =
+    if list_any (λ id. is_none (number_of ids id)) names then None
+    else Some (map (number_or_0 ids) names)
 
 -- the pool with a number
 abbrev pub with_size : List PoolDraft → ℕ → TaskPool
-with_size pools n = record { number = n; slots = slice_index_or (map (λ pool. pool.slots) pools) n 0 }
+with_size pools n =
+    record { number = n; slots = slice_index_or (map (λ pool. pool.slots) pools) n 0 }
 
 -- the pool with a name, if it is there
 abbrev pub pool_named_of : List PoolDraft → List ℕ → Option TaskPool
@@ -57,15 +61,23 @@ demand_from pool task = record {
 
 -- what a task pulls from
 abbrev pub pulls_in : List (List ℕ) → TaskDraft → Pulls
-pulls_in ids task = record { ids = pulled_in task.command; numbers = map (number_or_0 ids) (pulled_in task.command) }
+pulls_in ids task =
+    record {
+      ids = pulled_in task.command;
+      numbers = map (number_or_0 ids) (pulled_in task.command);
+    }
 
 -- each task may pull from what it pulls from
 abbrev pub AllMayPull : Draft → Type 0
-AllMayPull draft = (t : ℕ) (task : TaskDraft) → slice_get draft.tasks t ≡ Some task → (id : List ℕ) → Contains (pulled_in task.command) id → MayPull draft t id
+AllMayPull draft =
+    (t : ℕ) (task : TaskDraft) → slice_get draft.tasks t ≡ Some task → (id : List ℕ)
+    → Contains (pulled_in task.command) id → MayPull draft t id
 
 -- what is found of the pulls of the task t: nothing where it may not pull from all
 abbrev pub IsFoundOfPulls : Draft → ℕ → TaskDraft → Option Pulls → Type 0
-IsFoundOfPulls draft t task (Some pulls) = (pulls ≡ pulls_in (ids_of draft.tasks) task) × ((id : List ℕ) → Contains (pulled_in task.command) id → MayPull draft t id)
+IsFoundOfPulls draft t task (Some pulls) =
+    (pulls ≡ pulls_in (ids_of draft.tasks) task)
+    × ((id : List ℕ) → Contains (pulled_in task.command) id → MayPull draft t id)
 IsFoundOfPulls draft t task None = PullsUnsettled draft t task
 
 -- the source of the items of a task, if it is expanded
@@ -78,10 +90,17 @@ source_found ids task = if expands_no_upstream task then None else Some (source_
 
 -- what is found of a task beside what its draft says
 abbrev pub links_in : List (List ℕ) → TaskDraft → Links
-links_in ids task = record { upstreams = map (number_or_0 ids) task.upstreams; rule = rule_of task; pulls = pulls_in ids task; source = source_in ids task }
+links_in ids task =
+    record {
+      upstreams = map (number_or_0 ids) task.upstreams;
+      rule = rule_of task;
+      pulls = pulls_in ids task;
+      source = source_in ids task;
+    }
 
 -- what is found of all tasks
-pub record AreFound (tasks : List TaskDraft) (graph : Shape) (rules : List Rule) (pulls : List Pulls) (sources : List (Option ℕ)) : Type 0 where
+pub record AreFound (tasks : List TaskDraft) (graph : Shape) (rules : List Rule)
+    (pulls : List Pulls) (sources : List (Option ℕ)) : Type 0 where
   pub graph_is : graph ≡ shape_in tasks
   pub rules_are : rules ≡ map rule_of tasks
   pub pulls_are : pulls ≡ map (pulls_in (ids_of tasks)) tasks
@@ -89,10 +108,12 @@ pub record AreFound (tasks : List TaskDraft) (graph : Shape) (rules : List Rule)
 
 -- the same, as it is held
 abbrev pub AreFoundIn : List TaskDraft → Shape → Found → Type 0
-AreFoundIn tasks graph found = AreFound tasks graph found.rules.items found.pulls.items found.sources.items
+AreFoundIn tasks graph found =
+    AreFound tasks graph found.rules.items found.pulls.items found.sources.items
 
 -- the task of a number is one of those of which something was found
-pub record HasLinks (graph : Shape) (rules : List Rule) (sources : List (Option ℕ)) (task : ℕ) : Type 0 where
+pub record HasLinks (graph : Shape) (rules : List Rule) (sources : List (Option ℕ))
+    (task : ℕ) : Type 0 where
   pub edged : task < length graph.upstreams
   pub ruled : task < length rules
   pub sourced : task < length sources
@@ -101,7 +122,8 @@ pub record HasLinks (graph : Shape) (rules : List Rule) (sources : List (Option 
 
 -- the edges along which upstreams are settled when a task is decided: those into tasks of a waiting rule
 abbrev pub settling_upstreams : List (List ℕ) → TaskDraft → List ℕ
-settling_upstreams ids task = if is_waiting (rule_of task) then map (number_or_0 ids) task.upstreams else []
+settling_upstreams ids task =
+    if is_waiting (rule_of task) then map (number_or_0 ids) task.upstreams else []
 
 abbrev pub settling_edges_of : List TaskDraft → List (List ℕ)
 settling_edges_of tasks = map (settling_upstreams (ids_of tasks)) tasks

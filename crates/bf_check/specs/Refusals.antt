@@ -34,7 +34,8 @@ has_unknown_pool pools task = is_none (pool_number pools task.pool)
 
 -- how many slots the pool of the task has
 abbrev pub slots_for : List PoolDraft → TaskDraft → ℕ
-slots_for pools task = slice_index_or (map (λ pool. pool.slots) pools) (unwrap_or (pool_number pools task.pool) 0) 0
+slots_for pools task =
+    slice_index_or (map (λ pool. pool.slots) pools) (unwrap_or (pool_number pools task.pool) 0) 0
 
 -- the task takes more slots than its pool has
 abbrev pub takes_too_much : List PoolDraft → TaskDraft → Bool
@@ -46,11 +47,13 @@ has_bad_rule task = is_none (rule_named task.rule)
 
 -- the task of an id is there, and a settled ancestor of the task t
 abbrev pub MayPull : Draft → ℕ → List ℕ → Type 0
-MayPull draft t id = (a : ℕ) × (number_of (ids_of draft.tasks) id ≡ Some a) × IsSettledAncestor (dag_of draft) t a
+MayPull draft t id =
+    (a : ℕ) × (number_of (ids_of draft.tasks) id ≡ Some a) × IsSettledAncestor (dag_of draft) t a
 
 -- the task t pulls from one that it may not pull from
 abbrev pub PullsUnsettled : Draft → ℕ → TaskDraft → Type 0
-PullsUnsettled draft t task = (id : List ℕ) × Contains (pulled_in task.command) id × ¬ (MayPull draft t id)
+PullsUnsettled draft t task =
+    (id : List ℕ) × Contains (pulled_in task.command) id × ¬ (MayPull draft t id)
 
 abbrev pub is_no_upstream : TaskDraft → Option (List ℕ) → Bool
 is_no_upstream task (Some id) = not (list_any (bytes_eq id) task.upstreams)
@@ -123,7 +126,8 @@ Has draft BranchMisuse t task = expands_branch task ≡ true
 
 -- no task has this fault
 abbrev pub NoneHas : Draft → TaskFault → Type 0
-NoneHas draft fault = (t : ℕ) (task : TaskDraft) → slice_get draft.tasks t ≡ Some task → ¬ (Has draft fault t task)
+NoneHas draft fault =
+    (t : ℕ) (task : TaskDraft) → slice_get draft.tasks t ≡ Some task → ¬ (Has draft fault t task)
 
 -- the id is that of the first task in the file with this fault
 pub record IsFirst (draft : Draft) (fault : TaskFault) (id : List ℕ) : Type 0 where
@@ -131,12 +135,15 @@ pub record IsFirst (draft : Draft) (fault : TaskFault) (id : List ℕ) : Type 0 
   pub task : TaskDraft
   pub there : slice_get draft.tasks t ≡ Some task
   pub has : Has draft fault t task
-  pub none_before : (s : ℕ) (other : TaskDraft) → s < t → slice_get draft.tasks s ≡ Some other → ¬ (Has draft fault s other)
+  pub none_before : (s : ℕ) (other : TaskDraft) → s < t → slice_get draft.tasks s ≡ Some other
+      → ¬ (Has draft fault s other)
   pub id_is : id ≡ task.id
 
 -- the ids are those of the tasks of the cycle that a refusal names
 abbrev pub NameCycle : Shape → List (List ℕ) → Type 0
-NameCycle shape names = (ts : List ℕ) × IsNamedCycle shape.upstreams ts × (names ≡ map (λ t. slice_index_or shape.ids t []) ts)
+NameCycle shape names =
+    (ts : List ℕ) × IsNamedCycle shape.upstreams ts
+    × (names ≡ map (λ t. slice_index_or shape.ids t []) ts)
 
 -- the tasks and edges of the draft have no fault whose number is below n
 pub record HasNoneBelow (draft : Draft) (n : ℕ) : Type 0 where
@@ -155,9 +162,12 @@ pub record IsAccepted (draft : Draft) (file : Option (List ℕ)) : Type 0 where
 
 -- of the faults that the draft has, with this zone file, this is the one of the least number; want of memory may stand in its place
 abbrev pub IsFaultOf : Draft → Option (List ℕ) → CheckFault → Type 0
-IsFaultOf draft file (Task fault id) = IsFirst draft fault id × HasNoneBelow draft (refusal_number_of fault) × (13 < refusal_number_of fault → IsScheduled draft file)
+IsFaultOf draft file (Task fault id) =
+    IsFirst draft fault id × HasNoneBelow draft (refusal_number_of fault)
+    × (13 < refusal_number_of fault → IsScheduled draft file)
 IsFaultOf draft file (Cycle ids) = NameCycle (shape_in draft.tasks) ids × HasNoneBelow draft 7
 IsFaultOf draft file BadCron = (schedule_of draft.schedule ≡ None) × HasNoneBelow draft 11
 IsFaultOf draft file NeverFires = NeverFiresIn draft.schedule × HasNoneBelow draft 12
-IsFaultOf draft file BadZone = IsNoZone draft.zone file × (spec : CronSpec) × Fires draft.schedule spec × HasNoneBelow draft 13
+IsFaultOf draft file BadZone =
+    IsNoZone draft.zone file × (spec : CronSpec) × Fires draft.schedule spec × HasNoneBelow draft 13
 IsFaultOf draft file OutOfMemory = Unit {0}

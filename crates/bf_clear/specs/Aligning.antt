@@ -40,7 +40,9 @@ tasks_at runs interval = tasks_in (find (is_over interval) runs)
 abbrev pub AreAligned : Dag → Report → List Interval → List RunReport → Type 0
 AreAligned dag report [] [] = Unit {0}
 AreAligned dag report (interval ∷ intervals) (run ∷ runs) =
-    (run.interval ≡ interval) × (run.tasks ≡ tasks_told dag report.tasks (tasks_at report.runs interval)) × AreAligned dag report intervals runs
+    (run.interval ≡ interval) × (run.tasks
+    ≡ tasks_told dag report.tasks (tasks_at report.runs interval))
+    × AreAligned dag report intervals runs
 AreAligned dag report [] (run ∷ runs) = ⊥
 AreAligned dag report (interval ∷ intervals) [] = ⊥
 
@@ -52,7 +54,8 @@ pub record IsAligned (dag : Dag) (intervals : List Interval) (told aligned : Rep
   pub runs : AreAligned dag told intervals aligned.runs
 
 -- this is kept of what the report tells of the plan and of these runs
-pub record AreKeptByIds (dag : Dag) (intervals : List Interval) (seeds : List Place) (report : Report) (kept : Ledger) : Type 0 where
+pub record AreKeptByIds (dag : Dag) (intervals : List Interval) (seeds : List Place)
+    (report : Report) (kept : Ledger) : Type 0 where
   pub aligned : Report
   pub is_aligned : IsAligned dag intervals report aligned
   pub are_kept : AreKept dag seeds aligned kept
@@ -71,6 +74,7 @@ AreApart places = AllPairs (λ one other. one ≡ other → one ≡ None) places
 abbrev pub AreAlignedBy : List (Option ℕ) → List RunReport → List Interval → List RunReport → Type 0
 AreAlignedBy places told [] [] = Unit {0}
 AreAlignedBy places told (interval ∷ intervals) (run ∷ runs) =
-    (run.interval ≡ interval) × (run.tasks ≡ map (told_at (tasks_at told interval)) places) × AreAlignedBy places told intervals runs
+    (run.interval ≡ interval) × (run.tasks ≡ map (told_at (tasks_at told interval)) places)
+    × AreAlignedBy places told intervals runs
 AreAlignedBy places told [] (run ∷ runs) = ⊥
 AreAlignedBy places told (interval ∷ intervals) [] = ⊥

@@ -21,7 +21,8 @@ use Rattle.bf_report.specs.declared.report.Report.{Report}
 
 -- what came of the task in the run of this number
 abbrev pub report_at : Report → ℕ → ℕ → Option TaskReport
-report_at report number task = option_and_then (λ run. slice_get run.tasks task) (slice_get report.runs number)
+report_at report number task =
+    option_and_then (λ run. slice_get run.tasks task) (slice_get report.runs number)
 
 abbrev pub instance_in : TaskReport → ℤ → Option InstanceReport
 instance_in (TaskReport.Ran instance) (negsuc zero) = Some instance
@@ -30,13 +31,15 @@ instance_in _ _ = None
 
 -- the instance of that index of the task in the run
 abbrev pub found_at : Report → ℕ → ℕ → ℤ → Option InstanceReport
-found_at report run task index = option_and_then (λ instance. instance_in instance index) (report_at report run task)
+found_at report run task index =
+    option_and_then (λ instance. instance_in instance index) (report_at report run task)
 
 -- ---- what an instance was given
 
 -- version 2 tells it
 abbrev pub given_in : InstanceReport → Given
-given_in instance = record { item = instance.item; pulled = map (λ pull. pull.value) instance.pulls }
+given_in instance =
+    record { item = instance.item; pulled = map (λ pull. pull.value) instance.pulls }
 
 -- version 1 tells what the tasks pushed
 abbrev pub value_in : TaskReport → TaskValue
@@ -56,7 +59,9 @@ value_reported_at report run task = value_by (report_at report run task)
 
 -- what a pull from a task gave in the run
 abbrev pub pull_from : Dag → Report → ℕ → ℕ → Option Xval
-pull_from dag report run source = option_and_then (λ task. pull_of task (value_reported_at report run source)) (slice_get dag.tasks source)
+pull_from dag report run source =
+    option_and_then (λ task. pull_of task (value_reported_at report run source))
+    (slice_get dag.tasks source)
 
 -- the item of that index, of a list
 abbrev pub item_in : Option Xval → ℤ → Option Xval
@@ -67,11 +72,14 @@ item_in _ _ = None
 abbrev pub given_of : (ℕ → Option Xval) → List (Option Xval) → Option ℕ → ℤ → Option Given
 given_of from pulled None (negsuc zero) = Some (record { item = None; pulled = pulled })
 given_of from pulled None _ = None
-given_of from pulled (Some source) index = option_map (λ item. record { item = Some item; pulled = pulled }) (item_in (from source) index)
+given_of from pulled (Some source) index =
+    option_map (λ item. record { item = Some item; pulled = pulled }) (item_in (from source) index)
 
 -- what the values of the report give the instance of that index of the task in the run
 unfoldable pub worked_out_in : Dag → Report → ℕ → ℕ → ℤ → Option Given
-worked_out_in dag report run task index = given_of (pull_from dag report run) (map (pull_from dag report run) (task_of dag task).pulls) (task_of dag task).expand index
+worked_out_in dag report run task index =
+    given_of (pull_from dag report run) (map (pull_from dag report run) (task_of dag task).pulls)
+    (task_of dag task).expand index
 
 -- what an instance was given, by the version of the report
 abbrev pub given_by : Version → Option Given → InstanceReport → Option Given
@@ -88,16 +96,25 @@ outcome_of_try_in result attempt =
 
 abbrev pub entry_of_try : TaskResult → ℕ → Option Given → Option Entry
 entry_of_try result attempt None = None
-entry_of_try result attempt (Some given) = option_map (λ outcome. record { given = given; outcome = outcome }) (outcome_of_try_in result attempt)
+entry_of_try result attempt (Some given) =
+    option_map (λ outcome. record {
+      given = given;
+      outcome = outcome;
+    }) (outcome_of_try_in result attempt)
 
 abbrev pub entry_by : Version → Option Given → Option InstanceReport → ℕ → Option Entry
 entry_by version worked None attempt = None
-entry_by version worked (Some instance) attempt = entry_of_try instance.result attempt (given_by version worked instance)
+entry_by version worked (Some instance) attempt =
+    entry_of_try instance.result attempt (given_by version worked instance)
 
 -- the entries that a report tells of, by their names: version 2 tells what they were given, and for version 1 it is worked out
 unfoldable pub told : Dag → Report → Ledger
-told dag report name = entry_by report.version (worked_out_in dag report name.run name.task name.index) (found_at report name.run name.task name.index) name.attempt
+told dag report name =
+    entry_by report.version (worked_out_in dag report name.run name.task name.index)
+    (found_at report name.run name.task name.index) name.attempt
 
 -- what stands in the report is of tasks and runs that are there
 abbrev pub IsWithin : Dag → ℕ → Report → Type 0
-IsWithin dag runs report = (run task : ℕ) (index : ℤ) (instance : InstanceReport) → found_at report run task index ≡ Some instance → (run < runs) × (task < length dag.tasks)
+IsWithin dag runs report =
+    (run task : ℕ) (index : ℤ) (instance : InstanceReport) → found_at report run task index
+    ≡ Some instance → (run < runs) × (task < length dag.tasks)

@@ -13,16 +13,19 @@ use Rattle.bf_clear.specs.Entries.{found_at, report_at}
 
 -- the report tells of the instance of that index, and it failed
 abbrev pub HasFailed : Report → ℕ → ℕ → ℤ → Type 0
-HasFailed report k t i = (x : InstanceReport) × (found_at report k t i ≡ Some x) × (x.result.outcome ≡ Outcome.Failed)
+HasFailed report k t i =
+    (x : InstanceReport) × (found_at report k t i ≡ Some x) × (x.result.outcome ≡ Outcome.Failed)
 
 -- the place is of one instance, which failed
 abbrev pub IsOfFailed : Report → Place → Type 0
 IsOfFailed report p = (i : ℤ) × (p.index ≡ Some i) × HasFailed report p.run p.task i
 
 -- the places of the instances that failed: of each, and of nothing else
-pub record AreFailed (dag : Dag) (intervals : List Interval) (report : Report) (places : List Place) : Type 0 where
+pub record AreFailed (dag : Dag) (intervals : List Interval) (report : Report)
+    (places : List Place) : Type 0 where
   pub each : (p : Place) → Contains places p → IsOfFailed report p
-  pub all : (k t : ℕ) (i : ℤ) → k < length intervals → t < length dag.tasks → i <ℤ pos 2_147_483_648 → HasFailed report k t i → Contains places (record { run = k; task = t; index = Some i })
+  pub all : (k t : ℕ) (i : ℤ) → k < length intervals → t < length dag.tasks → i <ℤ pos 2_147_483_648
+      → HasFailed report k t i → Contains places (record { run = k; task = t; index = Some i })
 
 -- ---- as they are listed
 
@@ -31,7 +34,8 @@ failed_place p None = []
 failed_place p (Some x) = if is_failed x.result.outcome then p ∷ [] else []
 
 abbrev pub failed_at : Report → ℕ → ℕ → ℤ → List Place
-failed_at report k t i = failed_place (record { run = k; task = t; index = Some i }) (found_at report k t i)
+failed_at report k t i =
+    failed_place (record { run = k; task = t; index = Some i }) (found_at report k t i)
 
 abbrev pub count_of : Option TaskReport → ℕ
 count_of (Some (TaskReport.Mapped instances)) = min (length instances) 2_147_483_648
@@ -42,7 +46,9 @@ abbrev pub count_at : Report → ℕ → ℕ → ℕ
 count_at report k t = count_of (report_at report k t)
 
 abbrev pub failed_of_task_in : Report → ℕ → ℕ → List Place
-failed_of_task_in report k t = failed_at report k t (negsuc 0) ++ up_to (λ i. failed_at report k t (pos i)) (count_at report k t)
+failed_of_task_in report k t =
+    failed_at report k t (negsuc 0)
+    ++ up_to (λ i. failed_at report k t (pos i)) (count_at report k t)
 
 abbrev pub failed_of_run : Report → ℕ → ℕ → List Place
 failed_of_run report tasks k = up_to (failed_of_task_in report k) tasks

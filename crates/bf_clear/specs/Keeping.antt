@@ -17,7 +17,10 @@ use Rattle.bf_clear.specs.Entries.{entry_of_try, told}
 
 -- an entry is kept exactly where the report tells of it, it isn't cleared, and its outcome fits
 abbrev pub AreKept : Dag → List Place → Report → Ledger → Type 0
-AreKept dag seeds report kept = (name : JobName) (entry : Entry) → (kept name ≡ Some entry) ↔ ((told dag report name ≡ Some entry) × IsBeside dag seeds name × (fits_in dag name.task entry.outcome ≡ true))
+AreKept dag seeds report kept =
+    (name : JobName) (entry : Entry) → (kept name ≡ Some entry)
+    ↔ ((told dag report name ≡ Some entry) × IsBeside dag seeds name
+    × (fits_in dag name.task entry.outcome ≡ true))
 
 -- ---- as it is looked up
 
@@ -36,7 +39,10 @@ kept_of beside dag task entry = if beside then fitting dag task entry else None
 
 -- what is kept: the entries of the report but for what is cleared and what doesn't fit
 abbrev pub kept_in : Clearance → Ledger
-kept_in clearance name = kept_of (nat_lt name.task (length clearance.dag.tasks) && not (has_in clearance.dag clearance.cleared name.run name.task name.index)) clearance.dag name.task (told clearance.dag clearance.report name)
+kept_in clearance name =
+    kept_of (nat_lt name.task (length clearance.dag.tasks)
+    && not (has_in clearance.dag clearance.cleared name.run name.task name.index)) clearance.dag
+    name.task (told clearance.dag clearance.report name)
 
 -- ---- answers
 
@@ -53,4 +59,6 @@ IsRawFor (Some outcome) None = ⊥
 
 -- an answer by which a try of this instance, which was given what is told, ends as it did, where it is given the same
 abbrev pub IsAnswerOf : Dag → Option Given → InstanceReport → JobName → Given → Option Raw → Type 0
-IsAnswerOf dag told instance name given answer = IsAnsweredBy (λ asked. fitting dag name.task (entry_of_try instance.result name.attempt told)) name given answer
+IsAnswerOf dag told instance name given answer =
+    IsAnsweredBy (λ asked. fitting dag name.task
+    (entry_of_try instance.result name.attempt told)) name given answer

@@ -60,10 +60,13 @@ number_of (Stopped fault) = None
 -- why a backfill stopped
 abbrev pub stop_words : StopFault → List ℕ
 stop_words StopFault.CannotStart = codes "cannot start workers"
-stop_words (StopFault.GaveUp task index attempt) = codes "runner gave up: " ++ (task ++ (codes " " ++ (signed_decimal index ++ (codes " " ++ decimal attempt))))
+stop_words (StopFault.GaveUp task index attempt) =
+    codes "runner gave up: " ++ (task
+    ++ (codes " " ++ (signed_decimal index ++ (codes " " ++ decimal attempt))))
 stop_words (StopFault.CannotLog path) = codes "cannot write " ++ path
 stop_words StopFault.CannotRecord = codes "cannot write the journal"
-stop_words (StopFault.EnoughFailed most) = codes "stopped after " ++ (decimal most ++ codes " failed tries")
+stop_words (StopFault.EnoughFailed most) =
+    codes "stopped after " ++ (decimal most ++ codes " failed tries")
 
 abbrev pub words_of : CommandFault → List ℕ
 words_of (Read fault) = graph_file.fault_text fault
@@ -86,7 +89,8 @@ words_of (Stopped fault) = stop_words fault
 
 -- the line of a refusal, with its number, or of a fault
 abbrev pub line_with : Option ℕ → List ℕ → List ℕ
-line_with (Some number) words = codes "refused " ++ (decimal number ++ (codes " " ++ (words ++ codes "\n")))
+line_with (Some number) words =
+    codes "refused " ++ (decimal number ++ (codes " " ++ (words ++ codes "\n")))
 line_with None words = codes "fault: " ++ (words ++ codes "\n")
 
 -- what is printed
@@ -150,6 +154,8 @@ abbrev pub Sends : (List ℕ → Type 0) → Option (List ℕ) → Option (List 
 Sends IsDue before after = (text : List ℕ) × IsDue text × (after ≡ sent before text)
 
 -- at a fault: where the text that was due can't be written, the device has halted, and just the first bytes went out; else nothing did
-abbrev pub Leaves : Type 0 → (List ℕ → Type 0) → Option (List ℕ) → Option (List ℕ) → CommandFault → Type 0
-Leaves Halted IsDue before after (CannotWrite n) = Halted × (text : List ℕ) × IsDue text × (n ≤ length text) × (after ≡ sent before (take n text))
+abbrev pub Leaves : Type 0 → (List ℕ → Type 0) → Option (List ℕ) → Option (List ℕ) → CommandFault
+    → Type 0
+Leaves Halted IsDue before after (CannotWrite n) =
+    Halted × (text : List ℕ) × IsDue text × (n ≤ length text) × (after ≡ sent before (take n text))
 Leaves Halted IsDue before after fault = after ≡ before

@@ -88,7 +88,9 @@ has_some texts = not (length texts == 0)
 
 -- something is told of seeds one by one
 abbrev pub has_seeds_in : List Row → Bool
-has_seeds_in rows = has_some (texts_in (codes "task") rows) || (has_some (texts_in (codes "run") rows) || has_some (texts_in (codes "index") rows))
+has_seeds_in rows =
+    has_some (texts_in (codes "task") rows)
+    || (has_some (texts_in (codes "run") rows) || has_some (texts_in (codes "index") rows))
 
 -- what is cleared: seeds, the lines of a file, or what failed
 abbrev pub IsClearedBy : List Row → ClearedAsked → Type 0
@@ -124,7 +126,9 @@ IsProgressBy rows told = told ≡ says_true (first_of (codes "progress") rows)
 
 -- so it is, where nothing is to be quiet
 abbrev pub IsProgressUnlessQuietBy : List Row → Bool → Type 0
-IsProgressUnlessQuietBy rows told = told ≡ (says_true (first_of (codes "progress") rows) && not (says_true (first_of (codes "quiet") rows)))
+IsProgressUnlessQuietBy rows told =
+    told ≡ (says_true (first_of (codes "progress") rows)
+    && not (says_true (first_of (codes "quiet") rows)))
 
 -- whether nothing is told of progress and of tries that fail
 abbrev pub IsQuietBy : List Row → Bool → Type 0
@@ -157,8 +161,11 @@ is_given_in id rows = is_some (first_of id rows)
 
 -- something is told of a grid
 abbrev pub has_grid_in : List Row → Bool
-has_grid_in rows = is_given_in (codes "graph") rows || (is_given_in (codes "report") rows || (is_given_in (codes "zone_file") rows
-    || (is_given_in (codes "from") rows || (is_given_in (codes "to") rows || (is_given_in (codes "width") rows
+has_grid_in rows =
+    is_given_in (codes "graph") rows
+    || (is_given_in (codes "report") rows || (is_given_in (codes "zone_file") rows
+    || (is_given_in (codes "from") rows
+    || (is_given_in (codes "to") rows || (is_given_in (codes "width") rows
     || (is_given_in (codes "color") rows || says_true (first_of (codes "failed") rows)))))))
 
 -- the word for when text is coloured
@@ -241,7 +248,8 @@ IsAskedBy (Some (name, rows)) (Dry d) = (name ≡ codes "dry")
 IsAskedBy (Some (name, rows)) (Run r) = (name ≡ codes "run")
     × IsProgramsBy rows r
     × (first_of (codes "keep") rows ≡ None)
-IsAskedBy (Some (name, rows)) (Keep c) = (first_of (codes "keep") rows ≡ Some (string_bytes c.report))
+IsAskedBy (Some (name, rows)) (Keep c) =
+    (first_of (codes "keep") rows ≡ Some (string_bytes c.report))
     × IsGraphBy rows c.graph
     × IsRangeBy rows c.range
     × (c.cleared ≡ cleared.Nothing)
@@ -288,9 +296,11 @@ IsAskedBy (Some (name, rows)) (Explain e) = (name ≡ codes "explain")
     × (first_of (codes "report") rows ≡ Some (string_bytes e.report))
     × (first_of (codes "run") rows ≡ Some (string_bytes e.run))
     × IsTaskBy rows e.task
-IsAskedBy (Some (name, rows)) (Answers report) = (name ≡ codes "answers") × (first_of (codes "report") rows ≡ Some (string_bytes report))
+IsAskedBy (Some (name, rows)) (Answers report) =
+    (name ≡ codes "answers") × (first_of (codes "report") rows ≡ Some (string_bytes report))
 IsAskedBy (Some (name, rows)) (Schema format) = (name ≡ codes "schema") × IsFormatBy rows format
-IsAskedBy (Some (name, rows)) (Completions shell) = (name ≡ codes "completions") × IsShellBy rows shell
+IsAskedBy (Some (name, rows)) (Completions shell) =
+    (name ≡ codes "completions") × IsShellBy rows shell
 
 -- the path of the file that a report goes to
 abbrev pub IsOutBy : Option (Text × List Row) → Option (String Global) → Type 0

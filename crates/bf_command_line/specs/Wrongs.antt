@@ -32,12 +32,16 @@ starts_wrongs None from to = MissingRequiredArgument ∷ []
 starts_wrongs (Some days) from to = ArgumentConflict ∷ []
 
 abbrev pub range_wrongs : List Row → Kinds
-range_wrongs rows = starts_wrongs (first_of (codes "on") rows) (first_of (codes "from") rows) (first_of (codes "to") rows)
+range_wrongs rows =
+    starts_wrongs (first_of (codes "on") rows) (first_of (codes "from") rows)
+    (first_of (codes "to") rows)
 
 -- `--stop-after` and `--retry-failed` stand beside a journal alone
 abbrev pub journal_wrongs : List Row → Kinds
 journal_wrongs rows =
-    if not (is_some (first_of (codes "journal") rows)) && (is_some (first_of (codes "stop_after") rows) || says_true (first_of (codes "retry_failed") rows))
+    if not (is_some (first_of (codes "journal") rows))
+    && (is_some (first_of (codes "stop_after") rows)
+    || says_true (first_of (codes "retry_failed") rows))
     then MissingRequiredArgument ∷ [] else []
 
 -- a path of no byte
@@ -47,13 +51,16 @@ empty_wrongs path = []
 
 -- the range comes before the journal, and that before the folder of logs
 abbrev pub programs_wrongs : List Row → Kinds
-programs_wrongs rows = or_else (range_wrongs rows) (or_else (journal_wrongs rows) (empty_wrongs (first_of (codes "logs") rows)))
+programs_wrongs rows =
+    or_else (range_wrongs rows) (or_else (journal_wrongs rows)
+    (empty_wrongs (first_of (codes "logs") rows)))
 
 -- there are as many runs as tasks, and as many indexes where there are some
 abbrev pub pair_wrongs : List Text → List Text → List Text → Kinds
 pair_wrongs tasks runs indexes =
     if not (length tasks == length runs) then MissingRequiredArgument ∷ []
-    else (if has_some indexes && not (length indexes == length tasks) then WrongNumberOfValues ∷ [] else [])
+    else (if has_some indexes && not (length indexes == length tasks) then WrongNumberOfValues ∷ []
+    else [])
 
 -- one of these tells what is cleared: a file, seeds one by one, or `--failed`
 abbrev pub choice_wrongs : Option Text → Bool → Bool → Kinds → Kinds
@@ -65,10 +72,14 @@ choice_wrongs None true true paired = ArgumentConflict ∷ []
 choice_wrongs (Some file) seeds failed paired = ArgumentConflict ∷ []
 
 abbrev pub seeds_wrongs : List Row → Kinds
-seeds_wrongs rows = pair_wrongs (texts_in (codes "task") rows) (texts_in (codes "run") rows) (texts_in (codes "index") rows)
+seeds_wrongs rows =
+    pair_wrongs (texts_in (codes "task") rows) (texts_in (codes "run") rows)
+    (texts_in (codes "index") rows)
 
 abbrev pub cleared_wrongs : List Row → Kinds
-cleared_wrongs rows = choice_wrongs (first_of (codes "seeds") rows) (has_seeds_in rows) (says_true (first_of (codes "failed") rows)) (seeds_wrongs rows)
+cleared_wrongs rows =
+    choice_wrongs (first_of (codes "seeds") rows) (has_seeds_in rows)
+    (says_true (first_of (codes "failed") rows)) (seeds_wrongs rows)
 
 -- what is cleared comes before the range
 abbrev pub clear_wrongs : List Row → Kinds
@@ -78,18 +89,23 @@ clear_wrongs rows = or_else (cleared_wrongs rows) (programs_wrongs rows)
 abbrev pub show_wrongs : List Row → Kinds
 show_wrongs rows =
     if is_given_in (codes "json") rows then (if has_grid_in rows then ArgumentConflict ∷ [] else [])
-    else (if is_given_in (codes "graph") rows && is_given_in (codes "report") rows then value_wrongs color_words (first_of (codes "color") rows)
+    else (if is_given_in (codes "graph") rows && is_given_in (codes "report") rows
+    then value_wrongs color_words (first_of (codes "color") rows)
     else MissingRequiredArgument ∷ [])
 
 -- `--index` stands beside a task alone
 abbrev pub explain_wrongs : List Row → Kinds
 explain_wrongs rows =
-    if is_some (first_of (codes "index") rows) && not (is_some (first_of (codes "task") rows)) then MissingRequiredArgument ∷ [] else []
+    if is_some (first_of (codes "index") rows) && not (is_some (first_of (codes "task") rows))
+    then MissingRequiredArgument ∷ [] else []
 
 -- of the arguments of the command of this name, those that `clap` doesn't look at
 abbrev pub command_wrongs : Text → List Row → Kinds
-command_wrongs name rows = if bytes_eq name (codes "schema") then value_wrongs format_words (first_of (codes "format") rows)
-    else (if bytes_eq name (codes "completions") then value_wrongs shell_words (first_of (codes "shell") rows)
+command_wrongs name rows =
+    if bytes_eq name (codes "schema")
+    then value_wrongs format_words (first_of (codes "format") rows)
+    else (if bytes_eq name (codes "completions")
+    then value_wrongs shell_words (first_of (codes "shell") rows)
     else (if bytes_eq name (codes "run") then programs_wrongs rows
     else (if bytes_eq name (codes "clear") then clear_wrongs rows
     else (if bytes_eq name (codes "show") then show_wrongs rows
@@ -98,7 +114,8 @@ command_wrongs name rows = if bytes_eq name (codes "schema") then value_wrongs f
 
 -- a report is written over no file that the command reads, but the report that it goes on from, and not over its journal
 abbrev pub out_wrongs : List Row → Kinds
-out_wrongs rows = if is_overwritten_in rows (first_of (codes "out") rows) then ArgumentConflict ∷ [] else []
+out_wrongs rows =
+    if is_overwritten_in rows (first_of (codes "out") rows) then ArgumentConflict ∷ [] else []
 
 -- the path of the report comes before the command's other arguments
 abbrev pub found_wrongs : Option (Text × List Row) → Kinds
@@ -107,4 +124,5 @@ found_wrongs (Some (name, rows)) = or_else (out_wrongs rows) (command_wrongs nam
 
 -- what `clap` finds, and else a value that isn't possible
 abbrev pub wrongs_of : List Text → Kinds
-wrongs_of words = or_else (fault_of backfill_app words) (found_wrongs (subcommand_of backfill_app words))
+wrongs_of words =
+    or_else (fault_of backfill_app words) (found_wrongs (subcommand_of backfill_app words))

@@ -41,14 +41,19 @@ use Rattle.bf_commands.specs.Programs.{Hearing, HearingTries, IsStopOf, IsStopOf
 use Rattle.bf_commands.specs.Reported.{IsReportFrom}
 
 -- the answers of the table where there is one, and else what is heard of tries
-abbrev pub MayAnswerBy : HearingTries → Option (List TableEntry) → Dag → List Interval → JobName → Given → Raw → Type 0
-MayAnswerBy may_hear (Some entries) dag intervals n given raw = AnswersByTable dag entries intervals n given raw
+abbrev pub MayAnswerBy : HearingTries → Option (List TableEntry) → Dag → List Interval → JobName
+    → Given → Raw → Type 0
+MayAnswerBy may_hear (Some entries) dag intervals n given raw =
+    AnswersByTable dag entries intervals n given raw
 MayAnswerBy may_hear None dag intervals n given raw = MayAnswer may_hear dag intervals n given raw
 
 -- the places that are cleared: of seeds whose tasks and runs are known, of those that a file's lines name, or of the instances that failed
 abbrev pub AreCleared : Dag → List Interval → Report → ToClear → List Place → Type 0
-AreCleared dag intervals was (to_clear.Seeds seeds) places = (seed_fault dag intervals seeds.items ≡ None) × (places ≡ places_in dag intervals seeds.items)
-AreCleared dag intervals was (to_clear.File bytes) places = (seeds : List Seed) × AreSeedsOfFile dag intervals bytes.items seeds × (places ≡ places_in dag intervals seeds)
+AreCleared dag intervals was (to_clear.Seeds seeds) places =
+    (seed_fault dag intervals seeds.items ≡ None) × (places ≡ places_in dag intervals seeds.items)
+AreCleared dag intervals was (to_clear.File bytes) places =
+    (seeds : List Seed) × AreSeedsOfFile dag intervals bytes.items seeds
+    × (places ≡ places_in dag intervals seeds)
 AreCleared dag intervals was to_clear.Failed places = AreFailed dag intervals was places
 AreCleared dag intervals was to_clear.Nothing places = places ≡ []
 
@@ -59,21 +64,26 @@ report_fault what dag intervals was = clear_fault dag intervals was []
 
 -- this is kept of the report where these places are cleared; where nothing is, of what it tells by ids and data intervals
 abbrev pub AreKeptFor : ToClear → Dag → List Interval → List Place → Report → Ledger → Type 0
-AreKeptFor to_clear.Nothing dag intervals places was kept = AreKeptByIds dag intervals places was kept
+AreKeptFor to_clear.Nothing dag intervals places was kept =
+    AreKeptByIds dag intervals places was kept
 AreKeptFor what dag intervals places was kept = AreKept dag places was kept
 
 -- the report isn't refused, what is cleared is known, and this is what is kept
-pub record IsKeptOf (dag : Dag) (intervals : List Interval) (was : Report) (what : ToClear) (kept : Ledger) : Type 0 where
+pub record IsKeptOf (dag : Dag) (intervals : List Interval) (was : Report) (what : ToClear)
+    (kept : Ledger) : Type 0 where
   pub places : List Place
   pub are_cleared : AreCleared dag intervals was what places
   pub not_refused : report_fault what dag intervals was ≡ None
   pub are_kept : AreKeptFor what dag intervals places was kept
 
 -- the text is the report of the backfill that goes on from what is kept of this report where this is cleared
-pub record IsReportAfter (may_hear : HearingTries) (answers : Option (List TableEntry)) (dag : Dag) (intervals : List Interval) (was : Report) (what : ToClear) (text : List ℕ) (success : Bool) : Type 0 where
+pub record IsReportAfter (may_hear : HearingTries) (answers : Option (List TableEntry)) (dag : Dag)
+    (intervals : List Interval) (was : Report) (what : ToClear) (text : List ℕ)
+    (success : Bool) : Type 0 where
   pub kept : Ledger
   pub kept_is : IsKeptOf dag intervals was what kept
-  pub reported : IsReportFrom kept (MayAnswerBy may_hear answers dag intervals) dag intervals text success
+  pub reported : IsReportFrom kept
+      (MayAnswerBy may_hear answers dag intervals) dag intervals text success
 
 -- the table's bytes say these answers, where there is a table
 abbrev pub AreAnswersIn : Option (List ℕ) → Option (List TableEntry) → Type 0
@@ -81,7 +91,9 @@ AreAnswersIn table answers = option_map table_in table ≡ option_map Ok answers
 
 -- the bytes say a graph, which has no fault, a table where there is one, and a report of the graph's runs in the range; and the
 -- text is the report of the backfill that goes on from it where this is cleared
-pub record IsClearReport (launching : LaunchingOf) (may_hear : Hearing) (graph : List ℕ) (file table : Option (List ℕ)) (report : List ℕ) (range : RunRange) (what : ToClear) (text : List ℕ) (success : Bool) : Type 0 where
+pub record IsClearReport (launching : LaunchingOf) (may_hear : Hearing) (graph : List ℕ)
+    (file table : Option (List ℕ)) (report : List ℕ) (range : RunRange) (what : ToClear)
+    (text : List ℕ) (success : Bool) : Type 0 where
   pub draft : Draft
   pub answers : Option (List TableEntry)
   pub found : List Interval
@@ -92,13 +104,15 @@ pub record IsClearReport (launching : LaunchingOf) (may_hear : Hearing) (graph :
   pub report_says : IsReadAs report was
   pub clocks : List ℤ
   pub clocks_are : AreClocksOf graph file found clocks
-  pub reported : IsReportAfter (launched_by launching may_hear clocks) answers (dag_of draft) found was what text success
+  pub reported : IsReportAfter (launched_by launching may_hear clocks) answers
+      (dag_of draft) found was what text success
 
 -- ---- what goes wrong
 
 -- what the bytes of a graph and of a table come to over a range: a graph's tasks, its runs, what clocks show at their moments, and the
 -- answers where there is a table
-pub record IsPrepared (graph : List ℕ) (file table : Option (List ℕ)) (range : RunRange) (dag : Dag) (found : List Interval) (clocks : List ℤ) (answers : Option (List TableEntry)) : Type 0 where
+pub record IsPrepared (graph : List ℕ) (file table : Option (List ℕ)) (range : RunRange) (dag : Dag)
+    (found : List Interval) (clocks : List ℤ) (answers : Option (List TableEntry)) : Type 0 where
   pub draft : Draft
   pub graph_is : IsGraph graph file draft
   pub dag_is : dag ≡ dag_of draft
@@ -115,15 +129,21 @@ pub record IsReady (graph : List ℕ) (file table : Option (List ℕ)) (range : 
   pub prepared : IsPrepared graph file table range dag found clocks answers
 
 -- the fault is the first: those of the graph go before those of the table, where there is one, and those of the range come last
-abbrev pub IsFaultBefore : List ℕ → Option (List ℕ) → Option (List ℕ) → RunRange → CommandFault → Type 0
-IsFaultBefore graph file table range (Table fault) = (draft : Draft) × IsGraph graph file draft × (option_map table_in table ≡ Some (Err fault))
-IsFaultBefore graph file table range (Range fault) = (answers : Option (List TableEntry)) × AreAnswersIn table answers × HasListing graph file range (Err fault)
+abbrev pub IsFaultBefore : List ℕ → Option (List ℕ) → Option (List ℕ) → RunRange → CommandFault
+    → Type 0
+IsFaultBefore graph file table range (Table fault) =
+    (draft : Draft) × IsGraph graph file draft × (option_map table_in table ≡ Some (Err fault))
+IsFaultBefore graph file table range (Range fault) =
+    (answers : Option (List TableEntry)) × AreAnswersIn table answers
+    × HasListing graph file range (Err fault)
 IsFaultBefore graph file table range fault = IsFaultIn graph file fault
 
 -- the task or the run of a seed is unknown: of the first task, and else of the first run, or by lines of a file
 abbrev pub IsUnknownSeed : Dag → List Interval → ToClear → ClearFault → Type 0
-IsUnknownSeed dag intervals (to_clear.Seeds seeds) fault = seed_fault dag intervals seeds.items ≡ Some fault
-IsUnknownSeed dag intervals (to_clear.File bytes) fault = IsFaultOfFile dag intervals bytes.items (Unknown fault)
+IsUnknownSeed dag intervals (to_clear.Seeds seeds) fault =
+    seed_fault dag intervals seeds.items ≡ Some fault
+IsUnknownSeed dag intervals (to_clear.File bytes) fault =
+    IsFaultOfFile dag intervals bytes.items (Unknown fault)
 IsUnknownSeed dag intervals _ fault = ⊥
 
 -- the file is refused for this
@@ -140,15 +160,19 @@ IsUnknown dag intervals what fault = ⊥
 
 -- it is known, and the report is refused for this
 abbrev pub IsMismatch : Dag → List Interval → Report → ToClear → ClearFault → Type 0
-IsMismatch dag intervals was what fault = (places : List Place) × AreCleared dag intervals was what places × (report_fault what dag intervals was ≡ Some fault)
+IsMismatch dag intervals was what fault =
+    (places : List Place) × AreCleared dag intervals was what places
+    × (report_fault what dag intervals was ≡ Some fault)
 
 -- nothing is cleared for this; or memory is wanting
 abbrev pub IsUncleared : Dag → List Interval → Report → ToClear → CommandFault → Type 0
-IsUncleared dag intervals was what (NotCleared fault) = IsUnknownSeed dag intervals what fault ⊎ IsMismatch dag intervals was what fault
+IsUncleared dag intervals was what (NotCleared fault) =
+    IsUnknownSeed dag intervals what fault ⊎ IsMismatch dag intervals was what fault
 IsUncleared dag intervals was what fault = IsUnknown dag intervals what fault
 
 -- they have none, the bytes say a report, and nothing is cleared in it for this
-pub record IsUnclearable (graph : List ℕ) (file table : Option (List ℕ)) (report : List ℕ) (range : RunRange) (what : ToClear) (fault : CommandFault) : Type 0 where
+pub record IsUnclearable (graph : List ℕ) (file table : Option (List ℕ)) (report : List ℕ)
+    (range : RunRange) (what : ToClear) (fault : CommandFault) : Type 0 where
   pub ready : IsReady graph file table range
   pub was : Report
   pub report_says : IsReadAs report was
@@ -156,37 +180,55 @@ pub record IsUnclearable (graph : List ℕ) (file table : Option (List ℕ)) (re
 
 -- where a table answers and workers are started, one can't be; else the backfill stops as one of programs does, but at no try
 -- that is kept
-abbrev pub IsStopFrom : Bool → Ledger → LaunchingOf → Losing → Option (List TableEntry) → Dag → List Interval → StopFault → Type 0
-IsStopFrom alone kept launching may_lose (Some entries) dag intervals stop = (stop ≡ StopFault.CannotStart) × (alone ≡ false)
-IsStopFrom alone kept launching may_lose None dag intervals stop = IsStopOf (MayGiveUpAnew kept (MayGiveUpLaunched launching may_lose dag intervals)) launching.logs dag intervals stop
+abbrev pub IsStopFrom : Bool → Ledger → LaunchingOf → Losing → Option (List TableEntry) → Dag
+    → List Interval → StopFault → Type 0
+IsStopFrom alone kept launching may_lose (Some entries) dag intervals stop =
+    (stop ≡ StopFault.CannotStart) × (alone ≡ false)
+IsStopFrom alone kept launching may_lose None dag intervals stop =
+    IsStopOf (MayGiveUpAnew kept (MayGiveUpLaunched launching may_lose dag intervals))
+    launching.logs dag intervals stop
 
 -- the fault is the first: nothing is cleared in the report for this; or it is, and the backfill stops; or memory or the device is wanting
-abbrev pub ClearingFault : Bool → LaunchingOf → Losing → Option (List TableEntry) → Dag → List Interval → Report → ToClear → CommandFault → Type 0
-ClearingFault alone launching may_lose answers dag intervals was what (NotCleared fault) = IsUncleared dag intervals was what (NotCleared fault)
-ClearingFault alone launching may_lose answers dag intervals was what (BadSeeds fault) = IsUncleared dag intervals was what (BadSeeds fault)
-ClearingFault alone launching may_lose answers dag intervals was what (Stopped stop) = (kept : Ledger) × IsKeptOf dag intervals was what kept × IsStopFrom alone kept launching may_lose answers dag intervals stop
+abbrev pub ClearingFault : Bool → LaunchingOf → Losing → Option (List TableEntry) → Dag
+    → List Interval → Report → ToClear → CommandFault → Type 0
+ClearingFault alone launching may_lose answers dag intervals was what (NotCleared fault) =
+    IsUncleared dag intervals was what (NotCleared fault)
+ClearingFault alone launching may_lose answers dag intervals was what (BadSeeds fault) =
+    IsUncleared dag intervals was what (BadSeeds fault)
+ClearingFault alone launching may_lose answers dag intervals was what (Stopped stop) =
+    (kept : Ledger) × IsKeptOf dag intervals was what kept
+    × IsStopFrom alone kept launching may_lose answers dag intervals stop
 ClearingFault alone launching may_lose answers dag intervals was what fault = IsWanting fault
 
 -- they have none, the bytes say a report, this is cleared in it, and the backfill that goes on from it stops
-pub record StopsClearing (alone : Bool) (launching : LaunchingOf) (may_lose : Losing) (graph : List ℕ) (file table : Option (List ℕ)) (report : List ℕ) (range : RunRange) (what : ToClear) (stop : StopFault) : Type 0 where
+pub record StopsClearing (alone : Bool) (launching : LaunchingOf) (may_lose : Losing)
+    (graph : List ℕ) (file table : Option (List ℕ)) (report : List ℕ) (range : RunRange)
+    (what : ToClear) (stop : StopFault) : Type 0 where
   pub ready : IsReady graph file table range
   pub was : Report
   pub report_says : IsReadAs report was
   pub kept : Ledger
   pub kept_is : IsKeptOf ready.dag ready.found was what kept
-  pub stops : IsStopFrom alone kept (with_clocks launching ready.clocks) may_lose ready.answers ready.dag ready.found stop
+  pub stops : IsStopFrom alone kept
+      (with_clocks launching ready.clocks) may_lose ready.answers ready.dag ready.found stop
 
 -- ---- for private clauses
 
 -- the backfill with programs that goes on from what is kept stops, at no try that is kept; or memory or the device is wanting
-abbrev pub IsStopOrWantingAnew : Ledger → LaunchingOf → Losing → Dag → List Interval → CommandFault → Type 0
-IsStopOrWantingAnew kept launching may_lose dag intervals fault = IsStopOfOrWanting (MayGiveUpAnew kept (MayGiveUpLaunched launching may_lose dag intervals)) launching.logs dag intervals fault
+abbrev pub IsStopOrWantingAnew : Ledger → LaunchingOf → Losing → Dag → List Interval → CommandFault
+    → Type 0
+IsStopOrWantingAnew kept launching may_lose dag intervals fault =
+    IsStopOfOrWanting (MayGiveUpAnew kept
+    (MayGiveUpLaunched launching may_lose dag intervals)) launching.logs dag intervals fault
 
 -- where a table answers and workers are started, one can't be; else it stops as one of programs does; or memory or the device is
 -- wanting
-abbrev pub IsStopOrWantingFrom : Bool → Ledger → LaunchingOf → Losing → Option (List TableEntry) → Dag → List Interval → CommandFault → Type 0
-IsStopOrWantingFrom alone kept launching may_lose (Some entries) dag intervals fault = IsWantingWorkers alone fault
-IsStopOrWantingFrom alone kept launching may_lose None dag intervals fault = IsStopOrWantingAnew kept launching may_lose dag intervals fault
+abbrev pub IsStopOrWantingFrom : Bool → Ledger → LaunchingOf → Losing → Option (List TableEntry)
+    → Dag → List Interval → CommandFault → Type 0
+IsStopOrWantingFrom alone kept launching may_lose (Some entries) dag intervals fault =
+    IsWantingWorkers alone fault
+IsStopOrWantingFrom alone kept launching may_lose None dag intervals fault =
+    IsStopOrWantingAnew kept launching may_lose dag intervals fault
 
 -- the fault is that of the table's bytes, where there are some
 abbrev pub IsFaultOfNamed : Option (List ℕ) → CommandFault → Type 0

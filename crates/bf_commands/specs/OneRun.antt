@@ -16,7 +16,8 @@ use Rattle.bf_commands.specs.OverTable.{TableReport}
 use Rattle.bf_planning.specs.Tables.{IsTable}
 
 -- the bytes say a graph, which has no fault, and a table, and the text is the report of one run of this over that
-pub record IsSingleReport (graph : List ℕ) (file : Option (List ℕ)) (table : List ℕ) (at : Timestamp) (text : List ℕ) (success : Bool) : Type 0 where
+pub record IsSingleReport (graph : List ℕ) (file : Option (List ℕ)) (table : List ℕ)
+    (at : Timestamp) (text : List ℕ) (success : Bool) : Type 0 where
   pub draft : Draft
   pub entries : List TableEntry
   pub graph_is : IsGraph graph file draft
@@ -26,7 +27,10 @@ pub record IsSingleReport (graph : List ℕ) (file : Option (List ℕ)) (table :
 
 -- the fault is the first: those of the graph go before those of the table, and the moment comes last; or memory or the device is wanting
 abbrev pub SingleFault : List ℕ → Option (List ℕ) → List ℕ → Timestamp → CommandFault → Type 0
-SingleFault graph file table at (Table fault) = (draft : Draft) × IsGraph graph file draft × (table_in table ≡ Err fault)
-SingleFault graph file table at (Range fault) = (draft : Draft) × IsGraph graph file draft × IsTable table × (fault ≡ Unlisted IntervalFault.OutsideYears) × ¬ (IsInYears at.nanosecond)
+SingleFault graph file table at (Table fault) =
+    (draft : Draft) × IsGraph graph file draft × (table_in table ≡ Err fault)
+SingleFault graph file table at (Range fault) =
+    (draft : Draft) × IsGraph graph file draft × IsTable table
+    × (fault ≡ Unlisted IntervalFault.OutsideYears) × ¬ (IsInYears at.nanosecond)
 SingleFault graph file table at (CannotWrite n) = Unit {0}
 SingleFault graph file table at fault = IsFaultIn graph file fault

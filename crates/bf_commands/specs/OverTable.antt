@@ -15,15 +15,18 @@ use Rattle.bf_planning.specs.Wanting.{IsWanting}
 
 -- a table's answers to runs over these data intervals
 abbrev pub answering : Dag → List TableEntry → List Interval → Answering
-answering dag table intervals = record { dag = dag; dates = dates_in (map (λ i. i.start) intervals); entries = table }
+answering dag table intervals =
+    record { dag = dag; dates = dates_in (map (λ i. i.start) intervals); entries = table }
 
 -- each try is answered as the table says
 abbrev pub AnswersByTable : Dag → List TableEntry → List Interval → JobName → Given → Raw → Type 0
-AnswersByTable dag table intervals name given raw = raw ≡ answer_of (answering dag table intervals) name
+AnswersByTable dag table intervals name given raw =
+    raw ≡ answer_of (answering dag table intervals) name
 
 -- the text is that of the recursion's report over the ledger of a backfill over the table; and whether every run of it is a success
 abbrev pub TableReport : Dag → List TableEntry → List Interval → List ℕ → Bool → Type 0
-TableReport dag table intervals text success = IsReportBy (AnswersByTable dag table intervals) dag intervals text success
+TableReport dag table intervals text success =
+    IsReportBy (AnswersByTable dag table intervals) dag intervals text success
 
 -- where a table answers and no progress is told, the calling thread makes all tries, however many workers may run
 abbrev pub is_alone_in : Bool → Bool

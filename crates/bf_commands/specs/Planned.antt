@@ -22,7 +22,9 @@ index_words (Some index) = codes " " ++ signed_decimal index
 
 -- a task in a run, or an instance of it, as in a seeds file
 abbrev pub cleared_line : ClearedTask → List ℕ
-cleared_line c = moment_text c.run.at.nanosecond ++ (codes " " ++ (c.task ++ (index_words c.index ++ codes "\n")))
+cleared_line c =
+    moment_text c.run.at.nanosecond
+    ++ (codes " " ++ (c.task ++ (index_words c.index ++ codes "\n")))
 
 -- how many of the numbers below n pass
 abbrev pub counted : (ℕ → Bool) → ℕ → ℕ
@@ -57,11 +59,14 @@ tasks_in places = counted (begins_task_in places) (length places)
 
 -- how many tasks in runs are cleared, of which those with several instances count once, and how many runs they are of
 abbrev pub sum_line : List Place → List ℕ
-sum_line places = decimal (tasks_in places) ++ (codes " tasks in " ++ (decimal (runs_in places) ++ codes " runs\n"))
+sum_line places =
+    decimal (tasks_in places) ++ (codes " tasks in "
+    ++ (decimal (runs_in places) ++ codes " runs\n"))
 
 -- the text has a line for each task in a run of which each instance is cleared, or else for each instance, by date and in the order of the
 -- file, and behind these their sum
-pub record IsClearPlan (dag : Dag) (intervals : List Interval) (was : Report) (what : ToClear) (text : List ℕ) : Type 0 where
+pub record IsClearPlan (dag : Dag) (intervals : List Interval) (was : Report) (what : ToClear)
+    (text : List ℕ) : Type 0 where
   pub seeds : List Place
   pub are_cleared : AreCleared dag intervals was what seeds
   pub not_refused : report_fault what dag intervals was ≡ None
@@ -69,7 +74,8 @@ pub record IsClearPlan (dag : Dag) (intervals : List Interval) (was : Report) (w
   pub follows : AreDependents dag seeds (length intervals) following
   pub cleared : Heading
   pub tells : TellsOf dag intervals (places_in dag following (length intervals)) cleared
-  pub text_is : text ≡ flat_map cleared_line cleared ++ sum_line (places_in dag following (length intervals))
+  pub text_is : text ≡ flat_map cleared_line cleared
+      ++ sum_line (places_in dag following (length intervals))
 
 -- nothing is cleared in the report for this; or memory or the device is wanting
 abbrev pub ClearPlanFault : Dag → List Interval → Report → ToClear → CommandFault → Type 0

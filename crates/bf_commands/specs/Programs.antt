@@ -48,19 +48,22 @@ abbrev pub launched_in : DatedPlan → LaunchingOf → Hearing → HearingTries
 launched_in dated launching may_hear = launched_by launching may_hear (clocks_in dated)
 
 -- the bytes say a graph, which has no fault, and the text is the report of its runs in the range, with the programs of its tasks
-pub record IsRunReport (launching : LaunchingOf) (may_hear : Hearing) (graph : List ℕ) (file : Option (List ℕ)) (range : RunRange) (text : List ℕ) (success : Bool) : Type 0 where
+pub record IsRunReport (launching : LaunchingOf) (may_hear : Hearing) (graph : List ℕ)
+    (file : Option (List ℕ)) (range : RunRange) (text : List ℕ) (success : Bool) : Type 0 where
   pub draft : Draft
   pub found : List Interval
   pub graph_is : IsGraph graph file draft
   pub listing : HasListing graph file range (Ok found)
   pub clocks : List ℤ
   pub clocks_are : AreClocksOf graph file found clocks
-  pub reported : IsReportBy (MayAnswer (launched_by launching may_hear clocks) (dag_of draft) found) (dag_of draft) found text success
+  pub reported : IsReportBy (MayAnswer (launched_by launching may_hear clocks) (dag_of draft) found)
+      (dag_of draft) found text success
 
 -- ---- what stops backfills
 
 -- this is the path of the log of the try's standard output, below the folder of logs
-pub record IsLogBelow (folder : List ℕ) (dag : Dag) (intervals : List Interval) (name : JobName) (path : List ℕ) : Type 0 where
+pub record IsLogBelow (folder : List ℕ) (dag : Dag) (intervals : List Interval) (name : JobName)
+    (path : List ℕ) : Type 0 where
   pub context : JobContext
   pub is_context : IsContextOf dag intervals name context
   pub path_is : path ≡ log_of folder context (codes ".out")
@@ -71,24 +74,31 @@ IsLogOf None dag intervals name path = ⊥
 IsLogOf (Some folder) dag intervals name path = IsLogBelow folder dag intervals name path
 
 -- a worker can't be started; or a try was given up that may be, and this is its log, or its task, its index and its number
-abbrev pub IsStopOf : (JobName → Given → Type 0) → Option (List ℕ) → Dag → List Interval → StopFault → Type 0
+abbrev pub IsStopOf : (JobName → Given → Type 0) → Option (List ℕ) → Dag → List Interval → StopFault
+    → Type 0
 IsStopOf may_give_up logs dag intervals StopFault.CannotStart = Unit {0}
 IsStopOf may_give_up logs dag intervals StopFault.CannotRecord = ⊥
 IsStopOf may_give_up logs dag intervals (StopFault.EnoughFailed count) = ⊥
-IsStopOf may_give_up logs dag intervals (StopFault.CannotLog path) = (name : JobName) × (given : Given) × may_give_up name given × IsLogOf logs dag intervals name path
+IsStopOf may_give_up logs dag intervals (StopFault.CannotLog path) =
+    (name : JobName) × (given : Given) × may_give_up name given
+    × IsLogOf logs dag intervals name path
 IsStopOf may_give_up logs dag intervals (StopFault.GaveUp task index attempt) =
-    (name : JobName) × (given : Given) × may_give_up name given × (task ≡ (task_of dag name.task).id) × (index ≡ name.index) × (attempt ≡ name.attempt)
+    (name : JobName) × (given : Given) × may_give_up name given
+    × (task ≡ (task_of dag name.task).id) × (index ≡ name.index) × (attempt ≡ name.attempt)
 
 -- which tries may be given up whose programs are launched so
 abbrev pub MayGiveUpLaunched : LaunchingOf → Losing → Dag → List Interval → JobName → Given → Type 0
-MayGiveUpLaunched launching may_lose dag intervals name given = MayGiveUp (lost_through launching may_lose) dag intervals name given
+MayGiveUpLaunched launching may_lose dag intervals name given =
+    MayGiveUp (lost_through launching may_lose) dag intervals name given
 
 -- a worker can't be started; or the logs of this try can't be made; or its program can't be waited for
 abbrev pub IsStop : LaunchingOf → Losing → Dag → List Interval → StopFault → Type 0
-IsStop launching may_lose dag intervals stop = IsStopOf (MayGiveUpLaunched launching may_lose dag intervals) launching.logs dag intervals stop
+IsStop launching may_lose dag intervals stop =
+    IsStopOf (MayGiveUpLaunched launching may_lose dag intervals) launching.logs dag intervals stop
 
 -- the bytes say a graph, which has no fault, and the backfill of its runs in the range stops
-pub record StopsRunning (launching : LaunchingOf) (may_lose : Losing) (graph : List ℕ) (file : Option (List ℕ)) (range : RunRange) (stop : StopFault) : Type 0 where
+pub record StopsRunning (launching : LaunchingOf) (may_lose : Losing) (graph : List ℕ)
+    (file : Option (List ℕ)) (range : RunRange) (stop : StopFault) : Type 0 where
   pub draft : Draft
   pub found : List Interval
   pub graph_is : IsGraph graph file draft
@@ -98,23 +108,29 @@ pub record StopsRunning (launching : LaunchingOf) (may_lose : Losing) (graph : L
   pub stops : IsStop (with_clocks launching clocks) may_lose (dag_of draft) found stop
 
 -- the fault is the first: those of the graph go before those of the range; then the backfill stops; or memory or the device is wanting
-abbrev pub RunFault : LaunchingOf → Losing → List ℕ → Option (List ℕ) → RunRange → CommandFault → Type 0
+abbrev pub RunFault : LaunchingOf → Losing → List ℕ → Option (List ℕ) → RunRange → CommandFault
+    → Type 0
 RunFault launching may_lose graph file range (Range fault) = HasListing graph file range (Err fault)
 RunFault launching may_lose graph file range (CannotWrite n) = Unit {0}
-RunFault launching may_lose graph file range (Stopped stop) = StopsRunning launching may_lose graph file range stop
+RunFault launching may_lose graph file range (Stopped stop) =
+    StopsRunning launching may_lose graph file range stop
 RunFault launching may_lose graph file range fault = IsFaultIn graph file fault
 
 -- ---- for private clauses
 
 -- the backfill stops; or memory or the device is wanting
-abbrev pub IsStopOfOrWanting : (JobName → Given → Type 0) → Option (List ℕ) → Dag → List Interval → CommandFault → Type 0
-IsStopOfOrWanting may_give_up logs dag intervals (Stopped stop) = IsStopOf may_give_up logs dag intervals stop
+abbrev pub IsStopOfOrWanting : (JobName → Given → Type 0) → Option (List ℕ) → Dag → List Interval
+    → CommandFault → Type 0
+IsStopOfOrWanting may_give_up logs dag intervals (Stopped stop) =
+    IsStopOf may_give_up logs dag intervals stop
 IsStopOfOrWanting may_give_up logs dag intervals fault = IsWanting fault
 
 -- this try is told as given up, or its log; or memory is wanting
 abbrev pub IsGivenUp : Option (List ℕ) → Dag → List Interval → JobName → CommandFault → Type 0
-IsGivenUp logs dag intervals name (Stopped (StopFault.GaveUp task index attempt)) = (task ≡ (task_of dag name.task).id) × (index ≡ name.index) × (attempt ≡ name.attempt)
-IsGivenUp logs dag intervals name (Stopped (StopFault.CannotLog path)) = IsLogOf logs dag intervals name path
+IsGivenUp logs dag intervals name (Stopped (StopFault.GaveUp task index attempt)) =
+    (task ≡ (task_of dag name.task).id) × (index ≡ name.index) × (attempt ≡ name.attempt)
+IsGivenUp logs dag intervals name (Stopped (StopFault.CannotLog path)) =
+    IsLogOf logs dag intervals name path
 IsGivenUp logs dag intervals name OutOfMemory = Unit {0}
 IsGivenUp logs dag intervals name fault = ⊥
 
@@ -122,4 +138,5 @@ IsGivenUp logs dag intervals name fault = ⊥
 abbrev pub IsToldOf : Option (List ℕ) → Dag → List Interval → BackfillFault → CommandFault → Type 0
 IsToldOf logs dag intervals BackfillFault.OutOfMemory told = told ≡ OutOfMemory
 IsToldOf logs dag intervals BackfillFault.Start told = told ≡ Stopped StopFault.CannotStart
-IsToldOf logs dag intervals (BackfillFault.Runner name) told = IsGivenUp logs dag intervals name told
+IsToldOf logs dag intervals (BackfillFault.Runner name) told =
+    IsGivenUp logs dag intervals name told

@@ -27,7 +27,8 @@ is_success_in RunState.Success = true
 is_success_in RunState.Failed = false
 
 -- the text is that of the recursion's report over the ledger, which keeps the rules by which reports are read; and whether every run of it is a success
-pub record IsReportOf (dag : Dag) (intervals : List Interval) (ledger : Ledger) (text : List ℕ) (success : Bool) : Type 0 where
+pub record IsReportOf (dag : Dag) (intervals : List Interval) (ledger : Ledger) (text : List ℕ)
+    (success : Bool) : Type 0 where
   pub report : Report
   pub dated : IsDated dag intervals ledger report
   pub kept : IsShownReport report
@@ -36,7 +37,9 @@ pub record IsReportOf (dag : Dag) (intervals : List Interval) (ledger : Ledger) 
 
 -- the text is that of the recursion's report over the ledger of a backfill, each of whose tries has the grade of an answer that may
 -- come; and whether every run of it is a success
-pub record IsReportBy (may_answer : JobName → Given → Raw → Type 0) (dag : Dag) (intervals : List Interval) (text : List ℕ) (success : Bool) : Type 0 where
+pub record IsReportBy (may_answer : JobName → Given → Raw
+    → Type 0) (dag : Dag) (intervals : List Interval) (text : List ℕ)
+    (success : Bool) : Type 0 where
   pub ledger : finite.FinMap name_cmp Entry
   pub tries : HoldsItsTries dag (length intervals) (finite.get ledger)
   pub graded : AreGraded may_answer dag (finite.get ledger)
@@ -44,7 +47,9 @@ pub record IsReportBy (may_answer : JobName → Given → Raw → Type 0) (dag :
 
 -- so it is where the kept tries stand as they are kept, and every other has the grade of an answer that may come; so where those
 -- that are kept have such a grade, all have
-pub record IsReportFrom (kept : Ledger) (may_answer : JobName → Given → Raw → Type 0) (dag : Dag) (intervals : List Interval) (text : List ℕ) (success : Bool) : Type 0 where
+pub record IsReportFrom (kept : Ledger) (may_answer : JobName → Given → Raw
+    → Type 0) (dag : Dag) (intervals : List Interval) (text : List ℕ)
+    (success : Bool) : Type 0 where
   pub ledger : finite.FinMap name_cmp Entry
   pub tries : HoldsItsTries dag (length intervals) (finite.get ledger)
   pub again : AreAlike kept (finite.get ledger)
@@ -56,7 +61,8 @@ pub record IsReportFrom (kept : Ledger) (may_answer : JobName → Given → Raw 
 
 -- the end of a backfill in which the kept tries stand as they are kept, every other has the grade of an answer that may come, as all
 -- have where the kept ones do, and no more tries ran at once than there are workers
-pub record IsEndFrom (kept : Ledger) (may_answer : JobName → Given → Raw → Type 0) (dag : Dag) (limits : Limits) (runs workers : ℕ) (ending : Ending) : Type 0 where
+pub record IsEndFrom (kept : Ledger) (may_answer : JobName → Given → Raw
+    → Type 0) (dag : Dag) (limits : Limits) (runs workers : ℕ) (ending : Ending) : Type 0 where
   pub of : IsEndOf dag limits runs ending
   pub again : AreAlike kept (entry_in ending.state.ledger)
   pub anew : AreGradedAnew kept may_answer dag (entry_in ending.state.ledger)

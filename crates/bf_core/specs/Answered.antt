@@ -7,7 +7,9 @@ use Rattle.bf_core.specs.declared.fault.BackfillFault.{BackfillFault}
 
 -- each try that ended has the grade of an answer that may be given to it
 abbrev pub AreGraded : (JobName → Given → Raw → Type 0) → Dag → Ledger → Type 0
-AreGraded may_answer dag ledger = (name : JobName) (entry : Entry) → ledger name ≡ Some entry → (raw : Raw) × may_answer name entry.given raw × (entry.outcome ≡ grade_of dag name.task raw)
+AreGraded may_answer dag ledger =
+    (name : JobName) (entry : Entry) → ledger name ≡ Some entry → (raw : Raw)
+    × may_answer name entry.given raw × (entry.outcome ≡ grade_of dag name.task raw)
 
 -- memory may be wanting, and the try that is named may be given up; where nobody starts workers, none fails to start
 abbrev pub MayFault : (JobName → Given → Type 0) → BackfillFault → Type 0

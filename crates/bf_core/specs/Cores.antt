@@ -20,14 +20,28 @@ pub record Backfill : Type 0 where
 
 -- the backfill of no event
 abbrev pub opening : Dag → Limits → ℕ → Backfill
-opening dag limits runs = record { dag = dag; limits = limits; runs = runs; state = start dag runs; clock = start_clock; journal = [] }
+opening dag limits runs =
+    record {
+      dag = dag;
+      limits = limits;
+      runs = runs;
+      state = start dag runs;
+      clock = start_clock;
+      journal = [];
+    }
 
 -- the backfill after one more event
 abbrev pub moved : Backfill → Event → Backfill
-moved backfill event = record backfill { state = after backfill.dag backfill.state event; clock = clock_after backfill.dag backfill.limits backfill.clock event; journal = backfill.journal ++ event ∷ [] }
+moved backfill event =
+    record backfill {
+      state = after backfill.dag backfill.state event;
+      clock = clock_after backfill.dag backfill.limits backfill.clock event;
+      journal = backfill.journal ++ event ∷ [];
+    }
 
 -- the events are legal and come in time, and lead from the start to the state
-pub record IsJournal (dag : Dag) (limits : Limits) (runs : ℕ) (journal : List Event) (state : State) : Type 0 where
+pub record IsJournal (dag : Dag) (limits : Limits) (runs : ℕ) (journal : List Event)
+    (state : State) : Type 0 where
   pub legal : IsLegal dag limits (start dag runs) journal
   pub timely : AreTimely dag limits start_clock journal
   pub led_to : replay dag (start dag runs) journal ≡ state
@@ -35,7 +49,8 @@ pub record IsJournal (dag : Dag) (limits : Limits) (runs : ℕ) (journal : List 
 -- the journal is legal, and leads to the state and the clock
 pub record IsReplay (backfill : Backfill) : Type 0 where
   pub sound : IsSound backfill.dag
-  pub by_journal : IsJournal backfill.dag backfill.limits backfill.runs backfill.journal backfill.state
+  pub by_journal : IsJournal backfill.dag backfill.limits backfill.runs backfill.journal
+      backfill.state
   pub by_clock : clock_of backfill.dag backfill.limits start_clock backfill.journal ≡ backfill.clock
 
 -- the event that the task is decided: by its expansion, or without
@@ -76,15 +91,18 @@ IsDue dag limits state event = IsEnabled dag limits state event
 -- the first of these whose condition holds: a stranger, not enabled, no room; or memory was wanting
 abbrev pub Refuses : Dag → Limits → State → Clock → Event → Illegal → Type 0
 Refuses dag limits state clock event Illegal.Stranger = ¬ (SpeaksOfThese dag state event)
-Refuses dag limits state clock event Illegal.NotEnabled = SpeaksOfThese dag state event × ¬ (IsDue dag limits state event × IsTimely clock event)
-Refuses dag limits state clock event Illegal.NoRoom = IsDue dag limits state event × IsTimely clock event × ¬ (IsEnabled dag limits state event)
+Refuses dag limits state clock event Illegal.NotEnabled =
+    SpeaksOfThese dag state event × ¬ (IsDue dag limits state event × IsTimely clock event)
+Refuses dag limits state clock event Illegal.NoRoom =
+    IsDue dag limits state event × IsTimely clock event × ¬ (IsEnabled dag limits state event)
 Refuses dag limits state clock event Illegal.OutOfMemory = Unit {0}
 
 -- ---- of a backfill
 
 -- the event may come now
 abbrev pub MayCome : Backfill → Event → Type 0
-MayCome backfill event = IsEnabled backfill.dag backfill.limits backfill.state event × IsTimely backfill.clock event
+MayCome backfill event =
+    IsEnabled backfill.dag backfill.limits backfill.state event × IsTimely backfill.clock event
 
 -- the try of that name waits, for a moment that is later than now
 pub record WaitsLater (backfill : Backfill) (name : JobName) : Type 0 where
@@ -95,7 +113,9 @@ pub record WaitsLater (backfill : Backfill) (name : JobName) : Type 0 where
 
 -- it has ended, or an event but a tick may come, or a try waits for a later moment
 abbrev pub GoesOn : Backfill → Type 0
-GoesOn backfill = HasEnded backfill.state ⊎ ((event : Event) × MayCome backfill event × IsMove event) ⊎ ((name : JobName) × WaitsLater backfill name)
+GoesOn backfill =
+    HasEnded backfill.state ⊎ ((event : Event) × MayCome backfill event × IsMove event)
+    ⊎ ((name : JobName) × WaitsLater backfill name)
 
 -- the event could come, and it has come
 abbrev pub HasCome : Backfill → Event → Backfill → Type 0
@@ -103,7 +123,8 @@ HasCome old event new = MayCome old event × (new ≡ moved old event)
 
 -- why the event is refused
 abbrev pub IsRefusal : Backfill → Event → Illegal → Type 0
-IsRefusal backfill event fault = Refuses backfill.dag backfill.limits backfill.state backfill.clock event fault
+IsRefusal backfill event fault =
+    Refuses backfill.dag backfill.limits backfill.state backfill.clock event fault
 
 -- ---- what a core keeps
 

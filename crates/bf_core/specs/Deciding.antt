@@ -48,7 +48,14 @@ settled value = record { counts = counts_in value; value = Some value }
 -- the branch succeeded and does not follow the task
 abbrev pub branch_skips : Dag → ℕ → ℕ → TaskValue → Bool
 branch_skips dag task upstream (TaskValue.Ran []) = false
-branch_skips dag task upstream (TaskValue.Ran (result ∷ results)) = elim result.outcome [ Outcome.Success pushed ↦ not (followed_at (shape_of dag) upstream pushed task) | Outcome.Failed ↦ false | Outcome.Skipped ↦ false ]
+branch_skips dag task upstream (TaskValue.Ran (result ∷ results)) =
+    elim result.outcome [
+      | Outcome.Success pushed ↦ not
+          (followed_at (shape_of dag) upstream pushed task)
+      | Outcome.Failed ↦ false
+      | Outcome.Skipped ↦
+          false
+    ]
 branch_skips dag task upstream _ = false
 
 abbrev pub is_blocked_in : TaskValue → Bool
@@ -68,13 +75,18 @@ counts_over seen (upstream ∷ rest) = add (seen upstream).counts (counts_over s
 
 -- the upstream lets the task be decided: it is settled, or the task's rule need not wait for it and it is no branch
 abbrev pub lets_decide_in : Dag → Task → (ℕ → Seen) → ℕ → Bool
-lets_decide_in dag task seen upstream = is_some (seen upstream).value || (not (is_waiting task.rule) && not (is_branch_in (task_of dag upstream)))
+lets_decide_in dag task seen upstream =
+    is_some (seen upstream).value || (not (is_waiting task.rule)
+    && not (is_branch_in (task_of dag upstream)))
 
 unfoldable pub ruling_of : Dag → (ℕ → Seen) → ℕ → Verdict
 ruling_of dag seen task =
-    if not (list_all (lets_decide_in dag (task_of dag task) seen) (task_of dag task).upstreams) then Verdict.Wait
-    else (if list_any (λ upstream. branch_is dag (branch_skips dag task upstream) upstream (seen upstream).value) (task_of dag task).upstreams then Verdict.Skip
-    else (if list_any (λ upstream. branch_is dag is_blocked_in upstream (seen upstream).value) (task_of dag task).upstreams then Verdict.Blocked
+    if not (list_all (lets_decide_in dag (task_of dag task) seen) (task_of dag task).upstreams)
+    then Verdict.Wait
+    else (if list_any (λ upstream. branch_is dag (branch_skips dag task upstream) upstream
+    (seen upstream).value) (task_of dag task).upstreams then Verdict.Skip
+    else (if list_any (λ upstream. branch_is dag is_blocked_in upstream (seen upstream).value)
+    (task_of dag task).upstreams then Verdict.Blocked
     else verdict (task_of dag task).rule (counts_over seen (task_of dag task).upstreams)))
 
 -- ---- the past, the expansion
@@ -95,11 +107,13 @@ past_ruling (Some value) = if lets_pass_in value then Verdict.Run else Verdict.B
 
 -- where the verdict is run and the task depends on its past, the past decides; nothing is asked of it in the first run
 abbrev pub past_after : Bool → ℕ → Option TaskValue → Verdict → Verdict
-past_after depends run before Verdict.Run = if depends && not (run == 0) then past_ruling before else Verdict.Run
+past_after depends run before Verdict.Run =
+    if depends && not (run == 0) then past_ruling before else Verdict.Run
 past_after depends run before ruling = ruling
 
 abbrev pub and_then_past : Dag → ℕ → Option TaskValue → ℕ → Verdict → Verdict
-and_then_past dag run before task ruling = past_after (task_of dag task).depends_on_past run before ruling
+and_then_past dag run before task ruling =
+    past_after (task_of dag task).depends_on_past run before ruling
 
 abbrev pub pull_seen : Dag → (ℕ → Seen) → ℕ → Option Xval
 pull_seen dag seen source = option_and_then (pull_of (task_of dag source)) (seen source).value
@@ -110,19 +124,27 @@ pulled dag seen task = map (pull_seen dag seen) (task_of dag task).pulls
 abbrev pub mapped : List (Option Xval) → Items → Decision
 mapped pulled Items.Missing = Decision.UpstreamFailed
 mapped pulled (Items.List []) = Decision.Skipped
-mapped pulled (Items.List (first ∷ rest)) = Decision.Instances (map (λ item. record { item = Some item; pulled = pulled }) (first ∷ rest))
+mapped pulled (Items.List (first ∷ rest)) =
+    Decision.Instances (map (λ item. record { item = Some item; pulled = pulled }) (first ∷ rest))
 
 -- the instances of a task that goes on
 abbrev pub instances_of : Dag → (ℕ → Seen) → List (Option Xval) → Option ℕ → Decision
-instances_of dag seen pulled None = Decision.Instances (record { item = None; pulled = pulled } ∷ [])
-instances_of dag seen pulled (Some source) = elim (seen source).value [ None ↦ Decision.Wait | Some value ↦ mapped pulled (items (task_of dag source) value) ]
+instances_of dag seen pulled None =
+    Decision.Instances (record { item = None; pulled = pulled } ∷ [])
+instances_of dag seen pulled (Some source) =
+    elim (seen source).value [
+      | None ↦ Decision.Wait
+      | Some value ↦ mapped pulled
+          (items (task_of dag source) value)
+    ]
 
 abbrev pub after_verdict : Dag → (ℕ → Seen) → ℕ → Verdict → Decision
 after_verdict dag seen task Verdict.Wait = Decision.Wait
 after_verdict dag seen task Verdict.Blocked = Decision.Blocked
 after_verdict dag seen task Verdict.Skip = Decision.Skipped
 after_verdict dag seen task Verdict.UpstreamFailed = Decision.UpstreamFailed
-after_verdict dag seen task Verdict.Run = instances_of dag seen (pulled dag seen task) (task_of dag task).expand
+after_verdict dag seen task Verdict.Run =
+    instances_of dag seen (pulled dag seen task) (task_of dag task).expand
 
 -- the verdict, with the past
 unfoldable pub gate_of : Dag → ℕ → (ℕ → Seen) → Option TaskValue → ℕ → Verdict

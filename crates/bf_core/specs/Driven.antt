@@ -9,7 +9,9 @@ use Rattle.bf_core.specs.Answered.{AreGraded}
 use Rattle.bf_core.specs.Endings.{Ending, IsEndOf, KeepsWorkers}
 
 -- a backfill of the plan and of so many runs by so many workers, whose tries so far have grades of answers that may be given
-pub record IsDriven (may_answer : JobName → Given → Raw → Type 0) (planned : Dag) (within : Limits) (many workers : ℕ) (backfill : Backfill) : Type 0 where
+pub record IsDriven (may_answer : JobName → Given → Raw
+    → Type 0) (planned : Dag) (within : Limits) (many workers : ℕ)
+    (backfill : Backfill) : Type 0 where
   pub dag : backfill.dag ≡ planned
   pub limits : backfill.limits ≡ within
   pub runs : backfill.runs ≡ many
@@ -19,7 +21,8 @@ pub record IsDriven (may_answer : JobName → Given → Raw → Type 0) (planned
   pub kept : KeepsWorkers backfill.dag backfill.runs workers backfill.journal
 
 -- what a backfill that is driven to its end comes to
-pub record IsOver (may_answer : JobName → Given → Raw → Type 0) (dag : Dag) (limits : Limits) (runs workers : ℕ) (ending : Ending) : Type 0 where
+pub record IsOver (may_answer : JobName → Given → Raw
+    → Type 0) (dag : Dag) (limits : Limits) (runs workers : ℕ) (ending : Ending) : Type 0 where
   pub of : IsEndOf dag limits runs ending
   pub graded : AreGraded may_answer dag (entry_in ending.state.ledger)
   pub kept : KeepsWorkers dag runs workers ending.journal

@@ -18,7 +18,8 @@ IsFitting dag task (Phase.Finished outcome) = fits_in dag task outcome ≡ true
 IsFitting dag task _ = Unit {0}
 
 abbrev pub HasFitting : Dag → ℕ → Cell → Type 0
-HasFitting dag task (Cell.Ran instances) = AllByRecursion (λ instance. IsFitting dag task instance.phase) instances
+HasFitting dag task (Cell.Ran instances) =
+    AllByRecursion (λ instance. IsFitting dag task instance.phase) instances
 HasFitting dag task _ = Unit {0}
 
 abbrev pub AreFitting : Dag → State → Type 0

@@ -16,15 +16,22 @@ pub record IsBeginning (backfill : Backfill) (name : JobName) (demand : Demand) 
   pub pool_there : demand.pool < length backfill.limits.pools
 
 -- the next try of the same instance, whether it is made, and how long it waits
-pub record IsRetry (backfill : Backfill) (name : JobName) (outcome : Outcome) (retry : Retry) : Type 0 where
+pub record IsRetry (backfill : Backfill) (name : JobName) (outcome : Outcome)
+    (retry : Retry) : Type 0 where
   pub next_is : retry.next ≡ next_try_of name
-  pub again_is : retry.again ≡ is_made_again (task_of backfill.dag name.task).retries name.attempt outcome
+  pub again_is : retry.again ≡ is_made_again
+      (task_of backfill.dag name.task).retries name.attempt outcome
   pub delay_is : retry.delay ≡ (demand_of backfill.limits name.task).retry_delay
 
 -- the try may end so; its entry, what it took, its task's retries, the place of its instance, and its next try
-pub record IsEnding (backfill : Backfill) (name : JobName) (outcome : Outcome) (ending : Ending) : Type 0 where
+pub record IsEnding (backfill : Backfill) (name : JobName) (outcome : Outcome)
+    (ending : Ending) : Type 0 where
   pub able : IsEnabled backfill.dag backfill.limits backfill.state (Event.End name outcome)
-  pub entry_is : ending.entry ≡ record { given = given_in (cell_at backfill.state name.run name.task) (place_in backfill.dag name); outcome = outcome }
+  pub entry_is : ending.entry ≡ record {
+    given = given_in
+        (cell_at backfill.state name.run name.task) (place_in backfill.dag name);
+    outcome = outcome;
+  }
   pub kept_is : ending.kept ≡ outcome
   pub demand_is : ending.demand ≡ demand_of backfill.limits name.task
   pub pool_there : ending.demand.pool < length backfill.limits.pools

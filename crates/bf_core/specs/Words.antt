@@ -17,7 +17,8 @@ passed _ = false
 abbrev pub ran_ruling : List Instance → Verdict
 ran_ruling instances =
     if not (list_all (λ instance. is_finished instance.phase) instances) then Verdict.Wait
-    else (if list_all (λ instance. passed instance.phase) instances then Verdict.Run else Verdict.Blocked)
+    else (if list_all (λ instance. passed instance.phase) instances then Verdict.Run
+    else Verdict.Blocked)
 
 -- the value is known, and has this property
 abbrev pub known_to_be : (TaskValue → Bool) → Option TaskValue → Bool
@@ -26,12 +27,15 @@ known_to_be holds (Some value) = holds value
 
 -- the branch whose instance is in this phase succeeded, and does not follow the task
 abbrev pub phase_skips_in : Dag → ℕ → ℕ → Phase → Bool
-phase_skips_in dag task upstream (Phase.Finished (Outcome.Success value)) = not (followed_at (shape_of dag) upstream value task)
+phase_skips_in dag task upstream (Phase.Finished (Outcome.Success value)) =
+    not (followed_at (shape_of dag) upstream value task)
 phase_skips_in dag task upstream _ = false
 
 abbrev pub instances_skip_in : Dag → ℕ → ℕ → List Instance → Bool
 instances_skip_in dag task upstream [] = false
-instances_skip_in dag task upstream (instance ∷ rest) = list_all (λ instance. is_finished instance.phase) (instance ∷ rest) && phase_skips_in dag task upstream instance.phase
+instances_skip_in dag task upstream (instance ∷ rest) =
+    list_all (λ instance. is_finished instance.phase) (instance ∷ rest)
+    && phase_skips_in dag task upstream instance.phase
 
 -- what an instance pushed, where it has finished
 abbrev pub pushed_in : Phase → Option Xval
@@ -49,13 +53,15 @@ pushed_by_first (first ∷ rest) = pushed_by_one first
 abbrev pub pulled_from : Task → List Instance → Option Xval
 pulled_from source instances =
     if not (list_all (λ instance. is_finished instance.phase) instances) then None
-    else (if is_none source.expand then pushed_by_first instances else Some (list_of (filter_map pushed_by_one instances)))
+    else (if is_none source.expand then pushed_by_first instances
+    else Some (list_of (filter_map pushed_by_one instances)))
 
 -- what a source has for an expansion by its instances, where all have finished
 abbrev pub sourced_from : Task → List Instance → Option SourceValues
 sourced_from source instances =
     if not (list_all (λ instance. is_finished instance.phase) instances) then None
-    else (if is_none source.expand then Some (SourceValues.Pushed (pushed_by_first instances)) else Some (SourceValues.Each (map pushed_by_one instances)))
+    else (if is_none source.expand then Some (SourceValues.Pushed (pushed_by_first instances))
+    else Some (SourceValues.Each (map pushed_by_one instances)))
 
 abbrev pub is_failed_phase : Phase → Bool
 is_failed_phase (Phase.Finished outcome) = is_failed outcome
@@ -66,4 +72,6 @@ is_failed_instance instance = is_failed_phase instance.phase
 
 -- instances fail their run where one has not finished, or one of a leaf has failed
 abbrev pub instances_fail : Bool → List Instance → Bool
-instances_fail leaf instances = not (list_all (λ instance. is_finished instance.phase) instances) || (list_any is_failed_instance instances && leaf)
+instances_fail leaf instances =
+    not (list_all (λ instance. is_finished instance.phase) instances)
+    || (list_any is_failed_instance instances && leaf)

@@ -59,11 +59,15 @@ names Day = []
 names Month =
     codes "jan" ∷ codes "feb" ∷ codes "mar" ∷ codes "apr" ∷ codes "may" ∷ codes "jun"
     ∷ codes "jul" ∷ codes "aug" ∷ codes "sep" ∷ codes "oct" ∷ codes "nov" ∷ codes "dec" ∷ []
-names Weekday = codes "sun" ∷ codes "mon" ∷ codes "tue" ∷ codes "wed" ∷ codes "thu" ∷ codes "fri" ∷ codes "sat" ∷ []
+names Weekday =
+    codes "sun" ∷ codes "mon" ∷ codes "tue" ∷ codes "wed" ∷ codes "thu" ∷ codes "fri" ∷ codes "sat"
+    ∷ []
 
 -- the number that a name stands for, in any letter case
 abbrev pub named : Field → List ℕ → Option ℕ
-named f text = option_map (λ i. i + least_of f) (position (λ name. bytes_eq name (map to_ascii_lowercase text)) (names f))
+named f text =
+    option_map (λ i. i + least_of f)
+    (position (λ name. bytes_eq name (map to_ascii_lowercase text)) (names f))
 
 -- the number, if the field has it
 abbrev pub within : Field → Option ℕ → Option ℕ
@@ -76,7 +80,9 @@ number_of f text = if length text == 3 then named f text else within f (small_nu
 
 -- what stands after the first such byte, where there is one
 abbrev pub after : ℕ → List ℕ → Option (List ℕ)
-after c text = if nat_lt (position_or_len (λ b. b == c) text) (length text) then Some (after_first (λ b. b == c) text) else None
+after c text =
+    if nat_lt (position_or_len (λ b. b == c) text) (length text)
+    then Some (after_first (λ b. b == c) text) else None
 
 -- the number, if it is a step
 abbrev pub step_within : Option ℕ → Option ℕ
@@ -100,12 +106,14 @@ item_between (Some a) (Some b) (Some step) =
 abbrev pub range_of : Field → List ℕ → Option (List ℕ) → Option (List ℕ) → Option Item
 range_of f first None None = item_between (number_of f first) (number_of f first) (Some 1)
 range_of f first None (Some step) = None
-range_of f first (Some last) step = item_between (number_of f first) (number_of f last) (step_of step)
+range_of f first (Some last) step =
+    item_between (number_of f first) (number_of f last) (step_of step)
 
 -- `*`, `a` or `a-b`, with what stands behind a `/`
 abbrev pub stepped : Field → List ℕ → Option (List ℕ) → Option Item
 stepped f base step =
-    if bytes_eq base (42 ∷ []) then item_between (Some (least_of f)) (Some (greatest_of f)) (step_of step)
+    if bytes_eq base (42 ∷ []) then item_between (Some (least_of f)) (Some (greatest_of f))
+    (step_of step)
     else range_of f (before_first (λ b. b == 45) base) (after 45 base) step
 
 -- one item of a field
@@ -150,7 +158,8 @@ pub record Schedule : Type 0 where
   pub any_weekday : Bool
 
 -- the schedule of the items of five fields, if all were read
-abbrev pub schedule_from : (m h d mo w : Option (List Item)) → (any_day any_weekday : Bool) → Option Schedule
+abbrev pub schedule_from : (m h d mo w : Option (List Item)) → (any_day any_weekday : Bool)
+    → Option Schedule
 schedule_from (Some m) (Some h) (Some d) (Some mo) (Some w) any_day any_weekday = Some (record {
   minutes = m;
   hours = h;
@@ -230,7 +239,8 @@ date_matches s d = in_field s.months d.month && day_matches s d.day ((weekday_of
 
 -- the schedule has the minute
 abbrev pub matches : Schedule → DateTime → Bool
-matches s dt = in_field s.minutes dt.time.minute && in_field s.hours dt.time.hour && date_matches s dt.date
+matches s dt =
+    in_field s.minutes dt.time.minute && in_field s.hours dt.time.hour && date_matches s dt.date
 
 -- the words keep a schedule
 pub record Keeps (spec : CronSpec) (s : Schedule) : Type 0 where
@@ -261,7 +271,8 @@ has_number word v = bit_at word v == 1
 
 -- a weekday counted from Sunday, which is 0 and 7
 abbrev pub spec_on_weekday : CronSpec → ℕ → Bool
-spec_on_weekday c weekday = has_number c.weekdays weekday || ((weekday == 0) && has_number c.weekdays 7)
+spec_on_weekday c weekday =
+    has_number c.weekdays weekday || ((weekday == 0) && has_number c.weekdays 7)
 
 -- where day and weekday are both restricted either suffices, else both must match
 abbrev pub spec_on_day : CronSpec → ℕ → ℕ → Bool
@@ -280,4 +291,6 @@ spec_has_time c m = has_number c.minutes (m % 60) && has_number c.hours (m / 60)
 
 -- the words have the minute
 abbrev pub spec_matches : CronSpec → DateTime → Bool
-spec_matches c at = has_number c.minutes at.time.minute && has_number c.hours at.time.hour && spec_has_date c at.date
+spec_matches c at =
+    has_number c.minutes at.time.minute && has_number c.hours at.time.hour
+    && spec_has_date c at.date

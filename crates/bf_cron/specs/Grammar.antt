@@ -22,10 +22,14 @@ IsStep text n = IsDecimal text n × (1 ≤ n) × (n ≤ 59)
 -- `*`, `*/n`, `a`, `a-b` and `a-b/n`
 pub data IsItemText (f : Field) : List ℕ → Item → Type 0 where
   every : IsItemText f (42 ∷ []) (record { low = least_of f; high = greatest_of f; step = 1 })
-  every_nth : (t : List ℕ) (n : ℕ) → IsStep t n → IsItemText f (42 ∷ 47 ∷ t) (record { low = least_of f; high = greatest_of f; step = n })
-  one : (t : List ℕ) (a : ℕ) → IsNumber f t a → IsItemText f t (record { low = a; high = a; step = 1 })
-  span : (s t : List ℕ) (a b : ℕ) → IsNumber f s a → IsNumber f t b → a ≤ b → IsItemText f (s ++ 45 ∷ t) (record { low = a; high = b; step = 1 })
-  span_nth : (s t u : List ℕ) (a b n : ℕ) → IsNumber f s a → IsNumber f t b → a ≤ b → IsStep u n → IsItemText f (s ++ 45 ∷ t ++ 47 ∷ u) (record { low = a; high = b; step = n })
+  every_nth : (t : List ℕ) (n : ℕ) → IsStep t n
+      → IsItemText f (42 ∷ 47 ∷ t) (record { low = least_of f; high = greatest_of f; step = n })
+  one : (t : List ℕ) (a : ℕ) → IsNumber f t a
+      → IsItemText f t (record { low = a; high = a; step = 1 })
+  span : (s t : List ℕ) (a b : ℕ) → IsNumber f s a → IsNumber f t b → a ≤ b
+      → IsItemText f (s ++ 45 ∷ t) (record { low = a; high = b; step = 1 })
+  span_nth : (s t u : List ℕ) (a b n : ℕ) → IsNumber f s a → IsNumber f t b → a ≤ b → IsStep u n
+      → IsItemText f (s ++ 45 ∷ t ++ 47 ∷ u) (record { low = a; high = b; step = n })
 
 -- no byte of the text is one of these
 abbrev pub Lacks : (ℕ → Bool) → List ℕ → Type 0
@@ -34,12 +38,14 @@ Lacks these text = All (λ c. these c ≡ false) text
 -- the parts of a text between the bytes that are one of these
 pub data AreParts (these : ℕ → Bool) : List ℕ → List (List ℕ) → Type 0 where
   last : (t : List ℕ) → Lacks these t → AreParts these t (t ∷ [])
-  next : (t : List ℕ) (c : ℕ) (rest : List ℕ) (parts : List (List ℕ)) → Lacks these t → these c ≡ true → AreParts these rest parts → AreParts these (t ++ c ∷ rest) (t ∷ parts)
+  next : (t : List ℕ) (c : ℕ) (rest : List ℕ) (parts : List (List ℕ)) → Lacks these t → these c
+      ≡ true → AreParts these rest parts → AreParts these (t ++ c ∷ rest) (t ∷ parts)
 
 -- each text is written as the item at its place
 pub data AreItemTexts (f : Field) : List (List ℕ) → List Item → Type 0 where
   none : AreItemTexts f [] []
-  more : (t : List ℕ) (i : Item) (texts : List (List ℕ)) (items : List Item) → IsItemText f t i → AreItemTexts f texts items → AreItemTexts f (t ∷ texts) (i ∷ items)
+  more : (t : List ℕ) (i : Item) (texts : List (List ℕ)) (items : List Item) → IsItemText f t i
+      → AreItemTexts f texts items → AreItemTexts f (t ∷ texts) (i ∷ items)
 
 -- items between commas
 pub record IsFieldText (f : Field) (text : List ℕ) (items : List Item) : Type 0 where

@@ -30,7 +30,8 @@ day_shown_of zone n = day_of (n +ℤ nanos_of_seconds (offset_at zone n))
 
 -- a clock of the zone shows one of the days
 abbrev pub is_on_day : TimeZone → Days → ℤ → Bool
-is_on_day zone days n = not (int_lt (day_shown_of zone n) days.first) && not (int_lt days.last (day_shown_of zone n))
+is_on_day zone days n =
+    not (int_lt (day_shown_of zone n) days.first) && not (int_lt days.last (day_shown_of zone n))
 
 -- a day from 1970-01-01 to 2199-12-31
 abbrev pub IsDayInYears : ℤ → Type 0

@@ -13,13 +13,16 @@ use Rattle.bf_days.specs.Days.{is_on_day, IsDayInYears}
 
 -- a data interval of the years at whose start a clock of the zone shows one of the days
 abbrev pub StartsOn : CronSpec → TimeZone → Days → ℤ × ℤ → Type 0
-StartsOn spec zone days (start, end) = IsInterval spec zone start end × IsInYears start × (is_on_day zone days start ≡ true)
+StartsOn spec zone days (start, end) =
+    IsInterval spec zone start end × IsInYears start × (is_on_day zone days start ≡ true)
 
 -- the data intervals that start on the days: all of them, in order
-pub record AreIntervalsOn (spec : CronSpec) (zone : TimeZone) (days : Days) (found : List Interval) : Type 0 where
+pub record AreIntervalsOn (spec : CronSpec) (zone : TimeZone) (days : Days)
+    (found : List Interval) : Type 0 where
   pub rising : AllPairs (λ i j. i.start.nanosecond <ℤ j.start.nanosecond) found
   pub each : All (λ i. StartsOn spec zone days (ends i)) found
-  pub all : (interval : ℤ × ℤ) → StartsOn spec zone days interval → Contains (map ends found) interval
+  pub all : (interval : ℤ × ℤ) → StartsOn spec zone days interval
+      → Contains (map ends found) interval
 
 -- there are at least n of them
 pub record HasIntervalsOn (spec : CronSpec) (zone : TimeZone) (days : Days) (n : ℕ) : Type 0 where
@@ -35,18 +38,23 @@ pub record AreDays (days : Days) : Type 0 where
 
 -- the data intervals that start on the days, or the first fault that the days have
 abbrev pub IsAnswerOn : CronSpec → TimeZone → Days → Result (List Interval) IntervalFault → Type 0
-IsAnswerOn spec zone days (Ok found) = AreDays days × (length found ≤ 4_096) × AreIntervalsOn spec zone days found
-IsAnswerOn spec zone days (Err OutsideYears) = ¬ (IsDayInYears days.first) ⊎ ¬ (IsDayInYears days.last)
-IsAnswerOn spec zone days (Err RangeReversed) = IsDayInYears days.first × IsDayInYears days.last × (days.last <ℤ days.first)
+IsAnswerOn spec zone days (Ok found) =
+    AreDays days × (length found ≤ 4_096) × AreIntervalsOn spec zone days found
+IsAnswerOn spec zone days (Err OutsideYears) =
+    ¬ (IsDayInYears days.first) ⊎ ¬ (IsDayInYears days.last)
+IsAnswerOn spec zone days (Err RangeReversed) =
+    IsDayInYears days.first × IsDayInYears days.last × (days.last <ℤ days.first)
 IsAnswerOn spec zone days (Err TooManyRuns) = AreDays days × HasIntervalsOn spec zone days 4_097
 IsAnswerOn spec zone days (Err OutOfMemory) = Unit {0}
 
 -- those of them that start from low on and before high, all of them, in order
-pub record AreIntervalsBetween (spec : CronSpec) (zone : TimeZone) (days : Days) (low high : ℕ) (found : List Interval) : Type 0 where
+pub record AreIntervalsBetween (spec : CronSpec) (zone : TimeZone) (days : Days) (low high : ℕ)
+    (found : List Interval) : Type 0 where
   pub rising : AllPairs (λ i j. i.start.nanosecond <ℤ j.start.nanosecond) found
   pub each : All (λ i. StartsOn spec zone days (ends i)) found
   pub before : All (λ i. i.start.nanosecond <ℤ pos high) found
-  pub all : (interval : ℤ × ℤ) → StartsOn spec zone days interval → pos low ≤ℤ interval.0 → interval.0 <ℤ pos high → Contains (map ends found) interval
+  pub all : (interval : ℤ × ℤ) → StartsOn spec zone days interval → pos low ≤ℤ interval.0
+      → interval.0 <ℤ pos high → Contains (map ends found) interval
 
 -- the interval starts on one of the days
 abbrev pub are_on : TimeZone → Days → Interval → Bool

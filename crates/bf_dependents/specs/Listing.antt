@@ -8,13 +8,16 @@ use Rattle.bf_dependents.specs.Marks.{follows_in, is_of, marks_before_in}
 
 -- where an instance of the task t in the run k follows, whether each does
 abbrev pub is_whole_in : Dag → Following → ℕ → ℕ → Bool
-is_whole_in dag all k t = has_seed_in all.seeds k t None || follows_in dag t [] (marks_before_in all.touched k) (row_at all.touched k)
+is_whole_in dag all k t =
+    has_seed_in all.seeds k t None || follows_in dag t [] (marks_before_in all.touched k)
+    (row_at all.touched k)
 
 -- what follows of the task t in the run k: all of it, or the instances that are seeds, in their order
 abbrev pub places_of_task : Dag → Following → ℕ → ℕ → List Place
 places_of_task dag all k t =
     if is_marked_in (row_at all.touched k) t
-    then (if is_whole_in dag all k t then record { run = k; task = t; index = None } ∷ [] else filter (is_of k t) all.seeds)
+    then (if is_whole_in dag all k t then record { run = k; task = t; index = None } ∷ []
+    else filter (is_of k t) all.seeds)
     else []
 
 -- those of the numbers below n
@@ -31,4 +34,6 @@ places_in dag all runs = up_to (places_of_run dag all (length dag.tasks)) runs
 
 -- the instance is listed, or all of its task
 abbrev pub IsListed : List Place → ℕ → ℕ → ℤ → Type 0
-IsListed places k t i = Contains places (record { run = k; task = t; index = None }) ⊎ Contains places (record { run = k; task = t; index = Some i })
+IsListed places k t i =
+    Contains places (record { run = k; task = t; index = None })
+    ⊎ Contains places (record { run = k; task = t; index = Some i })

@@ -41,7 +41,8 @@ pub record AreSeeded (seeds : List Place) (runs tasks : ℕ) (rows : List (List 
 -- a seed, or one whose past is marked, or one with a marked upstream
 abbrev pub follows_in : Dag → ℕ → List Bool → List Bool → List Bool → Bool
 follows_in dag t seeded before marks =
-    is_marked_in seeded t || (((task_of dag t).depends_on_past && is_marked_in before t) || list_any (is_marked_in marks) (task_of dag t).upstreams)
+    is_marked_in seeded t || (((task_of dag t).depends_on_past && is_marked_in before t)
+    || list_any (is_marked_in marks) (task_of dag t).upstreams)
 
 -- the marks of the run before k; of none before the first
 abbrev pub marks_before_in : List (List Bool) → ℕ → List Bool
@@ -51,16 +52,20 @@ marks_before_in rows (suc k) = row_at rows k
 -- an instance of the task t in the run k follows from the seeds
 pub data IsTouched (dag : Dag) (seeds : List Place) : ℕ → ℕ → Type 0 where
   Seed : {k t : ℕ} → list_any (is_of k t) seeds ≡ true → IsTouched dag seeds k t
-  Downstream : {k t u : ℕ} → IsOneOf (task_of dag t).upstreams u → IsTouched dag seeds k u → IsTouched dag seeds k t
-  NextRun : {k t : ℕ} → (task_of dag t).depends_on_past ≡ true → IsTouched dag seeds k t → IsTouched dag seeds (suc k) t
+  Downstream : {k t u : ℕ} → IsOneOf (task_of dag t).upstreams u → IsTouched dag seeds k u
+      → IsTouched dag seeds k t
+  NextRun : {k t : ℕ} → (task_of dag t).depends_on_past ≡ true → IsTouched dag seeds k t
+      → IsTouched dag seeds (suc k) t
 
 -- the marks say of which tasks of the run k an instance follows
 pub record AreMarks (dag : Dag) (seeds : List Place) (k : ℕ) (marks : List Bool) : Type 0 where
   pub len : length marks ≡ length dag.tasks
-  pub right : (t : ℕ) → t < length dag.tasks → (is_marked_in marks t ≡ true) ↔ IsTouched dag seeds k t
+  pub right : (t : ℕ) → t < length dag.tasks → (is_marked_in marks t ≡ true)
+      ↔ IsTouched dag seeds k t
 
 -- so many runs have their marks
-pub record AreTouched (dag : Dag) (seeds : List Place) (runs : ℕ) (rows : List (List Bool)) : Type 0 where
+pub record AreTouched (dag : Dag) (seeds : List Place) (runs : ℕ)
+    (rows : List (List Bool)) : Type 0 where
   pub len : length rows ≡ runs
   pub each : (k : ℕ) → k < runs → AreMarks dag seeds k (row_at rows k)
 
@@ -70,8 +75,11 @@ WasTouched dag seeds zero t = ⊥
 WasTouched dag seeds (suc k) t = IsTouched dag seeds k t
 
 abbrev pub ArePast : Dag → List Place → ℕ → List Bool → Type 0
-ArePast dag seeds k before = (t : ℕ) → t < length dag.tasks → (is_marked_in before t ≡ true) ↔ WasTouched dag seeds k t
+ArePast dag seeds k before =
+    (t : ℕ) → t < length dag.tasks → (is_marked_in before t ≡ true) ↔ WasTouched dag seeds k t
 
 -- whatever seeds these rows are of, the marks are right
 abbrev pub AreMarksFor : Dag → List Bool → List Bool → List Bool → Type 0
-AreMarksFor dag seeded before marks = (seeds : List Place) (k : ℕ) → IsSeedRow seeds (length dag.tasks) k seeded → ArePast dag seeds k before → AreMarks dag seeds k marks
+AreMarksFor dag seeded before marks =
+    (seeds : List Place) (k : ℕ) → IsSeedRow seeds (length dag.tasks) k seeded
+    → ArePast dag seeds k before → AreMarks dag seeds k marks

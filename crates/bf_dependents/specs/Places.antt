@@ -9,10 +9,15 @@ use Rattle.std.specs.FinMap.{IsAntisymmetric, nat_cmp-IsAntisymmetric, int_cmp-I
 use Rattle.bf_dependents.specs.declared.place.Place.{Place}
 
 abbrev pub place_cmp : Place → Place → Ordering
-place_cmp = then_cmp (on (λ p. p.run) nat_cmp) (then_cmp (on (λ p. p.task) nat_cmp) (on (λ p. p.index) (option_cmp int_cmp)))
+place_cmp =
+    then_cmp (on (λ p. p.run) nat_cmp)
+    (then_cmp (on (λ p. p.task) nat_cmp) (on (λ p. p.index) (option_cmp int_cmp)))
 
 pub place_cmp_total : IsTotalOrder place_cmp
-place_cmp_total = then_total (on_total (λ p. p.run) nat_cmp_total) (then_total (on_total (λ p. p.task) nat_cmp_total) (on_total (λ p. p.index) (options_total int_cmp_total)))
+place_cmp_total =
+    then_total (on_total (λ p. p.run) nat_cmp_total)
+    (then_total (on_total (λ p. p.task) nat_cmp_total)
+    (on_total (λ p. p.index) (options_total int_cmp_total)))
 
 both-equal : (r s : Ordering) → ordering_then r s ≡ Equal → (r ≡ Equal) × (s ≡ Equal)
 both-equal Less s e = (e, cc)

@@ -25,7 +25,12 @@ abbrev pub is_unknown_run_in : List Interval → Seed → Bool
 is_unknown_run_in intervals seed = is_none (run_number intervals seed)
 
 abbrev pub place_in : Dag → List Interval → Seed → Option Place
-place_in dag intervals seed = option_and_then (λ t. option_map (λ k. record { run = k; task = t; index = seed.index }) (run_number intervals seed)) (task_number dag seed)
+place_in dag intervals seed =
+    option_and_then (λ t. option_map (λ k. record {
+      run = k;
+      task = t;
+      index = seed.index;
+    }) (run_number intervals seed)) (task_number dag seed)
 
 -- the tasks in runs, or instances of them, that the seeds name
 abbrev pub places_in : Dag → List Interval → List Seed → List Place

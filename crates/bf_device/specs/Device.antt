@@ -44,4 +44,5 @@ HasHalted failures_old failures_new interruptions_old interruptions_new =
 -- no call failed, and there were no more interruptions than a call goes on after
 abbrev pub HasGoneOn : ℕ → ℕ → ℕ → ℕ → Type 0
 HasGoneOn failures_old failures_new interruptions_old interruptions_new =
-    WentOn 0 failures_old failures_new × ((n : ℕ) × (n ≤ 1_000) × WentOn n interruptions_old interruptions_new)
+    WentOn 0 failures_old failures_new
+    × ((n : ℕ) × (n ≤ 1_000) × WentOn n interruptions_old interruptions_new)

@@ -32,7 +32,8 @@ AreReadable files paths = All (λ path. IsReadable (files path)) paths
 -- the path is one of these: no bytes are told of its file, and of none before it is told that it can't be read
 abbrev pub IsFirstUntold : Files → List (List ℕ) → List ℕ → Type 0
 IsFirstUntold files [] path = ⊥
-IsFirstUntold files (p ∷ ps) path = ((path ≡ p) × IsUntold (files p)) ⊎ (IsReadable (files p) × IsFirstUntold files ps path)
+IsFirstUntold files (p ∷ ps) path =
+    ((path ≡ p) × IsUntold (files p)) ⊎ (IsReadable (files p) × IsFirstUntold files ps path)
 
 -- the path of a file where one is named
 abbrev pub named_paths : Option (List ℕ) → List (List ℕ)

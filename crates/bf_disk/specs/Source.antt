@@ -6,7 +6,8 @@ use Rattle.bf_disk.specs.declared.source.SourceFault.{SourceFault}
 use Rattle.bf_disk.specs.declared.source.SourceFault.TheVariants.{OutOfMemory}
 
 -- a device that has all these bytes before it, of a file that holds them, and a fault for one that can't be read
-abbrev pub Opens : {D : Type 0} → (D → Option (List ℕ)) → Option (List ℕ) → Result D SourceFault → Type 0
+abbrev pub Opens : {D : Type 0} → (D → Option (List ℕ)) → Option (List ℕ) → Result D SourceFault
+    → Type 0
 Opens left (Some held) (Ok device) = left device ≡ Some held
 Opens left (Some held) (Err fault) = fault ≡ OutOfMemory
 Opens left None (Ok device) = ⊥
@@ -14,7 +15,8 @@ Opens left None (Err fault) = ⊤
 
 -- no such device is ever interrupted, and none ever fails
 abbrev pub NeverHalts : {D : Type 0} → (D → ℕ) → (D → ℕ) → Type 0
-NeverHalts {D} interruptions failures = (device : D) → (interruptions device ≡ 0) × (failures device ≡ 0)
+NeverHalts {D} interruptions failures =
+    (device : D) → (interruptions device ≡ 0) × (failures device ≡ 0)
 
 -- the first bytes of a file that holds these, and a fault for one that can't be read
 abbrev pub GivesFirst : ℕ → Option (List ℕ) → Result (Vec ℕ Global) SourceFault → Type 0
@@ -30,4 +32,5 @@ file_in files path = option_map (λ f. f.1) (find (λ f. bytes_eq f.0 path) file
 -- a file's bytes, or of a file that is longer than may be, so many that it shows
 abbrev pub IsWholeUpTo : ℕ → Option (List ℕ) → List ℕ → Type 0
 IsWholeUpTo longest None bytes = ⊥
-IsWholeUpTo longest (Some held) bytes = (length held ≤ longest → bytes ≡ held) × (longest < length held → longest < length bytes)
+IsWholeUpTo longest (Some held) bytes =
+    (length held ≤ longest → bytes ≡ held) × (longest < length held → longest < length bytes)

@@ -26,7 +26,9 @@ event_of (Step.Expand turn) = Event.Expand turn.run turn.task
 
 -- the turn comes before the other, or is it: by run, by rank and in the order of the file
 abbrev pub TurnComes : Turn → Turn → Type 0
-TurnComes turn other = (turn.run < other.run) ⊎ ((turn.run ≡ other.run) × ((turn.rank < other.rank) ⊎ ((turn.rank ≡ other.rank) × (turn.task ≤ other.task))))
+TurnComes turn other =
+    (turn.run < other.run) ⊎ ((turn.run ≡ other.run)
+    × ((turn.rank < other.rank) ⊎ ((turn.rank ≡ other.rank) × (turn.task ≤ other.task))))
 
 -- the step comes before the other, or is it: by kind, and then as their turns do
 abbrev pub Comes : Step → Step → Type 0

@@ -14,15 +14,21 @@ use Rattle.bf_due.specs.declared.cursors.Cursors.{Cursors}
 
 -- nothing more of the upstream is waited for in the run: it is settled, or it is early and the upstream is no branch
 abbrev pub lets : Bool → Dag → State → ℕ → ℕ → Bool
-lets early dag state run upstream = is_some (value_in (cell_at state run upstream)) || (early && not (is_branch_in (task_of dag upstream)))
+lets early dag state run upstream =
+    is_some (value_in (cell_at state run upstream))
+    || (early && not (is_branch_in (task_of dag upstream)))
 
 -- so it is with so many upstreams of the task, from the first on
 abbrev pub ArePassed : Bool → Dag → State → ℕ → ℕ → ℕ → Type 0
-ArePassed early dag state run task count = (place : ℕ) → place < count → place < length (task_of dag task).upstreams → lets early dag state run (slice_index (task_of dag task).upstreams place) ≡ true
+ArePassed early dag state run task count =
+    (place : ℕ) → place < count → place < length (task_of dag task).upstreams
+    → lets early dag state run (slice_index (task_of dag task).upstreams place) ≡ true
 
 -- and not with the upstream at the place
 abbrev pub Awaits : Bool → Dag → State → ℕ → ℕ → ℕ → Type 0
-Awaits early dag state run task place = (place < length (task_of dag task).upstreams) × (lets early dag state run (slice_index (task_of dag task).upstreams place) ≡ false)
+Awaits early dag state run task place =
+    (place < length (task_of dag task).upstreams)
+    × (lets early dag state run (slice_index (task_of dag task).upstreams place) ≡ false)
 
 -- the task need not wait for all of its upstreams
 abbrev pub is_early_in : Dag → ℕ → Bool
@@ -34,7 +40,8 @@ IsFinished phase = ⊥
 
 -- the cell has an instance at the place, and it has finished
 abbrev pub HasFinished : Cell → ℕ → Type 0
-HasFinished cell place = (instance : Instance) × (instance_of cell place ≡ Some instance) × IsFinished instance.phase
+HasFinished cell place =
+    (instance : Instance) × (instance_of cell place ≡ Some instance) × IsFinished instance.phase
 
 -- so many instances of the cell, from the first on, are there and have finished
 abbrev pub AreFinished : Cell → ℕ → Type 0
@@ -42,11 +49,17 @@ AreFinished cell count = (place : ℕ) → place < count → HasFinished cell pl
 
 -- what is noted of the run is right
 pub record IsNoted (backfill : Backfill) (run : ℕ) (row : Cursors) : Type 0 where
-  pub passed : (task : ℕ) → ArePassed (is_early_in backfill.dag task) backfill.dag backfill.state run task (slice_index row.passed.items task)
-  pub upstreams : (task : ℕ) → ArePassed false backfill.dag backfill.state run task (slice_index row.settled_upstreams.items task)
-  pub finished : (task : ℕ) → AreFinished (cell_at backfill.state run task) (slice_index row.finished.items task)
-  pub settled : (task : ℕ) → task < row.settled → is_some (value_in (cell_at backfill.state run task)) ≡ true
+  pub passed : (task : ℕ) → ArePassed
+      (is_early_in backfill.dag task) backfill.dag backfill.state run task
+      (slice_index row.passed.items task)
+  pub upstreams : (task : ℕ) → ArePassed false backfill.dag backfill.state run task
+      (slice_index row.settled_upstreams.items task)
+  pub finished : (task : ℕ) → AreFinished (cell_at backfill.state run task)
+      (slice_index row.finished.items task)
+  pub settled : (task : ℕ) → task < row.settled
+      → is_some (value_in (cell_at backfill.state run task)) ≡ true
 
 -- the same, of the row of each run
 abbrev pub AreNoted : Backfill → List Cursors → Type 0
-AreNoted backfill rows = (run : ℕ) (row : Cursors) → slice_get rows run ≡ Some row → IsNoted backfill run row
+AreNoted backfill rows =
+    (run : ℕ) (row : Cursors) → slice_get rows run ≡ Some row → IsNoted backfill run row

@@ -52,11 +52,13 @@ IsOfTask run task step = ⊥
 
 -- a step of the task in the run of the news, to which they matter
 abbrev pub IsStirred : Dag → State → News → ℕ → Step → Type 0
-IsStirred dag state news task step = IsOfTask news.run task step × (matters_in dag state news task ≡ true)
+IsStirred dag state news task step =
+    IsOfTask news.run task step × (matters_in dag state news task ≡ true)
 
 -- so it is with one of these tasks, of so many from the first on
 abbrev pub IsOfFirst : Dag → State → News → List ℕ → ℕ → Step → Type 0
-IsOfFirst dag state news tasks count step = (place : ℕ) × (place < count) × IsStirred dag state news (slice_index tasks place) step
+IsOfFirst dag state news tasks count step =
+    (place : ℕ) × (place < count) × IsStirred dag state news (slice_index tasks place) step
 
 -- a step of a task below the bound, in the run
 abbrev pub IsBelow : ℕ → ℕ → Step → Type 0
@@ -90,15 +92,19 @@ IsOfRunBelow bound (Step.Expand turn) = turn.run < bound
 
 -- the task is below the one of the news, and they matter to it
 abbrev pub IsBelowNews : Dag → State → News → ℕ → ℕ → Type 0
-IsBelowNews dag state news run task = (run ≡ news.run) × IsUpstream (shape_of dag).upstreams news.task task × (matters_in dag state news task ≡ true)
+IsBelowNews dag state news run task =
+    (run ≡ news.run) × IsUpstream (shape_of dag).upstreams news.task task
+    × (matters_in dag state news task ≡ true)
 
 -- the task in the run is the one of the news in the next run, and that one is settled now
 abbrev pub IsBehindNews : State → News → ℕ → ℕ → Type 0
-IsBehindNews state news run task = (run ≡ news.run + 1) × (task ≡ news.task) × (is_settled state news.run news.task ≡ true)
+IsBehindNews state news run task =
+    (run ≡ news.run + 1) × (task ≡ news.task) × (is_settled state news.run news.task ≡ true)
 
 -- the news may let the task be decided in the run: it is below theirs, or the same in the next run
 abbrev pub Hears : Dag → State → News → ℕ → ℕ → Type 0
-Hears dag state news run task = IsBelowNews dag state news run task ⊎ IsBehindNews state news run task
+Hears dag state news run task =
+    IsBelowNews dag state news run task ⊎ IsBehindNews state news run task
 
 -- a step of the tasks below the one of the news to which they matter, or the close of its run
 abbrev pub IsUnder : Dag → State → News → Step → Type 0
@@ -121,8 +127,10 @@ newest state = next_run state - 1
 -- the event that led to this state may have made the step possible
 abbrev pub Concerns : Dag → State → Event → Step → Type 0
 Concerns dag state Event.Open step = IsOfRun (newest state) step
-Concerns dag state (Event.Settle run task) step = IsAround dag state (decided_at state run task) step
-Concerns dag state (Event.Expand run task) step = IsAround dag state (decided_at state run task) step
+Concerns dag state (Event.Settle run task) step =
+    IsAround dag state (decided_at state run task) step
+Concerns dag state (Event.Expand run task) step =
+    IsAround dag state (decided_at state run task) step
 Concerns dag state (Event.Begin name) step = ⊥
 Concerns dag state (Event.End name outcome) step = IsAround dag state (ended_at dag state name) step
 Concerns dag state (Event.Close run) step = IsOpening step
@@ -146,7 +154,8 @@ HasRoom dag steps room = length steps + (length dag.tasks + 2) ≤ room
 
 -- so it is with what is kept, which has a row for each run
 abbrev pub HasRoomForSteps : Backfill → Kept → Type 0
-HasRoomForSteps backfill kept = HasRoom backfill.dag kept.steps kept.room × (backfill.runs ≤ length kept.progress)
+HasRoomForSteps backfill kept =
+    HasRoom backfill.dag kept.steps kept.room × (backfill.runs ≤ length kept.progress)
 
 -- ---- while it is kept
 
@@ -155,21 +164,27 @@ abbrev pub AreRanked : Dag → List Step → Type 0
 AreRanked dag steps = (step : Step) → Contains steps step → IsRanked dag step
 
 -- of these steps those that may come now were added
-pub record HasAdded (backfill : Backfill) (These : Step → Type 0) (old new : List Step) : Type 0 where
+pub record HasAdded (backfill : Backfill) (These : Step
+    → Type 0) (old new : List Step) : Type 0 where
   pub kept : (step : Step) → Contains old step → Contains new step
   pub added : (step : Step) → These step → IsDueStep backfill step → Contains new step
   pub ranked : AreRanked backfill.dag old → AreRanked backfill.dag new
 
 -- first steps were taken out that may not come now
 pub record IsPruned (backfill : Backfill) (old new : List Step) : Type 0 where
-  pub kept : (step : Step) → Contains old step → MayCome backfill (event_of step) → Contains new step
+  pub kept : (step : Step) → Contains old step → MayCome backfill (event_of step)
+      → Contains new step
   pub fewer : (step : Step) → Contains new step → Contains old step
   pub live : IfSome (slice_get new 0) (λ step. MayCome backfill (event_of step))
 
 -- what was noted of the run is still right, where it was, and of these steps those that may come now were added
-abbrev pub Asks : Backfill → ℕ → (Step → Type 0) → Cursors → Cursors → List Step → List Step → Type 0
-Asks backfill run These before after old new = IsNoted backfill run before → IsNoted backfill run after × HasAdded backfill These old new
+abbrev pub Asks : Backfill → ℕ → (Step → Type 0) → Cursors → Cursors → List Step → List Step
+    → Type 0
+Asks backfill run These before after old new =
+    IsNoted backfill run before → IsNoted backfill run after × HasAdded backfill These old new
 
 -- so it is with what was noted of all runs
-abbrev pub AsksAll : Backfill → (Step → Type 0) → List Cursors → List Cursors → List Step → List Step → Type 0
-AsksAll backfill These before after old new = AreNoted backfill before → AreNoted backfill after × HasAdded backfill These old new
+abbrev pub AsksAll : Backfill → (Step → Type 0) → List Cursors → List Cursors → List Step
+    → List Step → Type 0
+AsksAll backfill These before after old new =
+    AreNoted backfill before → AreNoted backfill after × HasAdded backfill These old new

@@ -22,25 +22,32 @@ IsStep event = kind_of event < 4
 
 -- the task stands before the other, or is it: by rank, and then in the order of the file
 abbrev pub StandsBefore : Dag → ℕ → ℕ → Type 0
-StandsBefore dag task other = (rank other_rank : ℕ) → IsRank (shape_of dag).upstreams task rank → IsRank (shape_of dag).upstreams other other_rank → (rank < other_rank) ⊎ ((rank ≡ other_rank) × (task ≤ other))
+StandsBefore dag task other =
+    (rank other_rank : ℕ) → IsRank (shape_of dag).upstreams task rank
+    → IsRank (shape_of dag).upstreams other other_rank → (rank < other_rank)
+    ⊎ ((rank ≡ other_rank) × (task ≤ other))
 
 -- the task in its run comes before the other in its own, or is it: by run, and in a run as the tasks stand
 abbrev pub IsEarlier : Dag → ℕ → ℕ → ℕ → ℕ → Type 0
-IsEarlier dag run task other_run other = (run < other_run) ⊎ ((run ≡ other_run) × StandsBefore dag task other)
+IsEarlier dag run task other_run other =
+    (run < other_run) ⊎ ((run ≡ other_run) × StandsBefore dag task other)
 
 -- the step comes before the other, or is it: by kind, then by run, by rank and in the order of the file
 abbrev pub ComesBefore : Dag → Event → Event → Type 0
 ComesBefore dag (Event.Close run) (Event.Close other_run) = run ≤ other_run
 ComesBefore dag Event.Open Event.Open = Unit {0}
-ComesBefore dag (Event.Settle run task) (Event.Settle other_run other) = IsEarlier dag run task other_run other
-ComesBefore dag (Event.Expand run task) (Event.Expand other_run other) = IsEarlier dag run task other_run other
+ComesBefore dag (Event.Settle run task) (Event.Settle other_run other) =
+    IsEarlier dag run task other_run other
+ComesBefore dag (Event.Expand run task) (Event.Expand other_run other) =
+    IsEarlier dag run task other_run other
 ComesBefore dag event other = kind_of event < kind_of other
 
 -- the first of the steps that may come
 pub record IsFirstStep (backfill : Backfill) (event : Event) : Type 0 where
   pub is_step : IsStep event
   pub may_come : MayCome backfill event
-  pub first : (other : Event) → IsStep other → MayCome backfill other → ComesBefore backfill.dag event other
+  pub first : (other : Event) → IsStep other → MayCome backfill other
+      → ComesBefore backfill.dag event other
 
 -- no step may come
 abbrev pub NoStep : Backfill → Type 0

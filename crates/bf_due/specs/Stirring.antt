@@ -39,11 +39,18 @@ heard_of_instance (Some instance) = finished_in instance.phase
 
 -- the news of the task in the run, which was decided
 abbrev pub decided_at : State → ℕ → ℕ → News
-decided_at state run task = record { run = run; task = task; counts = heard_of_cell (cell_at state run task) }
+decided_at state run task =
+    record { run = run; task = task; counts = heard_of_cell (cell_at state run task) }
 
 -- the news of a task of which this try has ended
 abbrev pub ended_at : Dag → State → JobName → News
-ended_at dag state name = record { run = name.run; task = name.task; counts = heard_of_instance (instance_of (cell_at state name.run name.task) (place_in dag name)) }
+ended_at dag state name =
+    record {
+      run = name.run;
+      task = name.task;
+      counts = heard_of_instance (instance_of (cell_at state name.run name.task)
+          (place_in dag name));
+    }
 
 -- ---- to whom they matter
 
@@ -60,12 +67,18 @@ all_settled dag state run task = list_all (is_settled state run) (task_of dag ta
 
 -- the task, below this upstream, looks at more of it than at counts: it waits for it, or is expanded, or follows a branch
 abbrev pub looks_beyond_in : Dag → ℕ → ℕ → Bool
-looks_beyond_in dag upstream task = is_waiting (task_of dag task).rule || (is_some (task_of dag task).expand || is_branch_in (task_of dag upstream))
+looks_beyond_in dag upstream task =
+    is_waiting (task_of dag task).rule
+    || (is_some (task_of dag task).expand || is_branch_in (task_of dag upstream))
 
 -- the task doesn't wait for its previous run: it does not depend on it, or there is none, or it is settled there
 abbrev pub knows_past_in : Dag → State → ℕ → ℕ → Bool
-knows_past_in dag state run task = not (task_of dag task).depends_on_past || ((run == 0) || is_some (before_in state run task))
+knows_past_in dag state run task =
+    not (task_of dag task).depends_on_past || ((run == 0) || is_some (before_in state run task))
 
 -- the news may let the task be decided, which is below theirs: nothing else came of the run
 abbrev pub matters_in : Dag → State → News → ℕ → Bool
-matters_in dag state news task = looks_beyond_in dag news.task task || ((stirs_in (task_of dag task).rule news.counts && knows_past_in dag state news.run task) || all_settled dag state news.run task)
+matters_in dag state news task =
+    looks_beyond_in dag news.task task
+    || ((stirs_in (task_of dag task).rule news.counts && knows_past_in dag state news.run task)
+    || all_settled dag state news.run task)

@@ -16,7 +16,8 @@ gathered_sum h lanes = sum_by (λ lane. sum_by h (answered lane.gathered)) lanes
 
 -- what was submitted is what was gathered and what runs, each try with what it is given, however tries are weighed
 pub record IsAccounted (lanes : List Scheduled) (b : Backfill) : Type 0 where
-  pub equal : (h : Asked → ℕ) → submitted_sum h lanes ≡ gathered_sum h lanes + running_tries h b.dag b.state
+  pub equal : (h : Asked → ℕ) → submitted_sum h lanes
+      ≡ gathered_sum h lanes + running_tries h b.dag b.state
 
 -- no lane was told to stop
 abbrev pub NoneStopped : List Scheduled → Type 0

@@ -20,7 +20,8 @@ module _ {S : Type 0} (shows : S → Event → ℕ → S → Type 0) where
   abbrev pub AreShown : Dag → State → List Event → S → S → Type 0
   AreShown dag state [] old new = new ≡ old
   AreShown dag state (event ∷ events) old new =
-      (between : S) × shows old event (running_now (after dag state event)) between × AreShown dag (after dag state event) events between new
+      (between : S) × shows old event (running_now (after dag state event)) between
+      × AreShown dag (after dag state event) events between new
 
   -- each event of the backfill was shown
   abbrev pub WasShown : Dag → ℕ → S → S → Ending → Type 0
@@ -28,7 +29,9 @@ module _ {S : Type 0} (shows : S → Event → ℕ → S → Type 0) where
 
   -- the event that came last was shown
   abbrev pub ShowsLast : S → S → Backfill → Type 0
-  ShowsLast old new backfill = (before : Backfill) (event : Event) → backfill ≡ moved before event → shows old event (running_now backfill.state) new
+  ShowsLast old new backfill =
+      (before : Backfill) (event : Event) → backfill ≡ moved before event
+      → shows old event (running_now backfill.state) new
 
   -- the events by which the backfill has grown were shown
   pub record HasShown (old new : S) (before now : Backfill) : Type 0 where

@@ -37,7 +37,8 @@ pub record HasSubmitted (lanes after : List Scheduled) (s t : Schedule) : Type 0
   pub begun : HasBegun s ticket t
 
 -- the try of the ticket, which has begun, has ended by an answer that was there at once
-pub record EndsAtOnce (may : JobName → Given → Raw → Type 0) (ticket : Asked) (s t : Schedule) : Type 0 where
+pub record EndsAtOnce (may : JobName → Given → Raw
+    → Type 0) (ticket : Asked) (s t : Schedule) : Type 0 where
   pub answer : Answered
   pub is_name : answer.name ≡ ticket.name
   pub is_given : answer.given ≡ ticket.given
@@ -45,7 +46,8 @@ pub record EndsAtOnce (may : JobName → Given → Raw → Type 0) (ticket : Ask
   pub finished : HasFinished s answer t
 
 -- a try has begun, and has ended by an answer that was there at once
-pub record HasAnswered (may : JobName → Given → Raw → Type 0) (lanes after : List Scheduled) (s t : Schedule) : Type 0 where
+pub record HasAnswered (may : JobName → Given → Raw
+    → Type 0) (lanes after : List Scheduled) (s t : Schedule) : Type 0 where
   pub ticket : Asked
   pub running : Schedule
   pub begun : HasBegun s ticket running
@@ -84,10 +86,12 @@ MustAwait s = MustWait s s ⊎ ((moment : ℤ) × WaitsUntil s moment s)
 -- ---- turns
 
 -- the clock has caught up, and then an event has come by itself, or a try has begun that was submitted, or that has ended at once
-pub record HasActed (may : JobName → Given → Raw → Type 0) (now : ℤ) (lanes after : List Scheduled) (s t : Schedule) : Type 0 where
+pub record HasActed (may : JobName → Given → Raw
+    → Type 0) (now : ℤ) (lanes after : List Scheduled) (s t : Schedule) : Type 0 where
   pub present : Schedule
   pub caught_up : HasCaughtUp now s present
-  pub acted : ((after ≡ lanes) × HasStepped present t) ⊎ (HasSubmitted lanes after present t ⊎ HasAnswered may lanes after present t)
+  pub acted : ((after ≡ lanes) × HasStepped present t)
+      ⊎ (HasSubmitted lanes after present t ⊎ HasAnswered may lanes after present t)
 
 -- the clock has caught up, nothing could come, and then a try has ended by its answer, or the moment has come that was waited for
 pub record HasAwaited (now : ℤ) (lanes after : List Scheduled) (s t : Schedule) : Type 0 where
@@ -103,8 +107,10 @@ pub record FindsEnded (now : ℤ) (lanes after : List Scheduled) (s t : Schedule
   pub ended : HasEnded t.backfill.state
   pub lanes_are : after ≡ lanes
 
-abbrev pub IsTurn : (JobName → Given → Raw → Type 0) → ℤ → List Scheduled → List Scheduled → Schedule → Schedule → Bool → Type 0
-IsTurn may now lanes after s t true = HasActed may now lanes after s t ⊎ HasAwaited now lanes after s t
+abbrev pub IsTurn : (JobName → Given → Raw → Type 0) → ℤ → List Scheduled → List Scheduled
+    → Schedule → Schedule → Bool → Type 0
+IsTurn may now lanes after s t true =
+    HasActed may now lanes after s t ⊎ HasAwaited now lanes after s t
 IsTurn may now lanes after s t false = FindsEnded now lanes after s t
 
 -- the lanes and the backfill are in step

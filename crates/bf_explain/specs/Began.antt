@@ -33,23 +33,33 @@ start_text_of (Some run) = moment_text run.interval.start.nanosecond
 
 -- where it isn't in this run
 abbrev pub in_the_run_of : Report → ℕ → ℕ → List ℕ
-in_the_run_of report run other = if other == run then [] else codes " in the run of " ++ start_text_of (slice_get report.runs other)
+in_the_run_of report run other =
+    if other == run then [] else codes " in the run of "
+    ++ start_text_of (slice_get report.runs other)
 
 -- as `total failed`, or `total failed in the run of 2024-03-04T00:00:00Z`
 abbrev pub root_text_of : Dag → Report → ℕ → Root → List ℕ
 root_text_of dag report run root =
-    id_of dag root.task ++ (codes " " ++ (began_text_of root.began (slice_get (tasks_in report root.run) root.task) ++ in_the_run_of report run root.run))
+    id_of dag root.task ++ (codes " "
+    ++ (began_text_of root.began (slice_get (tasks_in report root.run) root.task)
+    ++ in_the_run_of report run root.run))
 
 -- it is in another run, or not directly upstream
 abbrev pub is_far_in : Dag → ℕ → ℕ → Root → Bool
-is_far_in dag run task root = not (root.run == run) || not (list_any (λ upstream. upstream == root.task) (task_of dag task).upstreams)
+is_far_in dag run task root =
+    not (root.run == run) || not (list_any (λ upstream. upstream == root.task)
+    (task_of dag task).upstreams)
 
 abbrev pub far_text : Dag → Report → ℕ → ℕ → Root → List (List ℕ)
-far_text dag report run task root = if is_far_in dag run task root then root_text_of dag report run root ∷ [] else []
+far_text dag report run task root =
+    if is_far_in dag run task root then root_text_of dag report run root ∷ [] else []
 
 abbrev pub began_sentence_of : List (List ℕ) → List (List ℕ)
-began_sentence_of names = if length names == 0 then [] else (codes "It began where " ++ (listed_of 5 names ++ codes ".")) ∷ []
+began_sentence_of names =
+    if length names == 0 then [] else (codes "It began where " ++ (listed_of 5 names ++ codes "."))
+    ∷ []
 
 -- of the roots of a task in a run those that are more than an edge away
 abbrev pub began_lines_of : Dag → Report → ℕ → ℕ → List Root → List (List ℕ)
-began_lines_of dag report run task roots = began_sentence_of (flat_map (far_text dag report run task) roots)
+began_lines_of dag report run task roots =
+    began_sentence_of (flat_map (far_text dag report run task) roots)

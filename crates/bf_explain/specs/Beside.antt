@@ -36,7 +36,8 @@ pushed_lines_of instance = value_line (pushed_by instance.result.outcome)
 -- ---- the tasks beside it
 
 abbrev pub instances_text_of : ℕ → Counts → List ℕ
-instances_text_of instances counts = plural_of instances (codes "instance") ++ (codes ", " ++ counts_text_of counts)
+instances_text_of instances counts =
+    plural_of instances (codes "instance") ++ (codes ", " ++ counts_text_of counts)
 
 -- the state of a task, and of an expanded one that ran how many instances are in each
 abbrev pub state_text_of : Option TaskReport → List ℕ
@@ -45,7 +46,9 @@ state_text_of (Some TaskReport.NoStatus) = codes "no_status"
 state_text_of (Some TaskReport.Skipped) = codes "skipped"
 state_text_of (Some TaskReport.UpstreamFailed) = codes "upstream_failed"
 state_text_of (Some (TaskReport.Ran instance)) = state_word instance.result.outcome
-state_text_of (Some (TaskReport.Mapped instances)) = instances_text_of (length instances) (counts_of_results_of (map (λ instance. instance.result) instances))
+state_text_of (Some (TaskReport.Mapped instances)) =
+    instances_text_of (length instances)
+    (counts_of_results_of (map (λ instance. instance.result) instances))
 
 -- how long the longest id is
 abbrev pub widest_of : Dag → List ℕ → ℕ
@@ -55,7 +58,8 @@ abbrev pub padded_of : ℕ → List ℕ → List ℕ
 padded_of width id = id ++ repeat (width - length id) (32 ∷ [])
 
 abbrev pub task_line_of : Dag → List TaskReport → ℕ → ℕ → List ℕ
-task_line_of dag tasks width task = padded_of width (id_of dag task) ++ (codes "  " ++ state_text_of (slice_get tasks task))
+task_line_of dag tasks width task =
+    padded_of width (id_of dag task) ++ (codes "  " ++ state_text_of (slice_get tasks task))
 
 -- a line for each of these tasks, with its state
 abbrev pub task_lines_of : Dag → List TaskReport → List ℕ → List (List ℕ)

@@ -23,7 +23,8 @@ tells_word_in version instance word = true
 
 -- there is a command, and it tells each word
 abbrev pub tells_words_in : Version → InstanceReport → List Word → Bool
-tells_words_in version instance command = not (length command == 0) && list_all (tells_word_in version instance) command
+tells_words_in version instance command =
+    not (length command == 0) && list_all (tells_word_in version instance) command
 
 -- the map index of the instance that is told of alone
 abbrev pub index_in : TaskReport → Option ℤ → ℤ
@@ -31,12 +32,14 @@ index_in (TaskReport.Mapped instances) (Some index) = index
 index_in told index = negsuc zero
 
 abbrev pub last_try : ℕ → ℕ → ℤ → InstanceReport → JobName
-last_try run task index instance = record { run = run; task = task; index = index; attempt = instance.result.tries }
+last_try run task index instance =
+    record { run = run; task = task; index = index; attempt = instance.result.tries }
 
 -- the line has the words of the last try
 abbrev pub IsHandLine : Dag → Interval → ℕ → ℕ → ℤ → InstanceReport → List ℕ → Type 0
 IsHandLine dag interval run task index instance line =
-    (context : JobContext) × IsContext dag (task_of dag task) interval (last_try run task index instance) context
+    (context : JobContext) × IsContext dag (task_of dag task) interval
+    (last_try run task index instance) context
     × (line ≡ line_of (words_of context (given_in instance) (task_of dag task).command))
 
 abbrev pub IsLineIf : Bool → (List ℕ → Type 0) → List (List ℕ) → Type 0
@@ -44,7 +47,9 @@ IsLineIf true IsLine lines = (line : List ℕ) × IsLine line × (lines ≡ line
 IsLineIf false IsLine lines = lines ≡ []
 
 -- where the report tells them, and there is one instance
-abbrev pub AreHandLines : Dag → Interval → Version → ℕ → ℕ → ℤ → Option InstanceReport → List (List ℕ) → Type 0
+abbrev pub AreHandLines : Dag → Interval → Version → ℕ → ℕ → ℤ → Option InstanceReport
+    → List (List ℕ) → Type 0
 AreHandLines dag interval version run task index None lines = lines ≡ []
 AreHandLines dag interval version run task index (Some instance) lines =
-    IsLineIf (tells_words_in version instance (task_of dag task).command) (IsHandLine dag interval run task index instance) lines
+    IsLineIf (tells_words_in version instance (task_of dag task).command)
+    (IsHandLine dag interval run task index instance) lines

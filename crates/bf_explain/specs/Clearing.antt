@@ -26,7 +26,8 @@ begins_with_hyphen_in (first ∷ rest) = first == 45
 
 -- an option and its word, in one where the word begins as an option does
 abbrev pub option_words : List ℕ → List ℕ → List (List ℕ)
-option_words name word = if begins_with_hyphen_in word then (name ++ (codes "=" ++ word)) ∷ [] else name ∷ word ∷ []
+option_words name word =
+    if begins_with_hyphen_in word then (name ++ (codes "=" ++ word)) ∷ [] else name ∷ word ∷ []
 
 abbrev pub zone_words : Option (List ℕ) → List (List ℕ)
 zone_words None = []
@@ -35,7 +36,8 @@ zone_words (Some path) = option_words (codes "--zone-file") path
 -- the paths, behind `--` where one begins as an option does
 abbrev pub path_words : Paths → List (List ℕ)
 path_words paths =
-    (if begins_with_hyphen_in paths.graph || begins_with_hyphen_in paths.report then codes "--" ∷ [] else []) ++ paths.graph ∷ paths.report ∷ []
+    (if begins_with_hyphen_in paths.graph || begins_with_hyphen_in paths.report then codes "--" ∷ []
+    else []) ++ paths.graph ∷ paths.report ∷ []
 
 -- the start of a run that is there, as short as it is written on a line
 abbrev pub short_start_of : Option RunReport → List ℕ
@@ -46,18 +48,25 @@ abbrev pub short_start_in : Report → ℕ → List ℕ
 short_start_in report run = short_start_of (slice_get report.runs run)
 
 abbrev pub range_words : Report → List (List ℕ)
-range_words report = codes "--from" ∷ short_start_in report 0 ∷ codes "--to" ∷ short_start_in report (length report.runs - 1) ∷ []
+range_words report =
+    codes "--from" ∷ short_start_in report 0 ∷ codes "--to"
+    ∷ short_start_in report (length report.runs - 1) ∷ []
 
 abbrev pub seed_words : Dag → Report → Place → List (List ℕ)
-seed_words dag report place = option_words (codes "--task") (id_of dag place.task) ++ codes "--run" ∷ short_start_in report place.run ∷ []
+seed_words dag report place =
+    option_words (codes "--task") (id_of dag place.task) ++ codes "--run"
+    ∷ short_start_in report place.run ∷ []
 
 abbrev pub clear_words_of : Paths → Dag → Report → Place → List (List ℕ)
 clear_words_of paths dag report place =
-    (((codes "backfill" ∷ codes "clear" ∷ [] ++ zone_words paths.zone_file) ++ range_words report) ++ seed_words dag report place) ++ path_words paths
+    (((codes "backfill" ∷ codes "clear" ∷ [] ++ zone_words paths.zone_file) ++ range_words report)
+    ++ seed_words dag report place) ++ path_words paths
 
 -- the report that it prints goes into a file beside the report
 abbrev pub clear_line_of : Paths → Dag → Report → Place → List ℕ
-clear_line_of paths dag report place = line_of (clear_words_of paths dag report place) ++ (codes " > " ++ quoted (paths.report ++ codes ".new"))
+clear_line_of paths dag report place =
+    line_of (clear_words_of paths dag report place)
+    ++ (codes " > " ++ quoted (paths.report ++ codes ".new"))
 
 -- ---- what is cleared
 
@@ -77,16 +86,19 @@ IsCleared dag runs place cleared =
 -- another place than the one that is told of
 abbrev pub place_text_of : Dag → Report → ℕ → ℕ → Place → List ℕ
 place_text_of dag report run task place =
-    if place.run == run && place.task == task then [] else codes " " ++ (id_of dag place.task ++ in_the_run_of report run place.run)
+    if place.run == run && place.task == task then [] else codes " "
+    ++ (id_of dag place.task ++ in_the_run_of report run place.run)
 
 abbrev pub clear_heading_of : List ℕ → ClearedCount → List ℕ
 clear_heading_of place cleared =
     codes "clear" ++ (place ++ (codes ", with what follows from it: "
-    ++ (plural_of cleared.tasks (codes "task") ++ (codes " in " ++ plural_of cleared.runs (codes "run")))))
+    ++ (plural_of cleared.tasks (codes "task")
+    ++ (codes " in " ++ plural_of cleared.runs (codes "run")))))
 
 abbrev pub clear_section : Paths → Dag → Report → ℕ → ℕ → Place → ClearedCount → List (List ℕ)
 clear_section paths dag report run task place cleared =
-    section (clear_heading_of (place_text_of dag report run task place) cleared) (clear_line_of paths dag report place ∷ [])
+    section (clear_heading_of (place_text_of dag report run task place) cleared)
+    (clear_line_of paths dag report place ∷ [])
 
 -- a run of `single` is of no range
 abbrev pub is_of_single_in : Option RunReport → Bool
@@ -96,17 +108,20 @@ is_of_single_in (Some run) = int_eq run.interval.start.nanosecond run.interval.e
 abbrev pub IsClearSectionIf : Bool → Paths → Dag → Report → ℕ → ℕ → Place → List (List ℕ) → Type 0
 IsClearSectionIf true paths dag report run task place lines = lines ≡ []
 IsClearSectionIf false paths dag report run task place lines =
-    (cleared : ClearedCount) × IsCleared dag (length report.runs) place cleared × (lines ≡ clear_section paths dag report run task place cleared)
+    (cleared : ClearedCount) × IsCleared dag (length report.runs) place cleared
+    × (lines ≡ clear_section paths dag report run task place cleared)
 
 abbrev pub IsClearSection : Paths → Dag → Report → ℕ → ℕ → Place → List (List ℕ) → Type 0
 IsClearSection paths dag report run task place lines =
-    IsClearSectionIf (is_of_single_in (slice_get report.runs place.run)) paths dag report run task place lines
+    IsClearSectionIf (is_of_single_in
+    (slice_get report.runs place.run)) paths dag report run task place lines
 
 -- a section for each place, in order
 abbrev pub AreClearSections : Paths → Dag → Report → ℕ → ℕ → List Place → List (List ℕ) → Type 0
 AreClearSections paths dag report run task [] lines = lines ≡ []
 AreClearSections paths dag report run task (place ∷ places) lines =
-    (one : List (List ℕ)) × (more : List (List ℕ)) × IsClearSection paths dag report run task place one
+    (one : List (List ℕ)) × (more : List (List ℕ))
+    × IsClearSection paths dag report run task place one
     × AreClearSections paths dag report run task places more × (lines ≡ one ++ more)
 
 -- ---- the places

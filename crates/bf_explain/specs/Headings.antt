@@ -25,7 +25,8 @@ place_in index = None
 
 -- as `total in the run of 2024-03-05T00:00:00Z: failed`
 abbrev pub heading_at : List ℕ → ℤ → List ℕ → List ℕ
-heading_at name start state = name ++ (codes " in the run of " ++ (moment_text start ++ (codes ": " ++ state)))
+heading_at name start state =
+    name ++ (codes " in the run of " ++ (moment_text start ++ (codes ": " ++ state)))
 
 -- as `total [0]`
 abbrev pub instance_name_of : List ℕ → ℕ → List ℕ
@@ -34,10 +35,12 @@ instance_name_of id place = id ++ (codes " [" ++ (decimal place ++ codes "]"))
 -- of one instance of an expanded task, where it is there
 abbrev pub instance_heading_of : List ℕ → ℤ → ℕ → Option InstanceReport → List ℕ
 instance_heading_of id start place None = heading_at id start (codes "no_status")
-instance_heading_of id start place (Some instance) = heading_at (instance_name_of id place) start (state_word instance.result.outcome)
+instance_heading_of id start place (Some instance) =
+    heading_at (instance_name_of id place) start (state_word instance.result.outcome)
 
 abbrev pub heading_of_state : List ℕ → ℤ → TaskReport → Option ℕ → List ℕ
-heading_of_state id start (TaskReport.Mapped instances) (Some place) = instance_heading_of id start place (slice_get instances place)
+heading_of_state id start (TaskReport.Mapped instances) (Some place) =
+    instance_heading_of id start place (slice_get instances place)
 heading_of_state id start told place = heading_at id start (state_text_of (Some told))
 
 -- ---- the one instance

@@ -27,28 +27,39 @@ range_end goes_on index = if goes_on then [] else codes "-" ++ decimal index
 abbrev pub index_text : List ℕ → List TaskResult → ℕ → List ℕ
 index_text state results index =
     if is_at_index state results index
-    then (if is_before_index state results index then range_end (is_at_index state results (index + 1)) index else codes " " ++ decimal index)
+    then (if is_before_index state results index
+    then range_end (is_at_index state results (index + 1)) index else codes " "
+    ++ decimal index)
     else []
 
 -- the indexes of the instances in the state, as ` 0 2-3`
 abbrev pub indexes_text_of : List ℕ → List TaskResult → List ℕ
-indexes_text_of state results = flat_map (index_text state results) (range_with_len 0 (length results))
+indexes_text_of state results =
+    flat_map (index_text state results) (range_with_len 0 (length results))
 
 abbrev pub width_if_of : ℕ → List ℕ → ℕ
 width_if_of count state = if count == 0 then 0 else length state
 
 -- the length of the longest state that is there
 abbrev pub states_width_of : Counts → ℕ
-states_width_of counts = max (width_if_of counts.success (codes "success")) (max (width_if_of counts.failed (codes "failed")) (width_if_of counts.skipped (codes "skipped")))
+states_width_of counts =
+    max (width_if_of counts.success (codes "success"))
+    (max (width_if_of counts.failed (codes "failed"))
+    (width_if_of counts.skipped (codes "skipped")))
 
 abbrev pub state_line : ℕ → List TaskResult → List ℕ → ℕ → List (List ℕ)
-state_line width results state count = if count == 0 then [] else (padded_of width state ++ (codes " " ++ indexes_text_of state results)) ∷ []
+state_line width results state count =
+    if count == 0 then [] else (padded_of width state
+    ++ (codes " " ++ indexes_text_of state results)) ∷ []
 
 abbrev pub state_lines_by : List TaskResult → Counts → ℕ → List (List ℕ)
 state_lines_by results counts width =
-    (state_line width results (codes "success") counts.success ++ state_line width results (codes "failed") counts.failed)
+    (state_line width results (codes "success") counts.success
+    ++ state_line width results (codes "failed") counts.failed)
     ++ state_line width results (codes "skipped") counts.skipped
 
 -- a line for each state that is there
 abbrev pub state_lines_of : List TaskResult → List (List ℕ)
-state_lines_of results = state_lines_by results (counts_of_results_of results) (states_width_of (counts_of_results_of results))
+state_lines_of results =
+    state_lines_by results (counts_of_results_of results)
+    (states_width_of (counts_of_results_of results))

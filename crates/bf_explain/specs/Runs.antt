@@ -48,7 +48,8 @@ are_of count = if count == 1 then codes "is" else codes "are"
 abbrev pub last_sentence_of : List (List ℕ) → List (List ℕ)
 last_sentence_of names =
     if length names == 0 then []
-    else (listed_of 5 names ++ (codes ", which no task follows, " ++ (are_of (length names) ++ codes " failed or upstream_failed."))) ∷ []
+    else (listed_of 5 names ++ (codes ", which no task follows, "
+    ++ (are_of (length names) ++ codes " failed or upstream_failed."))) ∷ []
 
 abbrev pub blocked_sentence_of : List (List ℕ) → List (List ℕ)
 blocked_sentence_of names = if length names == 0 then [] else have_no_status_of names ∷ []
@@ -68,7 +69,8 @@ run_why_lines_of dag tasks order =
 -- ---- what came of its tasks
 
 abbrev pub counts_lines_of : List TaskReport → List ℕ → List (List ℕ)
-counts_lines_of tasks order = if length order == 0 then [] else counts_text_of (counts_over (seen_among tasks) order) ∷ []
+counts_lines_of tasks order =
+    if length order == 0 then [] else counts_text_of (counts_over (seen_among tasks) order) ∷ []
 
 abbrev pub failed_tasks_of : List TaskReport → List ℕ → List ℕ
 failed_tasks_of tasks order = filter (has_of tasks only_failed) order
@@ -81,7 +83,9 @@ tasks_not_tried_of tasks order = filter (λ task. is_not_tried_in (value_among t
 -- as `run 2024-03-05T00:00:00Z to 2024-03-06T00:00:00Z: failed`
 abbrev pub run_heading_of : RunReport → List ℕ
 run_heading_of run =
-    codes "run " ++ (moment_text run.interval.start.nanosecond ++ (codes " to " ++ (moment_text run.interval.end.nanosecond ++ (codes ": " ++ run_state_word_of run.state))))
+    codes "run " ++ (moment_text run.interval.start.nanosecond
+    ++ (codes " to " ++ (moment_text run.interval.end.nanosecond
+    ++ (codes ": " ++ run_state_word_of run.state))))
 
 -- over the tasks in this order
 abbrev pub run_lines_of : Dag → RunReport → List ℕ → List (List ℕ)
@@ -89,7 +93,8 @@ run_lines_of dag run order =
     (((run_heading_of run ∷ [] ++ section (codes "why") (run_why_lines_of dag run.tasks order))
     ++ section (codes "task instances") (counts_lines_of run.tasks order))
     ++ section (codes "failed") (task_lines_of dag run.tasks (failed_tasks_of run.tasks order)))
-    ++ section (codes "not tried") (task_lines_of dag run.tasks (tasks_not_tried_of run.tasks order))
+    ++ section (codes "not tried") (task_lines_of dag run.tasks
+    (tasks_not_tried_of run.tasks order))
 
 abbrev pub run_text : Dag → RunReport → List ℕ → List ℕ
 run_text dag run order = lines_text_of (run_lines_of dag run order)

@@ -26,7 +26,8 @@ use Rattle.bf_explain.specs.Sections.{lines_text_of, section}
 
 -- of an expanded task as a whole
 abbrev pub instances_lines_of : TaskReport → Option ℕ → List (List ℕ)
-instances_lines_of (TaskReport.Mapped instances) None = state_lines_of (map (λ instance. instance.result) instances)
+instances_lines_of (TaskReport.Mapped instances) None =
+    state_lines_of (map (λ instance. instance.result) instances)
 instances_lines_of told place = []
 
 abbrev pub lines_if : (InstanceReport → List (List ℕ)) → Option InstanceReport → List (List ℕ)
@@ -60,10 +61,12 @@ run_before_of report zero = None
 run_before_of report (suc run) = slice_get report.runs run
 
 -- why, with where it began
-abbrev pub why_section : Dag → Report → ℕ → RunReport → ℕ → TaskReport → Option ℕ → List Root → List (List ℕ)
+abbrev pub why_section : Dag → Report → ℕ → RunReport → ℕ → TaskReport → Option ℕ → List Root
+    → List (List ℕ)
 why_section dag report run told_run task told place roots =
     section (codes "why")
-    (why_of dag told_run.tasks (run_before_of report run) task (cause_among dag told_run.tasks (tasks_before report run) run task) told place
+    (why_of dag told_run.tasks (run_before_of report run) task
+    (cause_among dag told_run.tasks (tasks_before report run) run task) told place
     ++ began_lines_of dag report run task roots)
 
 -- the roots of a task that wasn't tried
@@ -72,20 +75,27 @@ AreRootsIf true dag report run task roots = roots ≡ []
 AreRootsIf false dag report run task roots = AreRootsOf dag report run task roots
 
 -- the lines on a task that the report has so in this run, or on its instance of this map index
-pub record AreTaskLines (paths : Paths) (dag : Dag) (report : Report) (run : ℕ) (told_run : RunReport) (task : ℕ) (told : TaskReport) (index : Option ℤ) (lines : List (List ℕ)) : Type 0 where
+pub record AreTaskLines (paths : Paths) (dag : Dag) (report : Report) (run : ℕ)
+    (told_run : RunReport) (task : ℕ) (told : TaskReport) (index : Option ℤ)
+    (lines : List (List ℕ)) : Type 0 where
   pub roots : List Root
   pub hand : List (List ℕ)
   pub clear : List (List ℕ)
   pub are_roots : AreRootsIf (is_tried_in told) dag report run task roots
-  pub is_hand : AreHandLines dag told_run.interval report.version run task (index_in told index) (instance_in told (place_in index)) hand
-  pub is_clear : AreClearSections paths dag report run task (places_to_clear_in run task roots) clear
-  pub lines_are : lines ≡ ((((heading_of_state (id_of dag task) told_run.interval.start.nanosecond told (place_in index) ∷ []
+  pub is_hand : AreHandLines dag told_run.interval report.version run task (index_in told index)
+      (instance_in told (place_in index)) hand
+  pub is_clear : AreClearSections paths dag report run task
+      (places_to_clear_in run task roots) clear
+  pub lines_are : lines ≡ ((((heading_of_state
+      (id_of dag task) told_run.interval.start.nanosecond told (place_in index) ∷ []
       ++ why_section dag report run told_run task told (place_in index) roots)
       ++ own_sections told (place_in index))
       ++ section (codes "by hand") hand)
       ++ beside_sections dag told_run.tasks task)
       ++ clear
 
-abbrev pub IsTaskText : Paths → Dag → Report → ℕ → RunReport → ℕ → TaskReport → Option ℤ → List ℕ → Type 0
+abbrev pub IsTaskText : Paths → Dag → Report → ℕ → RunReport → ℕ → TaskReport → Option ℤ → List ℕ
+    → Type 0
 IsTaskText paths dag report run told_run task told index text =
-    (lines : List (List ℕ)) × AreTaskLines paths dag report run told_run task told index lines × (text ≡ lines_text_of lines)
+    (lines : List (List ℕ)) × AreTaskLines paths dag report run told_run task told index lines
+    × (text ≡ lines_text_of lines)

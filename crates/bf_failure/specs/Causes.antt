@@ -26,16 +26,19 @@ pub record Pushes (raw : Raw) (value : Option Xval) : Type 0 where
   pub says : value_of_line line ≡ value
 
 abbrev pub IsCause : Dag → ℕ → Raw → Failure → Type 0
-IsCause dag task raw (Status status) = (line : List ℕ) × (raw ≡ ended status line) × (status ≢ pos 0) × (status ≢ pos 99)
+IsCause dag task raw (Status status) =
+    (line : List ℕ) × (raw ≡ ended status line) × (status ≢ pos 0) × (status ≢ pos 99)
 IsCause dag task raw (Signal number) = raw.exit ≡ Exit.Signal
 IsCause dag task raw (NotStarted words) = raw.exit ≡ Exit.NotStarted
 IsCause dag task raw TooMuchOutput = raw.line ≡ Line.TooMuch
 IsCause dag task raw UnreadOutput = raw.line ≡ Line.ReadFault
 IsCause dag task raw NotUtf8 = (line : List ℕ) × (raw ≡ ended (pos 0) line) × ¬ (IsUtf8 line)
-IsCause dag task raw LongValue = (value : Xval) × Pushes raw (Some value) × (65_536 < length (json_of value))
+IsCause dag task raw LongValue =
+    (value : Xval) × Pushes raw (Some value) × (65_536 < length (json_of value))
 IsCause dag task raw (NoDownstream text) =
     (value : Xval) × Pushes raw (Some value) × (text ≡ json_of value)
-    × (is_branch_in (task_of dag task) ≡ true) × (names_downstreams_in (shape_of dag) task (Some value) ≡ false)
+    × (is_branch_in (task_of dag task) ≡ true)
+    × (names_downstreams_in (shape_of dag) task (Some value) ≡ false)
 IsCause dag task raw (NoItems id) =
     (value : Option Xval) × (first : Task) × Pushes raw value × (is_list_of_items_in value ≡ false)
     × (first_expanded dag task ≡ Some first) × (first.id ≡ id)

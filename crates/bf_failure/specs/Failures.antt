@@ -35,12 +35,15 @@ text_in (Some value) = json_of value
 abbrev pub value_failure : Dag → ℕ → Option Xval → Option Failure
 value_failure dag task value =
     if not (is_short_in value) then Some LongValue
-    else (if is_branch_in (task_of dag task) && not (names_downstreams_in (shape_of dag) task value) then Some (NoDownstream (text_in value))
-    else (if gives_items_in dag task && not (is_list_of_items_in value) then Some (NoItems (id_in (first_expanded dag task)))
+    else (if is_branch_in (task_of dag task) && not (names_downstreams_in (shape_of dag) task value)
+    then Some (NoDownstream (text_in value))
+    else (if gives_items_in dag task && not (is_list_of_items_in value)
+    then Some (NoItems (id_in (first_expanded dag task)))
     else None))
 
 abbrev pub line_failure : Dag → ℕ → List ℕ → Option Failure
-line_failure dag task line = if is_utf8 line then value_failure dag task (value_of_line line) else Some NotUtf8
+line_failure dag task line =
+    if is_utf8 line then value_failure dag task (value_of_line line) else Some NotUtf8
 
 abbrev pub status_failure : Dag → ℕ → ℤ → List ℕ → Option Failure
 status_failure dag task status line =
@@ -79,4 +82,5 @@ failure_text UnreadOutput = codes "its output couldn't be read"
 failure_text NotUtf8 = codes "its last line isn't UTF-8"
 failure_text LongValue = codes "a value of more than 65536 bytes"
 failure_text (NoDownstream value) = codes "a branch that names no direct downstream: " ++ value
-failure_text (NoItems id) = codes "no list of at most 1024 items, which " ++ (id ++ codes " expands")
+failure_text (NoItems id) =
+    codes "no list of at most 1024 items, which " ++ (id ++ codes " expands")

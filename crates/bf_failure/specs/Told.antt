@@ -27,10 +27,13 @@ see_text_of (Some folder) try failure = codes ", see " ++ log_of folder try (end
 -- as `failed: load 2024-02-14T00:00:00Z index 2 try 1: exit status 3, see PATH`, and a line feed
 abbrev pub failed_line_of : Option (List ℕ) → JobContext → Failure → List ℕ
 failed_line_of logs try failure =
-    codes "failed: " ++ (try_text_of try ++ (codes ": " ++ (failure_text failure ++ (see_text_of logs try failure ++ codes "\n"))))
+    codes "failed: " ++ (try_text_of try
+    ++ (codes ": " ++ (failure_text failure ++ (see_text_of logs try failure ++ codes "\n"))))
 
 -- the line of a failed try, as it may be answered
-pub record IsToldLine (may_answer : JobName → Given → Raw → Type 0) (dag : Dag) (intervals : List Interval) (logs : Option (List ℕ)) (line : List ℕ) : Type 0 where
+pub record IsToldLine (may_answer : JobName → Given → Raw
+    → Type 0) (dag : Dag) (intervals : List Interval) (logs : Option (List ℕ))
+    (line : List ℕ) : Type 0 where
   pub done : Answered
   pub detail : Option Detail
   pub failure : Failure
@@ -41,8 +44,10 @@ pub record IsToldLine (may_answer : JobName → Given → Raw → Type 0) (dag :
   pub is_line : line ≡ failed_line_of logs context (detailed failure detail)
 
 -- the lines of tries that the runner may answer may be told
-abbrev pub MayTellOf : (List ℕ → Type 0) → (JobName → Given → Raw → Type 0) → Dag → List Interval → Option (List ℕ) → Type 0
-MayTellOf may_tell may_answer dag intervals logs = (line : List ℕ) → IsToldLine may_answer dag intervals logs line → may_tell line
+abbrev pub MayTellOf : (List ℕ → Type 0) → (JobName → Given → Raw → Type 0) → Dag → List Interval
+    → Option (List ℕ) → Type 0
+MayTellOf may_tell may_answer dag intervals logs =
+    (line : List ℕ) → IsToldLine may_answer dag intervals logs line → may_tell line
 
 -- a line may be told to this one, or there is nobody to tell
 abbrev pub may_tell_to : {T : Type 0} → (T → List ℕ → Type 0) → Option T → List ℕ → Type 0

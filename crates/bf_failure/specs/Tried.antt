@@ -8,7 +8,8 @@ use Rattle.bf_interval.specs.declared.interval.Interval.{Interval}
 use Rattle.bf_words.specs.declared.context.JobContext.{JobContext}
 
 -- the try of this name, of this task in a run of this data interval
-pub record IsContext (dag : Dag) (task : Task) (interval : Interval) (name : JobName) (context : JobContext) : Type 0 where
+pub record IsContext (dag : Dag) (task : Task) (interval : Interval) (name : JobName)
+    (context : JobContext) : Type 0 where
   pub starts : context.data_interval_start.at ≡ interval.start
   pub ends : context.data_interval_end.at ≡ interval.end
   pub dag_id : context.dag_id.now ≡ dag.id
@@ -17,7 +18,8 @@ pub record IsContext (dag : Dag) (task : Task) (interval : Interval) (name : Job
   pub try_number : context.try_number ≡ name.attempt
 
 -- there are such a task and such a run
-pub record IsContextOf (dag : Dag) (intervals : List Interval) (name : JobName) (context : JobContext) : Type 0 where
+pub record IsContextOf (dag : Dag) (intervals : List Interval) (name : JobName)
+    (context : JobContext) : Type 0 where
   pub task : Task
   pub interval : Interval
   pub task_there : slice_get dag.tasks name.task ≡ Some task
@@ -36,10 +38,14 @@ index_text_of before (negsuc n) behind = []
 -- the name of the try, as `load 2024-02-14T00:00:00Z index 2 try 1`
 abbrev pub try_text_of : JobContext → List ℕ
 try_text_of try =
-    try.task_id.now ++ (codes " " ++ (run_text try ++ (index_text_of (codes " index ") try.map_index [] ++ (codes " try " ++ decimal try.try_number))))
+    try.task_id.now ++ (codes " " ++ (run_text try
+    ++ (index_text_of (codes " index ") try.map_index []
+    ++ (codes " try " ++ decimal try.try_number))))
 
 -- FOLDER/dag=ID/run=MOMENT/task=ID/try=N with this ending, or index=I,try=N of an instance of an expanded task
 abbrev pub log_of : List ℕ → JobContext → List ℕ → List ℕ
 log_of folder try ending =
-    folder ++ (codes "/dag=" ++ (try.dag_id.now ++ (codes "/run=" ++ (run_text try ++ (codes "/task=" ++ (try.task_id.now ++ (codes "/"
-    ++ (index_text_of (codes "index=") try.map_index (codes ",") ++ (codes "try=" ++ (decimal try.try_number ++ ending))))))))))
+    folder ++ (codes "/dag=" ++ (try.dag_id.now
+    ++ (codes "/run=" ++ (run_text try ++ (codes "/task=" ++ (try.task_id.now ++ (codes "/"
+    ++ (index_text_of (codes "index=") try.map_index (codes ",")
+    ++ (codes "try=" ++ (decimal try.try_number ++ ending))))))))))

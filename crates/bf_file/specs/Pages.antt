@@ -14,7 +14,8 @@ abbrev pub text_on : Paged → Option (List ℕ)
 text_on page = option_map text_by page.calls
 
 -- this path was given a file of the text, where they are told
-abbrev pub HasReplacedBy : Option (List Placed) → Option (List Placed) → Option (List ℕ) → Option (List ℕ) → Type 0
+abbrev pub HasReplacedBy : Option (List Placed) → Option (List Placed) → Option (List ℕ)
+    → Option (List ℕ) → Type 0
 HasReplacedBy before after (Some path) (Some text) = HasReplaced before after path text
 HasReplacedBy before after (Some path) None = Unit {0}
 HasReplacedBy before after None text = Unit {0}

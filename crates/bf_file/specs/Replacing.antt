@@ -32,8 +32,10 @@ pub record IsReplacing (text : List ℕ) (calls : List Call) : Type 0 where
 -- what isn't on the disk may be lost
 abbrev pub MayHoldBehind : Option (List ℕ) → List ℕ → ℕ → List Call → Option (List ℕ) → Type 0
 MayHoldBehind held text safe [] now = now ≡ held
-MayHoldBehind held text safe (Call.Wrote bytes ∷ calls) now = MayHoldBehind held (text ++ bytes) safe calls now
-MayHoldBehind held text safe (Call.Synced ∷ calls) now = MayHoldBehind held text (length text) calls now
+MayHoldBehind held text safe (Call.Wrote bytes ∷ calls) now =
+    MayHoldBehind held (text ++ bytes) safe calls now
+MayHoldBehind held text safe (Call.Synced ∷ calls) now =
+    MayHoldBehind held text (length text) calls now
 MayHoldBehind held text safe (Call.Renamed ∷ calls) now =
     (now ≡ held) ⊎ ((n : ℕ) × (safe ≤ n) × (now ≡ Some (take n text)))
 
@@ -54,7 +56,8 @@ abbrev pub held_after : Option (List ℕ) → List Call → Option (List ℕ)
 held_after held calls = held_behind held [] calls
 
 -- the paths that were given new files, with one more behind them, where all is told
-abbrev pub placed_with : Option (List Placed) → Option (List ℕ) → Option (List Call) → Option (List Placed)
+abbrev pub placed_with : Option (List Placed) → Option (List ℕ) → Option (List Call)
+    → Option (List Placed)
 placed_with (Some placed) (Some path) (Some calls) =
     Some (placed ++ record { path = path; calls = calls ++ Call.Renamed ∷ [] } ∷ [])
 placed_with (Some placed) (Some path) None = None

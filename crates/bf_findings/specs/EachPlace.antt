@@ -13,5 +13,6 @@ IsPlace d place.Top = Unit {0}
 IsPlace d (place.Key key) = IsSome (as_object d)
 IsPlace d (place.OtherKey key) = (is_graph_key_in key ≡ false) × IsSome (get key d)
 IsPlace d (place.TaskKey n key) = IsSome (option_and_then as_object (task_value d n))
-IsPlace d (place.OtherTaskKey n key) = (is_task_key_in key ≡ false) × IsSome (option_and_then (get key) (task_value d n))
+IsPlace d (place.OtherTaskKey n key) =
+    (is_task_key_in key ≡ false) × IsSome (option_and_then (get key) (task_value d n))
 IsPlace d other = IsSome (value_in d other)

@@ -35,7 +35,8 @@ IsSuggestionBy None d form text suggestion = IsSuggested text (names_of d form) 
 
 -- what is meant by the text, in whichever case; else the nearest known name, where it is near
 abbrev pub IsSuggestion : Data → Form → List ℕ → Option (List ℕ) → Type 0
-IsSuggestion d form text suggestion = IsSuggestionBy (meant_of form (lowered text)) d form text suggestion
+IsSuggestion d form text suggestion =
+    IsSuggestionBy (meant_of form (lowered text)) d form text suggestion
 
 abbrev pub IsSuggestionFor : Data → Form → Option (List ℕ) → Option (List ℕ) → Type 0
 IsSuggestionFor d form None suggestion = suggestion ≡ None
@@ -46,11 +47,13 @@ pub record IsFault (file : Option (List ℕ)) (d : Data) (fault : Fault) : Type 
   pub form_is : fault.form ≡ form_in d fault.place
   pub wrong : IsWrong file d fault.place fault.form (value_in d fault.place)
   pub stands_is : fault.stands ≡ told_in fault.place (value_in d fault.place)
-  pub suggestion_is : IsSuggestionFor d fault.form (asked_in fault.place (value_in d fault.place)) fault.suggestion
+  pub suggestion_is : IsSuggestionFor d fault.form
+      (asked_in fault.place (value_in d fault.place)) fault.suggestion
 
 -- what is wrong at the places of the document: all of it, or a hundred faults
 pub record AreFaults (file : Option (List ℕ)) (d : Data) (faults : List Fault) : Type 0 where
   pub few : length faults ≤ 100
   pub each : All (IsFault file d) faults
-  pub all : length faults < 100 → (place : DocumentPlace) → Contains (places_in d) place → IsWrong file d place (form_in d place) (value_in d place)
+  pub all : length faults < 100 → (place : DocumentPlace) → Contains (places_in d) place
+      → IsWrong file d place (form_in d place) (value_in d place)
       → Contains (map (λ fault. fault.place) faults) place

@@ -28,7 +28,9 @@ pub record IsAcceptedFile (graph : List ℕ) (file : Option (List ℕ)) : Type 0
 -- the bytes are refused for this, with this zone file, which isn't want of memory
 abbrev pub IsRefusal : List ℕ → Option (List ℕ) → Refusal → Type 0
 IsRefusal graph file (Read fault) = (graph_in graph ≡ Err fault) × (fault ≢ read.OutOfMemory)
-IsRefusal graph file (Check fault) = (draft : Draft) × (graph_in graph ≡ Ok (graph_file_of draft)) × IsFaultOf draft file fault × (fault ≢ check.OutOfMemory)
+IsRefusal graph file (Check fault) =
+    (draft : Draft) × (graph_in graph ≡ Ok (graph_file_of draft)) × IsFaultOf draft file fault
+    × (fault ≢ check.OutOfMemory)
 
 -- why the bytes are refused, or nothing where they are accepted
 abbrev pub IsRefusedFor : List ℕ → Option (List ℕ) → Option Refusal → Type 0
@@ -47,8 +49,11 @@ IsTold found place = (fault : PlaceFault) × Contains found (Fault fault) × (fa
 
 -- each place at which something is wrong is told, where the file isn't too long, and less than a hundred are told
 abbrev pub TellsAll : List ℕ → Option (List ℕ) → List Finding → Type 0
-TellsAll graph file found = (d : Data) (place : DocumentPlace) → length found < 100 → length graph ≤ most_bytes → data_in graph ≡ Some d
-    → Contains (places_in d) place → IsWrong file d place (form_in d place) (value_in d place) → IsTold found place
+TellsAll graph file found =
+    (d : Data) (place : DocumentPlace) → length found < 100 → length graph ≤ most_bytes
+    → data_in graph ≡ Some d
+    → Contains (places_in d) place → IsWrong file d place (form_in d place) (value_in d place)
+    → IsTold found place
 
 -- what is told of a file that is refused: something, at most a hundred findings, all of them so, and where they are fewer all that
 -- is wrong at its places

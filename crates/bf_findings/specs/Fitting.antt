@@ -53,7 +53,9 @@ pools_at d = option_and_then as_object (get (codes "pools") d)
 
 -- the default pool, or one that is named
 abbrev pub is_pool_in : Data → List ℕ → Bool
-is_pool_in d name = bytes_eq name (codes "default_pool") || is_some (option_and_then (get name) (get (codes "pools") d))
+is_pool_in d name =
+    bytes_eq name (codes "default_pool")
+    || is_some (option_and_then (get name) (get (codes "pools") d))
 
 -- ---- texts
 
@@ -100,7 +102,8 @@ are_one (Some ms) = members_len ms == 1
 
 -- an object with one key, which is one of a word
 abbrev pub is_word_object_in : Data → Bool
-is_word_object_in d = are_one (as_object d) && list_any (λ key. is_some (get (word_key_name key) d)) word_keys
+is_word_object_in d =
+    are_one (as_object d) && list_any (λ key. is_some (get (word_key_name key) d)) word_keys
 
 -- a value that is no text may stand where this form may
 abbrev pub other_fits_in : Form → Data → Bool

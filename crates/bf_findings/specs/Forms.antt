@@ -62,9 +62,11 @@ form_in d (place.WordKey n i word.Item) = if is_expanded_in d n then Item else N
 -- the words for what may stand there, but for the bounds of a number
 abbrev pub form_words : Form → List ℕ
 form_words Object = codes "has to be an object"
-form_words NoGraphKey = codes "a graph file has the keys dag_id, schedule, zone, max_active_runs, pools and tasks"
+form_words NoGraphKey =
+    codes "a graph file has the keys dag_id, schedule, zone, max_active_runs, pools and tasks"
 form_words NoTaskKey = codes "a task has the keys id, upstream, rule, kind, command, expand, depends_on_past, retries, retry_delay, pool, pool_slots, priority_weight and weight_rule"
-form_words NoPool = codes "the name of a pool has 1 to 250 letters, digits, dashes, dots and underscores"
+form_words NoPool =
+    codes "the name of a pool has 1 to 250 letters, digits, dashes, dots and underscores"
 form_words NoItem = codes "a task without the key expand has no item"
 form_words Id = codes "has to be an id of 1 to 250 letters, digits, dashes, dots and underscores"
 form_words (NewId a) = codes "has to be an id of 1 to 250 letters, digits, dashes, dots and underscores that no task before has"
@@ -81,11 +83,13 @@ form_words Kind = codes "has to be program or branch"
 form_words WeightRule = codes "has to be downstream, upstream or absolute"
 form_words TaskId = codes "has to be the id of a task"
 form_words PoolName = codes "has to be default_pool or a name of pools"
-form_words Word = codes "has to be a text of at most 4096 bytes, or an object with one key, context, pull or item"
+form_words Word =
+    codes "has to be a text of at most 4096 bytes, or an object with one key, context, pull or item"
 form_words Context = codes "has to be logical_date, data_interval_start, data_interval_end, dag_id, task_id, map_index or try_number"
 form_words Item = codes "has to be true"
 
 -- the words
 abbrev pub form_text : Form → List ℕ
-form_text (Whole least most) = codes "has to be a whole number from " ++ decimal least ++ codes " to " ++ decimal most
+form_text (Whole least most) =
+    codes "has to be a whole number from " ++ decimal least ++ codes " to " ++ decimal most
 form_text form = form_words form

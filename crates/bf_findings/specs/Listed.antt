@@ -20,7 +20,8 @@ task_key_places n = map (place.TaskKey n) task_keys
 -- the keys that graph files don't have
 abbrev pub other_keys : Members → List DocumentPlace
 other_keys no_members = []
-other_keys (member name d ms) = if is_graph_key_in name then other_keys ms else (place.OtherKey name ∷ other_keys ms)
+other_keys (member name d ms) =
+    if is_graph_key_in name then other_keys ms else (place.OtherKey name ∷ other_keys ms)
 
 -- the pools
 abbrev pub pools_of : Members → List DocumentPlace
@@ -34,7 +35,9 @@ pools_if_any (Some ms) = pools_of ms
 -- the keys that tasks don't have
 abbrev pub other_task_keys : ℕ → Members → List DocumentPlace
 other_task_keys n no_members = []
-other_task_keys n (member name d ms) = if is_task_key_in name then other_task_keys n ms else (place.OtherTaskKey n name ∷ other_task_keys n ms)
+other_task_keys n (member name d ms) =
+    if is_task_key_in name then other_task_keys n ms
+    else (place.OtherTaskKey n name ∷ other_task_keys n ms)
 
 -- the items of the list under a key of a task
 abbrev pub items_in : Data → TaskKey → List Data
@@ -47,7 +50,8 @@ upstreams n i (d ∷ ds) = place.Upstream n i ∷ upstreams n (i + 1) ds
 
 -- a key of a word, where the word has it
 abbrev pub word_key : ℕ → ℕ → Data → WordKey → Option DocumentPlace
-word_key n i d key = if is_some (get (word_key_name key) d) then Some (place.WordKey n i key) else None
+word_key n i d key =
+    if is_some (get (word_key_name key) d) then Some (place.WordKey n i key) else None
 
 abbrev pub word_keys_of : ℕ → ℕ → Data → List DocumentPlace
 word_keys_of n i d = filter_map (word_key n i d) word_keys
@@ -60,7 +64,8 @@ words n i (d ∷ ds) = place.Word n i ∷ (word_keys_of n i d ++ words n (i + 1)
 abbrev pub members_of_task : ℕ → Data → Option Members → List DocumentPlace
 members_of_task n d None = []
 members_of_task n d (Some ms) = task_key_places n
-    ++ (other_task_keys n ms ++ (upstreams n 0 (items_in d key.Upstream) ++ words n 0 (items_in d key.Command)))
+    ++ (other_task_keys n ms ++ (upstreams n 0 (items_in d key.Upstream)
+    ++ words n 0 (items_in d key.Command)))
 
 -- the task behind n others: its keys, those that tasks don't have, its upstreams and its words
 abbrev pub task_places : ℕ → Data → List DocumentPlace
@@ -73,7 +78,8 @@ tasks n (d ∷ ds) = task_places n d ++ tasks (n + 1) ds
 
 abbrev pub members_of_graph : Data → Option Members → List DocumentPlace
 members_of_graph d None = []
-members_of_graph d (Some ms) = graph_key_places ++ (other_keys ms ++ (pools_if_any (pools_at d) ++ tasks 0 (tasks_at d)))
+members_of_graph d (Some ms) =
+    graph_key_places ++ (other_keys ms ++ (pools_if_any (pools_at d) ++ tasks 0 (tasks_at d)))
 
 -- the places of a document: its keys, those that graph files don't have, its pools and its tasks
 abbrev pub places_in : Data → List DocumentPlace

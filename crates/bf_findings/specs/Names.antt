@@ -39,7 +39,8 @@ unfoldable pub context_meant_of : List ℕ → Option (List ℕ)
 context_meant_of s =
     if bytes_eq s (codes "execution_date") then Some (codes "logical_date")
     else (if bytes_eq s (codes "ts") then Some (codes "logical_date")
-    else (if bytes_eq s (codes "next_execution_date") then Some (codes "data_interval_end") else None))
+    else (if bytes_eq s (codes "next_execution_date") then Some (codes "data_interval_end")
+    else None))
 
 -- what is meant by a word that this format has under another name
 abbrev pub meant_of : Form → List ℕ → Option (List ℕ)
@@ -56,14 +57,19 @@ meant_of _ s = None
 abbrev pub fixed_names_of : Form → List (List ℕ)
 fixed_names_of NoGraphKey = map graph_key_name graph_keys
 fixed_names_of NoTaskKey = map task_key_name task_keys
-fixed_names_of Schedule = codes "@hourly" ∷ codes "@daily" ∷ codes "@weekly" ∷ codes "@monthly" ∷ codes "@quarterly" ∷ codes "@yearly" ∷ []
+fixed_names_of Schedule =
+    codes "@hourly" ∷ codes "@daily" ∷ codes "@weekly" ∷ codes "@monthly" ∷ codes "@quarterly"
+    ∷ codes "@yearly" ∷ []
 fixed_names_of Zone = codes "UTC" ∷ codes "file" ∷ []
-fixed_names_of Rule = codes "all_success" ∷ codes "all_failed" ∷ codes "all_skipped" ∷ codes "all_done"
+fixed_names_of Rule =
+    codes "all_success" ∷ codes "all_failed" ∷ codes "all_skipped" ∷ codes "all_done"
     ∷ codes "one_success" ∷ codes "one_failed" ∷ codes "one_done"
-    ∷ codes "none_failed" ∷ codes "none_failed_min_one_success" ∷ codes "none_skipped" ∷ codes "always" ∷ []
+    ∷ codes "none_failed" ∷ codes "none_failed_min_one_success" ∷ codes "none_skipped"
+    ∷ codes "always" ∷ []
 fixed_names_of Kind = codes "program" ∷ codes "branch" ∷ []
 fixed_names_of WeightRule = codes "downstream" ∷ codes "upstream" ∷ codes "absolute" ∷ []
-fixed_names_of Context = codes "logical_date" ∷ codes "data_interval_start" ∷ codes "data_interval_end"
+fixed_names_of Context =
+    codes "logical_date" ∷ codes "data_interval_start" ∷ codes "data_interval_end"
     ∷ codes "dag_id" ∷ codes "task_id" ∷ codes "map_index" ∷ codes "try_number" ∷ []
 fixed_names_of _ = []
 

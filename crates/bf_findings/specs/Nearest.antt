@@ -17,7 +17,8 @@ abbrev pub distance_to : List ℕ → List ℕ → ℕ
 distance_to text name = edits text (lowered name)
 
 -- the name is one of them, so far away, and none of them is nearer
-pub record IsNearestTo (text : List ℕ) (names : List (List ℕ)) (name : List ℕ) (distance : ℕ) : Type 0 where
+pub record IsNearestTo (text : List ℕ) (names : List (List ℕ)) (name : List ℕ)
+    (distance : ℕ) : Type 0 where
   pub known : Contains names name
   pub is_distance : distance ≡ distance_to text name
   pub none_nearer : (other : List ℕ) → Contains names other → distance ≤ distance_to text other
@@ -33,7 +34,9 @@ is_near_in text name distance = nat_lt (2 * distance) (max (length text) (length
 
 -- no name is known, or a nearest one isn't near
 abbrev pub NoneIsNear : List ℕ → List (List ℕ) → Type 0
-NoneIsNear text names = (names ≡ []) ⊎ ((name : List ℕ) × (distance : ℕ) × IsNearestTo text names name distance × (is_near_in text name distance ≡ false))
+NoneIsNear text names =
+    (names ≡ []) ⊎ ((name : List ℕ) × (distance : ℕ) × IsNearestTo text names name distance
+    × (is_near_in text name distance ≡ false))
 
 -- a name that is near, and none of them is nearer
 pub record IsNearName (text : List ℕ) (names : List (List ℕ)) (name : List ℕ) : Type 0 where

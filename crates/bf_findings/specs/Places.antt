@@ -23,7 +23,8 @@ task_value d n = option_and_then (at n) (get (codes "tasks") d)
 
 -- the item that stands behind i others of the list under a task's key
 abbrev pub item_value : Data → ℕ → TaskKey → ℕ → Option Data
-item_value d n key i = option_and_then (at i) (option_and_then (get (task_key_name key)) (task_value d n))
+item_value d n key i =
+    option_and_then (at i) (option_and_then (get (task_key_name key)) (task_value d n))
 
 -- what stands at a place
 abbrev pub value_in : Data → DocumentPlace → Option Data
@@ -36,7 +37,8 @@ value_in d (place.TaskKey n key) = option_and_then (get (task_key_name key)) (ta
 value_in d (place.OtherTaskKey n key) = option_and_then (get key) (task_value d n)
 value_in d (place.Upstream n i) = item_value d n TaskKey.Upstream i
 value_in d (place.Word n i) = item_value d n TaskKey.Command i
-value_in d (place.WordKey n i key) = option_and_then (get (word_key_name key)) (item_value d n TaskKey.Command i)
+value_in d (place.WordKey n i key) =
+    option_and_then (get (word_key_name key)) (item_value d n TaskKey.Command i)
 
 -- the keys that lead there; what is told of an object that it stands in has the path of that object
 abbrev pub place_text : DocumentPlace → List ℕ
@@ -47,6 +49,10 @@ place_text (place.Pool name) = codes "pools"
 place_text (place.Task n) = codes "tasks[" ++ decimal n ++ codes "]"
 place_text (place.TaskKey n key) = codes "tasks[" ++ decimal n ++ codes "]." ++ task_key_name key
 place_text (place.OtherTaskKey n key) = codes "tasks[" ++ decimal n ++ codes "]"
-place_text (place.Upstream n i) = (codes "tasks[" ++ decimal n ++ codes "].upstream") ++ (codes "[" ++ decimal i ++ codes "]")
-place_text (place.Word n i) = (codes "tasks[" ++ decimal n ++ codes "].command") ++ (codes "[" ++ decimal i ++ codes "]")
-place_text (place.WordKey n i key) = (codes "tasks[" ++ decimal n ++ codes "].command") ++ (codes "[" ++ decimal i ++ codes "]." ++ word_key_name key)
+place_text (place.Upstream n i) =
+    (codes "tasks[" ++ decimal n ++ codes "].upstream") ++ (codes "[" ++ decimal i ++ codes "]")
+place_text (place.Word n i) =
+    (codes "tasks[" ++ decimal n ++ codes "].command") ++ (codes "[" ++ decimal i ++ codes "]")
+place_text (place.WordKey n i key) =
+    (codes "tasks[" ++ decimal n ++ codes "].command")
+    ++ (codes "[" ++ decimal i ++ codes "]." ++ word_key_name key)

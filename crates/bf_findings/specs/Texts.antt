@@ -29,13 +29,16 @@ ending form (Some name) = meant_text name
 
 -- where it is, what stands there, and what may
 abbrev pub fault_text : Fault → List ℕ
-fault_text fault = (place_text fault.place ++ (codes ": " ++ (fault.stands ++ codes ": "))) ++ ending fault.form fault.suggestion
+fault_text fault =
+    (place_text fault.place ++ (codes ": " ++ (fault.stands ++ codes ": ")))
+    ++ ending fault.form fault.suggestion
 
 -- ---- why a file is refused in which nothing else is found
 
 abbrev pub why_read : ReadFault → List ℕ
 why_read (read.LimitPassed path.Bytes) = codes "a graph file has at most 8388608 bytes"
-why_read (read.LimitPassed _) = codes "a file has at most 20000 distinct edges, and a command pulls from at most 16 tasks"
+why_read (read.LimitPassed _) =
+    codes "a file has at most 20000 distinct edges, and a command pulls from at most 16 tasks"
 why_read _ = codes "no graph file is of this form"
 
 abbrev pub why_task : TaskFault → List ℕ
@@ -43,14 +46,16 @@ why_task UnknownUpstream = codes "it comes after a task that isn't there"
 why_task UnknownPool = codes "its pool isn't there"
 why_task SlotsBeyondPool = codes "it takes more slots than its pool has"
 why_task BadRule = codes "its rule is none"
-why_task PullNotSettled = codes "it pulls from a task that needn't have ended when this one is decided"
+why_task PullNotSettled =
+    codes "it pulls from a task that needn't have ended when this one is decided"
 why_task ExpandSource = codes "it is expanded over a task that isn't directly upstream"
 why_task ExpandRule = codes "its rule may decide it before all upstreams have ended"
 why_task BranchMisuse = codes "a branch can't be expanded"
 
 abbrev pub why_check : CheckFault → List ℕ
 why_check (check.Task fault id) = why_task fault
-why_check (check.Cycle ids) = codes "each comes after the one before it, and the first after the last"
+why_check (check.Cycle ids) =
+    codes "each comes after the one before it, and the first after the last"
 why_check check.BadCron = codes "the schedule is none"
 why_check check.NeverFires = codes "no day matches the schedule"
 why_check check.BadZone = codes "the zone is none"
@@ -63,6 +68,7 @@ refusal_text (refusal.Check fault) = checking.fault_text fault ++ codes ": " ++ 
 
 -- the line, but for its end
 abbrev pub finding_text : Finding → List ℕ
-finding_text (finding.NotJson line column) = codes "bytes: not JSON: line " ++ decimal line ++ codes ", column " ++ decimal column
+finding_text (finding.NotJson line column) =
+    codes "bytes: not JSON: line " ++ decimal line ++ codes ", column " ++ decimal column
 finding_text (finding.Fault fault) = fault_text fault
 finding_text (finding.Refused refusal) = refusal_text refusal

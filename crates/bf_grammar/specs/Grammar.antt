@@ -47,7 +47,8 @@ run_rule = repeated_rule (codes "run")
 
 -- `--index N ..`, a map index, which is -1 of a task that isn't expanded
 abbrev pub index_rule : Rule
-index_rule = record (repeated_rule (codes "index")) { parser = Some (Signed (negsuc 0) (pos 2_147_483_647)) }
+index_rule =
+    record (repeated_rule (codes "index")) { parser = Some (Signed (negsuc 0) (pos 2_147_483_647)) }
 
 -- `--task ID`, of one task
 abbrev pub one_task_rule : Rule
@@ -59,11 +60,19 @@ one_run_rule = required_option_rule (codes "run")
 
 -- `--index N`, of one instance
 abbrev pub one_index_rule : Rule
-one_index_rule = record (option_rule (codes "index") (codes "index")) { parser = Some (Signed (negsuc 0) (pos 2_147_483_647)) }
+one_index_rule =
+    record (option_rule (codes "index") (codes "index")) {
+      parser = Some
+          (Signed (negsuc 0) (pos 2_147_483_647));
+    }
 
 -- `--states-only`, a flag
 abbrev pub states_only_rule : Rule
-states_only_rule = record (new_rule (codes "states_only")) { long = Some (codes "states-only"); action = Some SetTrue }
+states_only_rule =
+    record (new_rule (codes "states_only")) {
+      long = Some (codes "states-only");
+      action = Some SetTrue;
+    }
 
 -- `--seeds PATH`
 abbrev pub seeds_rule : Rule
@@ -71,7 +80,8 @@ seeds_rule = option_rule (codes "seeds") (codes "seeds")
 
 -- `--failed`, a flag
 abbrev pub failed_rule : Rule
-failed_rule = record (new_rule (codes "failed")) { long = Some (codes "failed"); action = Some SetTrue }
+failed_rule =
+    record (new_rule (codes "failed")) { long = Some (codes "failed"); action = Some SetTrue }
 
 -- `--plan`, a flag
 abbrev pub plan_rule : Rule
@@ -103,15 +113,21 @@ some_rule = record (new_rule (codes "some")) { long = Some (codes "some"); actio
 
 -- `--explain`, a flag
 abbrev pub explain_rule : Rule
-explain_rule = record (new_rule (codes "explain")) { long = Some (codes "explain"); action = Some SetTrue }
+explain_rule =
+    record (new_rule (codes "explain")) { long = Some (codes "explain"); action = Some SetTrue }
 
 -- `--workers N`, a number from 1 to 64
 abbrev pub workers_rule : Rule
-workers_rule = record (option_rule (codes "workers") (codes "workers")) { parser = Some (Signed (pos 1) (pos 64)) }
+workers_rule =
+    record (option_rule (codes "workers") (codes "workers")) {
+      parser = Some
+          (Signed (pos 1) (pos 64));
+    }
 
 -- `--progress`, a flag
 abbrev pub progress_rule : Rule
-progress_rule = record (new_rule (codes "progress")) { long = Some (codes "progress"); action = Some SetTrue }
+progress_rule =
+    record (new_rule (codes "progress")) { long = Some (codes "progress"); action = Some SetTrue }
 
 -- `--out PATH`
 abbrev pub out_rule : Rule
@@ -135,15 +151,24 @@ journal_rule = option_rule (codes "journal") (codes "journal")
 
 -- `--stop-after N`, a number from 1 on
 abbrev pub stop_after_rule : Rule
-stop_after_rule = record (option_rule (codes "stop_after") (codes "stop-after")) { parser = Some (Signed (pos 1) (pos 4_294_967_295)) }
+stop_after_rule =
+    record (option_rule (codes "stop_after") (codes "stop-after")) {
+      parser = Some
+          (Signed (pos 1) (pos 4_294_967_295));
+    }
 
 -- `--retry-failed`, a flag
 abbrev pub retry_failed_rule : Rule
-retry_failed_rule = record (new_rule (codes "retry_failed")) { long = Some (codes "retry-failed"); action = Some SetTrue }
+retry_failed_rule =
+    record (new_rule (codes "retry_failed")) {
+      long = Some (codes "retry-failed");
+      action = Some SetTrue;
+    }
 
 -- `--quiet`, a flag
 abbrev pub quiet_rule : Rule
-quiet_rule = record (new_rule (codes "quiet")) { long = Some (codes "quiet"); action = Some SetTrue }
+quiet_rule =
+    record (new_rule (codes "quiet")) { long = Some (codes "quiet"); action = Some SetTrue }
 
 -- an argument by its place, which may be left out
 abbrev pub optional_positional_rule : Text → Rule
@@ -151,7 +176,11 @@ optional_positional_rule id = record (new_rule id) { value_names = 1 }
 
 -- `--width N`, a number from 20 to 10,000
 abbrev pub width_rule : Rule
-width_rule = record (option_rule (codes "width") (codes "width")) { parser = Some (Signed (pos 20) (pos 10_000)) }
+width_rule =
+    record (option_rule (codes "width") (codes "width")) {
+      parser = Some
+          (Signed (pos 20) (pos 10_000));
+    }
 
 -- `--color WHEN`
 abbrev pub color_rule : Rule
@@ -175,16 +204,21 @@ over_graph_app name = with_rule (with_rule (new_app name) graph_rule) zone_file_
 
 -- a command with `[--from T] [--to T] [--on DAYS] [--some]`, where its data intervals start, behind its other arguments
 abbrev pub dated_app : App → App
-dated_app app = with_rule (with_rule (with_rule (with_rule app from_rule) to_rule) on_rule) some_rule
+dated_app app =
+    with_rule (with_rule (with_rule (with_rule app from_rule) to_rule) on_rule) some_rule
 
 -- and with `[--workers N] [--progress] [--out PATH]` behind those
 abbrev pub ranged_app : App → App
-ranged_app app = with_rule (with_rule (with_rule (dated_app app) workers_rule) progress_rule) out_rule
+ranged_app app =
+    with_rule (with_rule (with_rule (dated_app app) workers_rule) progress_rule) out_rule
 
 -- a command that starts programs, with `[--launcher PATH] [--logs FOLDER] [--journal PATH] [--stop-after N] [--retry-failed]
 -- [--quiet]` behind its other arguments
 abbrev pub programs_app : App → App
-programs_app app = with_rule (with_rule (with_rule (with_rule (with_rule (with_rule app launcher_rule) logs_rule) journal_rule) stop_after_rule) retry_failed_rule) quiet_rule
+programs_app app =
+    with_rule (with_rule (with_rule
+    (with_rule (with_rule (with_rule app launcher_rule) logs_rule) journal_rule) stop_after_rule)
+    retry_failed_rule) quiet_rule
 
 -- `check GRAPH [--explain] [--zone-file PATH]`
 abbrev pub check_app : App
@@ -196,7 +230,8 @@ list_app = dated_app (over_graph_app (codes "list"))
 
 -- `single GRAPH TABLE --at T [--out PATH] [--zone-file PATH]`
 abbrev pub single_app : App
-single_app = with_rule (with_rule (with_rule (over_graph_app (codes "single")) table_rule) at_rule) out_rule
+single_app =
+    with_rule (with_rule (with_rule (over_graph_app (codes "single")) table_rule) at_rule) out_rule
 
 -- `dry GRAPH TABLE RANGE [--workers N] [--progress] [--out PATH] [--keep REPORT] [--zone-file PATH]`
 abbrev pub dry_app : App
@@ -209,11 +244,16 @@ run_app = programs_app (with_rule (ranged_app (over_graph_app (codes "run"))) ke
 -- a command with `[--task ID ..] [--run T ..] [--index N ..] [--seeds PATH] [--failed] [--plan]`, what is cleared, behind its other
 -- arguments
 abbrev pub cleared_app : App → App
-cleared_app app = with_rule (with_rule (with_rule (with_rule (with_rule (with_rule app task_rule) run_rule) index_rule) seeds_rule) failed_rule) plan_rule
+cleared_app app =
+    with_rule (with_rule (with_rule
+    (with_rule (with_rule (with_rule app task_rule) run_rule) index_rule) seeds_rule) failed_rule)
+    plan_rule
 
 -- `clear GRAPH REPORT CLEARED [--table PATH] [--zone-file PATH]`, without its range
 abbrev pub clearing_app : App
-clearing_app = with_rule (cleared_app (with_rule (over_graph_app (codes "clear")) report_rule)) optional_table_rule
+clearing_app =
+    with_rule (cleared_app (with_rule
+    (over_graph_app (codes "clear")) report_rule)) optional_table_rule
 
 -- `clear GRAPH REPORT RANGE CLEARED [--table PATH] [--workers N] [--progress] [--out PATH] [--launcher PATH] [--logs FOLDER] [--journal PATH ..] [--quiet] [--zone-file PATH]`
 abbrev pub clear_app : App
@@ -222,11 +262,15 @@ clear_app = programs_app (ranged_app clearing_app)
 -- `show` with `[GRAPH] [REPORT] [--zone-file PATH] [--from T] [--to T]`
 abbrev pub showing_app : App
 showing_app =
-    with_rule (with_rule (with_rule (with_rule (with_rule (new_app (codes "show")) (optional_positional_rule (codes "graph"))) (optional_positional_rule (codes "report"))) zone_file_rule) from_rule) to_rule
+    with_rule (with_rule (with_rule
+    (with_rule (with_rule (new_app (codes "show")) (optional_positional_rule (codes "graph")))
+    (optional_positional_rule (codes "report"))) zone_file_rule) from_rule) to_rule
 
 -- `show GRAPH REPORT [--zone-file PATH] [--from T] [--to T] [--failed] [--width N] [--color WHEN]`, or `show --json REPORT`
 abbrev pub show_app : App
-show_app = with_rule (with_rule (with_rule (with_rule showing_app failed_rule) width_rule) color_rule) json_rule
+show_app =
+    with_rule (with_rule (with_rule
+    (with_rule showing_app failed_rule) width_rule) color_rule) json_rule
 
 -- `NAME GRAPH REPORT [--zone-file PATH]`
 abbrev pub over_report_app : Text → App
@@ -238,7 +282,9 @@ page_app = with_rule (with_rule (over_report_app (codes "page")) states_only_rul
 
 -- `explain GRAPH REPORT --run T [--task ID [--index N]] [--zone-file PATH]`
 abbrev pub explain_app : App
-explain_app = with_rule (with_rule (with_rule (over_report_app (codes "explain")) one_run_rule) one_task_rule) one_index_rule
+explain_app =
+    with_rule (with_rule (with_rule
+    (over_report_app (codes "explain")) one_run_rule) one_task_rule) one_index_rule
 
 -- `answers REPORT`
 abbrev pub answers_app : App
@@ -255,7 +301,11 @@ completions_app = with_rule (new_app (codes "completions")) shell_rule
 -- `backfill`, which has a version, wants a subcommand, and without a word shows its help
 abbrev pub bare_app : App
 bare_app = record {
-  top = record (new_shape (codes "backfill")) { has_version = true; subcommand_required = true; arg_required_else_help = true };
+  top = record (new_shape (codes "backfill")) {
+    has_version = true;
+    subcommand_required = true;
+    arg_required_else_help = true;
+  };
   subs = [];
 }
 
@@ -273,7 +323,10 @@ running_app = with_subcommand (with_subcommand answered_app run_app.top) clear_a
 
 -- and those that show a report
 abbrev pub viewing_app : App
-viewing_app = with_subcommand (with_subcommand (with_subcommand (with_subcommand running_app show_app.top) page_app.top) explain_app.top) answers_app.top
+viewing_app =
+    with_subcommand (with_subcommand
+    (with_subcommand (with_subcommand running_app show_app.top) page_app.top) explain_app.top)
+    answers_app.top
 
 abbrev pub backfill_app : App
 backfill_app = with_subcommand (with_subcommand viewing_app schema_app.top) completions_app.top

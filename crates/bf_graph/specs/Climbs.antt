@@ -27,7 +27,8 @@ pub record HasRanked (edges : List (Vec ℕ Global)) (t : ℕ) (old new : Found)
 
 -- those of these at the places from low on and below high have ranks
 abbrev pub AreRankedBetween : List (Option ℕ) → List ℕ → ℕ → ℕ → Type 0
-AreRankedBetween ranks us low high = (k : ℕ) → low ≤ k → k < high → rank_at ranks (slice_index us k) ≢ None
+AreRankedBetween ranks us low high =
+    (k : ℕ) → low ≤ k → k < high → rank_at ranks (slice_index us k) ≢ None
 
 -- the first place from low on whose task has no rank
 pub record IsFirstUnranked (ranks : List (Option ℕ)) (us : List ℕ) (low place : ℕ) : Type 0 where
@@ -37,7 +38,8 @@ pub record IsFirstUnranked (ranks : List (Option ℕ)) (us : List ℕ) (low plac
 
 -- each task is a direct upstream of the one before
 abbrev pub Climbs : List (List ℕ) → List ℕ → Type 0
-Climbs ups path = (k : ℕ) → k + 1 < length path → IsUpstream ups (slice_index path (k + 1)) (slice_index path k)
+Climbs ups path =
+    (k : ℕ) → k + 1 < length path → IsUpstream ups (slice_index path (k + 1)) (slice_index path k)
 
 -- a task of the path
 pub record IsOnPath (n : ℕ) (ranks : List (Option ℕ)) (seen : List Bool) (t : ℕ) : Type 0 where
@@ -46,7 +48,8 @@ pub record IsOnPath (n : ℕ) (ranks : List (Option ℕ)) (seen : List Bool) (t 
   pub marked : is_marked_in seen t ≡ true
 
 -- what is known of n tasks while a path climbs, where so many upstreams of each were passed
-pub record IsClimb (ups : List (List ℕ)) (n : ℕ) (ranks : List (Option ℕ)) (path : List ℕ) (seen : List Bool) (passed : List ℕ) : Type 0 where
+pub record IsClimb (ups : List (List ℕ)) (n : ℕ) (ranks : List (Option ℕ)) (path : List ℕ)
+    (seen : List Bool) (passed : List ℕ) : Type 0 where
   pub one_mark_each : length seen ≡ n
   pub one_number_each : length passed ≡ n
   pub passed_ranked : (t : ℕ) → AreRankedBetween ranks (upstreams_of ups t) 0 (slice_index passed t)
@@ -57,7 +60,8 @@ pub record IsClimb (ups : List (List ℕ)) (n : ℕ) (ranks : List (Option ℕ))
 
 pub record IsClimbing (edges : List (Vec ℕ Global)) (c : Climb) : Type 0 where
   pub found : AreFoundIn edges c.found
-  pub climb : IsClimb (lists edges) (length edges) c.found.ranks.items c.path.items c.seen.items c.passed.items
+  pub climb : IsClimb (lists edges)
+      (length edges) c.found.ranks.items c.path.items c.seen.items c.passed.items
 
 -- no path climbs
 pub record IsDown (edges : List (Vec ℕ Global)) (c : Climb) : Type 0 where

@@ -45,7 +45,8 @@ pub record AreAdded (old tasks new : List ℕ) : Type 0 where
 
 -- the tasks that reach t, each at a place that is no less than the edges that it needs beyond one
 pub record AreReaching (ups : List (List ℕ)) (t : ℕ) (found : List ℕ) : Type 0 where
-  pub near : (k : ℕ) → k < length found → (n : ℕ) × (n ≤ k) × IsPath ups (slice_index found k) (suc n) t
+  pub near : (k : ℕ) → k < length found → (n : ℕ) × (n ≤ k)
+      × IsPath ups (slice_index found k) (suc n) t
   pub all : (a : ℕ) → Reaches ups a t → Contains found a
 
 -- the marks say from which tasks n edges lead to t
@@ -55,7 +56,8 @@ pub record IsLevel (ups : List (List ℕ)) (t n : ℕ) (level : List Bool) : Typ
 
 -- a is a direct upstream of a marked task
 abbrev pub IsAbove : List (List ℕ) → List Bool → ℕ → Type 0
-IsAbove ups level a = (u : ℕ) × (u < length ups) × (is_marked_in level u ≡ true) × IsUpstream ups a u
+IsAbove ups level a =
+    (u : ℕ) × (u < length ups) × (is_marked_in level u ≡ true) × IsUpstream ups a u
 
 -- these marks are on the direct upstreams of the tasks with those marks
 pub record AreAbove (ups : List (List ℕ)) (level above : List Bool) : Type 0 where
@@ -81,4 +83,5 @@ pub record IsEarliestNext (ups : List (List ℕ)) (level : List Bool) (a d : ℕ
 pub record IsFirstShortest (ups : List (List ℕ)) (t last : ℕ) (ts : List ℕ) : Type 0 where
   pub cycle : IsCycleFrom ups t ts
   pub len : length ts ≡ last
-  pub first : (us : List ℕ) → IsCycleFrom ups t us → length us ≡ length ts → slice_cmp nat_cmp ts us ≢ Greater
+  pub first : (us : List ℕ) → IsCycleFrom ups t us → length us ≡ length ts → slice_cmp nat_cmp ts us
+      ≢ Greater

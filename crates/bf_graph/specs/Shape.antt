@@ -29,7 +29,8 @@ pub record HasRanks (ups : List (List ℕ)) (ranks : List ℕ) : Type 0 where
   pub bounded : (t : ℕ) → slice_index_or ranks t 0 ≤ length ups
 
 -- what a graph keeps: distinct ids, and for each task its downstreams, its rank and which tasks reach it
-pub record IsKept (ids : List (List ℕ)) (edges downs : List (Vec ℕ Global)) (leaves ranks : List ℕ) (rows : List (Vec Bool Global)) : Type 0 where
+pub record IsKept (ids : List (List ℕ)) (edges downs : List (Vec ℕ Global)) (leaves ranks : List ℕ)
+    (rows : List (Vec Bool Global)) : Type 0 where
   pub distinct : AreDistinct ids
   pub one_id_each : length ids ≡ length edges
   pub below : AreDownstreams (lists edges) (lists downs)

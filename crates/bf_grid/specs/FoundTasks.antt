@@ -9,4 +9,5 @@ pair_of failing = (failing.task, map (λ start. start.at.nanosecond) failing.sta
 -- how many stand before the first with fewer than so many starts
 abbrev pub first_fewer : ℕ → List Failing → ℕ
 first_fewer count [] = 0
-first_fewer count (failing ∷ rest) = if nat_lt (length failing.starts.items) count then 0 else first_fewer count rest + 1
+first_fewer count (failing ∷ rest) =
+    if nat_lt (length failing.starts.items) count then 0 else first_fewer count rest + 1

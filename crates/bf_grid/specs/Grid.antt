@@ -28,7 +28,8 @@ start_or (Some run) = run.interval.start.nanosecond
 
 -- of the first run of each column
 abbrev pub column_starts : ℕ → ℕ → List RunReport → List ℤ
-column_starts count each runs = map (λ place. start_or (slice_get runs (place * each))) (range_with_len 0 count)
+column_starts count each runs =
+    map (λ place. start_or (slice_get runs (place * each))) (range_with_len 0 count)
 
 -- two spaces stand behind names
 abbrev pub margin : ℕ → List ℕ
@@ -39,35 +40,44 @@ abbrev pub label_lines : ℕ → Widths → Scale → List ℤ → List ℕ
 label_lines names widths scale starts =
     line (margin names ++ groups_text scale (counted (groups_of scale starts)))
     ++ (line (margin names ++ digits_at (unit_place_of scale) starts)
-    ++ line (margin names ++ (digits_at (unit_place_of scale + 1) starts ++ (32 ∷ 32 ∷ heads_text widths))))
+    ++ line (margin names ++ (digits_at (unit_place_of scale + 1) starts
+    ++ (32 ∷ 32 ∷ heads_text widths))))
 
 abbrev pub total_of : List RunReport → List ℕ → Tally
 total_of runs tasks = sum (map (λ task. runs_tally task runs) tasks)
 
 abbrev pub task_row : ℕ → Widths → Bool → Dag → ℕ → ℕ → List RunReport → ℕ → List ℕ
 task_row names widths colored dag count each runs task =
-    row names widths colored (task_of dag task).id (by_column count each (column_mark task) runs) (runs_tally task runs)
+    row names widths colored (task_of dag task).id (by_column count each (column_mark task) runs)
+    (runs_tally task runs)
 
 -- labels, the row of the runs, those of the tasks, and the legend
 abbrev pub rows_text : ℕ → Widths → Bool → Dag → ℕ → ℕ → List RunReport → List ℕ → List ℕ
 rows_text names widths colored dag count each runs tasks =
-    label_lines names widths (scale_of (column_starts count each runs)) (column_starts count each runs)
-    ++ (row names widths colored (codes "run") (by_column count each column_state runs) (states_tally runs)
-    ++ (flat_map (task_row names widths colored dag count each runs) tasks ++ 10 ∷ legend_line colored runs tasks))
+    label_lines names widths (scale_of (column_starts count each runs))
+    (column_starts count each runs)
+    ++ (row names widths colored (codes "run") (by_column count each column_state runs)
+    (states_tally runs)
+    ++ (flat_map (task_row names widths colored dag count each runs) tasks ++ 10
+    ∷ legend_line colored runs tasks))
 
 -- ---- the whole
 
 -- where these runs and tasks are shown, with names so wide, sums so wide, and so many runs a column
 abbrev pub table_by : View → Dag → List RunReport → List ℕ → ℕ → Widths → ℕ → List ℕ
 table_by view dag runs tasks names widths each =
-    each_line each ++ 10 ∷ (rows_text names widths view.colored dag (div_ceil (length runs) each) each runs tasks ++ failing_text dag (failing_of runs tasks))
+    each_line each ++ 10 ∷ (rows_text names widths view.colored dag
+    (div_ceil (length runs) each) each runs tasks ++ failing_text dag (failing_of runs tasks))
 
 abbrev pub table_with : View → Dag → List RunReport → List ℕ → ℕ → Widths → List ℕ
-table_with view dag runs tasks names widths = table_by view dag runs tasks names widths (div_ceil (length runs) (room_in view.width names widths))
+table_with view dag runs tasks names widths =
+    table_by view dag runs tasks names widths
+    (div_ceil (length runs) (room_in view.width names widths))
 
 abbrev pub table_text : View → Dag → List RunReport → List ℕ → List ℕ
 table_text view dag runs tasks =
-    table_with view dag runs tasks (name_width_of view.width (names_of dag tasks)) (widths_of (total_of runs tasks) (states_tally runs))
+    table_with view dag runs tasks (name_width_of view.width (names_of dag tasks))
+    (widths_of (total_of runs tasks) (states_tally runs))
 
 -- no table is there without runs
 abbrev pub table_if : View → Dag → List RunReport → List ℕ → List ℕ
@@ -75,14 +85,18 @@ table_if view dag runs tasks = if length runs == 0 then [] else table_text view 
 
 abbrev pub below_head : View → Dag → List RunReport → List RunReport → List ℕ → List ℕ
 below_head view dag all runs tasks =
-    left_out_line (length runs) (length all) (length tasks) (length dag.tasks) ++ table_if view dag runs tasks
+    left_out_line (length runs) (length all) (length tasks) (length dag.tasks)
+    ++ table_if view dag runs tasks
 
 abbrev pub body_text : View → Dag → List RunReport → List ℕ
-body_text view dag runs = below_head view dag runs (shown_runs_of view runs) (shown_tasks_of view (shown_runs_of view runs) (order_of dag))
+body_text view dag runs =
+    below_head view dag runs (shown_runs_of view runs)
+    (shown_tasks_of view (shown_runs_of view runs) (order_of dag))
 
 -- without runs the head is all
 abbrev pub body_if : View → Dag → List RunReport → List ℕ
 body_if view dag runs = if length runs == 0 then [] else body_text view dag runs
 
 abbrev pub grid_text : View → Dag → Report → List ℕ
-grid_text view dag report = head_line view.colored dag.id report.runs ++ body_if view dag report.runs
+grid_text view dag report =
+    head_line view.colored dag.id report.runs ++ body_if view dag report.runs

@@ -26,7 +26,8 @@ column_of each runs place = take each (drop (place * each) runs)
 
 -- of each of so many columns
 abbrev pub by_column : ℕ → ℕ → (List RunReport → Mark) → List RunReport → List Mark
-by_column count each mark runs = map (λ place. mark (column_of each runs place)) (range_with_len 0 count)
+by_column count each mark runs =
+    map (λ place. mark (column_of each runs place)) (range_with_len 0 count)
 
 -- a run by its own state
 abbrev pub state_mark_of : RunState → Mark
@@ -39,4 +40,5 @@ column_state runs = fold worse Skipped (map (λ run. state_mark_of run.state) ru
 -- a name, marks and sums
 abbrev pub row : ℕ → Widths → Bool → List ℕ → List Mark → Tally → List ℕ
 row names widths colored name marks tally =
-    line (left names (cut_name names name) ++ (32 ∷ 32 ∷ (marks_text colored marks ++ (32 ∷ 32 ∷ sums_text widths tally))))
+    line (left names (cut_name names name)
+    ++ (32 ∷ 32 ∷ (marks_text colored marks ++ (32 ∷ 32 ∷ sums_text widths tally))))

@@ -21,7 +21,8 @@ all_marks = Success ∷ Retried ∷ Failed ∷ UpstreamFailed ∷ Skipped ∷ No
 
 -- a task in a run has this mark
 abbrev pub has_mark_in : List RunReport → Mark → ℕ → Bool
-has_mark_in runs mark task = list_any (λ run. weight (mark_of (tally_in task run)) == weight mark) runs
+has_mark_in runs mark task =
+    list_any (λ run. weight (mark_of (tally_in task run)) == weight mark) runs
 
 abbrev pub is_seen_in : List RunReport → List ℕ → Mark → Bool
 is_seen_in runs tasks mark = list_any (has_mark_in runs mark) tasks
@@ -32,7 +33,9 @@ explained colored mark = painted colored (color_code mark) (mark_letter mark) ++
 -- with two spaces between
 abbrev pub legend : Bool → List Mark → List ℕ
 legend colored [] = []
-legend colored (mark ∷ marks) = explained colored mark ++ ((if length marks == 0 then [] else codes "  ") ++ legend colored marks)
+legend colored (mark ∷ marks) =
+    explained colored mark ++ ((if length marks == 0 then [] else codes "  ")
+    ++ legend colored marks)
 
 abbrev pub legend_line : Bool → List RunReport → List ℕ → List ℕ
 legend_line colored runs tasks = line (legend colored (filter (is_seen_in runs tasks) all_marks))

@@ -8,7 +8,8 @@ use Rattle.bf_marks.specs.Tallies.{is_bad, run_tally_of, runs_tally}
 use Rattle.bf_marks.specs.GridViews.{in_range}
 
 abbrev pub is_shown_run_in : View → RunReport → Bool
-is_shown_run_in view run = in_range view run.interval.start.nanosecond && (not view.failed || is_bad (run_tally_of run))
+is_shown_run_in view run =
+    in_range view run.interval.start.nanosecond && (not view.failed || is_bad (run_tally_of run))
 
 abbrev pub shown_runs_of : View → List RunReport → List RunReport
 shown_runs_of view runs = filter (is_shown_run_in view) runs

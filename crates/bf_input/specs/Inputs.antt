@@ -16,23 +16,29 @@ use Rattle.bf_command_fault.specs.declared.fault.CommandFault.{CommandFault}
 use Rattle.bf_command_fault.specs.declared.fault.CommandFault.TheVariants.{OutOfMemory, CannotRead, Report as BadReport}
 
 -- the graph file, and the zone file
-pub record AreHeld (files : Files) (asked : GraphAsked) (graph : List ℕ) (zone : Option (List ℕ)) : Type 0 where
+pub record AreHeld (files : Files) (asked : GraphAsked) (graph : List ℕ)
+    (zone : Option (List ℕ)) : Type 0 where
   pub graph_held : IsHeld (files (string_bytes asked.graph)) graph
   pub zone_held : IsHeldIfNamed files (option_map string_bytes asked.zone_file) zone
 
 -- so it is with whatever the graph file and the zone file are told to hold
 abbrev pub OfFiles : Files → GraphAsked → (List ℕ → Option (List ℕ) → Type 0) → Type 0
-OfFiles files asked P = (graph : List ℕ) (zone : Option (List ℕ)) → AreHeld files asked graph zone → P graph zone
+OfFiles files asked P =
+    (graph : List ℕ) (zone : Option (List ℕ)) → AreHeld files asked graph zone → P graph zone
 
 -- and with whatever the table is told to hold
-abbrev pub OfFilesAndTable : Files → GraphAsked → List ℕ → (List ℕ → Option (List ℕ) → List ℕ → Type 0) → Type 0
+abbrev pub OfFilesAndTable : Files → GraphAsked → List ℕ
+    → (List ℕ → Option (List ℕ) → List ℕ → Type 0) → Type 0
 OfFilesAndTable files asked path P =
-    (graph table : List ℕ) (zone : Option (List ℕ)) → AreHeld files asked graph zone → IsHeld (files path) table → P graph zone table
+    (graph table : List ℕ) (zone : Option (List ℕ)) → AreHeld files asked graph zone
+    → IsHeld (files path) table → P graph zone table
 
 -- so it is with whatever the graph file, the zone file, and a table where one is named are told to hold
-abbrev pub OfFilesAndNamedTable : Files → GraphAsked → Option (List ℕ) → (List ℕ → Option (List ℕ) → Option (List ℕ) → Type 0) → Type 0
+abbrev pub OfFilesAndNamedTable : Files → GraphAsked → Option (List ℕ)
+    → (List ℕ → Option (List ℕ) → Option (List ℕ) → Type 0) → Type 0
 OfFilesAndNamedTable files asked path P =
-    (graph : List ℕ) (zone table : Option (List ℕ)) → AreHeld files asked graph zone → IsHeldIfNamed files path table → P graph zone table
+    (graph : List ℕ) (zone table : Option (List ℕ)) → AreHeld files asked graph zone
+    → IsHeldIfNamed files path table → P graph zone table
 
 -- the paths of the graph file and of the zone file, in the order in which they are read
 abbrev pub graph_paths : GraphAsked → List (List ℕ)
@@ -88,6 +94,7 @@ IsReadingFault files paths _ = ⊥
 abbrev pub IsReportFault : List ℕ → Option (Option (List ℕ)) → CommandFault → Type 0
 IsReportFault path file (CannotRead p) = (p ≡ path) × IsUntold file
 IsReportFault path file (BadReport ReportFault.Io) = ⊥
-IsReportFault path file (BadReport fault) = IsReadable file × ((held : List ℕ) → IsHeld file held → Tells held fault)
+IsReportFault path file (BadReport fault) =
+    IsReadable file × ((held : List ℕ) → IsHeld file held → Tells held fault)
 IsReportFault path file OutOfMemory = Unit {0}
 IsReportFault path file _ = ⊥

@@ -23,10 +23,12 @@ StartsIn spec zone from to (start, end) =
     IsInterval spec zone start end × (from ≤ℤ start) × (start ≤ℤ to)
 
 -- the data intervals whose start lies in the range: all of them, in order
-pub record AreIntervals (spec : CronSpec) (zone : TimeZone) (from to : ℤ) (found : List Interval) : Type 0 where
+pub record AreIntervals (spec : CronSpec) (zone : TimeZone) (from to : ℤ)
+    (found : List Interval) : Type 0 where
   pub rising : AllPairs (λ i j. i.start.nanosecond <ℤ j.start.nanosecond) found
   pub each : All (λ i. StartsIn spec zone from to (ends i)) found
-  pub all : (interval : ℤ × ℤ) → StartsIn spec zone from to interval → Contains (map ends found) interval
+  pub all : (interval : ℤ × ℤ) → StartsIn spec zone from to interval
+      → Contains (map ends found) interval
 
 -- there are at least n of them
 pub record HasIntervals (spec : CronSpec) (zone : TimeZone) (from to : ℤ) (n : ℕ) : Type 0 where
@@ -46,7 +48,8 @@ IsAnswer spec zone from to (Ok found) =
     IsRange from to × (length found ≤ 4_096) × AreIntervals spec zone from to found
 IsAnswer spec zone from to (Err OutsideYears) = ¬ (IsInYears from) ⊎ ¬ (IsInYears to)
 IsAnswer spec zone from to (Err RangeReversed) = IsInYears from × IsInYears to × (to <ℤ from)
-IsAnswer spec zone from to (Err TooManyRuns) = IsRange from to × HasIntervals spec zone from to 4_097
+IsAnswer spec zone from to (Err TooManyRuns) =
+    IsRange from to × HasIntervals spec zone from to 4_097
 IsAnswer spec zone from to (Err OutOfMemory) = Unit {0}
 
 -- the number of the refusal, which want of memory doesn't have

@@ -25,7 +25,8 @@ pub record IsOfRun (i : Interval) : Type 0 where
 pub record AreOfRuns (intervals : List Interval) : Type 0 where
   pub few : length intervals ≤ 4_096
   pub each : All IsOfRun intervals
-  pub rising : AllPairs (λ interval later. interval.start.nanosecond <ℤ later.start.nanosecond) intervals
+  pub rising : AllPairs (λ interval later. interval.start.nanosecond <ℤ later.start.nanosecond)
+      intervals
 
 -- some text says the schedule
 abbrev pub IsSaid : CronSpec → Type 0

@@ -26,7 +26,8 @@ FiresBetween spec zone low high instant =
     (fire : IsFire spec zone instant) × (low ≤ fire.minute) × (fire.minute < high)
 
 -- the fires of those minutes that aren't before `from`, in seconds
-pub record Collects (spec : CronSpec) (zone : TimeZone) (low high from : ℕ) (found : List ℕ) : Type 0 where
+pub record Collects (spec : CronSpec) (zone : TimeZone) (low high from : ℕ)
+    (found : List ℕ) : Type 0 where
   pub each : (k : ℕ) → Contains found k → (from ≤ k) × FiresBetween spec zone low high (seconds k)
   pub all : (k : ℕ) → from ≤ k → FiresBetween spec zone low high (seconds k) → Contains found k
 

@@ -12,7 +12,8 @@ use Rattle.bf_journal.specs.Records.{IsName}
 use Rattle.bf_journal.specs.Tells.{StartsAt}
 
 -- the line begins with the name of a try, and this stands behind it
-pub record BeginsRecord (dag : Dag) (intervals : List Interval) (line : List ℕ) (name : JobName) (rest : List ℕ) : Type 0 where
+pub record BeginsRecord (dag : Dag) (intervals : List Interval) (line : List ℕ) (name : JobName)
+    (rest : List ℕ) : Type 0 where
   pub run : List ℕ
   pub task : List ℕ
   pub run_utf8 : IsUtf8 run
@@ -28,4 +29,5 @@ pub record IsStamp (text : List ℕ) (start end code : ℤ) : Type 0 where
   pub start_fits : FitsSigned w64 start
   pub end_fits : FitsSigned w64 end
   pub code_fits : FitsSigned w64 code
-  pub is : text ≡ 91 ∷ ((signed_decimal start ++ 44 ∷ (signed_decimal end ++ 44 ∷ signed_decimal code)) ++ 93 ∷ 93 ∷ [])
+  pub is : text ≡ 91 ∷ ((signed_decimal start ++ 44
+      ∷ (signed_decimal end ++ 44 ∷ signed_decimal code)) ++ 93 ∷ 93 ∷ [])

@@ -31,14 +31,16 @@ abbrev pub IsGradedTry : (JobName → Given → Raw → Type 0) → Dag → JobN
 IsGradedTry may_answer dag try = HasGrade may_answer dag try.0 try.1
 
 -- the value is the record of such a try
-pub record IsGradedRecord (may_answer : JobName → Given → Raw → Type 0) (dag : Dag) (intervals : List Interval) (value : Xval) : Type 0 where
+pub record IsGradedRecord (may_answer : JobName → Given → Raw
+    → Type 0) (dag : Dag) (intervals : List Interval) (value : Xval) : Type 0 where
   pub name : JobName
   pub entry : Entry
   pub tells : Tells dag intervals value name entry
   pub graded : IsGradedTry may_answer dag (name, entry)
 
 -- what crashes leave behind the head of a journal: the first bytes of the records of such tries
-pub record IsCutJournal (may_answer : JobName → Given → Raw → Type 0) (dag : Dag) (intervals : List Interval) (bytes : List ℕ) : Type 0 where
+pub record IsCutJournal (may_answer : JobName → Given → Raw
+    → Type 0) (dag : Dag) (intervals : List Interval) (bytes : List ℕ) : Type 0 where
   pub records : List Xval
   pub tellable : All IsTellable records
   pub graded : All (IsGradedRecord may_answer dag intervals) records

@@ -38,12 +38,14 @@ AreOfTasks dag (try ∷ tries) = (try.0.task < length dag.tasks) × AreOfTasks d
 -- ---- what is read
 
 -- the whole lines tell these tries, and so many bytes stand behind them
-pub record AreRead (dag : Dag) (intervals : List Interval) (bytes : List ℕ) (tries : List (JobName × Entry)) (torn : ℕ) : Type 0 where
+pub record AreRead (dag : Dag) (intervals : List Interval) (bytes : List ℕ) (tries : List (JobName
+    × Entry)) (torn : ℕ) : Type 0 where
   pub told : TellAll dag intervals (records_in bytes) tries
   pub rest : length bytes ≡ length (text_of_lines (whole_lines bytes)) + torn
 
 -- the whole line of this number, the head being 1, is the first that tells of no try
-pub record IsFirstBad (dag : Dag) (intervals : List Interval) (bytes : List ℕ) (number : ℕ) : Type 0 where
+pub record IsFirstBad (dag : Dag) (intervals : List Interval) (bytes : List ℕ)
+    (number : ℕ) : Type 0 where
   pub before : List (List ℕ)
   pub line : List ℕ
   pub after : List (List ℕ)
@@ -63,7 +65,8 @@ pub record IsCutHead (head bytes : List ℕ) (whole : ℕ) (kept : Ledger) : Typ
   pub nothing_kept : (n : JobName) → kept n ≡ None
 
 -- behind the head the whole lines tell tries, of which the last of each name that fits is kept; so many bytes are whole
-pub record IsGoneOnWith (dag : Dag) (intervals : List Interval) (head bytes : List ℕ) (whole : ℕ) (kept : Ledger) : Type 0 where
+pub record IsGoneOnWith (dag : Dag) (intervals : List Interval) (head bytes : List ℕ) (whole : ℕ)
+    (kept : Ledger) : Type 0 where
   pub records : List ℕ
   pub are : bytes ≡ head ++ records
   pub whole_is : whole ≡ length head + length (text_of_lines (whole_lines records))
@@ -77,7 +80,8 @@ pub record IsOfAnother (head bytes : List ℕ) : Type 0 where
   pub not_gone_on : (rest : List ℕ) → bytes ≡ head ++ rest → ⊥
 
 -- the line of this number behind the head tells of no try
-pub record HasBadRecord (dag : Dag) (intervals : List Interval) (head bytes : List ℕ) (number : ℕ) : Type 0 where
+pub record HasBadRecord (dag : Dag) (intervals : List Interval) (head bytes : List ℕ)
+    (number : ℕ) : Type 0 where
   pub records : List ℕ
   pub are : bytes ≡ head ++ records
   pub first : IsFirstBad dag intervals records number

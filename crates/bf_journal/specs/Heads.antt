@@ -21,7 +21,8 @@ task_value dag task = list_of (Text task.id ∷ map (id_value dag) task.pulls)
 -- where a data interval starts and ends
 abbrev pub interval_value : Interval → Xval
 interval_value interval =
-    list_of (Text (moment_text interval.start.nanosecond) ∷ Text (moment_text interval.end.nanosecond) ∷ [])
+    list_of (Text (moment_text interval.start.nanosecond)
+    ∷ Text (moment_text interval.end.nanosecond) ∷ [])
 
 -- a map index, where there is one
 abbrev pub index_fields : Option ℤ → List Xval
@@ -30,7 +31,8 @@ index_fields (Some index) = Int index ∷ []
 
 -- a task, the start of the run in which it is cleared, and the map index where an instance is
 abbrev pub seed_value : ClearedTask → Xval
-seed_value seed = list_of (Text seed.task ∷ Text (moment_text seed.run.at.nanosecond) ∷ index_fields seed.index)
+seed_value seed =
+    list_of (Text seed.task ∷ Text (moment_text seed.run.at.nanosecond) ∷ index_fields seed.index)
 
 -- what is cleared, where something is
 abbrev pub seed_fields : List ClearedTask → List Xval
@@ -40,7 +42,8 @@ seed_fields (seed ∷ seeds) = list_of (map seed_value (seed ∷ seeds)) ∷ []
 -- the words, the version, the dag id, the tasks, the runs, and what is cleared
 abbrev pub head_value : Dag → List Interval → List ClearedTask → Xval
 head_value dag intervals seeds =
-    list_of ((Text (codes "backfill journal") ∷ Int (pos 1) ∷ Text dag.id ∷ list_of (map (task_value dag) dag.tasks)
+    list_of ((Text (codes "backfill journal") ∷ Int (pos 1) ∷ Text dag.id
+    ∷ list_of (map (task_value dag) dag.tasks)
     ∷ list_of (map interval_value intervals) ∷ []) ++ seed_fields seeds)
 
 unfoldable pub head_text : Dag → List Interval → List ClearedTask → List ℕ

@@ -56,7 +56,8 @@ abbrev pub text_of_all : List (List ℕ) → List ℕ
 text_of_all texts = flat_map (λ text. text) texts
 
 -- behind these bytes records were written that may be: all that were handed over, or where a write has failed the first bytes of them
-pub record IsWritten (may_record : List ℕ → Type 0) (base written : Option (List ℕ)) (failed : Bool) : Type 0 where
+pub record IsWritten (may_record : List ℕ
+    → Type 0) (base written : Option (List ℕ)) (failed : Bool) : Type 0 where
   pub records : List (List ℕ)
   pub may_be : All may_record records
   pub count : ℕ
@@ -67,15 +68,18 @@ pub record IsWritten (may_record : List ℕ → Type 0) (base written : Option (
 -- ---- a runner that records
 
 -- the line is the record of a try whose outcome is the grade of an answer that may be given to it
-pub record IsRecordBy (may_answer : JobName → Given → Raw → Type 0) (dag : Dag) (intervals : List Interval) (line : List ℕ) : Type 0 where
+pub record IsRecordBy (may_answer : JobName → Given → Raw
+    → Type 0) (dag : Dag) (intervals : List Interval) (line : List ℕ) : Type 0 where
   pub done : Answered
   pub stamp : Stamp
   pub may : may_answer done.name done.given done.raw
   pub is : IsRecord dag intervals done (grade_of dag done.name.task done.raw) stamp line
 
 -- the answers of a runner may be recorded
-abbrev pub MayRecord : (List ℕ → Type 0) → (JobName → Given → Raw → Type 0) → Dag → List Interval → Type 0
-MayRecord may_record may_answer dag intervals = (line : List ℕ) → IsRecordBy may_answer dag intervals line → may_record line
+abbrev pub MayRecord : (List ℕ → Type 0) → (JobName → Given → Raw → Type 0) → Dag → List Interval
+    → Type 0
+MayRecord may_record may_answer dag intervals =
+    (line : List ℕ) → IsRecordBy may_answer dag intervals line → may_record line
 
 -- what contracts see of a runner that records: the runner that it hands on to, and of what backfill it is
 pub record RecordingOf (R : Type 0) : Type 0 where

@@ -45,13 +45,15 @@ exit_code NotStarted signal = negsuc 0
 
 -- when a try started, when it ended, and by which code
 abbrev pub stamp_value : Stamp → Exit → Xval
-stamp_value stamp exit = list_of (Int stamp.start ∷ Int stamp.end ∷ Int (exit_code exit stamp.signal) ∷ [])
+stamp_value stamp exit =
+    list_of (Int stamp.start ∷ Int stamp.end ∷ Int (exit_code exit stamp.signal) ∷ [])
 
 -- the run, the task, the map index, the number of the try, how it ended, what it pushed, its item, what it pulled, and a stamp
 abbrev pub record_value : List ℕ → List ℕ → JobName → Given → Outcome → Xval → Xval
 record_value run task n given outcome stamp =
     list_of (Text run ∷ Text task ∷ Int n.index ∷ Int (pos n.attempt) ∷ Text (outcome_word outcome)
-    ∷ optional_of (pushed_by outcome) ∷ optional_of given.item ∷ list_of (map optional_of given.pulled) ∷ stamp ∷ [])
+    ∷ optional_of (pushed_by outcome) ∷ optional_of given.item
+    ∷ list_of (map optional_of given.pulled) ∷ stamp ∷ [])
 
 -- the record of a try in the run of this data interval
 abbrev pub record_in : Dag → Interval → JobName → Given → Outcome → Xval → Xval
@@ -73,7 +75,8 @@ pub record IsLineOf (value : Xval) (line : List ℕ) : Type 0 where
   pub is : line ≡ json_of value ++ 10 ∷ []
 
 -- the line is the record of an answered try that ended so, of a task and a run that are there
-pub record IsRecord (dag : Dag) (intervals : List Interval) (done : Answered) (outcome : Outcome) (stamp : Stamp) (line : List ℕ) : Type 0 where
+pub record IsRecord (dag : Dag) (intervals : List Interval) (done : Answered) (outcome : Outcome)
+    (stamp : Stamp) (line : List ℕ) : Type 0 where
   pub run : Interval
   pub is_run : slice_get intervals done.name.run ≡ Some run
   pub is_task : done.name.task < length dag.tasks
@@ -83,5 +86,6 @@ pub record IsRecord (dag : Dag) (intervals : List Interval) (done : Answered) (o
 -- there is no such task or run, or lists nest too deep for a record to be read back
 abbrev pub HasNoRecord : Dag → List Interval → Answered → Outcome → Stamp → Type 0
 HasNoRecord dag intervals done outcome stamp =
-    (run : Interval) → slice_get intervals done.name.run ≡ Some run → done.name.task < length dag.tasks
+    (run : Interval) → slice_get intervals done.name.run ≡ Some run
+    → done.name.task < length dag.tasks
     → ¬ (plain_depth (plain_of (record_at dag run done outcome stamp)) ≤ 127)

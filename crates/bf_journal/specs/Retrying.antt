@@ -23,8 +23,10 @@ with_attempt n attempt = record { run = n.run; task = n.task; index = n.index; a
 -- one of the tries that the instance may have succeeded or was skipped
 abbrev pub some_passed : Dag → Ledger → JobName → Bool
 some_passed dag kept n =
-    list_any (λ attempt. has_passed (kept (with_attempt n attempt))) (range_with_len 1 (suc (task_of dag n.task).retries))
+    list_any (λ attempt. has_passed (kept (with_attempt n attempt)))
+    (range_with_len 1 (suc (task_of dag n.task).retries))
 
 -- all but the failed tries of instances that neither succeeded nor were skipped
 unfoldable pub without_failed : Dag → Ledger → Ledger
-without_failed dag kept n = if has_failed (kept n) && not (some_passed dag kept n) then None else kept n
+without_failed dag kept n =
+    if has_failed (kept n) && not (some_passed dag kept n) then None else kept n

@@ -22,7 +22,8 @@ IsFound {X} IsSuch None = (thing : X) → IsSuch thing → ⊥
 IsFound IsSuch (Some thing) = IsSuch thing
 
 -- the value is the record of this try, whatever stands in its last place
-pub record Tells (dag : Dag) (intervals : List Interval) (value : Xval) (name : JobName) (entry : Entry) : Type 0 where
+pub record Tells (dag : Dag) (intervals : List Interval) (value : Xval) (name : JobName)
+    (entry : Entry) : Type 0 where
   pub run : Interval
   pub is_run : slice_get intervals name.run ≡ Some run
   pub is_task : name.task < length dag.tasks
@@ -31,7 +32,8 @@ pub record Tells (dag : Dag) (intervals : List Interval) (value : Xval) (name : 
   pub is : value ≡ record_in dag run name entry.given entry.outcome stamp
 
 -- the text says a value, which is the record of this try
-pub record TellsText (dag : Dag) (intervals : List Interval) (text : List ℕ) (name : JobName) (entry : Entry) : Type 0 where
+pub record TellsText (dag : Dag) (intervals : List Interval) (text : List ℕ) (name : JobName)
+    (entry : Entry) : Type 0 where
   pub value : Xval
   pub says : value_of_text 127 text ≡ Some value
   pub tells : Tells dag intervals value name entry
@@ -42,7 +44,8 @@ TellsLine dag intervals line name entry = IsUtf8 line × TellsText dag intervals
 
 -- the line tells of no try
 abbrev pub TellsNone : Dag → List Interval → List ℕ → Type 0
-TellsNone dag intervals line = (try : JobName × Entry) → TellsLine dag intervals line try.0 try.1 → ⊥
+TellsNone dag intervals line =
+    (try : JobName × Entry) → TellsLine dag intervals line try.0 try.1 → ⊥
 
 -- what the whole lines of these bytes say, each
 abbrev pub records_in : List ℕ → List (Option Xval)
@@ -70,7 +73,8 @@ StartsOn None moment = ⊥
 StartsOn (Some run) moment = run.start.nanosecond ≡ moment
 
 -- the first four fields are of this name
-pub record TellsName (dag : Dag) (intervals : List Interval) (fields : List Xval) (name : JobName) : Type 0 where
+pub record TellsName (dag : Dag) (intervals : List Interval) (fields : List Xval)
+    (name : JobName) : Type 0 where
   pub run : List ℕ
   pub task : List ℕ
   pub starts : StartsAt (slice_get intervals name.run) run

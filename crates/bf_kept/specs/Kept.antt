@@ -33,7 +33,8 @@ IsAnsweredBy kept n given (Some raw) = IsKeptAnswer kept n given raw
 
 -- a kept try is answered so that it ends as it did, another as the runner may answer it
 abbrev pub IsAnswer : Ledger → (JobName → Given → Raw → Type 0) → JobName → Given → Raw → Type 0
-IsAnswer kept may_answer n given raw = IsKeptAnswer kept n given raw ⊎ (IsNew kept n given × may_answer n given raw)
+IsAnswer kept may_answer n given raw =
+    IsKeptAnswer kept n given raw ⊎ (IsNew kept n given × may_answer n given raw)
 
 -- only a try that isn't kept may be given up
 abbrev pub MayGiveUpAnew : Ledger → (JobName → Given → Type 0) → JobName → Given → Type 0
@@ -45,8 +46,11 @@ AreFit dag kept = (n : JobName) (e : Entry) → kept n ≡ Some e → fits_in da
 
 -- the try has the grade of an answer that may be given to it
 abbrev pub HasGrade : (JobName → Given → Raw → Type 0) → Dag → JobName → Entry → Type 0
-HasGrade may_answer dag n e = (raw : Raw) × may_answer n e.given raw × (e.outcome ≡ grade_of dag n.task raw)
+HasGrade may_answer dag n e =
+    (raw : Raw) × may_answer n e.given raw × (e.outcome ≡ grade_of dag n.task raw)
 
 -- each try that isn't kept has the grade of an answer that the runner may give
 abbrev pub AreGradedAnew : Ledger → (JobName → Given → Raw → Type 0) → Dag → Ledger → Type 0
-AreGradedAnew kept may_answer dag ledger = (n : JobName) (e : Entry) → ledger n ≡ Some e → IsNew kept n e.given → HasGrade may_answer dag n e
+AreGradedAnew kept may_answer dag ledger =
+    (n : JobName) (e : Entry) → ledger n ≡ Some e → IsNew kept n e.given
+    → HasGrade may_answer dag n e

@@ -33,7 +33,8 @@ all_runs (Run t ∷ js) = all_runs js
 all_runs (Stop ∷ js) = false
 
 -- the answer is one that the runner may give
-abbrev pub IsAllowedBy : (JobName → Given → Raw → Type 0) → (JobName → Given → Type 0) → Answer → Type 0
+abbrev pub IsAllowedBy : (JobName → Given → Raw → Type 0) → (JobName → Given → Type 0) → Answer
+    → Type 0
 IsAllowedBy may_answer may_give_up (Done d) = may_answer d.name d.given d.raw
 IsAllowedBy may_answer may_give_up (Gave t fault.OutOfMemory) = Unit {0}
 IsAllowedBy may_answer may_give_up (Gave t fault.GaveUp) = may_give_up t.name t.given
@@ -45,7 +46,8 @@ IsNoGivingUp (Gave t fault.OutOfMemory) = Unit {0}
 IsNoGivingUp (Gave t fault.GaveUp) = ⊥
 
 -- each try that was taken has its answer, in order, and the runner allows it
-pub record Answers (may_answer : JobName → Given → Raw → Type 0) (may_give_up : JobName → Given → Type 0) (taken : List Job) (sent : List Answer) : Type 0 where
+pub record Answers (may_answer : JobName → Given → Raw → Type 0) (may_give_up : JobName → Given
+    → Type 0) (taken : List Job) (sent : List Answer) : Type 0 where
   pub same : answered sent ≡ asked taken
   pub allowed : All (IsAllowedBy may_answer may_give_up) sent
 
@@ -56,7 +58,8 @@ pub record FourLists : Type 0 where
   pub gathered : List Answer
 
 -- all that was submitted was taken, each of its tries has its answer, in the same order, and each answer is allowed
-pub record IsClosed (may_answer : JobName → Given → Raw → Type 0) (may_give_up : JobName → Given → Type 0) (l : FourLists) : Type 0 where
+pub record IsClosed (may_answer : JobName → Given → Raw → Type 0) (may_give_up : JobName → Given
+    → Type 0) (l : FourLists) : Type 0 where
   pub taken_is : l.taken ≡ l.submitted
   pub sent_all : answered l.sent ≡ asked l.submitted
   pub gathered_all : answered l.gathered ≡ asked l.submitted

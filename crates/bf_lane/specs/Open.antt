@@ -38,17 +38,21 @@ pub record IsIdleAt (lanes : List Scheduled) (at : ℕ) : Type 0 where
   pub idle : awaits lane ≡ false
 
 -- the passes of a lane whose worker runs, and whether it awaits the one answer that may be awaited
-pub record IsOpen {K : Type 0} (q theirs : Queues K) (puts : Pass Job (Log Job)) (gathers : Pass Answer (Log Answer)) (is_busy : Bool) : Type 0 where
+pub record IsOpen {K : Type 0} (q theirs : Queues K) (puts : Pass Job (Log Job))
+    (gathers : Pass Answer (Log Answer)) (is_busy : Bool) : Type 0 where
   pub of_jobs : IsPassOf q.jobs puts
   pub of_results : IsPassOf q.results gathers
   pub puts_are : view puts ≡ log true false (view puts).put []
   pub gathers_are : view gathers ≡ log false true [] (view gathers).taken
   pub runs : all_runs (view puts).put ≡ true
   pub queues_are : theirs ≡ q
-  pub one_awaited : length (view puts).put ≡ length (view gathers).taken + (if is_busy then 1 else 0)
+  pub one_awaited : length (view puts).put
+      ≡ length (view gathers).taken + (if is_busy then 1 else 0)
 
 -- what the runner may answer and give up is what the lane carries
-pub record Fulfils (may_answer : JobName → Given → Raw → Type 0) (may_give_up : JobName → Given → Type 0) (answers : JobName → Given → Raw → Type 0) (gives_up : JobName → Given → Type 0) : Type 0 where
+pub record Fulfils (may_answer : JobName → Given → Raw → Type 0) (may_give_up : JobName → Given
+    → Type 0) (answers : JobName → Given → Raw → Type 0) (gives_up : JobName → Given
+    → Type 0) : Type 0 where
   pub answer : (n : JobName) (g : Given) (r : Raw) → may_answer n g r → answers n g r
   pub give_up : (n : JobName) (g : Given) → may_give_up n g → gives_up n g
 

@@ -9,8 +9,12 @@ module _ {T : Type 0} where
   log a b put taken = record { puts = a; takes = b; put = put; taken = taken }
 
   abbrev pub Fits : ℕ → ℕ → List T → List T → ℕ → Log T → Type 0
-  Fits writer reader put taken port v = (v.puts ≡ true → (port ≡ writer) × (v.put ≡ put)) × (v.takes ≡ true → (port ≡ reader) × (v.taken ≡ taken))
+  Fits writer reader put taken port v =
+      (v.puts ≡ true → (port ≡ writer) × (v.put ≡ put))
+      × (v.takes ≡ true → (port ≡ reader) × (v.taken ≡ taken))
 
   abbrev pub Relayed : List T → List (Log T) → Type 0
-  Relayed items views = (writer : ℕ) × (reader : ℕ) × (put : List T) × (taken : List T) × (put ≡ taken ++ items)
-      × ((port : ℕ) (v : Log T) → get_elem? views port ≡ some v → Fits writer reader put taken port v)
+  Relayed items views =
+      (writer : ℕ) × (reader : ℕ) × (put : List T) × (taken : List T) × (put ≡ taken ++ items)
+      × ((port : ℕ) (v : Log T) → get_elem? views port ≡ some v
+      → Fits writer reader put taken port v)

@@ -15,8 +15,10 @@ use Rattle.bf_lane.specs.Relay.{log}
 use Rattle.bf_lane.specs.Lanes.{all_runs, Answers}
 
 -- the worker took a stop last, and sent an answer to each try before it, in order, as the runner allows
-pub record HasServed {Q A B C : Type 0} (may_answer : JobName → Given → Raw → Type 0) (may_give_up : JobName → Given → Type 0)
-    (jobs : Slotted (Option Job) (Doing Job (Log Job)) Q A) (results : Slotted (Option Answer) (Doing Answer (Log Answer)) B C)
+pub record HasServed {Q A B C : Type 0} (may_answer : JobName → Given → Raw
+    → Type 0) (may_give_up : JobName → Given → Type 0)
+    (jobs : Slotted (Option Job) (Doing Job (Log Job)) Q A)
+    (results : Slotted (Option Answer) (Doing Answer (Log Answer)) B C)
     (takes : Pass Job (Log Job)) (sends : Pass Answer (Log Answer)) : Type 0 where
   pub of_jobs : IsPassOf jobs takes
   pub of_results : IsPassOf results sends

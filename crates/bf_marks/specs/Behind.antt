@@ -12,4 +12,5 @@ IsReady dag standing task = list_all (stands standing) (task_of dag task).upstre
 -- of each of these the upstreams stand, or come before it
 abbrev pub AreBehind : Dag → List Bool → List ℕ → Type 0
 AreBehind dag standing [] = Unit {0}
-AreBehind dag standing (task ∷ rest) = IsReady dag standing task × AreBehind dag (slice_set standing task true) rest
+AreBehind dag standing (task ∷ rest) =
+    IsReady dag standing task × AreBehind dag (slice_set standing task true) rest

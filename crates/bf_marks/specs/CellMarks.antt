@@ -64,7 +64,8 @@ painted colored code text = if colored then color_start code ++ (text ++ color_e
 -- what stands before a mark behind another
 abbrev pub between : Option Mark → Mark → List ℕ
 between None mark = color_start (color_code mark)
-between (Some before) mark = if weight before == weight mark then [] else color_end ++ color_start (color_code mark)
+between (Some before) mark =
+    if weight before == weight mark then [] else color_end ++ color_start (color_code mark)
 
 abbrev pub behind : Option Mark → List ℕ
 behind None = []
@@ -73,7 +74,8 @@ behind (Some last) = color_end
 -- marks, each longest piece of one mark in its colour
 abbrev pub colored_marks : Option Mark → List Mark → List ℕ
 colored_marks before [] = behind before
-colored_marks before (mark ∷ marks) = between before mark ++ (mark_letter mark ++ colored_marks (Some mark) marks)
+colored_marks before (mark ∷ marks) =
+    between before mark ++ (mark_letter mark ++ colored_marks (Some mark) marks)
 
 abbrev pub marks_text : Bool → List Mark → List ℕ
 marks_text colored marks = if colored then colored_marks None marks else flat_map mark_letter marks

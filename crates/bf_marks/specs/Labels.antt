@@ -13,7 +13,8 @@ is_behind least first second = not (int_lt second (first +ℤ least))
 abbrev pub are_apart_in : ℤ → List ℤ → Bool
 are_apart_in least [] = true
 are_apart_in least (first ∷ []) = true
-are_apart_in least (first ∷ second ∷ rest) = is_behind least first second && are_apart_in least (second ∷ rest)
+are_apart_in least (first ∷ second ∷ rest) =
+    is_behind least first second && are_apart_in least (second ∷ rest)
 
 -- so many seconds in nanoseconds
 abbrev pub seconds_of : ℕ → ℤ
@@ -74,7 +75,8 @@ right width text = replicate (width - length text) 32 ++ text
 -- one behind another that are equal, as one with how many they are
 abbrev pub counted_on : List ℕ → List (List ℕ × ℕ) → List (List ℕ × ℕ)
 counted_on group [] = (group, 1) ∷ []
-counted_on group ((next, count) ∷ rest) = if bytes_eq next group then (next, count + 1) ∷ rest else (group, 1) ∷ (next, count) ∷ rest
+counted_on group ((next, count) ∷ rest) =
+    if bytes_eq next group then (next, count + 1) ∷ rest else (group, 1) ∷ (next, count) ∷ rest
 
 abbrev pub counted : List (List ℕ) → List (List ℕ × ℕ)
 counted [] = []
@@ -83,8 +85,10 @@ counted (group ∷ groups) = counted_on group (counted groups)
 -- each label at the first column of its group; the last one has room
 abbrev pub groups_text : Scale → List (List ℕ × ℕ) → List ℕ
 groups_text scale [] = []
-groups_text scale ((group, count) ∷ []) = left count (fitted_of (max count 99) (group_label scale group))
-groups_text scale ((group, count) ∷ next ∷ rest) = left count (fitted_of count (group_label scale group)) ++ groups_text scale (next ∷ rest)
+groups_text scale ((group, count) ∷ []) =
+    left count (fitted_of (max count 99) (group_label scale group))
+groups_text scale ((group, count) ∷ next ∷ rest) =
+    left count (fitted_of count (group_label scale group)) ++ groups_text scale (next ∷ rest)
 
 -- the groups of columns that start then
 abbrev pub groups_of : Scale → List ℤ → List (List ℕ)

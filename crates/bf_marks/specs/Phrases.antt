@@ -6,7 +6,8 @@ use Rattle.bf_moment.specs.Moment.{moment_text}
 
 -- the text of a moment, of which midnight is left out
 abbrev pub without_midnight : List ℕ → List ℕ
-without_midnight moment = if bytes_eq (drop 10 moment) (codes "T00:00:00Z") then take 10 moment else moment
+without_midnight moment =
+    if bytes_eq (drop 10 moment) (codes "T00:00:00Z") then take 10 moment else moment
 
 abbrev pub short_moment_of : ℤ → List ℕ
 short_moment_of n = without_midnight (moment_text n)

@@ -15,7 +15,8 @@ stands standing task = slice_index_or standing task false
 -- it waits for nothing more, and this task was one that it waited for
 abbrev pub is_let_go_in : Dag → List Bool → ℕ → ℕ → Bool
 is_let_go_in dag standing task other =
-    list_any (λ upstream. upstream == task) (task_of dag other).upstreams && list_all (stands standing) (task_of dag other).upstreams
+    list_any (λ upstream. upstream == task) (task_of dag other).upstreams
+    && list_all (stands standing) (task_of dag other).upstreams
 
 abbrev pub is_source_in : Dag → ℕ → Bool
 is_source_in dag task = length (task_of dag task).upstreams == 0
@@ -30,4 +31,6 @@ order_from dag (suc n) standing (task ∷ left) =
 
 -- the sources in file order, and behind each task those of its downstreams that wait for nothing more
 unfoldable pub order_of : Dag → List ℕ
-order_of dag = order_from dag (length dag.tasks) (replicate (length dag.tasks) false) (tasks_where dag (is_source_in dag))
+order_of dag =
+    order_from dag (length dag.tasks) (replicate (length dag.tasks) false)
+    (tasks_where dag (is_source_in dag))

@@ -9,7 +9,15 @@ use Rattle.bf_report.specs.declared.report.RunReport.{RunReport}
 use Rattle.bf_marks.specs.declared.tally.Tally.{Tally}
 
 abbrev pub nothing : Tally
-nothing = record { success = 0; failed = 0; upstream_failed = 0; skipped = 0; no_status = 0; retried = false }
+nothing =
+    record {
+      success = 0;
+      failed = 0;
+      upstream_failed = 0;
+      skipped = 0;
+      no_status = 0;
+      retried = false;
+    }
 
 -- an instance that ended so at its try of this number
 abbrev pub one_ended : Outcome → ℕ → Tally

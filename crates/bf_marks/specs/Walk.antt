@@ -9,4 +9,5 @@ pub record GoesOnBy (dag : Dag) (old new : Walk) (task : ℕ) : Type 0 where
   pub left : List ℕ
   pub was : reverse old.left.items ≡ task ∷ left
   pub stands : new.standing.items ≡ slice_set old.standing.items task true
-  pub now : reverse new.left.items ≡ tasks_where dag (is_let_go_in dag new.standing.items task) ++ left
+  pub now : reverse new.left.items ≡ tasks_where dag (is_let_go_in dag new.standing.items task)
+      ++ left

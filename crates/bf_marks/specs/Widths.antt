@@ -9,7 +9,8 @@ use Rattle.bf_wording.specs.Numbers.{number_text}
 abbrev pub cut_name : ℕ → List ℕ → List ℕ
 cut_name room name =
     if nat_lt room (length name)
-    then take ((room - 2) / 2) name ++ 46 ∷ 46 ∷ drop (length name - (room - 2 - (room - 2) / 2)) name
+    then take ((room - 2) / 2) name ++ 46 ∷ 46
+    ∷ drop (length name - (room - 2 - (room - 2) / 2)) name
     else name
 
 -- how wide the sums of a state are: 0 where they aren't shown
@@ -20,7 +21,8 @@ width_in shown greatest = if shown then length (number_text greatest) else 0
 abbrev pub widths_of : Tally → Tally → Widths
 widths_of total states = record {
   success = width_in (nat_lt 0 total.success) (max total.success states.success);
-  failed = width_in (nat_lt 0 total.failed || nat_lt 0 states.failed) (max total.failed states.failed);
+  failed = width_in (nat_lt 0 total.failed
+      || nat_lt 0 states.failed) (max total.failed states.failed);
   upstream_failed = width_in (nat_lt 0 total.upstream_failed) total.upstream_failed;
   skipped = width_in (nat_lt 0 total.skipped) total.skipped;
   no_status = width_in (nat_lt 0 total.no_status) total.no_status;
@@ -40,15 +42,19 @@ sum_text width n = in_column width (if n == 0 then [] else number_text n)
 
 abbrev pub sums_text : Widths → Tally → List ℕ
 sums_text w t =
-    sum_text w.success t.success ++ (sum_text w.failed t.failed ++ (sum_text w.upstream_failed t.upstream_failed
+    sum_text w.success t.success ++ (sum_text w.failed t.failed
+    ++ (sum_text w.upstream_failed t.upstream_failed
     ++ (sum_text w.skipped t.skipped ++ sum_text w.no_status t.no_status)))
 
 -- the letters of the states that are shown
 abbrev pub heads_text : Widths → List ℕ
 heads_text w =
-    in_column w.success (codes ".") ++ (in_column w.failed (codes "F") ++ (in_column w.upstream_failed (codes "u")
+    in_column w.success (codes ".")
+    ++ (in_column w.failed (codes "F") ++ (in_column w.upstream_failed (codes "u")
     ++ (in_column w.skipped (codes "s") ++ in_column w.no_status (codes "n"))))
 
 -- how many columns there is room for, and at least 8
 abbrev pub room_in : ℕ → ℕ → Widths → ℕ
-room_in width names w = max 8 (beside_of w.no_status (beside_of w.skipped (beside_of w.upstream_failed (beside_of w.failed (beside_of w.success (width - names - 4))))))
+room_in width names w =
+    max 8 (beside_of w.no_status (beside_of w.skipped
+    (beside_of w.upstream_failed (beside_of w.failed (beside_of w.success (width - names - 4))))))

@@ -21,10 +21,18 @@ clock_text at = clock_date_text at.date ++ 84 ∷ clock_time_text at.time ++ 90 
 
 -- year, month, day, hour, minute and second
 abbrev pub fields : DateTime → ℕ × ℕ × ℕ × ℕ × ℕ × ℕ
-fields at = (unsigned_abs at.date.year, at.date.month, at.date.day, at.time.hour, at.time.minute, at.time.second)
+fields at = (
+  unsigned_abs at.date.year,
+  at.date.month,
+  at.date.day,
+  at.time.hour,
+  at.time.minute,
+  at.time.second,
+)
 
 -- the text spells what the clock shows to the second, or at midnight the date alone
 pub record SpellsClock (spelled : List ℕ) (at : DateTime) : Type 0 where
   pub year : IsShownDate at.date
   pub whole : at.time.subsec_nanosecond ≡ 0
-  pub text : (spelled ≡ clock_text at) ⊎ ((time_seconds at.time ≡ 0) × (spelled ≡ clock_date_text at.date))
+  pub text : (spelled ≡ clock_text at)
+      ⊎ ((time_seconds at.time ≡ 0) × (spelled ≡ clock_date_text at.date))

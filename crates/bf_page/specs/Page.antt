@@ -21,12 +21,14 @@ page_text texts = concat
 -- the pieces that are fixed
 abbrev pub fixed_text : List ℕ
 fixed_text = concat
-    (fixed.TO_GRAPH_PATH.now ∷ fixed.TO_REPORT_PATH.now ∷ fixed.TO_ZONE_PATH.now ∷ fixed.TO_CELLS.now
+    (fixed.TO_GRAPH_PATH.now ∷ fixed.TO_REPORT_PATH.now ∷ fixed.TO_ZONE_PATH.now
+    ∷ fixed.TO_CELLS.now
     ∷ fixed.TO_GRAPH.now ∷ fixed.TO_REPORT.now ∷ fixed.TO_TIMES.now ∷ fixed.END.now ∷ [])
 
 -- two pages tell the same
 abbrev pub TellTheSame : PageTexts → PageTexts → Type 0
-TellTheSame one two = (one.graph_path.now ≡ two.graph_path.now) × (one.report_path.now ≡ two.report_path.now)
+TellTheSame one two =
+    (one.graph_path.now ≡ two.graph_path.now) × (one.report_path.now ≡ two.report_path.now)
     × (one.zone_path.now ≡ two.zone_path.now) × (one.cells.now ≡ two.cells.now)
     × (one.graph.now ≡ two.graph.now) × (one.report.now ≡ two.report.now)
     × (one.times.now ≡ two.times.now)

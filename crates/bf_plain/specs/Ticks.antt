@@ -10,16 +10,27 @@ use Rattle.bf_sched.specs.Scheduling.{Schedule}
 
 -- the backfill that these events lead to
 abbrev pub led_to : Dag → Limits → ℕ → List Event → Backfill
-led_to dag limits runs events = record { dag = dag; limits = limits; runs = runs; state = replay dag (start dag runs) events; clock = clock_of dag limits start_clock events; journal = events }
+led_to dag limits runs events =
+    record {
+      dag = dag;
+      limits = limits;
+      runs = runs;
+      state = replay dag (start dag runs) events;
+      clock = clock_of dag limits start_clock events;
+      journal = events;
+    }
 
 -- each tick of the journal is to the first moment for which a try waits where it comes
-pub record TicksToFirstMoments (dag : Dag) (limits : Limits) (runs : ℕ) (journal : List Event) : Type 0 where
-  pub first : (before rest : List Event) (moment : ℤ) → journal ≡ before ++ Event.Tick moment ∷ rest → IsFirstMoment (led_to dag limits runs before) moment
+pub record TicksToFirstMoments (dag : Dag) (limits : Limits) (runs : ℕ)
+    (journal : List Event) : Type 0 where
+  pub first : (before rest : List Event) (moment : ℤ) → journal ≡ before ++ Event.Tick moment ∷ rest
+      → IsFirstMoment (led_to dag limits runs before) moment
 
 -- ---- for private clauses
 
 abbrev pub HasTickedSo : Backfill → Type 0
-HasTickedSo backfill = TicksToFirstMoments backfill.dag backfill.limits backfill.runs backfill.journal
+HasTickedSo backfill =
+    TicksToFirstMoments backfill.dag backfill.limits backfill.runs backfill.journal
 
 -- where it ticked so before, it has ticked so
 pub record TicksSo (old new : Schedule) : Type 0 where

@@ -4,7 +4,9 @@ use Rattle.std.specs.List.{list_all}
 
 -- an ASCII letter or digit, or one of - . _
 abbrev pub is_id_byte_in : ℕ → Bool
-is_id_byte_in b = (nat_le 97 b && nat_le b 122) || (nat_le 65 b && nat_le b 90) || (nat_le 48 b && nat_le b 57) || b == 45 || b == 46 || b == 95
+is_id_byte_in b =
+    (nat_le 97 b && nat_le b 122) || (nat_le 65 b && nat_le b 90) || (nat_le 48 b && nat_le b 57)
+    || b == 45 || b == 46 || b == 95
 
 -- 1 to 250 of these
 abbrev pub is_id_in : List ℕ → Bool

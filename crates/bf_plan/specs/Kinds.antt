@@ -6,7 +6,9 @@ use Rattle.bf_plan.specs.declared.kinds.WeightRule.{WeightRule}
 use Rattle.bf_plan.specs.declared.kinds.ContextVariable.{ContextVariable}
 
 unfoldable pub kind_named : List ℕ → Option TaskKind
-kind_named s = if bytes_eq s (codes "program") then Some TaskKind.Program else (if bytes_eq s (codes "branch") then Some TaskKind.Branch else None)
+kind_named s =
+    if bytes_eq s (codes "program") then Some TaskKind.Program
+    else (if bytes_eq s (codes "branch") then Some TaskKind.Branch else None)
 
 unfoldable pub weight_rule_named : List ℕ → Option WeightRule
 weight_rule_named s =

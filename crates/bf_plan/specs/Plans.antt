@@ -33,4 +33,8 @@ is_branch_in task = is_branch_kind task.kind
 
 -- the ids and the upstreams of the tasks
 abbrev pub shape_of : Dag → Shape
-shape_of dag = record { ids = map (λ task. task.id) dag.tasks; upstreams = map (λ task. task.upstreams) dag.tasks }
+shape_of dag =
+    record {
+      ids = map (λ task. task.id) dag.tasks;
+      upstreams = map (λ task. task.upstreams) dag.tasks;
+    }

@@ -9,7 +9,8 @@ use Rattle.bf_planning.specs.declared.plan.DatedPlan.{DatedPlan}
 use Rattle.bf_planning.specs.Graphs.{IsGraph}
 
 -- this is what the clocks of the graph's zone show at the moments of these runs
-pub record AreClocksOf (graph : List ℕ) (file : Option (List ℕ)) (found : List Interval) (clocks : List ℤ) : Type 0 where
+pub record AreClocksOf (graph : List ℕ) (file : Option (List ℕ)) (found : List Interval)
+    (clocks : List ℤ) : Type 0 where
   pub draft : Draft
   pub graph_is : IsGraph graph file draft
   pub zone : TimeZone

@@ -41,7 +41,8 @@ pub record IsPlanOf (graph : List ℕ) (file : Option (List ℕ)) (plan : Checke
   pub dag : plan.dag ≡ dag_of draft
 
 -- the schedule and the zone are those of a graph without a fault, which the bytes say
-pub record IsTimed (graph : List ℕ) (file : Option (List ℕ)) (schedule : CronSpec) (zone : Zone) : Type 0 where
+pub record IsTimed (graph : List ℕ) (file : Option (List ℕ)) (schedule : CronSpec)
+    (zone : Zone) : Type 0 where
   pub draft : Draft
   pub graph_is : IsGraph graph file draft
   pub fires : Fires draft.schedule schedule
@@ -50,6 +51,7 @@ pub record IsTimed (graph : List ℕ) (file : Option (List ℕ)) (schedule : Cro
 -- the fault is the first: those of the file go before those of the graph that it says; or memory is wanting
 abbrev pub IsFaultIn : List ℕ → Option (List ℕ) → CommandFault → Type 0
 IsFaultIn graph file (Read fault) = graph_in graph ≡ Err fault
-IsFaultIn graph file (Check fault) = (draft : Draft) × IsFileOf graph draft × IsFaultOf draft file fault
+IsFaultIn graph file (Check fault) =
+    (draft : Draft) × IsFileOf graph draft × IsFaultOf draft file fault
 IsFaultIn graph file OutOfMemory = Unit {0}
 IsFaultIn graph file _ = ⊥

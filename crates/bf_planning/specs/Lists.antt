@@ -16,7 +16,8 @@ use Rattle.bf_planning.specs.Graphs.{IsGraph, IsFaultIn}
 use Rattle.bf_planning.specs.Ranges.{IsRangeAnswer}
 
 -- the bytes say a graph without a fault, whose schedule in its zone has this answer for the range
-pub record HasListing (graph : List ℕ) (file : Option (List ℕ)) (range : RunRange) (answer : Result (List Interval) RangeFault) : Type 0 where
+pub record HasListing (graph : List ℕ) (file : Option (List ℕ)) (range : RunRange)
+    (answer : Result (List Interval) RangeFault) : Type 0 where
   pub draft : Draft
   pub graph_is : IsGraph graph file draft
   pub schedule : CronSpec
@@ -33,7 +34,8 @@ abbrev pub intervals_text : List Interval → List ℕ
 intervals_text intervals = flat_map interval_line intervals
 
 -- the text has the lines of the data intervals
-pub record IsListIn (graph : List ℕ) (file : Option (List ℕ)) (range : RunRange) (text : List ℕ) : Type 0 where
+pub record IsListIn (graph : List ℕ) (file : Option (List ℕ)) (range : RunRange)
+    (text : List ℕ) : Type 0 where
   pub found : List Interval
   pub listing : HasListing graph file range (Ok found)
   pub text_is : text ≡ intervals_text found
@@ -54,7 +56,8 @@ IsRangeFault graph file range _ = ⊥
 
 -- the fault is one of the graph, or else of the range; or memory is wanting
 abbrev pub IsDatedFault : List ℕ → Option (List ℕ) → RunRange → CommandFault → Type 0
-IsDatedFault graph file range fault = IsFaultIn graph file fault ⊎ IsRangeFault graph file range fault
+IsDatedFault graph file range fault =
+    IsFaultIn graph file fault ⊎ IsRangeFault graph file range fault
 
 -- neither its start nor its end lies before 1970
 abbrev pub IsSince1970 : Interval → Type 0

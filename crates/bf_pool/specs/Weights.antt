@@ -33,4 +33,6 @@ weights_of limits tasks = sum_by (λ t. (demand_of limits t).weight) tasks
 
 -- a task's own weight, and those of the distinct tasks that count for it by its weight rule
 abbrev pub total_weight_of : Dag → Limits → ℕ → ℕ
-total_weight_of dag limits t = let own = demand_of limits t in own.weight + weights_of limits (tasks_counting own.weight_rule (shape_of dag).upstreams t)
+total_weight_of dag limits t =
+    let own = demand_of limits t in own.weight + weights_of limits
+    (tasks_counting own.weight_rule (shape_of dag).upstreams t)

@@ -7,8 +7,10 @@ use Rattle.bf_process.specs.Environment.{said_after}
 
 -- the pairs were set in order
 abbrev pub IsSaidAfter : Command Global → Command Global → List (List ℕ × List ℕ) → Type 0
-IsSaidAfter old new pairs = (name : List ℕ) → command_var new name ≡ said_after name (command_var old name) pairs
+IsSaidAfter old new pairs =
+    (name : List ℕ) → command_var new name ≡ said_after name (command_var old name) pairs
 
 -- all else that a command says is the same
 abbrev pub IsSameElse : Command Global → Command Global → Type 0
-IsSameElse old new = SameProgramAndArgs old new × SameDir old new × (clears_env new ≡ clears_env old)
+IsSameElse old new =
+    SameProgramAndArgs old new × SameDir old new × (clears_env new ≡ clears_env old)

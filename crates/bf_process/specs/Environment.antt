@@ -58,5 +58,7 @@ unfoldable pub environment_of : JobContext → ℤ → Option (List ℕ) → Lis
 environment_of try clock given = pairs_of try clock variables_of ++ given_pairs given
 
 -- what is said of a name by pairs that are set in order, where this was said before
-unfoldable pub said_after : List ℕ → Option (Option (List ℕ)) → List (List ℕ × List ℕ) → Option (Option (List ℕ))
-said_after name before pairs = fold (λ said pair. if bytes_eq pair.0 name then Some (Some pair.1) else said) before pairs
+unfoldable pub said_after : List ℕ → Option (Option (List ℕ)) → List (List ℕ × List ℕ)
+    → Option (Option (List ℕ))
+said_after name before pairs =
+    fold (λ said pair. if bytes_eq pair.0 name then Some (Some pair.1) else said) before pairs

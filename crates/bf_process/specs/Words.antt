@@ -26,7 +26,9 @@ pub record Launched : Type 0 where
 
 -- the variables that are added in a setting
 abbrev pub variables_in : Setting → List (List ℕ × List ℕ)
-variables_in setting = environment_of setting.context.now setting.clock.now.at.nanosecond (option_map (λ logs. string_bytes logs.now.given) setting.logs)
+variables_in setting =
+    environment_of setting.context.now setting.clock.now.at.nanosecond
+    (option_map (λ logs. string_bytes logs.now.given) setting.logs)
 
 -- what is started by these words in a setting
 abbrev pub launched_in : Setting → List (List ℕ) → Launched
@@ -65,7 +67,9 @@ abbrev pub launched_for : LaunchingOf → Tried → Launched
 launched_for launching try =
     record {
       words = behind launching.launcher try.words;
-      variables = environment_of try.context (clock_of launching.clocks try.run try.context) (given_path launching.logs try.context);
+      variables =
+          environment_of try.context (clock_of launching.clocks try.run try.context)
+          (given_path launching.logs try.context);
     }
 
 -- what may be heard of a try, by what may be heard of what is started for it
@@ -86,14 +90,22 @@ pub record Programs (S : Type 0) : Type 0 where
   pub launching : LaunchingOf
 
 -- this holds of what the try's command comes to
-pub record HoldsOfWords (P : Tried → Type 0) (dag : Dag) (task : Task) (interval : Interval) (name : JobName) (given : Given) : Type 0 where
+pub record HoldsOfWords (P : Tried
+    → Type 0) (dag : Dag) (task : Task) (interval : Interval) (name : JobName)
+    (given : Given) : Type 0 where
   pub context : JobContext
   pub is_context : IsContext dag task interval name context
-  pub holds : P (record { words = words_of context given task.command; context = context; run = name.run })
+  pub holds : P (record {
+    words = words_of context given task.command;
+    context = context;
+    run = name.run;
+  })
 
 -- the same, where there are such a task and such a run, and else the other
-abbrev pub HoldsOfTry : Type 0 → (Tried → Type 0) → Dag → JobName → Given → Option Task → Option Interval → Type 0
-HoldsOfTry other P dag name given (Some task) (Some interval) = HoldsOfWords P dag task interval name given
+abbrev pub HoldsOfTry : Type 0 → (Tried → Type 0) → Dag → JobName → Given → Option Task
+    → Option Interval → Type 0
+HoldsOfTry other P dag name given (Some task) (Some interval) =
+    HoldsOfWords P dag task interval name given
 HoldsOfTry other P dag name given (Some task) None = other
 HoldsOfTry other P dag name given None run = other
 
@@ -117,9 +129,11 @@ IsLost may_lose try = IfProgram try.words ⊥ (may_lose try)
 -- what the try of this name may answer, given this: what is heard of its words; a try of no task or of no run isn't started
 abbrev pub MayAnswer : (Tried → Raw → Type 0) → Dag → List Interval → JobName → Given → Raw → Type 0
 MayAnswer may_hear dag intervals name given raw =
-    HoldsOfTry (raw ≡ not_started_of) (λ try. IsHeard may_hear try raw) dag name given (slice_get dag.tasks name.task) (slice_get intervals name.run)
+    HoldsOfTry (raw ≡ not_started_of) (λ try. IsHeard may_hear try raw) dag name given
+    (slice_get dag.tasks name.task) (slice_get intervals name.run)
 
 -- the try of this name, given this, is given up only where its program is lost
 abbrev pub MayGiveUp : (Tried → Type 0) → Dag → List Interval → JobName → Given → Type 0
 MayGiveUp may_lose dag intervals name given =
-    HoldsOfTry ⊥ (IsLost may_lose) dag name given (slice_get dag.tasks name.task) (slice_get intervals name.run)
+    HoldsOfTry ⊥ (IsLost may_lose) dag name given (slice_get dag.tasks name.task)
+    (slice_get intervals name.run)

@@ -45,31 +45,40 @@ IsFault may_lose files machine (Completions shell) fault = IsDeviceFault fault
 
 -- so it is where a report goes to standard output; and where it goes to a file, its device isn't told of, but that the path's file
 -- can't be replaced, and then a call of the folder or of the new file has failed; or so it is with the journal's
-abbrev pub IsFaultBy : Option (List ℕ) → Type 0 → Losing → Files → Machine → Asked → CommandFault → Type 0
-IsFaultBy None HasFailed may_lose files machine asked fault = IsFault may_lose files machine asked fault
-IsFaultBy (Some path) HasFailed may_lose files machine asked (CannotWriteFile p) = ((p ≡ path) × HasFailed) ⊎ IsFault may_lose files machine asked (CannotWriteFile p)
+abbrev pub IsFaultBy : Option (List ℕ) → Type 0 → Losing → Files → Machine → Asked → CommandFault
+    → Type 0
+IsFaultBy None HasFailed may_lose files machine asked fault =
+    IsFault may_lose files machine asked fault
+IsFaultBy (Some path) HasFailed may_lose files machine asked (CannotWriteFile p) =
+    ((p ≡ path) × HasFailed) ⊎ IsFault may_lose files machine asked (CannotWriteFile p)
 IsFaultBy (Some path) HasFailed may_lose files machine asked (CannotWrite n) = ⊥
 IsFaultBy (Some path) HasFailed may_lose files machine asked OutOfMemory = Unit {0}
-IsFaultBy (Some path) HasFailed may_lose files machine asked fault = IsFault may_lose files machine asked fault
+IsFaultBy (Some path) HasFailed may_lose files machine asked fault =
+    IsFault may_lose files machine asked fault
 
 -- what a fault leaves of the text that was due; of a file nothing, so that its path holds what it held
-abbrev pub LeavesBy : Option (List ℕ) → Type 0 → (List ℕ → Type 0) → Outputs → Outputs → CommandFault → Type 0
-LeavesBy None Halted IsDue before after fault = Leaves Halted IsDue before.written after.written fault × (after.placed ≡ before.placed)
+abbrev pub LeavesBy : Option (List ℕ) → Type 0 → (List ℕ → Type 0) → Outputs → Outputs
+    → CommandFault → Type 0
+LeavesBy None Halted IsDue before after fault =
+    Leaves Halted IsDue before.written after.written fault × (after.placed ≡ before.placed)
 LeavesBy (Some path) Halted IsDue before after fault = after ≡ before
 
 -- the fault is one of the line that was found, and this is what it leaves
-pub record IsFaulted (may_hear : Hearing) (may_lose : Losing) (canvas : Canvas) (files : Files) (machine : Machine)
+pub record IsFaulted (may_hear : Hearing) (may_lose : Losing) (canvas : Canvas) (files : Files)
+    (machine : Machine)
     (matched : Option (Text × List Row)) (Halted HasFailed : Type 0) (before after : Outputs)
     (fault : CommandFault) : Type 0 where
   pub line : CommandLine
   pub asks : IsLineBy matched line
   pub is_fault : IsFaultBy (out_of line) HasFailed may_lose files machine line.command fault
-  pub left : LeavesBy (out_of line) Halted (λ text. (status : Status) × IsAnswer may_hear canvas files machine line.command text status) before after fault
+  pub left : LeavesBy (out_of line) Halted (λ text. (status : Status)
+      × IsAnswer may_hear canvas files machine line.command text status) before after fault
 
 -- so it is, or memory was wanting before anything was written
 abbrev pub MayBeFaulted : Hearing → Losing → Canvas → Files → Machine → Option (Text × List Row)
     → Type 0 → Type 0 → Outputs → Outputs → CommandFault → Type 0
-MayBeFaulted may_hear may_lose canvas files machine matched Halted HasFailed before after OutOfMemory = after ≡ before
+MayBeFaulted may_hear may_lose canvas files machine matched Halted HasFailed before after
+    OutOfMemory = after ≡ before
 MayBeFaulted may_hear may_lose canvas files machine matched Halted HasFailed before after fault =
     IsFaulted may_hear may_lose canvas files machine matched Halted HasFailed before after fault
 
@@ -77,13 +86,17 @@ MayBeFaulted may_hear may_lose canvas files machine matched Halted HasFailed bef
 
 -- the whole line went out, or just the first bytes of it before the device halted
 abbrev pub IsTold : Type 0 → Option (List ℕ) → Option (List ℕ) → List ℕ → Type 0
-IsTold Halted before after line = (after ≡ sent before line) ⊎ (Halted × (n : ℕ) × (n ≤ length line) × (after ≡ sent before (take n line)))
+IsTold Halted before after line =
+    (after ≡ sent before line) ⊎ (Halted × (n : ℕ) × (n ≤ length line)
+    × (after ≡ sent before (take n line)))
 
 -- a fault is told, and that is its exit status
-pub record Tells (Halted : Type 0) (before after : Option (List ℕ)) (fault : CommandFault) (code : ℕ) : Type 0 where
+pub record Tells (Halted : Type 0) (before after : Option (List ℕ)) (fault : CommandFault)
+    (code : ℕ) : Type 0 where
   pub told : IsTold Halted before after (line_of fault)
   pub code_is : code ≡ code_of (status_of fault)
 
 -- the fault is told, or that there is no memory to tell it
 abbrev pub MayTell : Type 0 → Option (List ℕ) → Option (List ℕ) → CommandFault → ℕ → Type 0
-MayTell Halted before after fault code = Tells Halted before after fault code ⊎ Tells Halted before after OutOfMemory code
+MayTell Halted before after fault code =
+    Tells Halted before after fault code ⊎ Tells Halted before after OutOfMemory code

@@ -38,21 +38,35 @@ found_in words = subcommand_of backfill_app (map string_bytes words)
 
 -- the text that a command is to write, and how it ends then; a grid that is shown has what the canvas has where the line doesn't say
 abbrev pub IsAnswer : Hearing → Canvas → Files → Machine → Asked → List ℕ → Status → Type 0
-IsAnswer may_hear canvas files machine (Check asked) text status = IsCheckAnswer files asked.graph text status
-IsAnswer may_hear canvas files machine (Intervals asked) text status = IsListAnswer files asked text status
-IsAnswer may_hear canvas files machine (Single asked) text status = IsSingleAnswer files asked text status
+IsAnswer may_hear canvas files machine (Check asked) text status =
+    IsCheckAnswer files asked.graph text status
+IsAnswer may_hear canvas files machine (Intervals asked) text status =
+    IsListAnswer files asked text status
+IsAnswer may_hear canvas files machine (Single asked) text status =
+    IsSingleAnswer files asked text status
 IsAnswer may_hear canvas files machine (Dry asked) text status = IsDryAnswer files asked text status
-IsAnswer may_hear canvas files machine (Run asked) text status = IsRunAnswer may_hear files machine asked text status
-IsAnswer may_hear canvas files machine (Clear asked) text status = IsClearAnswer may_hear files machine asked text status
-IsAnswer may_hear canvas files machine (Keep asked) text status = IsClearAnswer may_hear files machine asked text status
-IsAnswer may_hear canvas files machine (ClearPlan asked) text status = IsClearPlanAnswer files asked text status
-IsAnswer may_hear canvas files machine (Show asked) text status = IsGridAnswer canvas files asked text status
-IsAnswer may_hear canvas files machine (ShowJson path) text status = IsJsonAnswer files (string_bytes path) text status
-IsAnswer may_hear canvas files machine (Page asked) text status = IsPageAnswer files asked text status
-IsAnswer may_hear canvas files machine (Explain asked) text status = IsExplainAnswer files asked text status
-IsAnswer may_hear canvas files machine (Answers path) text status = IsTableAnswer files (string_bytes path) text status
-IsAnswer may_hear canvas files machine (Schema format) text status = IsPrinted (schema_text format) text status
-IsAnswer may_hear canvas files machine (Completions shell) text status = IsPrinted (completions_text shell) text status
+IsAnswer may_hear canvas files machine (Run asked) text status =
+    IsRunAnswer may_hear files machine asked text status
+IsAnswer may_hear canvas files machine (Clear asked) text status =
+    IsClearAnswer may_hear files machine asked text status
+IsAnswer may_hear canvas files machine (Keep asked) text status =
+    IsClearAnswer may_hear files machine asked text status
+IsAnswer may_hear canvas files machine (ClearPlan asked) text status =
+    IsClearPlanAnswer files asked text status
+IsAnswer may_hear canvas files machine (Show asked) text status =
+    IsGridAnswer canvas files asked text status
+IsAnswer may_hear canvas files machine (ShowJson path) text status =
+    IsJsonAnswer files (string_bytes path) text status
+IsAnswer may_hear canvas files machine (Page asked) text status =
+    IsPageAnswer files asked text status
+IsAnswer may_hear canvas files machine (Explain asked) text status =
+    IsExplainAnswer files asked text status
+IsAnswer may_hear canvas files machine (Answers path) text status =
+    IsTableAnswer files (string_bytes path) text status
+IsAnswer may_hear canvas files machine (Schema format) text status =
+    IsPrinted (schema_text format) text status
+IsAnswer may_hear canvas files machine (Completions shell) text status =
+    IsPrinted (completions_text shell) text status
 
 -- what went out, and which files were replaced, where that is told
 pub record Outputs : Type 0 where
@@ -69,11 +83,14 @@ out_of line = option_map string_bytes line.out
 -- this text is all that went out, behind what had gone out before; or where a path is named, nothing did, and the path's file was
 -- replaced by one of the text
 abbrev pub HasGone : Option (List ℕ) → List ℕ → Outputs → Outputs → Type 0
-HasGone None text before after = (after.written ≡ sent before.written text) × (after.placed ≡ before.placed)
-HasGone (Some path) text before after = (after.written ≡ before.written) × HasReplaced before.placed after.placed path text
+HasGone None text before after =
+    (after.written ≡ sent before.written text) × (after.placed ≡ before.placed)
+HasGone (Some path) text before after =
+    (after.written ≡ before.written) × HasReplaced before.placed after.placed path text
 
 -- the line that was found was answered so, and that is the exit status
-pub record IsDone (may_hear : Hearing) (canvas : Canvas) (files : Files) (machine : Machine) (matched : Option (Text × List Row)) (before after : Outputs) (code : ℕ) : Type 0 where
+pub record IsDone (may_hear : Hearing) (canvas : Canvas) (files : Files) (machine : Machine)
+    (matched : Option (Text × List Row)) (before after : Outputs) (code : ℕ) : Type 0 where
   pub line : CommandLine
   pub asks : IsLineBy matched line
   pub text : List ℕ

@@ -29,10 +29,14 @@ pub record IsExplanation (graph : List ℕ) (zone : Option (List ℕ)) (text : L
   pub text_is : text ≡ findings_text found
 
 -- where it is asked for, the lines of what is found in the files are told; else nothing is
-abbrev pub IsExplainedIf : Bool → Files → GraphAsked → Type 0 → Option (List ℕ) → Option (List ℕ) → Type 0
-IsExplainedIf true files asked Halted before after = (text : List ℕ) × OfFiles files asked (λ graph zone. IsExplanation graph zone text) × IsTold Halted before after text
+abbrev pub IsExplainedIf : Bool → Files → GraphAsked → Type 0 → Option (List ℕ) → Option (List ℕ)
+    → Type 0
+IsExplainedIf true files asked Halted before after =
+    (text : List ℕ) × OfFiles files asked (λ graph zone. IsExplanation graph zone text)
+    × IsTold Halted before after text
 IsExplainedIf false files asked Halted before after = after ≡ before
 
 abbrev pub IsExplained : Files → Asked → Type 0 → Option (List ℕ) → Option (List ℕ) → Type 0
-IsExplained files (Check asked) Halted before after = IsExplainedIf asked.explain files asked.graph Halted before after
+IsExplained files (Check asked) Halted before after =
+    IsExplainedIf asked.explain files asked.graph Halted before after
 IsExplained files asked Halted before after = after ≡ before

@@ -28,4 +28,5 @@ ShowsHelp (kind ∷ kinds) = (shown_as kind ≡ Success) ⊎ ShowsHelp kinds
 
 -- why nothing was shown, or not all: memory was wanting before anything went out, or it was help that the device didn't take
 abbrev pub IsUnshown : Type 0 → Type 0 → Option (List ℕ) → Option (List ℕ) → CommandFault → Type 0
-IsUnshown IsHelp Halted before after fault = IsWanting fault × Leaves Halted (λ text. IsHelp) before after fault
+IsUnshown IsHelp Halted before after fault =
+    IsWanting fault × Leaves Halted (λ text. IsHelp) before after fault

@@ -12,7 +12,8 @@ use Rattle.bf_progress.specs.declared.due.Due.{Due}
 -- another try than the one of this name
 abbrev pub is_other : JobName → Begun → Bool
 is_other name begun =
-    not ((begun.name.run == name.run) && (begun.name.task == name.task) && int_eq begun.name.index name.index && (begun.name.attempt == name.attempt))
+    not ((begun.name.run == name.run) && (begun.name.task == name.task)
+    && int_eq begun.name.index name.index && (begun.name.attempt == name.attempt))
 
 -- which tries run behind an event, in the order in which they began
 abbrev pub running_after : Event → Duration → List Begun → List Begun
@@ -28,7 +29,8 @@ IsRunningAfter event now old new = (new ≡ running_after event now old) ⊎ (ne
 abbrev pub IsNoted : Event → ℕ → Duration → Board → Board → Type 0
 IsNoted (Event.Tick moment) running now old new = new ≡ old
 IsNoted event running now old new =
-    (new.counts.running ≡ running) × (new.has_changed ≡ true) × (new.changed ≡ now) × (new.minutes ≡ 0) × (new.shown ≡ old.shown)
+    (new.counts.running ≡ running) × (new.has_changed ≡ true) × (new.changed ≡ now)
+    × (new.minutes ≡ 0) × (new.shown ≡ old.shown)
 
 -- the whole seconds from one moment to another
 abbrev pub seconds_between_of : Duration → Duration → ℕ
@@ -40,7 +42,8 @@ is_minute_over_in board now = nat_lt board.minutes (seconds_between_of board.cha
 
 -- the counts have changed, or are kept on a terminal, and were shown a second ago
 abbrev pub is_line_due_in : Board → Duration → Bool → Bool
-is_line_due_in board now keeps_line = (board.has_changed || keeps_line) && nat_lt 0 (seconds_between_of board.shown now)
+is_line_due_in board now keeps_line =
+    (board.has_changed || keeps_line) && nat_lt 0 (seconds_between_of board.shown now)
 
 abbrev pub counts_due : Bool → Due
 counts_due true = Due.Counts
@@ -53,10 +56,12 @@ due_at true line_due (first ∷ rest) = Due.Longest first
 due_at false line_due (first ∷ rest) = counts_due line_due
 
 abbrev pub due_of : Board → Duration → Bool → Due
-due_of board now keeps_line = due_at (is_minute_over_in board now) (is_line_due_in board now keeps_line) board.running.items
+due_of board now keeps_line =
+    due_at (is_minute_over_in board now) (is_line_due_in board now keeps_line) board.running.items
 
 -- what was due is told
 abbrev pub shown_of : Board → Due → Duration → Board
 shown_of board Due.Nothing now = board
 shown_of board Due.Counts now = record board { has_changed = false; shown = now }
-shown_of board (Due.Longest begun) now = record board { minutes = seconds_between_of board.changed now / 60 }
+shown_of board (Due.Longest begun) now =
+    record board { minutes = seconds_between_of board.changed now / 60 }

@@ -7,9 +7,13 @@ use Rattle.bf_progress.specs.declared.counts.Counts.{Counts}
 -- as `runs 12/90 (4 open)  tasks 431/1800  running 8  waiting 3  failed 2`
 abbrev pub counts_text : Counts → List ℕ
 counts_text c =
-    codes "runs " ++ (decimal c.closed ++ (codes "/" ++ (decimal c.runs ++ (codes " (" ++ (decimal (c.opened - c.closed) ++ (codes " open)"
-    ++ (codes "  tasks " ++ (decimal c.settled ++ (codes "/" ++ (decimal c.tasks ++ (codes "  running " ++ (decimal c.running
-    ++ (codes "  waiting " ++ (decimal c.waiting ++ (codes "  failed " ++ decimal c.failed)))))))))))))))
+    codes "runs " ++ (decimal c.closed
+    ++ (codes "/" ++ (decimal c.runs
+    ++ (codes " (" ++ (decimal (c.opened - c.closed) ++ (codes " open)"
+    ++ (codes "  tasks " ++ (decimal c.settled
+    ++ (codes "/" ++ (decimal c.tasks ++ (codes "  running " ++ (decimal c.running
+    ++ (codes "  waiting " ++ (decimal c.waiting
+    ++ (codes "  failed " ++ decimal c.failed)))))))))))))))
 
 -- and a line feed
 abbrev pub counts_line : Counts → List ℕ
@@ -21,7 +25,8 @@ kept_line c = 27 ∷ codes "[?7l" ++ (counts_text c ++ (27 ∷ codes "[?7h"))
 
 -- as `running for 3600 s: crawl 2024-01-01T05:00:00Z index 2 try 1`, and a line feed
 abbrev pub longest_line_of : ℕ → JobContext → List ℕ
-longest_line_of seconds try = codes "running for " ++ (decimal seconds ++ (codes " s: " ++ (try_text_of try ++ codes "\n")))
+longest_line_of seconds try =
+    codes "running for " ++ (decimal seconds ++ (codes " s: " ++ (try_text_of try ++ codes "\n")))
 
 -- on a terminal a carriage return and ESC [ K take away the line that stands there
 abbrev pub line_at : Bool → List ℕ → List ℕ

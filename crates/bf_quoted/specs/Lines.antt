@@ -20,9 +20,11 @@ pub record ReadLine : Type 0 where
 -- one byte more: spaces end a word, and none begins one
 abbrev pub line_on : List (List ℕ) → Option Reading → ℕ → ReadLine
 line_on words None b =
-    if b == 32 then record { words = words; next = None } else record { words = words; next = Some (reads_on (bare []) b) }
+    if b == 32 then record { words = words; next = None }
+    else record { words = words; next = Some (reads_on (bare []) b) }
 line_on words (Some (bare word)) b =
-    if b == 32 then record { words = words ++ word ∷ []; next = None } else record { words = words; next = Some (reads_on (bare word) b) }
+    if b == 32 then record { words = words ++ word ∷ []; next = None }
+    else record { words = words; next = Some (reads_on (bare word) b) }
 line_on words (Some at) b = record { words = words; next = Some (reads_on at b) }
 
 abbrev pub reads_line_on : ReadLine → ℕ → ReadLine
@@ -36,4 +38,8 @@ words_at_end words (Some at) = None
 
 abbrev pub words_by_shell : List ℕ → Option (List (List ℕ))
 words_by_shell text =
-    let line = fold reads_line_on (record { words = []; next = None }) text in words_at_end line.words line.next
+    let line =
+    fold reads_line_on (record {
+      words = [];
+      next = None;
+    }) text in words_at_end line.words line.next

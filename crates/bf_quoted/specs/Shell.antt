@@ -34,8 +34,10 @@ reads_on (in_dollar_quotes word) b =
 reads_on (in_escape word) b =
     if b == 39 || b == 92 then in_dollar_quotes (word ++ b ∷ [])
     else (if is_octal b then behind_digit (b - 48) word else not_read)
-reads_on (behind_digit value word) b = if is_octal b then behind_digits (8 * value + (b - 48)) word else not_read
-reads_on (behind_digits value word) b = if is_octal b then in_dollar_quotes (word ++ (8 * value + (b - 48)) ∷ []) else not_read
+reads_on (behind_digit value word) b =
+    if is_octal b then behind_digits (8 * value + (b - 48)) word else not_read
+reads_on (behind_digits value word) b =
+    if is_octal b then in_dollar_quotes (word ++ (8 * value + (b - 48)) ∷ []) else not_read
 reads_on not_read b = not_read
 
 -- a whole text

@@ -7,7 +7,9 @@ use Rattle.bf_quoted.specs.Seen.{is_unseen_in}
 
 -- the escape of a character below 65,536: `\u` and four digits of base 16
 abbrev pub escape : ℕ → List ℕ
-escape c = 92 ∷ 117 ∷ digit_char (c / 4_096) ∷ digit_char (c / 256 % 16) ∷ digit_char (c / 16 % 16) ∷ digit_char (c % 16) ∷ []
+escape c =
+    92 ∷ 117 ∷ digit_char (c / 4_096) ∷ digit_char (c / 256 % 16) ∷ digit_char (c / 16 % 16)
+    ∷ digit_char (c % 16) ∷ []
 
 -- a character of a string
 abbrev pub shown_char : ℕ → List ℕ

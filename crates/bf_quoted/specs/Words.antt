@@ -12,14 +12,17 @@ is_bare_in b = is_ascii_alphanumeric b || list_any (λ c. c == b) (codes "_@+:,.
 -- words that a shell doesn't take for the name of a program
 abbrev pub reserved_words : List (List ℕ)
 reserved_words =
-    codes "case" ∷ codes "coproc" ∷ codes "do" ∷ codes "done" ∷ codes "elif" ∷ codes "else" ∷ codes "esac" ∷ codes "fi"
-    ∷ codes "for" ∷ codes "function" ∷ codes "if" ∷ codes "in" ∷ codes "select" ∷ codes "then" ∷ codes "time"
+    codes "case" ∷ codes "coproc" ∷ codes "do" ∷ codes "done" ∷ codes "elif" ∷ codes "else"
+    ∷ codes "esac" ∷ codes "fi"
+    ∷ codes "for" ∷ codes "function" ∷ codes "if" ∷ codes "in" ∷ codes "select" ∷ codes "then"
+    ∷ codes "time"
     ∷ codes "until" ∷ codes "while" ∷ []
 
 -- the word stands as it is
 abbrev pub is_bare_word_in : List ℕ → Bool
 is_bare_word_in word =
-    nat_le 1 (length word) && list_all is_bare_in word && not (list_any (λ reserved. bytes_eq reserved word) reserved_words)
+    nat_le 1 (length word) && list_all is_bare_in word
+    && not (list_any (λ reserved. bytes_eq reserved word) reserved_words)
 
 -- a character in `'..'`, where a `'` ends the quotes, and begins others behind it
 abbrev pub quoted_char : ℕ → List ℕ

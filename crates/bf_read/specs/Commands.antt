@@ -55,7 +55,8 @@ or_word None word = word
 
 -- a text, or an object with exactly one key
 unfoldable pub word_in : Bool → Path → Data → Result WordDraft ReadFault
-word_in is_expanded p d = or_word (as_str d) (only_member_in p d >>= λ m. keyed_word_of is_expanded m.0 (there_in p m.1))
+word_in is_expanded p d =
+    or_word (as_str d) (only_member_in p d >>= λ m. keyed_word_of is_expanded m.0 (there_in p m.1))
 
 abbrev pub words_of : Bool → Path → Items → Result (List WordDraft) ReadFault
 words_of is_expanded p = each_item (word_in is_expanded p)

@@ -63,7 +63,8 @@ abbrev pub StandByName : List PoolDraft → Type 0
 StandByName pools = AllPairs (λ a b. slice_cmp nat_cmp a.name b.name ≡ Less) pools
 
 -- the id, the numbers, the pools and the tasks of a draft
-pub record IsDraft (dag_id : List ℕ) (max_active_runs : ℕ) (pools : List PoolDraft) (tasks : List TaskDraft) : Type 0 where
+pub record IsDraft (dag_id : List ℕ) (max_active_runs : ℕ) (pools : List PoolDraft)
+    (tasks : List TaskDraft) : Type 0 where
   pub has_id : is_id_in dag_id ≡ true
   pub some_runs : 1 ≤ max_active_runs
   pub few_runs : max_active_runs ≤ most_active_runs

@@ -108,12 +108,14 @@ whole_in = typed (λ d. option_and_then as_i64 (as_number d))
 
 -- a number between these two
 unfoldable pub within_of : Path → ℕ → ℕ → ℤ → Result ℕ ReadFault
-within_of p least most (pos n) = if nat_le least n && nat_le n most then Ok n else Err (LimitPassed p)
+within_of p least most (pos n) =
+    if nat_le least n && nat_le n most then Ok n else Err (LimitPassed p)
 within_of p least most (negsuc n) = Err (LimitPassed p)
 
 -- a whole number between these two, or what stands for a missing one
 unfoldable pub count_in : ℕ → ℕ → ℕ → Member → Result ℕ ReadFault
-count_in default least most m = if_there m.value default (whole_in m >>= within_of m.path least most)
+count_in default least most m =
+    if_there m.value default (whole_in m >>= within_of m.path least most)
 
 -- a limit that has to hold
 unfoldable pub limit_of : Path → Bool → Result (Unit {0}) ReadFault
@@ -126,7 +128,8 @@ unfoldable pub items_in : Member → Result Items ReadFault
 items_in = typed as_array
 
 -- what is read of each item
-unfoldable pub each_item : {A : Type 0} → (Data → Result A ReadFault) → Items → Result (List A) ReadFault
+unfoldable pub each_item : {A : Type 0} → (Data → Result A ReadFault) → Items
+    → Result (List A) ReadFault
 each_item f no_items = Ok []
 each_item f (item d ds) = do
   x ← f d
@@ -134,7 +137,8 @@ each_item f (item d ds) = do
   Ok (x ∷ xs)
 
 -- what is read of each member, by its name
-unfoldable pub each_member : {A : Type 0} → (List ℕ → Data → Result A ReadFault) → Members → Result (List A) ReadFault
+unfoldable pub each_member : {A : Type 0} → (List ℕ → Data → Result A ReadFault) → Members
+    → Result (List A) ReadFault
 each_member f no_members = Ok []
 each_member f (member name d ms) = do
   x ← f name d
@@ -178,4 +182,6 @@ kind_in m = if_there m.value TaskKind.Program (text_of m >>= λ s. or_shape m.pa
 
 -- that of downstreams where it is missing
 unfoldable pub weight_rule_in : Member → Result WeightRule ReadFault
-weight_rule_in m = if_there m.value WeightRule.Downstream (text_of m >>= λ s. or_shape m.path (weight_rule_named s))
+weight_rule_in m =
+    if_there m.value WeightRule.Downstream
+    (text_of m >>= λ s. or_shape m.path (weight_rule_named s))

@@ -34,7 +34,9 @@ abbrev pub graph_keys : List GraphKey
 graph_keys = DagId ∷ Schedule ∷ Zone ∷ MaxActiveRuns ∷ Pools ∷ Tasks ∷ []
 
 abbrev pub task_keys : List TaskKey
-task_keys = Id ∷ Upstream ∷ Rule ∷ Kind ∷ Command ∷ Expand ∷ DependsOnPast ∷ Retries ∷ RetryDelay ∷ Pool ∷ PoolSlots ∷ PriorityWeight ∷ WeightRule ∷ []
+task_keys =
+    Id ∷ Upstream ∷ Rule ∷ Kind ∷ Command ∷ Expand ∷ DependsOnPast ∷ Retries ∷ RetryDelay ∷ Pool
+    ∷ PoolSlots ∷ PriorityWeight ∷ WeightRule ∷ []
 
 abbrev pub is_graph_key_in : List ℕ → Bool
 is_graph_key_in name = list_any (λ key. bytes_eq name (graph_key_name key)) graph_keys

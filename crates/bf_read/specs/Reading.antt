@@ -47,7 +47,8 @@ graph_file_of draft = record {
 
 -- an id that no task before has
 unfoldable pub fresh_of : List TaskDraft → List ℕ → Result (List ℕ) ReadFault
-fresh_of before id = if list_any (λ task. bytes_eq id task.id) before then Err (DuplicateTask id) else Ok id
+fresh_of before id =
+    if list_any (λ task. bytes_eq id task.id) before then Err (DuplicateTask id) else Ok id
 
 -- a task's id and its upstreams, which with those of the tasks before are not too many
 unfoldable pub place_in : List TaskDraft → (TaskKey → Member) → Result TaskPlace ReadFault
@@ -55,7 +56,8 @@ place_in before at = do
   found ← id_in (at TaskKey.Id)
   id ← fresh_of before found
   upstreams ← upstreams_in (at TaskKey.Upstream)
-  _ ← limit_of (at TaskKey.Upstream).path (nat_le (number_of_edges before + length upstreams) most_edges)
+  _ ← limit_of (at TaskKey.Upstream).path
+      (nat_le (number_of_edges before + length upstreams) most_edges)
   Ok (record { id = id; upstreams = upstreams })
 
 -- what a task does, and when
@@ -68,7 +70,15 @@ work_in at = do
   depends_on_past ← flag_in (at TaskKey.DependsOnPast)
   retries ← count_in 0 0 most_retries (at TaskKey.Retries)
   retry_delay ← count_in 0 0 longest_retry_delay (at TaskKey.RetryDelay)
-  Ok (record { rule = rule; kind = kind; command = command; expand = expand; depends_on_past = depends_on_past; retries = retries; retry_delay = retry_delay })
+  Ok (record {
+    rule = rule;
+    kind = kind;
+    command = command;
+    expand = expand;
+    depends_on_past = depends_on_past;
+    retries = retries;
+    retry_delay = retry_delay;
+  })
 
 -- what a running try of a task takes, and what the task weighs
 unfoldable pub demand_in : (TaskKey → Member) → Result TaskDemand ReadFault
@@ -129,7 +139,14 @@ draft_of_entry at = do
   max_active_runs ← count_in 16 1 most_active_runs (at GraphKey.MaxActiveRuns)
   pools ← pools_in (at GraphKey.Pools)
   tasks ← tasks_in (at GraphKey.Tasks)
-  Ok (record { dag_id = dag_id; schedule = schedule; zone = zone; max_active_runs = max_active_runs; pools = pools; tasks = tasks })
+  Ok (record {
+    dag_id = dag_id;
+    schedule = schedule;
+    zone = zone;
+    max_active_runs = max_active_runs;
+    pools = pools;
+    tasks = tasks;
+  })
 
 unfoldable pub draft_in : Data → Result GraphFile ReadFault
 draft_in d = do

@@ -27,7 +27,9 @@ item_count (Items.List items) = Some (length items)
 
 -- what a source that is expanded, or isn't, has by its value
 abbrev pub values_given : Bool → TaskValue → SourceValues
-values_given each (TaskValue.Ran results) = if each then SourceValues.Each (map pushed_of results) else SourceValues.Pushed (pushed_alone_in results)
+values_given each (TaskValue.Ran results) =
+    if each then SourceValues.Each (map pushed_of results)
+    else SourceValues.Pushed (pushed_alone_in results)
 values_given each value = SourceValues.Absent
 
 abbrev pub cause_by_count : Option ℕ → StateCause

@@ -24,17 +24,24 @@ instance_letter instance = ended_letter_of instance.result.outcome instance.resu
 
 -- the first of f, r and s that some instance has, or else x
 abbrev pub first_by_of : Bool → Bool → Bool → ℕ
-first_by_of some_f some_r some_s = if some_f then byte "f" else (if some_r then byte "r" else (if some_s then byte "s" else byte "x"))
+first_by_of some_f some_r some_s =
+    if some_f then byte "f" else (if some_r then byte "r"
+    else (if some_s then byte "s" else byte "x"))
 
 abbrev pub any_letter : ℕ → List InstanceReport → Bool
 any_letter letter instances = list_any (λ instance. instance_letter instance == letter) instances
 
 abbrev pub first_letter_of : List InstanceReport → ℕ
-first_letter_of instances = first_by_of (any_letter (byte "f") instances) (any_letter (byte "r") instances) (any_letter (byte "s") instances)
+first_letter_of instances =
+    first_by_of (any_letter (byte "f") instances) (any_letter (byte "r") instances)
+    (any_letter (byte "s") instances)
 
 -- the same of an expanded task, in upper case
 abbrev pub upper_of : ℕ → ℕ
-upper_of first = if first == byte "f" then byte "F" else (if first == byte "r" then byte "R" else (if first == byte "s" then byte "S" else byte "X"))
+upper_of first =
+    if first == byte "f" then byte "F"
+    else (if first == byte "r" then byte "R"
+    else (if first == byte "s" then byte "S" else byte "X"))
 
 abbrev pub expanded_letter : List InstanceReport → ℕ
 expanded_letter instances = upper_of (first_letter_of instances)
@@ -47,7 +54,8 @@ digit_for first Outcome.Skipped = first + 2
 
 -- a digit for an expanded task, by that letter
 abbrev pub expanded_digit_of : ℕ → ℕ
-expanded_digit_of first = if first == byte "f" then byte "8" else (if first == byte "x" then byte "9" else byte "7")
+expanded_digit_of first =
+    if first == byte "f" then byte "8" else (if first == byte "x" then byte "9" else byte "7")
 
 -- of a task that has what doesn't follow from the graph
 abbrev pub foreign_letter : TaskReport → ℕ
@@ -70,7 +78,8 @@ letter_for is_expanded StateCause.PastHasNotPassed TaskReport.NoStatus = byte "n
 letter_for is_expanded (StateCause.Runs count) (TaskReport.Ran instance) =
     if is_expanded then foreign_letter (TaskReport.Ran instance) else instance_letter instance
 letter_for is_expanded (StateCause.Runs count) (TaskReport.Mapped instances) =
-    if is_expanded && length instances == count then expanded_letter instances else foreign_letter (TaskReport.Mapped instances)
+    if is_expanded && length instances == count then expanded_letter instances
+    else foreign_letter (TaskReport.Mapped instances)
 letter_for is_expanded cause task = foreign_letter task
 
 -- what is known of the tasks in a run of the report, and of a task in the run before
@@ -84,7 +93,8 @@ before_at report (suc run) task = Some (value_reported_at report run task)
 -- of a task that the report has in a run, by this graph
 abbrev pub letter_of : Dag → Report → ℕ → ℕ → TaskReport → ℕ
 letter_of dag report run task told =
-    letter_for (is_some (task_of dag task).expand) (cause_of (reason dag run (seen_at report run) (before_at report run task) task)) told
+    letter_for (is_some (task_of dag task).expand)
+    (cause_of (reason dag run (seen_at report run) (before_at report run task) task)) told
 
 -- ---- what a letter tells
 
@@ -120,7 +130,8 @@ is_success Outcome.Skipped = false
 abbrev pub state_of_instances : List InstanceReport → TaskState
 state_of_instances instances =
     if list_any (λ instance. is_failed instance.result.outcome) instances then failed
-    else (if list_any (λ instance. is_success instance.result.outcome) instances then success else skipped)
+    else (if list_any (λ instance. is_success instance.result.outcome) instances then success
+    else skipped)
 
 abbrev pub state_of : TaskReport → TaskState
 state_of TaskReport.NoStatus = no_status
@@ -137,10 +148,12 @@ follows is_expanded Decision.Blocked TaskReport.NoStatus = true
 follows is_expanded Decision.Skipped TaskReport.Skipped = true
 follows is_expanded Decision.UpstreamFailed TaskReport.UpstreamFailed = true
 follows is_expanded (Decision.Instances given) (TaskReport.Ran instance) = not is_expanded
-follows is_expanded (Decision.Instances given) (TaskReport.Mapped instances) = is_expanded && length instances == length given
+follows is_expanded (Decision.Instances given) (TaskReport.Mapped instances) =
+    is_expanded && length instances == length given
 follows is_expanded decision task = false
 
 -- of a task that the report has in a run, by what it has of the others
 abbrev pub follows_in : Dag → Report → ℕ → ℕ → TaskReport → Bool
 follows_in dag report run task told =
-    follows (is_some (task_of dag task).expand) (decision dag run (seen_at report run) (before_at report run task) task) told
+    follows (is_some (task_of dag task).expand)
+    (decision dag run (seen_at report run) (before_at report run task) task) told

@@ -21,12 +21,18 @@ pub data Reason : Type 0 where
 abbrev pub by_items : List (Option Xval) → Items → Reason
 by_items pulled Items.Missing = items_are_missing
 by_items pulled (Items.List []) = has_no_items
-by_items pulled (Items.List (first ∷ rest)) = runs (map (λ item. record { item = Some item; pulled = pulled }) (first ∷ rest))
+by_items pulled (Items.List (first ∷ rest)) =
+    runs (map (λ item. record { item = Some item; pulled = pulled }) (first ∷ rest))
 
 -- of a task that goes on, by the source of its items
 abbrev pub by_source_of : Dag → (ℕ → Seen) → List (Option Xval) → Option ℕ → Reason
 by_source_of dag seen pulled None = runs (record { item = None; pulled = pulled } ∷ [])
-by_source_of dag seen pulled (Some source) = elim (seen source).value [ None ↦ waits | Some value ↦ by_items pulled (items (task_of dag source) value) ]
+by_source_of dag seen pulled (Some source) =
+    elim (seen source).value [
+      | None ↦ waits
+      | Some value ↦ by_items pulled
+          (items (task_of dag source) value)
+    ]
 
 -- of one that depends on its past, and else would have this reason
 abbrev pub by_past : Reason → Option TaskValue → Reason
@@ -46,10 +52,14 @@ by_verdict_of dag run seen before task Verdict.Run =
 -- the first line that decides
 unfoldable pub reason : Dag → ℕ → (ℕ → Seen) → Option TaskValue → ℕ → Reason
 reason dag run seen before task =
-    if not (list_all (lets_decide_in dag (task_of dag task) seen) (task_of dag task).upstreams) then waits
-    else (if list_any (λ upstream. branch_is dag (branch_skips dag task upstream) upstream (seen upstream).value) (task_of dag task).upstreams then not_followed
-    else (if list_any (λ upstream. branch_is dag is_blocked_in upstream (seen upstream).value) (task_of dag task).upstreams then branch_is_blocked
-    else by_verdict_of dag run seen before task (verdict (task_of dag task).rule (counts_over seen (task_of dag task).upstreams))))
+    if not (list_all (lets_decide_in dag (task_of dag task) seen) (task_of dag task).upstreams)
+    then waits
+    else (if list_any (λ upstream. branch_is dag (branch_skips dag task upstream) upstream
+    (seen upstream).value) (task_of dag task).upstreams then not_followed
+    else (if list_any (λ upstream. branch_is dag is_blocked_in upstream (seen upstream).value)
+    (task_of dag task).upstreams then branch_is_blocked
+    else by_verdict_of dag run seen before task
+    (verdict (task_of dag task).rule (counts_over seen (task_of dag task).upstreams))))
 
 -- what is decided for a reason
 abbrev pub decided_for : Reason → Decision

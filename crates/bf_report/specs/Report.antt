@@ -34,7 +34,9 @@ value_word Skipped = codes "-"
 
 -- what came of an instance of a task
 abbrev pub instance_line : List ℕ → List ℕ → TaskResult → List ℕ
-instance_line id index result = line (id ∷ index ∷ state_word result.outcome ∷ decimal result.tries ∷ value_word result.outcome ∷ [])
+instance_line id index result =
+    line (id ∷ index ∷ state_word result.outcome ∷ decimal result.tries ∷ value_word result.outcome
+    ∷ [])
 
 -- its item, if it has one
 abbrev pub item_line : Option Xval → List ℕ
@@ -52,7 +54,9 @@ pull_line pull = line (codes "@pull" ∷ pull.task ∷ pulled_word pull.value �
 
 -- an instance of a task, with what it was given
 abbrev pub instance_text : List ℕ → List ℕ → InstanceReport → List ℕ
-instance_text id index instance = instance_line id index instance.result ++ (item_line instance.item ++ flat_map pull_line instance.pulls)
+instance_text id index instance =
+    instance_line id index instance.result
+    ++ (item_line instance.item ++ flat_map pull_line instance.pulls)
 
 -- a task that was decided without a try
 abbrev pub untried_line : List ℕ → List ℕ → List ℕ
@@ -60,7 +64,8 @@ untried_line id state = line (id ∷ codes "-1" ∷ state ∷ codes "0" ∷ code
 
 -- the instances of an expanded task, by map index from 0
 abbrev pub mapped_text : List ℕ → List InstanceReport → List ℕ
-mapped_text id instances = flat_map (λ pair. instance_text id (decimal pair.0) pair.1) (enumerate_from 0 instances)
+mapped_text id instances =
+    flat_map (λ pair. instance_text id (decimal pair.0) pair.1) (enumerate_from 0 instances)
 
 -- a task in a run
 abbrev pub task_text : List ℕ → TaskReport → List ℕ
@@ -79,7 +84,9 @@ run_state_word_of RunState.Success = codes "success"
 run_state_word_of RunState.Failed = codes "failed"
 
 abbrev pub run_line : RunReport → List ℕ
-run_line run = line (codes "@run" ∷ moment_text run.interval.start.nanosecond ∷ moment_text run.interval.end.nanosecond ∷ run_state_word_of run.state ∷ [])
+run_line run =
+    line (codes "@run" ∷ moment_text run.interval.start.nanosecond
+    ∷ moment_text run.interval.end.nanosecond ∷ run_state_word_of run.state ∷ [])
 
 -- a run, with the tasks of these ids
 abbrev pub run_text : List (List ℕ) → RunReport → List ℕ

@@ -9,10 +9,16 @@ use Rattle.bf_report.specs.Instances.{ReportedInstance}
 
 -- an instance that was given nothing
 abbrev pub bare_by : ℕ → Outcome → ReportedInstance
-bare_by tries outcome = record { result = record { outcome = outcome; tries = tries }; item = None; pulls = [] }
+bare_by tries outcome =
+    record { result = record { outcome = outcome; tries = tries }; item = None; pulls = [] }
 
 abbrev pub told_with : ℕ → Told → ReportedInstance
-told_with tries told = record { result = record { outcome = told.outcome; tries = tries }; item = told.item; pulls = told.pulls }
+told_with tries told =
+    record {
+      result = record { outcome = told.outcome; tries = tries };
+      item = told.item;
+      pulls = told.pulls;
+    }
 
 -- an instance of so many tries by how it is kept: a word stands for one that pushed nothing and was given nothing
 abbrev pub told_by : ℕ → Kept → ReportedInstance

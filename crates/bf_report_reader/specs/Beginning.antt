@@ -53,11 +53,18 @@ abbrev pub runs_of : Beginning → List RunReport
 runs_of beginning = beginning.runs ++ last_run beginning.run
 
 abbrev pub so_far : Beginning → Report
-so_far beginning = record { version = beginning.version; dag_id = beginning.dag_id; tasks = beginning.tasks; runs = runs_of beginning }
+so_far beginning =
+    record {
+      version = beginning.version;
+      dag_id = beginning.dag_id;
+      tasks = beginning.tasks;
+      runs = runs_of beginning;
+    }
 
 -- the lines that were read
 abbrev pub opening_text : Report → List ℕ
-opening_text report = head_line report.version report.dag_id ++ flat_map (run_text report.tasks) report.runs
+opening_text report =
+    head_line report.version report.dag_id ++ flat_map (run_text report.tasks) report.runs
 
 -- ---- what an instance was given
 
@@ -81,7 +88,9 @@ lacks_no_item version task = has_item (tells_item version (is_some task.before))
 -- an item where one is lacking, or a pull behind it, which is none of those before
 abbrev pub takes_at : Version → Bool → InstanceReport → GivenPart → Bool
 takes_at version complete instance (GivenPart.Item item) = not complete
-takes_at version complete instance (GivenPart.Pull pull) = (complete && nat_lt (length instance.pulls) (most_told version)) && not (list_any (λ earlier. bytes_eq earlier.task pull.task) instance.pulls)
+takes_at version complete instance (GivenPart.Pull pull) =
+    (complete && nat_lt (length instance.pulls) (most_told version))
+    && not (list_any (λ earlier. bytes_eq earlier.task pull.task) instance.pulls)
 
 -- the instance with a further part of what it was given
 abbrev pub with_told : InstanceReport → GivenPart → InstanceReport
@@ -119,11 +128,14 @@ is_whole_at beginning = is_given_at beginning && is_whole_in beginning.run begin
 
 abbrev pub starts_before : Option OpenRun → Interval → Bool
 starts_before None interval = true
-starts_before (Some open_run) interval = int_lt open_run.run.interval.start.nanosecond interval.start.nanosecond
+starts_before (Some open_run) interval =
+    int_lt open_run.run.interval.start.nanosecond interval.start.nanosecond
 
 -- a run with this data interval
 abbrev pub may_begin_in : Beginning → Interval → Bool
-may_begin_in beginning interval = (is_whole_at beginning && nat_lt (run_count_of beginning) 4_096) && starts_before beginning.run interval
+may_begin_in beginning interval =
+    (is_whole_at beginning && nat_lt (run_count_of beginning) 4_096)
+    && starts_before beginning.run interval
 
 -- the task of that number has this id
 abbrev pub is_text : Option (List ℕ) → List ℕ → Bool
@@ -132,16 +144,19 @@ is_text (Some task) id = bytes_eq task id
 
 -- an id that isn't there yet
 abbrev pub is_new_in : List (List ℕ) → List ℕ → Bool
-is_new_in tasks id = (is_id_in id && nat_lt (length tasks) 2_000) && not (list_any (λ task. bytes_eq task id) tasks)
+is_new_in tasks id =
+    (is_id_in id && nat_lt (length tasks) 2_000) && not (list_any (λ task. bytes_eq task id) tasks)
 
 -- in the first run a task that isn't there yet, in the others the next one
 abbrev pub is_next_in : List RunReport → List (List ℕ) → Option OpenRun → List ℕ → Bool
 is_next_in runs tasks None id = false
 is_next_in [] tasks (Some open_run) id = is_new_in tasks id
-is_next_in (first ∷ rest) tasks (Some open_run) id = is_text (slice_get tasks (count_of open_run)) id
+is_next_in (first ∷ rest) tasks (Some open_run) id =
+    is_text (slice_get tasks (count_of open_run)) id
 
 abbrev pub is_next_at : Beginning → List ℕ → Bool
-is_next_at beginning id = is_given_at beginning && is_next_in beginning.runs beginning.tasks beginning.run id
+is_next_at beginning id =
+    is_given_at beginning && is_next_in beginning.runs beginning.tasks beginning.run id
 
 abbrev pub ids_with : List RunReport → List (List ℕ) → List ℕ → List (List ℕ)
 ids_with [] tasks id = tasks ++ id ∷ []
@@ -158,10 +173,12 @@ is_further_task (Some task) index = is_further task.before index
 
 abbrev pub goes_on_in : List (List ℕ) → Option OpenRun → List ℕ → ℕ → Bool
 goes_on_in tasks None id index = false
-goes_on_in tasks (Some open_run) id index = is_further_task open_run.task index && is_text (slice_get tasks (length open_run.run.tasks)) id
+goes_on_in tasks (Some open_run) id index =
+    is_further_task open_run.task index && is_text (slice_get tasks (length open_run.run.tasks)) id
 
 abbrev pub goes_on_at : Beginning → List ℕ → ℕ → Bool
-goes_on_at beginning id index = is_given_at beginning && goes_on_in beginning.tasks beginning.run id index
+goes_on_at beginning id index =
+    is_given_at beginning && goes_on_in beginning.tasks beginning.run id index
 
 -- a task without a try
 abbrev pub never_report : Untried → TaskReport
@@ -177,7 +194,8 @@ opened_by true result = record { before = Some []; instance = untold result }
 -- a part of what the instance that was read last was given
 abbrev pub takes_task : Version → Option OpenTask → GivenPart → Bool
 takes_task version None part = false
-takes_task version (Some task) part = takes_at version (lacks_no_item version task) task.instance part
+takes_task version (Some task) part =
+    takes_at version (lacks_no_item version task) task.instance part
 
 abbrev pub takes_in : Version → Option OpenRun → GivenPart → Bool
 takes_in version None part = false
@@ -187,49 +205,79 @@ takes_in version (Some open_run) part = takes_task version open_run.task part
 
 abbrev pub put_task : Option OpenRun → TaskReport → Option OpenRun
 put_task None task = None
-put_task (Some open_run) task = Some (record { run = record open_run.run { tasks = tasks_in open_run ++ task ∷ [] }; task = None })
+put_task (Some open_run) task =
+    Some (record {
+      run = record open_run.run { tasks = tasks_in open_run ++ task ∷ [] };
+      task = None;
+    })
 
 abbrev pub put_open : Option OpenRun → OpenTask → Option OpenRun
 put_open None task = None
 put_open (Some open_run) task = Some (record { run = closed open_run; task = Some task })
 
 abbrev pub further : OpenTask → TaskResult → OpenTask
-further task result = record { before = option_map (λ instances. instances ++ task.instance ∷ []) task.before; instance = untold result }
+further task result =
+    record {
+      before = option_map (λ instances. instances ++ task.instance ∷ []) task.before;
+      instance = untold result;
+    }
 
 abbrev pub put_further : Option OpenRun → TaskResult → Option OpenRun
 put_further None result = None
-put_further (Some open_run) result = Some (record open_run { task = option_map (λ task. further task result) open_run.task })
+put_further (Some open_run) result =
+    Some (record open_run { task = option_map (λ task. further task result) open_run.task })
 
 abbrev pub told : OpenTask → GivenPart → OpenTask
 told task part = record task { instance = with_told task.instance part }
 
 abbrev pub put_part : Option OpenRun → GivenPart → Option OpenRun
 put_part None part = None
-put_part (Some open_run) part = Some (record open_run { task = option_map (λ task. told task part) open_run.task })
+put_part (Some open_run) part =
+    Some (record open_run { task = option_map (λ task. told task part) open_run.task })
 
 abbrev pub with_run : Beginning → RunReport → Option Beginning
 with_run beginning run =
-    if may_begin_in beginning run.interval then Some (record beginning { runs = runs_of beginning; run = Some (record { run = run; task = None }) }) else None
+    if may_begin_in beginning run.interval
+    then Some (record beginning {
+      runs = runs_of beginning;
+      run = Some (record { run = run; task = None });
+    }) else None
 
 abbrev pub with_task : Beginning → List ℕ → TaskReport → Option Beginning
-with_task beginning id task = if is_next_at beginning id then Some (record beginning { tasks = ids_with beginning.runs beginning.tasks id; run = put_task beginning.run task }) else None
+with_task beginning id task =
+    if is_next_at beginning id then Some
+    (record beginning {
+      tasks = ids_with beginning.runs beginning.tasks id;
+      run = put_task beginning.run task;
+    }) else None
 
 abbrev pub with_open : Beginning → List ℕ → OpenTask → Option Beginning
-with_open beginning id task = if is_next_at beginning id then Some (record beginning { tasks = ids_with beginning.runs beginning.tasks id; run = put_open beginning.run task }) else None
+with_open beginning id task =
+    if is_next_at beginning id then Some
+    (record beginning {
+      tasks = ids_with beginning.runs beginning.tasks id;
+      run = put_open beginning.run task;
+    }) else None
 
 abbrev pub with_further : Beginning → List ℕ → ℕ → TaskResult → Option Beginning
-with_further beginning id index result = if goes_on_at beginning id index then Some (record beginning { run = put_further beginning.run result }) else None
+with_further beginning id index result =
+    if goes_on_at beginning id index
+    then Some (record beginning { run = put_further beginning.run result }) else None
 
 -- what a line tells of what the last instance was given
 abbrev pub with_part : Beginning → GivenPart → Option Beginning
-with_part beginning part = if takes_in beginning.version beginning.run part then Some (record beginning { run = put_part beginning.run part }) else None
+with_part beginning part =
+    if takes_in beginning.version beginning.run part
+    then Some (record beginning { run = put_part beginning.run part }) else None
 
 -- what a line says of a task
 unfoldable pub with_entry : Beginning → List ℕ → Entry → Option Beginning
 with_entry beginning id (Entry.Never untried) = with_task beginning id (never_report untried)
 with_entry beginning id (Entry.Tried None result) = with_open beginning id (opened_by false result)
-with_entry beginning id (Entry.Tried (Some zero) result) = with_open beginning id (opened_by true result)
-with_entry beginning id (Entry.Tried (Some (suc before)) result) = with_further beginning id (suc before) result
+with_entry beginning id (Entry.Tried (Some zero) result) =
+    with_open beginning id (opened_by true result)
+with_entry beginning id (Entry.Tried (Some (suc before)) result) =
+    with_further beginning id (suc before) result
 
 -- ---- what is known of a beginning
 

@@ -24,7 +24,8 @@ IsShownOutcome Skipped = Unit {0}
 
 -- the outcome has this state and this value
 abbrev pub SaysOutcome : List ℕ → List ℕ → Outcome → Type 0
-SaysOutcome state value outcome = IsShownOutcome outcome × (state ≡ state_word outcome) × (value ≡ value_word outcome)
+SaysOutcome state value outcome =
+    IsShownOutcome outcome × (state ≡ state_word outcome) × (value ≡ value_word outcome)
 
 abbrev pub IsTries : ℕ → Type 0
 IsTries tries = (1 ≤ tries) × (tries ≤ 101)
@@ -36,7 +37,9 @@ pub record IsShownResult (result : TaskResult) : Type 0 where
 
 -- the instance has this state, these tries and this value
 abbrev pub SaysResult : List ℕ → List ℕ → List ℕ → TaskResult → Type 0
-SaysResult state tries value result = IsShownResult result × (state ≡ state_word result.outcome) × (tries ≡ decimal result.tries) × (value ≡ value_word result.outcome)
+SaysResult state tries value result =
+    IsShownResult result × (state ≡ state_word result.outcome) × (tries ≡ decimal result.tries)
+    × (value ≡ value_word result.outcome)
 
 -- the map index: -1 of a task that isn't expanded
 abbrev pub index_text : Option ℕ → List ℕ
@@ -55,12 +58,16 @@ never_word Untried.UpstreamFailed = codes "upstream_failed"
 
 -- a task without a try has these fields
 abbrev pub SaysNever : List ℕ → List ℕ → List ℕ → List ℕ → Untried → Type 0
-SaysNever index state tries value untried = (index ≡ codes "-1") × (state ≡ never_word untried) × (tries ≡ codes "0") × (value ≡ codes "-")
+SaysNever index state tries value untried =
+    (index ≡ codes "-1") × (state ≡ never_word untried) × (tries ≡ codes "0") × (value ≡ codes "-")
 
 -- index, state, tries and value, separated by one space
 abbrev pub entry_text : Entry → List ℕ
-entry_text (Never state) = codes "-1" ++ 32 ∷ (never_word state ++ 32 ∷ (codes "0" ++ 32 ∷ codes "-"))
-entry_text (Tried index result) = index_text index ++ 32 ∷ (state_word result.outcome ++ 32 ∷ (decimal result.tries ++ 32 ∷ value_word result.outcome))
+entry_text (Never state) =
+    codes "-1" ++ 32 ∷ (never_word state ++ 32 ∷ (codes "0" ++ 32 ∷ codes "-"))
+entry_text (Tried index result) =
+    index_text index ++ 32 ∷ (state_word result.outcome ++ 32
+    ∷ (decimal result.tries ++ 32 ∷ value_word result.outcome))
 
 abbrev pub IsEntry : Entry → Type 0
 IsEntry (Never state) = Unit {0}

@@ -24,7 +24,8 @@ start head = record { version = head.0; dag_id = head.1; tasks = []; runs = []; 
 -- by so many lines the one becomes the other
 abbrev pub Leads : ℕ → Beginning → Beginning → Type 0
 Leads zero old new = old ≡ new
-Leads (suc more) old new = (text : List ℕ) × (next : Beginning) × Follows old text next × Leads more next new
+Leads (suc more) old new =
+    (text : List ℕ) × (next : Beginning) × Follows old text next × Leads more next new
 
 -- the lines that are left lead to this report
 pub record Extends (beginning : Beginning) (report : Report) : Type 0 where
@@ -36,4 +37,6 @@ pub record Extends (beginning : Beginning) (report : Report) : Type 0 where
 
 -- each report whose text begins so goes on from here
 abbrev pub IsKnown : Beginning → Type 0
-IsKnown beginning = (report : Report) (more : List ℕ) → IsShownReport report → report_text report ≡ opening_text (so_far beginning) ++ more → Extends beginning report
+IsKnown beginning =
+    (report : Report) (more : List ℕ) → IsShownReport report → report_text report
+    ≡ opening_text (so_far beginning) ++ more → Extends beginning report

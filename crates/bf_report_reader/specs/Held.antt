@@ -31,17 +31,20 @@ ahead held left = prepend_known (held_bytes held) left
 
 -- since there were `base` interruptions and `failed` failures it was interrupted that often, and didn't fail
 abbrev pub IsTallied : ℕ → ℕ → ℕ → ℕ → ℕ → Type 0
-IsTallied base failed count interruptions failures = WentOn count base interruptions × WentOn 0 failed failures
+IsTallied base failed count interruptions failures =
+    WentOn count base interruptions × WentOn 0 failed failures
 
 -- what was tallied before is tallied still
 abbrev pub Tallies : ℕ → ℕ → ℕ → ℕ → ℕ → ℕ → Type 0
 Tallies count interruptions failures count' interruptions' failures' =
-    (base failed : ℕ) → IsTallied base failed count interruptions failures → IsTallied base failed count' interruptions' failures'
+    (base failed : ℕ) → IsTallied base failed count interruptions failures
+    → IsTallied base failed count' interruptions' failures'
 
 -- what was tallied before has become too much
 abbrev pub Breaks : ℕ → ℕ → ℕ → ℕ → ℕ → Type 0
 Breaks count interruptions failures interruptions' failures' =
-    (base failed : ℕ) → IsTallied base failed count interruptions failures → HasHalted failed failures' base interruptions'
+    (base failed : ℕ) → IsTallied base failed count interruptions failures
+    → HasHalted failed failures' base interruptions'
 
 -- a line has come on by a piece of the bytes to come, which has all that the line may have and one more at most; where the
 -- line ended, its line feed was let go of, and else the piece has some

@@ -32,4 +32,5 @@ further_task result TaskReport.NoStatus = TaskReport.NoStatus
 further_task result TaskReport.Skipped = TaskReport.Skipped
 further_task result TaskReport.UpstreamFailed = TaskReport.UpstreamFailed
 further_task result (TaskReport.Ran instance) = TaskReport.Ran instance
-further_task result (TaskReport.Mapped instances) = TaskReport.Mapped (instances ++ untold result ∷ [])
+further_task result (TaskReport.Mapped instances) =
+    TaskReport.Mapped (instances ++ untold result ∷ [])

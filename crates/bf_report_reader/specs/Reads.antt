@@ -16,4 +16,6 @@ Finds {X} Holds found = (thing : X) → Holds thing → found ≡ Some thing
 
 -- four fields, separated by one space
 abbrev pub AreFields : List ℕ → List ℕ → List ℕ → List ℕ → List ℕ → Type 0
-AreFields text index state tries value = IsWord index × IsWord state × IsWord tries × (text ≡ index ++ 32 ∷ (state ++ 32 ∷ (tries ++ 32 ∷ value)))
+AreFields text index state tries value =
+    IsWord index × IsWord state × IsWord tries
+    × (text ≡ index ++ 32 ∷ (state ++ 32 ∷ (tries ++ 32 ∷ value)))

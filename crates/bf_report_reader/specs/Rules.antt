@@ -30,7 +30,8 @@ pub record AreToldPulls (version : Version) (pulls : List Pull) : Type 0 where
   pub each : AllByRecursion IsToldPull pulls
 
 -- in version 2 an instance has an item exactly where its task is expanded, and in version 1 none
-pub record IsShownInstance (version : Version) (expanded : Bool) (instance : InstanceReport) : Type 0 where
+pub record IsShownInstance (version : Version) (expanded : Bool)
+    (instance : InstanceReport) : Type 0 where
   pub result : IsShownResult instance.result
   pub item : MayHaveItem (tells_item version expanded) instance.item
   pub complete : has_item (tells_item version expanded) instance.item ≡ true
@@ -42,7 +43,9 @@ IsShownTask version TaskReport.NoStatus = Unit {0}
 IsShownTask version TaskReport.Skipped = Unit {0}
 IsShownTask version TaskReport.UpstreamFailed = Unit {0}
 IsShownTask version (TaskReport.Ran instance) = IsShownInstance version false instance
-IsShownTask version (TaskReport.Mapped instances) = (1 ≤ length instances) × (length instances ≤ 1_024) × AllByRecursion (IsShownInstance version true) instances
+IsShownTask version (TaskReport.Mapped instances) =
+    (1 ≤ length instances) × (length instances ≤ 1_024)
+    × AllByRecursion (IsShownInstance version true) instances
 
 -- a run of so many tasks
 pub record IsShownRun (version : Version) (tasks : ℕ) (run : RunReport) : Type 0 where
@@ -54,7 +57,8 @@ pub record IsShownRun (version : Version) (tasks : ℕ) (run : RunReport) : Type
 abbrev pub Rise : List RunReport → Type 0
 Rise [] = Unit {0}
 Rise (first ∷ []) = Unit {0}
-Rise (first ∷ second ∷ rest) = (first.interval.start.nanosecond <ℤ second.interval.start.nanosecond) × Rise (second ∷ rest)
+Rise (first ∷ second ∷ rest) =
+    (first.interval.start.nanosecond <ℤ second.interval.start.nanosecond) × Rise (second ∷ rest)
 
 -- a report that can be read back; its text has no ids where it has no run
 pub record IsShownReport (report : Report) : Type 0 where
@@ -72,10 +76,12 @@ pub record IsShownReport (report : Report) : Type 0 where
 -- the instances before the one that was read last
 abbrev pub AreShownBefore : Version → Option (List InstanceReport) → Type 0
 AreShownBefore version None = Unit {0}
-AreShownBefore version (Some instances) = (length instances < 1_024) × AllByRecursion (IsShownInstance version true) instances
+AreShownBefore version (Some instances) =
+    (length instances < 1_024) × AllByRecursion (IsShownInstance version true) instances
 
 -- the instance that was read last, which has no pulls before its item
-pub record IsOpenInstance (version : Version) (expanded : Bool) (instance : InstanceReport) : Type 0 where
+pub record IsOpenInstance (version : Version) (expanded : Bool)
+    (instance : InstanceReport) : Type 0 where
   pub result : IsShownResult instance.result
   pub item : MayHaveItem (tells_item version expanded) instance.item
   pub pulls : AreToldPulls version instance.pulls
@@ -83,12 +89,15 @@ pub record IsOpenInstance (version : Version) (expanded : Bool) (instance : Inst
 
 abbrev pub IsOpenTask : Version → Option OpenTask → Type 0
 IsOpenTask version None = Unit {0}
-IsOpenTask version (Some task) = AreShownBefore version task.before × IsOpenInstance version (is_some task.before) task.instance
+IsOpenTask version (Some task) =
+    AreShownBefore version task.before × IsOpenInstance version (is_some task.before) task.instance
 
 -- the run whose tasks are read
 abbrev pub IsOpenRun : Version → Option OpenRun → Type 0
 IsOpenRun version None = Unit {0}
-IsOpenRun version (Some open_run) = IsRunInterval open_run.run.interval × AllByRecursion (IsShownTask version) open_run.run.tasks × IsOpenTask version open_run.task
+IsOpenRun version (Some open_run) =
+    IsRunInterval open_run.run.interval × AllByRecursion (IsShownTask version) open_run.run.tasks
+    × IsOpenTask version open_run.task
 
 pub record IsRuled (beginning : Beginning) : Type 0 where
   pub dag_id : is_id_in beginning.dag_id ≡ true

@@ -26,7 +26,9 @@ pub record IsRunInterval (interval : Interval) : Type 0 where
 
 -- start, end and state, separated by one space
 abbrev pub run_words : Interval × RunState → List ℕ
-run_words words = moment_text words.0.start.nanosecond ++ 32 ∷ (moment_text words.0.end.nanosecond ++ 32 ∷ run_state_word_of words.1)
+run_words words =
+    moment_text words.0.start.nanosecond ++ 32
+    ∷ (moment_text words.0.end.nanosecond ++ 32 ∷ run_state_word_of words.1)
 
 abbrev pub IsRunWords : Interval × RunState → Type 0
 IsRunWords words = IsRunInterval words.0

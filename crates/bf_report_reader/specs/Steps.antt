@@ -41,7 +41,9 @@ Follows old text new = AddsEntry old text new ⊎ (AddsRun old text new ⊎ Adds
 
 -- the line is the end of the report
 abbrev pub MayEnd : Beginning → List ℕ → Type 0
-MayEnd beginning text = (text ≡ codes "@end" ++ 32 ∷ decimal (length (runs_of beginning))) × (is_whole_at beginning ≡ true)
+MayEnd beginning text =
+    (text ≡ codes "@end" ++ 32 ∷ decimal (length (runs_of beginning)))
+    × (is_whole_at beginning ≡ true)
 
 -- the line may stand next
 abbrev pub MayStand : Beginning → List ℕ → Type 0
@@ -66,7 +68,9 @@ Steps Step.Refused old text new = ¬ (MayStand old text)
 abbrev pub EntrySteps : Step → Beginning → List ℕ → List ℕ → Beginning → Type 0
 EntrySteps Step.Taken old id text new = IsNext old (id ++ 32 ∷ text) new
 EntrySteps Step.End old id text new = ⊥
-EntrySteps Step.Refused old id text new = (entry : Entry) (other : Beginning) → IsEntry entry → text ≡ entry_text entry → ¬ (with_entry old id entry ≡ Some other)
+EntrySteps Step.Refused old id text new =
+    (entry : Entry) (other : Beginning) → IsEntry entry → text ≡ entry_text entry
+    → ¬ (with_entry old id entry ≡ Some other)
 
 -- the report may end by this number of runs
 abbrev pub EndsBy : Step → Beginning → List ℕ → Type 0

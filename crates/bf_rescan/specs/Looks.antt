@@ -24,14 +24,20 @@ IsTryBefore run task name = (name.run < run) ⊎ ((name.run ≡ run) × (name.ta
 
 -- of these tries the first that may begin
 abbrev pub IsBest : Backfill → (JobName → Type 0) → Option JobName → Type 0
-IsBest backfill These None = (other : JobName) → These other → ¬ (MayCome backfill (Event.Begin other))
-IsBest backfill These (Some name) = These name × MayCome backfill (Event.Begin name) × ((other : JobName) → These other → MayCome backfill (Event.Begin other) → IsPreferred backfill.dag backfill.limits name other)
+IsBest backfill These None =
+    (other : JobName) → These other → ¬ (MayCome backfill (Event.Begin other))
+IsBest backfill These (Some name) =
+    These name × MayCome backfill (Event.Begin name)
+    × ((other : JobName) → These other → MayCome backfill (Event.Begin other)
+    → IsPreferred backfill.dag backfill.limits name other)
 
 -- the second where it weighs more, else the first
 abbrev pub better_of : List ℕ → Option JobName → Option JobName → Option JobName
 better_of weights None found = found
 better_of weights (Some best) None = Some best
-better_of weights (Some best) (Some other) = if nat_lt (slice_index weights best.task) (slice_index weights other.task) then Some other else Some best
+better_of weights (Some best) (Some other) =
+    if nat_lt (slice_index weights best.task) (slice_index weights other.task) then Some other
+    else Some best
 
 -- a try of these waits for the moment, and none of these for an earlier one that is still to come
 pub record IsLeast (backfill : Backfill) (These : JobName → Type 0) (moment : ℤ) : Type 0 where
@@ -39,7 +45,8 @@ pub record IsLeast (backfill : Backfill) (These : JobName → Type 0) (moment : 
   pub is_one : These name
   pub waits : WaitsLater backfill name
   pub is_moment : waits.moment ≡ moment
-  pub least : (other : JobName) → These other → (later : WaitsLater backfill other) → moment ≤ℤ later.moment
+  pub least : (other : JobName) → These other → (later : WaitsLater backfill other)
+      → moment ≤ℤ later.moment
 
 -- the least of the later moments for which these tries wait
 abbrev pub IsSoonest : Backfill → (JobName → Type 0) → Option ℤ → Type 0

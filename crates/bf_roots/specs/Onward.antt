@@ -25,7 +25,9 @@ is_tried_in told = false
 
 -- of a task that ran: an instance failed, or else one exited with 99
 abbrev pub ended_as_in : List TaskReport → ℕ → Option Began
-ended_as_in tasks task = if has_of tasks failures task then Some Began.Failed else (if has_of tasks skips task then Some Began.Exited else None)
+ended_as_in tasks task =
+    if has_of tasks failures task then Some Began.Failed
+    else (if has_of tasks skips task then Some Began.Exited else None)
 
 abbrev pub began_if_tried : List TaskReport → ℕ → Option TaskReport → Option Began
 began_if_tried tasks task None = None
@@ -61,15 +63,21 @@ alone_of None = []
 alone_of (Some task) = task ∷ []
 
 abbrev pub skipped_among : List TaskReport → Task → List ℕ
-skipped_among tasks task = if skips_for_skipped_in task.rule then filter (has_of tasks skips) task.upstreams else []
+skipped_among tasks task =
+    if skips_for_skipped_in task.rule then filter (has_of tasks skips) task.upstreams else []
 
 -- the tasks that made it so, by the cause
 abbrev pub next_tasks_of : Dag → List TaskReport → ℕ → StateCause → List ℕ
 next_tasks_of dag tasks task StateCause.NotFollowed =
-    filter (λ u. branch_is dag (branch_skips dag task u) u (Some (value_among tasks u))) (task_of dag task).upstreams
-next_tasks_of dag tasks task StateCause.BranchIsBlocked = filter (λ u. branch_is dag is_blocked_in u (Some (value_among tasks u))) (task_of dag task).upstreams
-next_tasks_of dag tasks task StateCause.UpstreamIsBlocked = filter (λ u. is_blocked_in (value_among tasks u)) (task_of dag task).upstreams
-next_tasks_of dag tasks task StateCause.RuleFails = filter (has_of tasks failures) (task_of dag task).upstreams
+    filter (λ u. branch_is dag (branch_skips dag task u) u (Some (value_among tasks u)))
+    (task_of dag task).upstreams
+next_tasks_of dag tasks task StateCause.BranchIsBlocked =
+    filter (λ u. branch_is dag is_blocked_in u (Some (value_among tasks u)))
+    (task_of dag task).upstreams
+next_tasks_of dag tasks task StateCause.UpstreamIsBlocked =
+    filter (λ u. is_blocked_in (value_among tasks u)) (task_of dag task).upstreams
+next_tasks_of dag tasks task StateCause.RuleFails =
+    filter (has_of tasks failures) (task_of dag task).upstreams
 next_tasks_of dag tasks task StateCause.RuleSkips = skipped_among tasks (task_of dag task)
 next_tasks_of dag tasks task StateCause.PastHasNotPassed = task ∷ []
 next_tasks_of dag tasks task StateCause.ItemsAreMissing = alone_of (task_of dag task).expand
@@ -88,26 +96,35 @@ ends_with_in StateCause.HasNoItems = Some Began.PushedNoItems
 ends_with_in cause = None
 
 abbrev pub step_by : ℕ → StateCause → ℕ → WalkStep
-step_by run cause task = record { run = next_run_of run cause; task = task; began = ends_with_in cause }
+step_by run cause task =
+    record { run = next_run_of run cause; task = task; began = ends_with_in cause }
 
 abbrev pub cause_among : Dag → List TaskReport → List TaskReport → ℕ → ℕ → StateCause
-cause_among dag tasks before run task = cause_of (reason dag run (seen_among tasks) (before_among before run task) task)
+cause_among dag tasks before run task =
+    cause_of (reason dag run (seen_among tasks) (before_among before run task) task)
 
 -- it ends at a task that ran, and at one of which the report has what the graph doesn't decide
 abbrev pub goes_on_in : Bool → StateCause → TaskReport → Bool
-goes_on_in expanded cause told = not (is_tried_in told) && not (is_ascii_digit (letter_for expanded cause told))
+goes_on_in expanded cause told =
+    not (is_tried_in told) && not (is_ascii_digit (letter_for expanded cause told))
 
 abbrev pub onward_of : Dag → List TaskReport → ℕ → ℕ → StateCause → TaskReport → List WalkStep
 onward_of dag tasks run task cause told =
-    if goes_on_in (is_some (task_of dag task).expand) cause told then map (step_by run cause) (next_tasks_of dag tasks task cause) else []
+    if goes_on_in (is_some (task_of dag task).expand) cause told
+    then map (step_by run cause) (next_tasks_of dag tasks task cause) else []
 
-abbrev pub onward_if_told : Dag → List TaskReport → List TaskReport → ℕ → ℕ → Option TaskReport → List WalkStep
+abbrev pub onward_if_told : Dag → List TaskReport → List TaskReport → ℕ → ℕ → Option TaskReport
+    → List WalkStep
 onward_if_told dag tasks before run task None = []
-onward_if_told dag tasks before run task (Some told) = onward_of dag tasks run task (cause_among dag tasks before run task) told
+onward_if_told dag tasks before run task (Some told) =
+    onward_of dag tasks run task (cause_among dag tasks before run task) told
 
 -- by the tasks of the run, and of the run before
 abbrev pub onward_among : Dag → List TaskReport → List TaskReport → WalkStep → List WalkStep
-onward_among dag tasks before step = if is_none step.began then onward_if_told dag tasks before step.run step.task (slice_get tasks step.task) else []
+onward_among dag tasks before step =
+    if is_none step.began then onward_if_told dag tasks before step.run step.task
+    (slice_get tasks step.task) else []
 
 abbrev pub onward : Dag → Report → WalkStep → List WalkStep
-onward dag report step = onward_among dag (tasks_in report step.run) (tasks_before report step.run) step
+onward dag report step =
+    onward_among dag (tasks_in report step.run) (tasks_before report step.run) step

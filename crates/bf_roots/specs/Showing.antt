@@ -16,7 +16,8 @@ pub record IsShowing (report : Report) (window : Window) : Type 0 where
   pub before : window.before.items ≡ tasks_before report window.run
 
 -- a place where it hasn't been is looked at, by the tasks of its run and of the run before
-pub record LooksAt (dag : Dag) (tasks before : List TaskReport) (step : WalkStep) (old new : Trail) : Type 0 where
+pub record LooksAt (dag : Dag) (tasks before : List TaskReport) (step : WalkStep)
+    (old new : Trail) : Type 0 where
   pub seen : new.seen.items ≡ with_seen old.seen.items step.run step.task
   pub left : reverse new.left.items ≡ onward_among dag tasks before step ++ reverse old.left.items
   pub few : length new.left.items ≤ length old.left.items + 20_000

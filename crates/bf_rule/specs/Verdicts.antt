@@ -9,7 +9,15 @@ use Rattle.bf_rule.specs.declared.rule.Verdict.TheVariants.{Wait, Run, Skip, Ups
 -- ---- counts
 
 abbrev pub none_counted : Counts
-none_counted = record { success = 0; failed = 0; upstream_failed = 0; skipped = 0; blocked = 0; unfinished = 0 }
+none_counted =
+    record {
+      success = 0;
+      failed = 0;
+      upstream_failed = 0;
+      skipped = 0;
+      blocked = 0;
+      unfinished = 0;
+    }
 
 -- the counts of two groups of instances together
 abbrev pub add : Counts → Counts → Counts
@@ -52,15 +60,21 @@ fires_in _ counts = false
 
 -- the table of the rules, over upstreams that have all finished
 abbrev pub table_of : Rule → Counts → Verdict
-table_of AllSuccess counts = if nat_lt 0 (failures_of counts) then UpstreamFailed else (if nat_lt 0 counts.skipped then Skip else Run)
+table_of AllSuccess counts =
+    if nat_lt 0 (failures_of counts) then UpstreamFailed
+    else (if nat_lt 0 counts.skipped then Skip else Run)
 table_of AllFailed counts = if failures_of counts == finished_of counts then Run else Skip
 table_of AllSkipped counts = if counts.skipped == finished_of counts then Run else Skip
 table_of AllDone counts = Run
-table_of OneSuccess counts = if nat_lt 0 counts.success then Run else (if counts.skipped == finished_of counts then Skip else UpstreamFailed)
+table_of OneSuccess counts =
+    if nat_lt 0 counts.success then Run
+    else (if counts.skipped == finished_of counts then Skip else UpstreamFailed)
 table_of OneFailed counts = if nat_lt 0 (failures_of counts) then Run else Skip
 table_of OneDone counts = if nat_lt 0 (counts.success + counts.failed) then Run else Skip
 table_of NoneFailed counts = if nat_lt 0 (failures_of counts) then UpstreamFailed else Run
-table_of NoneFailedMinOneSuccess counts = if nat_lt 0 (failures_of counts) then UpstreamFailed else (if nat_lt 0 counts.success then Run else Skip)
+table_of NoneFailedMinOneSuccess counts =
+    if nat_lt 0 (failures_of counts) then UpstreamFailed
+    else (if nat_lt 0 counts.success then Run else Skip)
 table_of NoneSkipped counts = if nat_lt 0 counts.skipped then Skip else Run
 table_of Always counts = Run
 

@@ -32,7 +32,9 @@ pub record HasStepped (old new : Schedule) : Type 0 where
 
 -- the ticket of a try that begins has its name, and what its instance is given
 abbrev pub IsTicketOf : Backfill → JobName → Asked → Type 0
-IsTicketOf backfill name ticket = (ticket.name ≡ name) × (ticket.given ≡ given_in (cell_at backfill.state name.run name.task) (place_in backfill.dag name))
+IsTicketOf backfill name ticket =
+    (ticket.name ≡ name) × (ticket.given
+    ≡ given_in (cell_at backfill.state name.run name.task) (place_in backfill.dag name))
 
 -- no step may come; the first try has begun, and this is its ticket
 pub record HasBegun (old : Schedule) (ticket : Asked) (new : Schedule) : Type 0 where
@@ -65,12 +67,14 @@ IsNext old Next.Ended new = HasEnded old.backfill.state × (new ≡ old)
 
 -- the clock has come to the moment, where it may; else all is as it was
 abbrev pub HasComeTo : Backfill → ℤ → Bool → Backfill → Type 0
-HasComeTo old moment true new = MayCome old (Event.Tick moment) × (new ≡ moved old (Event.Tick moment))
+HasComeTo old moment true new =
+    MayCome old (Event.Tick moment) × (new ≡ moved old (Event.Tick moment))
 HasComeTo old moment false new = ¬ (MayCome old (Event.Tick moment)) × (new ≡ old)
 
 -- so it is with the backfill, and the workers are as many
 abbrev pub HasTicked : Schedule → ℤ → Bool → Schedule → Type 0
-HasTicked old moment came new = HasComeTo old.backfill moment came new.backfill × (new.workers ≡ old.workers)
+HasTicked old moment came new =
+    HasComeTo old.backfill moment came new.backfill × (new.workers ≡ old.workers)
 
 -- ---- answers
 
@@ -80,7 +84,10 @@ end_of backfill done = Event.End done.name (grade_of backfill.dag done.name.task
 
 -- where the try runs, its answer has what was given to it
 abbrev pub IsSameGiven : Backfill → Answered → Type 0
-IsSameGiven backfill done = IsPresent backfill.dag backfill.state done.name Phase.Running → given_in (cell_at backfill.state done.name.run done.name.task) (place_in backfill.dag done.name) ≡ done.given
+IsSameGiven backfill done =
+    IsPresent backfill.dag backfill.state done.name Phase.Running
+    → given_in (cell_at backfill.state done.name.run done.name.task)
+    (place_in backfill.dag done.name) ≡ done.given
 
 -- the try runs, and its answer has what was given to it
 abbrev pub MayFinish : Backfill → Answered → Type 0
@@ -88,13 +95,16 @@ MayFinish backfill done = MayCome backfill (end_of backfill done) × IsSameGiven
 
 -- the try has ended with the grade of its answer
 abbrev pub HasFinished : Schedule → Answered → Schedule → Type 0
-HasFinished old done new = MayFinish old.backfill done × (new ≡ moved_on old (end_of old.backfill done))
+HasFinished old done new =
+    MayFinish old.backfill done × (new ≡ moved_on old (end_of old.backfill done))
 
 -- an answer is refused as the end of its try is; or it is a stranger, for what was given to its try is another
 abbrev pub IsRefused : Backfill → Answered → Illegal → Type 0
 IsRefused backfill done fault =
     IsRefusal backfill (end_of backfill done) fault
-    ⊎ ((fault ≡ Illegal.Stranger) × IsPresent backfill.dag backfill.state done.name Phase.Running × (given_in (cell_at backfill.state done.name.run done.name.task) (place_in backfill.dag done.name) ≢ done.given))
+    ⊎ ((fault ≡ Illegal.Stranger) × IsPresent backfill.dag backfill.state done.name Phase.Running
+    × (given_in (cell_at backfill.state done.name.run done.name.task)
+    (place_in backfill.dag done.name) ≢ done.given))
 
 -- ---- what a scheduler keeps
 

@@ -45,16 +45,20 @@ Means text t = (n : ℤ) × (Spells text n × (t.nanosecond ≡ nearest n))
 
 -- a map index, as reports show it: a number, or -1
 abbrev pub SpellsIndex : List ℕ → ℤ → Type 0
-SpellsIndex text index = ((text ≡ codes "-1") × (index ≡ negsuc 0)) ⊎ ((n : ℕ) × (n < 2_147_483_648) × (text ≡ decimal n) × (index ≡ pos n))
+SpellsIndex text index =
+    ((text ≡ codes "-1") × (index ≡ negsuc 0))
+    ⊎ ((n : ℕ) × (n < 2_147_483_648) × (text ≡ decimal n) × (index ≡ pos n))
 
 -- a task, or a task and a map index behind a space
 abbrev pub SpellsTask : List ℕ → Option (List ℕ × List ℕ) → List ℕ → Option ℤ → Type 0
 SpellsTask text None task index = (task ≡ text) × (0 < length text) × (index ≡ None)
-SpellsTask text (Some (first, rest)) task index = (task ≡ first) × (0 < length first) × ((i : ℤ) × (index ≡ Some i) × SpellsIndex rest i)
+SpellsTask text (Some (first, rest)) task index =
+    (task ≡ first) × (0 < length first) × ((i : ℤ) × (index ≡ Some i) × SpellsIndex rest i)
 
 abbrev pub SpellsParts : Option (List ℕ × List ℕ) → Seed → Type 0
 SpellsParts None seed = ⊥
-SpellsParts (Some (run, rest)) seed = Means run seed.run × SpellsTask rest (cut_of rest) seed.task seed.index
+SpellsParts (Some (run, rest)) seed =
+    Means run seed.run × SpellsTask rest (cut_of rest) seed.task seed.index
 
 -- the line is a moment and a task, and maybe a map index, with one space between them
 abbrev pub SpellsSeed : List ℕ → Seed → Type 0
@@ -71,12 +75,14 @@ lines_in text = filter is_filled (lines text)
 
 -- the line is of this seed, whose task and run are known
 abbrev pub IsSeedOf : Dag → List Interval → List ℕ → Seed → Type 0
-IsSeedOf dag intervals line seed = SpellsSeed line seed × (seed_fault dag intervals (seed ∷ []) ≡ None)
+IsSeedOf dag intervals line seed =
+    SpellsSeed line seed × (seed_fault dag intervals (seed ∷ []) ≡ None)
 
 -- line by line
 abbrev pub AreSeeds : Dag → List Interval → List (List ℕ) → List Seed → Type 0
 AreSeeds dag intervals [] [] = Unit {0}
-AreSeeds dag intervals (line ∷ lines) (seed ∷ seeds) = IsSeedOf dag intervals line seed × AreSeeds dag intervals lines seeds
+AreSeeds dag intervals (line ∷ lines) (seed ∷ seeds) =
+    IsSeedOf dag intervals line seed × AreSeeds dag intervals lines seeds
 AreSeeds dag intervals _ _ = ⊥
 
 -- why a seed is refused: its task is unknown, and else its run
@@ -89,12 +95,15 @@ IsFaultOfSeed dag intervals seed OutOfMemory = Unit {0}
 -- why a line is refused: it is of no seed, and else its seed is
 abbrev pub IsFaultOfLine : Dag → List Interval → List ℕ → SeedsFault → Type 0
 IsFaultOfLine dag intervals line BadFile = ⊥
-IsFaultOfLine dag intervals line (BadSeed bad) = (bad ≡ line) × ((seed : Seed) → SpellsSeed line seed → ⊥)
-IsFaultOfLine dag intervals line (Unknown fault) = (seed : Seed) × SpellsSeed line seed × (seed_fault dag intervals (seed ∷ []) ≡ Some fault)
+IsFaultOfLine dag intervals line (BadSeed bad) =
+    (bad ≡ line) × ((seed : Seed) → SpellsSeed line seed → ⊥)
+IsFaultOfLine dag intervals line (Unknown fault) =
+    (seed : Seed) × SpellsSeed line seed × (seed_fault dag intervals (seed ∷ []) ≡ Some fault)
 IsFaultOfLine dag intervals line OutOfMemory = Unit {0}
 
 -- the first of the lines that isn't of a seed that is known
-pub record IsEarliest (dag : Dag) (intervals : List Interval) (lines : List (List ℕ)) (fault : SeedsFault) : Type 0 where
+pub record IsEarliest (dag : Dag) (intervals : List Interval) (lines : List (List ℕ))
+    (fault : SeedsFault) : Type 0 where
   pub before : List (List ℕ)
   pub line : List ℕ
   pub behind : List (List ℕ)
@@ -116,10 +125,12 @@ IsSeedsText bytes = (length bytes ≤ 8_388_608) × IsUtf8 bytes
 
 -- the bytes say these seeds, line by line
 abbrev pub AreSeedsOfFile : Dag → List Interval → List ℕ → List Seed → Type 0
-AreSeedsOfFile dag intervals bytes seeds = IsSeedsText bytes × AreSeeds dag intervals (lines_in bytes) seeds
+AreSeedsOfFile dag intervals bytes seeds =
+    IsSeedsText bytes × AreSeeds dag intervals (lines_in bytes) seeds
 
 -- why the bytes are refused: as a whole, or for their first line that is of no seed that is known
 abbrev pub IsFaultOfFile : Dag → List Interval → List ℕ → SeedsFault → Type 0
 IsFaultOfFile dag intervals bytes BadFile = ¬ (IsSeedsText bytes)
 IsFaultOfFile dag intervals bytes OutOfMemory = Unit {0}
-IsFaultOfFile dag intervals bytes fault = IsSeedsText bytes × IsEarliest dag intervals (lines_in bytes) fault
+IsFaultOfFile dag intervals bytes fault =
+    IsSeedsText bytes × IsEarliest dag intervals (lines_in bytes) fault

@@ -44,7 +44,8 @@ pull_members (pull ∷ pulls) = member pull.task (pulled_data pull.value) (pull_
 -- the same as one member, where it pulled at all
 abbrev pub pulls_members : List Pull → Members
 pulls_members [] = no_members
-pulls_members (pull ∷ pulls) = member (codes "pulls") (object (pull_members (pull ∷ pulls))) no_members
+pulls_members (pull ∷ pulls) =
+    member (codes "pulls") (object (pull_members (pull ∷ pulls))) no_members
 
 -- how an instance ended, its tries, what it pushed, and what it was given
 abbrev pub ended_members : InstanceReport → Members
@@ -56,22 +57,30 @@ ended_members instance =
 
 -- an instance of a task in a run, with its map index
 abbrev pub instance_members : RunReport → List ℕ → Num → InstanceReport → Members
-instance_members run id index instance = run_members run (member (codes "task") (string id) (member (codes "index") (number index) (ended_members instance)))
+instance_members run id index instance =
+    run_members run (member (codes "task") (string id)
+    (member (codes "index") (number index) (ended_members instance)))
 
 -- a task that was decided without a try
 abbrev pub untried_members : RunReport → List ℕ → List ℕ → Members
-untried_members run id state = run_members run (member (codes "task") (string id) (member (codes "state") (string state) no_members))
+untried_members run id state =
+    run_members run (member (codes "task") (string id)
+    (member (codes "state") (string state) no_members))
 
 -- the instances of an expanded task, by map index from 0
 abbrev pub mapped_lines : RunReport → List ℕ → List InstanceReport → List ℕ
-mapped_lines run id instances = flat_map (λ pair. line (instance_members run id (unsigned pair.0) pair.1)) (enumerate_from 0 instances)
+mapped_lines run id instances =
+    flat_map (λ pair. line (instance_members run id (unsigned pair.0) pair.1))
+    (enumerate_from 0 instances)
 
 -- a task in a run; one that isn't expanded has the map index -1
 abbrev pub task_lines : RunReport → List ℕ → TaskReport → List ℕ
 task_lines run id TaskReport.NoStatus = line (untried_members run id (codes "no_status"))
 task_lines run id TaskReport.Skipped = line (untried_members run id (codes "skipped"))
-task_lines run id TaskReport.UpstreamFailed = line (untried_members run id (codes "upstream_failed"))
-task_lines run id (TaskReport.Ran instance) = line (instance_members run id (negative (negsuc 0)) instance)
+task_lines run id TaskReport.UpstreamFailed =
+    line (untried_members run id (codes "upstream_failed"))
+task_lines run id (TaskReport.Ran instance) =
+    line (instance_members run id (negative (negsuc 0)) instance)
 task_lines run id (TaskReport.Mapped instances) = mapped_lines run id instances
 
 -- these tasks of a run, each under its id

@@ -18,7 +18,10 @@ earlier_of None b = b
 
 -- the order of patterns: by task, date, index and try number
 abbrev pub pattern_cmp : Pattern → Pattern → Ordering
-pattern_cmp = then_cmp (on (λ p. p.task) (option_cmp nat_cmp)) (then_cmp (on (λ p. p.date) (option_cmp (slice_cmp nat_cmp))) (then_cmp (on (λ p. p.index) (option_cmp int_cmp)) (on (λ p. p.attempt) (option_cmp int_cmp))))
+pattern_cmp =
+    then_cmp (on (λ p. p.task) (option_cmp nat_cmp))
+    (then_cmp (on (λ p. p.date) (option_cmp (slice_cmp nat_cmp)))
+    (then_cmp (on (λ p. p.index) (option_cmp int_cmp)) (on (λ p. p.attempt) (option_cmp int_cmp))))
 
 -- the number of the task that is named; none where no task has the id
 abbrev pub number_named : List (List ℕ) → Option (List ℕ) → Option (Option ℕ)
@@ -32,7 +35,13 @@ date_named (Some named) = if length named == 20 then Some (Some named) else None
 
 -- what an entry names
 abbrev pub pattern_in : List (List ℕ) → TableEntry → Option Pattern
-pattern_in ids e = option_and_then (λ task. option_map (λ date. record { task = task; date = date; index = e.index; attempt = e.attempt }) (date_named e.run)) (number_named ids e.task)
+pattern_in ids e =
+    option_and_then (λ task. option_map (λ date. record {
+      task = task;
+      date = date;
+      index = e.index;
+      attempt = e.attempt;
+    }) (date_named e.run)) (number_named ids e.task)
 
 abbrev pub is_pattern : Pattern → Option Pattern → Bool
 is_pattern key None = false
@@ -44,7 +53,8 @@ first_of_key ids entries key = position (λ e. is_pattern key (pattern_in ids e)
 
 -- each pattern has its first entry
 abbrev pub IsIndexOf : List (List ℕ) → List TableEntry → tree.BTreeMap Pattern ℕ → Type 0
-IsIndexOf ids entries firsts = (key : Pattern) → tree.get pattern_cmp firsts key ≡ first_of_key ids entries key
+IsIndexOf ids entries firsts =
+    (key : Pattern) → tree.get pattern_cmp firsts key ≡ first_of_key ids entries key
 
 -- the earliest of what is found for these keys
 abbrev pub first_of_keys : (Pattern → Option ℕ) → List Pattern → Option ℕ
@@ -53,14 +63,23 @@ first_of_keys get (key ∷ keys) = earlier_of (get key) (first_of_keys get keys)
 
 -- what a try has of all that an entry may name
 abbrev pub pattern_of_try : ℕ → List ℕ → JobName → Pattern
-pattern_of_try task date name = record { task = Some task; date = Some date; index = Some name.index; attempt = Some (pos name.attempt) }
+pattern_of_try task date name =
+    record {
+      task = Some task;
+      date = Some date;
+      index = Some name.index;
+      attempt = Some (pos name.attempt);
+    }
 
 -- the patterns of the entries that answer for a try: of each that the try has, an entry names it or names none
 abbrev pub keys_with_index : Pattern → Option ℕ → Option (List ℕ) → Option ℤ → List Pattern
-keys_with_index asked task date index = record { task = task; date = date; index = index; attempt = None } ∷ record { task = task; date = date; index = index; attempt = asked.attempt } ∷ []
+keys_with_index asked task date index =
+    record { task = task; date = date; index = index; attempt = None }
+    ∷ record { task = task; date = date; index = index; attempt = asked.attempt } ∷ []
 
 abbrev pub keys_with_date : Pattern → Option ℕ → Option (List ℕ) → List Pattern
-keys_with_date asked task date = keys_with_index asked task date None ++ keys_with_index asked task date asked.index
+keys_with_date asked task date =
+    keys_with_index asked task date None ++ keys_with_index asked task date asked.index
 
 abbrev pub keys_with_task : Pattern → Option ℕ → List Pattern
 keys_with_task asked task = keys_with_date asked task None ++ keys_with_date asked task asked.date

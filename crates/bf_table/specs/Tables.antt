@@ -23,7 +23,9 @@ use Rattle.bf_table.specs.declared.table.TableFault.TheVariants.{BadTable, OutOf
 -- ---- an entry
 
 abbrev pub is_key_in : List ℕ → Bool
-is_key_in k = list_any (bytes_eq k) (codes "task" ∷ codes "index" ∷ codes "run" ∷ codes "try" ∷ codes "status" ∷ codes "out" ∷ [])
+is_key_in k =
+    list_any (bytes_eq k) (codes "task" ∷ codes "index" ∷ codes "run" ∷ codes "try" ∷ codes "status"
+    ∷ codes "out" ∷ [])
 
 abbrev pub has_known_keys_in : Members → Bool
 has_known_keys_in no_members = true
@@ -77,7 +79,14 @@ entry_with d = do
   attempt ← if_there number_of (get (codes "try") d)
   status ← status_in (get (codes "status") d)
   line ← line_in (get (codes "out") d)
-  Some (record { task = task; index = index; run = run; attempt = attempt; status = status; line = line })
+  Some (record {
+    task = task;
+    index = index;
+    run = run;
+    attempt = attempt;
+    status = status;
+    line = line;
+  })
 
 -- the entry that JSON data is, where it is one
 unfoldable pub entry_of : Data → Option TableEntry
@@ -86,7 +95,8 @@ entry_of d = if is_entry_in d then entry_with d else None
 -- ---- a table
 
 -- an entry, and what comes of those behind it
-abbrev pub with_first : TableEntry → Result (List TableEntry) TableFault → Result (List TableEntry) TableFault
+abbrev pub with_first : TableEntry → Result (List TableEntry) TableFault
+    → Result (List TableEntry) TableFault
 with_first e (Ok es) = Ok (e ∷ es)
 with_first e (Err fault) = Err fault
 
@@ -105,7 +115,8 @@ longest_table = 8_388_608
 
 -- the JSON data of a file that is not too long
 unfoldable pub json_of_file : List ℕ → Option Data
-json_of_file bytes = if nat_le (length bytes) longest_table && is_utf8 bytes then read bytes else None
+json_of_file bytes =
+    if nat_le (length bytes) longest_table && is_utf8 bytes then read bytes else None
 
 abbrev pub table_with : Option Items → Result (List TableEntry) TableFault
 table_with None = Err (BadTable None)
@@ -154,7 +165,8 @@ is_number_in (Some named) n = int_eq named n
 -- the entry answers for this try of a task with this id, in a run of this logical date
 abbrev pub answers_for_in : List ℕ → List ℕ → JobName → TableEntry → Bool
 answers_for_in id date name entry =
-    is_text_in entry.task id && is_text_in entry.run date && is_number_in entry.index name.index && is_number_in entry.attempt (pos name.attempt)
+    is_text_in entry.task id && is_text_in entry.run date && is_number_in entry.index name.index
+    && is_number_in entry.attempt (pos name.attempt)
 
 -- status 0 and an empty line, where no entry answers
 abbrev pub raw_in : Option TableEntry → Raw
@@ -173,4 +185,6 @@ pub record Answering : Type 0 where
 
 -- the answer of the first entry that answers for the try
 unfoldable pub answer_of : Answering → JobName → Raw
-answer_of over name = raw_in (find (answers_for_in (task_of over.dag name.task).id (slice_index_or over.dates name.run []) name) over.entries)
+answer_of over name =
+    raw_in (find (answers_for_in (task_of over.dag name.task).id
+    (slice_index_or over.dates name.run []) name) over.entries)

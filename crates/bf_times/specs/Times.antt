@@ -37,7 +37,9 @@ numbers_of _ = None
 
 abbrev pub timed : List Xval → Option (ℤ × ℤ × ℤ) → List ℕ
 timed name None = []
-timed name (Some (start, end, code)) = flat_map word_before name ++ line (signed_decimal start ∷ signed_decimal end ∷ signed_decimal code ∷ [])
+timed name (Some (start, end, code)) =
+    flat_map word_before name ++ line (signed_decimal start ∷ signed_decimal end
+    ∷ signed_decimal code ∷ [])
 
 -- of a record whose ninth member is three whole numbers: its first four, which name its try, and these
 abbrev pub record_times : List Xval → List ℕ
@@ -58,7 +60,9 @@ times_text records = codes "@times 1\n" ++ flat_map line_times records
 
 -- the times of the records that stand in these lines; what isn't UTF-8 has none
 abbrev pub IsTextOf : List ℕ → List ℕ → Type 0
-IsTextOf records text = (IsUtf8 records × (text ≡ times_text (lines records))) ⊎ (¬ (IsUtf8 records) × (text ≡ times_text []))
+IsTextOf records text =
+    (IsUtf8 records × (text ≡ times_text (lines records)))
+    ⊎ (¬ (IsUtf8 records) × (text ≡ times_text []))
 
 -- the first line, with its line feed
 abbrev pub first_line_of : List ℕ → Option (List ℕ)
@@ -66,7 +70,8 @@ first_line_of bytes = option_map (λ at. take (at + 1) bytes) (position (λ b. b
 
 abbrev pub is_like_up_to : ℕ → List ℕ → List ℕ → Bool
 is_like_up_to front head line =
-    nat_lt front (length line) && (bytes_eq (take front line) (take front head) && (get_or line front 0 == 93 || get_or line front 0 == 44))
+    nat_lt front (length line) && (bytes_eq (take front line) (take front head)
+    && (get_or line front 0 == 93 || get_or line front 0 == 44))
 
 -- the line is the same as a head up to the bracket that ends its list, and has a bracket or a comma there: so it is that head, or has one
 -- member more, of what is cleared
@@ -91,5 +96,6 @@ pub record AreTimesOf (dag : Dag) (intervals : List Interval) (bytes text : List
 abbrev pub IsTimesFault : Dag → List Interval → List ℕ → JournalFault → Type 0
 IsTimesFault dag intervals bytes Mismatch = (head : List ℕ) → HasHead dag intervals bytes head → ⊥
 IsTimesFault dag intervals bytes (BadRecord number) =
-    (head : List ℕ) × HasHead dag intervals bytes head × HasBadRecord dag intervals head bytes number
+    (head : List ℕ) × HasHead dag intervals bytes head
+    × HasBadRecord dag intervals head bytes number
 IsTimesFault dag intervals bytes OutOfMemory = Unit {0}

@@ -38,7 +38,9 @@ is_source (Some source) task = source == task
 
 -- an unmapped task that some task is expanded over
 abbrev pub gives_items_in : Dag → ℕ → Bool
-gives_items_in dag task = not (is_some (task_of dag task).expand) && list_any (λ other. is_source other.expand task) dag.tasks
+gives_items_in dag task =
+    not (is_some (task_of dag task).expand)
+    && list_any (λ other. is_source other.expand task) dag.tasks
 
 -- its text is short; of a branch it names direct downstreams; of a task that gives items it is a list of few
 abbrev pub may_push_in : Dag → ℕ → Option Xval → Bool
@@ -50,10 +52,12 @@ may_push_in dag task value =
 -- ---- grades
 
 abbrev pub grade_value : Dag → ℕ → Option Xval → Outcome
-grade_value dag task value = if may_push_in dag task value then Outcome.Success value else Outcome.Failed
+grade_value dag task value =
+    if may_push_in dag task value then Outcome.Success value else Outcome.Failed
 
 abbrev pub grade_line_of : Dag → ℕ → List ℕ → Outcome
-grade_line_of dag task line = if is_utf8 line then grade_value dag task (value_of_line line) else Outcome.Failed
+grade_line_of dag task line =
+    if is_utf8 line then grade_value dag task (value_of_line line) else Outcome.Failed
 
 abbrev pub is_status : ℕ → ℤ → Bool
 is_status status (pos number) = number == status
@@ -95,4 +99,5 @@ fits_in dag task Outcome.Skipped = true
 
 -- wherever the outcome fits, it is the grade of the answer
 abbrev pub GradesTo : Raw → Outcome → Type 0
-GradesTo raw outcome = (dag : Dag) (task : ℕ) → fits_in dag task outcome ≡ true → grade_of dag task raw ≡ outcome
+GradesTo raw outcome =
+    (dag : Dag) (task : ℕ) → fits_in dag task outcome ≡ true → grade_of dag task raw ≡ outcome

@@ -23,7 +23,8 @@ place_of task index = if is_some task.expand then nat_abs index else 0
 
 -- the name of a try of the instance in a place of the task, in the run
 unfoldable pub name_of : Dag → ℕ → ℕ → ℕ → ℕ → JobName
-name_of dag run task place attempt = record { run = run; task = task; index = map_index (task_of dag task) place; attempt = attempt }
+name_of dag run task place attempt =
+    record { run = run; task = task; index = map_index (task_of dag task) place; attempt = attempt }
 
 abbrev pub is_failed : Outcome → Bool
 is_failed Failed = true
@@ -35,12 +36,14 @@ outcome_of None = Failed
 outcome_of (Some entry) = entry.outcome
 
 abbrev pub outcome_at : Dag → Ledger → ℕ → ℕ → ℕ → ℕ → Outcome
-outcome_at dag ledger run task place attempt = outcome_of (ledger (name_of dag run task place attempt))
+outcome_at dag ledger run task place attempt =
+    outcome_of (ledger (name_of dag run task place attempt))
 
 -- from this attempt on, the first that isn't failed; the last of all, where none of the `left` before it is
 abbrev pub last_try : (ℕ → Outcome) → ℕ → ℕ → ℕ
 last_try outcome attempt zero = attempt
-last_try outcome attempt (suc left) = if is_failed (outcome attempt) then last_try outcome (suc attempt) left else attempt
+last_try outcome attempt (suc left) =
+    if is_failed (outcome attempt) then last_try outcome (suc attempt) left else attempt
 
 -- the result of an instance: the outcome of its last try, and that try's number
 unfoldable pub result_of : Dag → Ledger → ℕ → ℕ → ℕ → TaskResult
@@ -52,8 +55,11 @@ result_of dag ledger run task place =
 
 -- an equal outcome, where the other try was given the same
 abbrev pub Agree : Entry → Option Entry → Type 0
-Agree entry other = (same : Entry) → other ≡ Some same → entry.given ≡ same.given → entry.outcome ≡ same.outcome
+Agree entry other =
+    (same : Entry) → other ≡ Some same → entry.given ≡ same.given → entry.outcome ≡ same.outcome
 
 -- equal outcomes wherever name and Given are equal
 abbrev pub AreAlike : Ledger → Ledger → Type 0
-AreAlike one two = (name : JobName) (entry same : Entry) → one name ≡ Some entry → two name ≡ Some same → entry.given ≡ same.given → entry.outcome ≡ same.outcome
+AreAlike one two =
+    (name : JobName) (entry same : Entry) → one name ≡ Some entry → two name ≡ Some same
+    → entry.given ≡ same.given → entry.outcome ≡ same.outcome

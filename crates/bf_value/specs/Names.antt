@@ -9,10 +9,16 @@ use base.Stored.{coded_via, coded×, coded_ℕ, coded_ℤ}
 use Rattle.bf_value.specs.declared.name.JobName.{JobName}
 
 abbrev pub name_cmp : JobName → JobName → Ordering
-name_cmp = then_cmp (on (λ n. n.run) nat_cmp) (then_cmp (on (λ n. n.task) nat_cmp) (then_cmp (on (λ n. n.index) int_cmp) (on (λ n. n.attempt) nat_cmp)))
+name_cmp =
+    then_cmp (on (λ n. n.run) nat_cmp)
+    (then_cmp (on (λ n. n.task) nat_cmp)
+    (then_cmp (on (λ n. n.index) int_cmp) (on (λ n. n.attempt) nat_cmp)))
 
 pub name_cmp_total : IsTotalOrder name_cmp
-name_cmp_total = then_total (on_total (λ n. n.run) nat_cmp_total) (then_total (on_total (λ n. n.task) nat_cmp_total) (then_total (on_total (λ n. n.index) int_cmp_total) (on_total (λ n. n.attempt) nat_cmp_total)))
+name_cmp_total =
+    then_total (on_total (λ n. n.run) nat_cmp_total)
+    (then_total (on_total (λ n. n.task) nat_cmp_total)
+    (then_total (on_total (λ n. n.index) int_cmp_total) (on_total (λ n. n.attempt) nat_cmp_total)))
 
 both-equal : (r s : Ordering) → ordering_then r s ≡ Equal → (r ≡ Equal) × (s ≡ Equal)
 both-equal Less s e = (e, cc)
@@ -32,5 +38,11 @@ name_cmp-IsAntisymmetric a b e =
 
 abbrev pub name_code : Coded JobName
 name_code =
-    coded_via (coded× coded_ℕ (coded× coded_ℕ (coded× coded_ℤ coded_ℕ))) (λ n. (n.run, (n.task, (n.index, n.attempt))))
-    (λ a b e i. record { run = (e i).0; task = (e i).1.0; index = (e i).1.1.0; attempt = (e i).1.1.1 })
+    coded_via (coded× coded_ℕ (coded× coded_ℕ (coded× coded_ℤ coded_ℕ)))
+    (λ n. (n.run, (n.task, (n.index, n.attempt))))
+    (λ a b e i. record {
+      run = (e i).0;
+      task = (e i).1.0;
+      index = (e i).1.1.0;
+      attempt = (e i).1.1.1;
+    })

@@ -55,12 +55,14 @@ abbrev pub task_fault_by : Bool → Report → Option ℤ → Option ℕ → Opt
 task_fault_by matches report index None run = Some (Clear ClearFault.UnknownTask)
 task_fault_by matches report index (Some task) None = Some (Clear ClearFault.UnknownRun)
 task_fault_by false report index (Some task) (Some run) = Some (Clear ClearFault.ReportMismatch)
-task_fault_by true report index (Some task) (Some run) = index_fault (is_index_at report index run task)
+task_fault_by true report index (Some task) (Some run) =
+    index_fault (is_index_at report index run task)
 
 -- there is no such task, else no such run, else the report isn't one of the graph, or there is no such instance
 abbrev pub task_fault : Dag → Report → ℤ → TaskAsked → Option CommandFault
 task_fault dag report start task =
-    task_fault_by (is_of_graph dag report) report task.index (task_number dag task) (run_number report start)
+    task_fault_by (is_of_graph dag report) report task.index (task_number dag task)
+    (run_number report start)
 
 -- the first fault of what is asked
 abbrev pub asked_fault : Dag → Report → ℤ → Option TaskAsked → Option CommandFault

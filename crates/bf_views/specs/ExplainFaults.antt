@@ -20,12 +20,15 @@ use Rattle.bf_views.specs.Reported.{AreReportedReadable, IsReportedFault, OfRepo
 -- why what is asked isn't explained; or memory is wanting
 abbrev pub IsFaultOfAsked : Dag → Report → ℤ → Option TaskAsked → CommandFault → Type 0
 IsFaultOfAsked dag report start task OutOfMemory = Unit {0}
-IsFaultOfAsked dag report start task (Clear fault) = asked_fault dag report start task ≡ Some (Clear fault)
-IsFaultOfAsked dag report start task UnknownIndex = asked_fault dag report start task ≡ Some UnknownIndex
+IsFaultOfAsked dag report start task (Clear fault) =
+    asked_fault dag report start task ≡ Some (Clear fault)
+IsFaultOfAsked dag report start task UnknownIndex =
+    asked_fault dag report start task ≡ Some UnknownIndex
 IsFaultOfAsked dag report start task _ = ⊥
 
 -- the bytes say a graph without a fault and a report, and this is the first fault of what is asked of them
-pub record IsRefusedFor (fault : CommandFault) (start : ℤ) (task : Option TaskAsked) (graph : List ℕ) (zone : Option (List ℕ)) (held : List ℕ) : Type 0 where
+pub record IsRefusedFor (fault : CommandFault) (start : ℤ) (task : Option TaskAsked)
+    (graph : List ℕ) (zone : Option (List ℕ)) (held : List ℕ) : Type 0 where
   pub draft : Draft
   pub graph_says : IsGraph graph zone draft
   pub report : Report
@@ -33,16 +36,20 @@ pub record IsRefusedFor (fault : CommandFault) (start : ℤ) (task : Option Task
   pub refused : asked_fault (dag_of draft) report start task ≡ Some fault
 
 abbrev pub IsRefusal : Files → ExplainAsked → ℤ → CommandFault → Type 0
-IsRefusal files asked start fault = AreReportedReadable files asked.graph (string_bytes asked.report)
+IsRefusal files asked start fault =
+    AreReportedReadable files asked.graph (string_bytes asked.report)
     × OfReported files asked.graph (string_bytes asked.report) (IsRefusedFor fault start asked.task)
 
 -- the first fault: of the files and of what they hold, or of what is asked of it
 abbrev pub IsExplainFaultAt : Files → ExplainAsked → ℤ → CommandFault → Type 0
 IsExplainFaultAt files asked start (Clear fault) = IsRefusal files asked start (Clear fault)
 IsExplainFaultAt files asked start UnknownIndex = IsRefusal files asked start UnknownIndex
-IsExplainFaultAt files asked start fault = IsReportedFault files asked.graph (string_bytes asked.report) fault
+IsExplainFaultAt files asked start fault =
+    IsReportedFault files asked.graph (string_bytes asked.report) fault
 
 -- the moment comes first: the text is none; or it means one, and the fault is the first of the rest
 abbrev pub IsExplainFault : Files → ExplainAsked → CommandFault → Type 0
 IsExplainFault files asked BadMoment = IsNoMoment (string_bytes asked.run)
-IsExplainFault files asked fault = (start : Timestamp) × Means (string_bytes asked.run) start × IsExplainFaultAt files asked start.nanosecond fault
+IsExplainFault files asked fault =
+    (start : Timestamp) × Means (string_bytes asked.run) start
+    × IsExplainFaultAt files asked start.nanosecond fault

@@ -30,7 +30,8 @@ paths_asked asked = record {
 }
 
 -- the text on a task in a run of the report
-pub record IsTaskExplained (paths : Paths) (dag : Dag) (report : Report) (run : ℕ) (told_run : RunReport) (asked : TaskAsked) (text : List ℕ) : Type 0 where
+pub record IsTaskExplained (paths : Paths) (dag : Dag) (report : Report) (run : ℕ)
+    (told_run : RunReport) (asked : TaskAsked) (text : List ℕ) : Type 0 where
   pub task : ℕ
   pub task_is : task_number dag asked ≡ Some task
   pub told : TaskReport
@@ -40,10 +41,12 @@ pub record IsTaskExplained (paths : Paths) (dag : Dag) (report : Report) (run : 
 -- of a run, whose tasks stand in the order of the grid, or of a task in it
 abbrev pub IsTextOn : Paths → Dag → Report → ℕ → RunReport → Option TaskAsked → List ℕ → Type 0
 IsTextOn paths dag report run told_run None text = text ≡ run_text dag told_run (order_of dag)
-IsTextOn paths dag report run told_run (Some task) text = IsTaskExplained paths dag report run told_run task text
+IsTextOn paths dag report run told_run (Some task) text =
+    IsTaskExplained paths dag report run told_run task text
 
 -- the text on what is asked of a report of the graph
-pub record IsExplanation (paths : Paths) (dag : Dag) (report : Report) (start : ℤ) (task : Option TaskAsked) (text : List ℕ) : Type 0 where
+pub record IsExplanation (paths : Paths) (dag : Dag) (report : Report) (start : ℤ)
+    (task : Option TaskAsked) (text : List ℕ) : Type 0 where
   pub run : ℕ
   pub run_is : run_number report start ≡ Some run
   pub told_run : RunReport
@@ -51,14 +54,16 @@ pub record IsExplanation (paths : Paths) (dag : Dag) (report : Report) (start : 
   pub text_is : IsTextOn paths dag report run told_run task text
 
 -- by a graph without a fault and a report of it, which these bytes say
-pub record IsExplanationOf (paths : Paths) (start : ℤ) (task : Option TaskAsked) (graph : List ℕ) (zone : Option (List ℕ)) (held text : List ℕ) : Type 0 where
+pub record IsExplanationOf (paths : Paths) (start : ℤ) (task : Option TaskAsked) (graph : List ℕ)
+    (zone : Option (List ℕ)) (held text : List ℕ) : Type 0 where
   pub draft : Draft
   pub graph_says : IsGraph graph zone draft
   pub report : Report
   pub report_says : IsReadAs held report
   pub explains : IsExplanation paths (dag_of draft) report start task text
 
-pub record IsExplainAnswer (files : Files) (asked : ExplainAsked) (text : List ℕ) (status : Status) : Type 0 where
+pub record IsExplainAnswer (files : Files) (asked : ExplainAsked) (text : List ℕ)
+    (status : Status) : Type 0 where
   pub success : status ≡ Status.Success
   pub start : Timestamp
   pub means : Means (string_bytes asked.run) start

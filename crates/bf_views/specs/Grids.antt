@@ -34,7 +34,8 @@ view_asked asked bounds canvas = record {
 }
 
 -- the grid of a graph without a fault and of a report of it, which these bytes say
-pub record IsGridOf (view : View) (graph : List ℕ) (zone : Option (List ℕ)) (held text : List ℕ) : Type 0 where
+pub record IsGridOf (view : View) (graph : List ℕ) (zone : Option (List ℕ))
+    (held text : List ℕ) : Type 0 where
   pub draft : Draft
   pub graph_says : IsGraph graph zone draft
   pub report : Report
@@ -42,10 +43,12 @@ pub record IsGridOf (view : View) (graph : List ℕ) (zone : Option (List ℕ)) 
   pub matches : is_of_graph (dag_of draft) report ≡ true
   pub text_is : text ≡ grid_text view (dag_of draft) report
 
-pub record IsGridAnswer (canvas : Canvas) (files : Files) (asked : ShowAsked) (text : List ℕ) (status : Status) : Type 0 where
+pub record IsGridAnswer (canvas : Canvas) (files : Files) (asked : ShowAsked) (text : List ℕ)
+    (status : Status) : Type 0 where
   pub success : status ≡ Status.Success
   pub bounds : Bounds
   pub means : MeansBounds asked bounds
   pub ordered : is_reversed_in bounds ≡ false
   pub readable : AreReportedReadable files asked.graph (string_bytes asked.report)
-  pub text_is : OfReported files asked.graph (string_bytes asked.report) (λ graph zone held. IsGridOf (view_asked asked bounds canvas) graph zone held text)
+  pub text_is : OfReported files asked.graph (string_bytes asked.report)
+      (λ graph zone held. IsGridOf (view_asked asked bounds canvas) graph zone held text)

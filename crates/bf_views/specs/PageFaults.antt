@@ -16,7 +16,8 @@ use Rattle.bf_views.specs.Reported.{AreReportedReadable, IsReportedFault, OfRepo
 use Rattle.bf_views.specs.Times.{IsJournalFault}
 
 -- the bytes say a graph without a fault and a report of it, and the journal is none of the graph and the report's runs
-pub record IsRefusedJournal (graph : List ℕ) (zone : Option (List ℕ)) (held : List ℕ) (journal : Option (List ℕ)) (fault : JournalFault) : Type 0 where
+pub record IsRefusedJournal (graph : List ℕ) (zone : Option (List ℕ)) (held : List ℕ)
+    (journal : Option (List ℕ)) (fault : JournalFault) : Type 0 where
   pub draft : Draft
   pub graph_says : IsGraph graph zone draft
   pub report : Report
@@ -27,12 +28,18 @@ pub record IsRefusedJournal (graph : List ℕ) (zone : Option (List ℕ)) (held 
 -- the first fault: of the graph's files, the graph, the report's file and the report, and behind these of the journal's file and the
 -- journal; or memory or the device is wanting
 abbrev pub IsPageFault : Files → PageAsked → CommandFault → Type 0
-IsPageFault files asked (CannotRead path) = IsReportedFault files asked.graph (string_bytes asked.report) (CannotRead path)
-    ⊎ (AreReportedReadable files asked.graph (string_bytes asked.report) × IsFirstUntold files (named_paths (journal_path asked)) path)
-IsPageFault files asked (Journal fault) = AreReportedReadable files asked.graph (string_bytes asked.report)
+IsPageFault files asked (CannotRead path) =
+    IsReportedFault files asked.graph (string_bytes asked.report) (CannotRead path)
+    ⊎ (AreReportedReadable files asked.graph (string_bytes asked.report)
+    × IsFirstUntold files (named_paths (journal_path asked)) path)
+IsPageFault files asked (Journal fault) =
+    AreReportedReadable files asked.graph (string_bytes asked.report)
     × AreReadable files (named_paths (journal_path asked))
-    × OfReported files asked.graph (string_bytes asked.report) (λ graph zone held. (journal : Option (List ℕ)) →
-    IsHeldIfNamed files (journal_path asked) journal → IsRefusedJournal graph zone held journal fault)
-IsPageFault files asked (CannotWrite n) = AreReportedReadable files asked.graph (string_bytes asked.report)
+    × OfReported files asked.graph (string_bytes asked.report)
+    (λ graph zone held. (journal : Option (List ℕ)) →
+    IsHeldIfNamed files (journal_path asked) journal
+    → IsRefusedJournal graph zone held journal fault)
+IsPageFault files asked (CannotWrite n) =
+    AreReportedReadable files asked.graph (string_bytes asked.report)
     × AreReadable files (named_paths (journal_path asked))
 IsPageFault files asked fault = IsReportedFault files asked.graph (string_bytes asked.report) fault

@@ -38,7 +38,8 @@ words_asked asked = record {
 }
 
 -- the seven texts of a page: the paths, the cells, the graph file, the report, and the times
-pub record AreTextsOf (words : PageWords) (graph : List ℕ) (dag : Dag) (report : Report) (times : List ℕ) (texts : PageTexts) : Type 0 where
+pub record AreTextsOf (words : PageWords) (graph : List ℕ) (dag : Dag) (report : Report)
+    (times : List ℕ) (texts : PageTexts) : Type 0 where
   pub graph_path_is : texts.graph_path.now ≡ words.graph_path
   pub report_path_is : texts.report_path.now ≡ words.report_path
   pub zone_path_is : texts.zone_path.now ≡ words.zone_path
@@ -53,7 +54,8 @@ IsPage words graph dag report times text =
     (texts : PageTexts) × AreTextsOf words graph dag report times texts × (text ≡ page_text texts)
 
 -- the page of a graph without a fault and of a report of it, which these bytes say, with the times of a journal where there is one
-pub record IsPageOf (words : PageWords) (graph : List ℕ) (zone : Option (List ℕ)) (held : List ℕ) (journal : Option (List ℕ)) (text : List ℕ) : Type 0 where
+pub record IsPageOf (words : PageWords) (graph : List ℕ) (zone : Option (List ℕ)) (held : List ℕ)
+    (journal : Option (List ℕ)) (text : List ℕ) : Type 0 where
   pub draft : Draft
   pub graph_says : IsGraph graph zone draft
   pub report : Report
@@ -67,9 +69,12 @@ pub record IsPageOf (words : PageWords) (graph : List ℕ) (zone : Option (List 
 abbrev pub journal_path : PageAsked → Option (List ℕ)
 journal_path asked = option_map string_bytes asked.journal
 
-pub record IsPageAnswer (files : Files) (asked : PageAsked) (text : List ℕ) (status : Status) : Type 0 where
+pub record IsPageAnswer (files : Files) (asked : PageAsked) (text : List ℕ)
+    (status : Status) : Type 0 where
   pub success : status ≡ Status.Success
   pub readable : AreReportedReadable files asked.graph (string_bytes asked.report)
   pub journal_readable : AreReadable files (named_paths (journal_path asked))
-  pub text_is : OfReported files asked.graph (string_bytes asked.report) (λ graph zone held. (journal : Option (List ℕ)) →
-      IsHeldIfNamed files (journal_path asked) journal → IsPageOf (words_asked asked) graph zone held journal text)
+  pub text_is : OfReported files asked.graph (string_bytes asked.report)
+      (λ graph zone held. (journal : Option (List ℕ)) →
+      IsHeldIfNamed files (journal_path asked) journal
+      → IsPageOf (words_asked asked) graph zone held journal text)

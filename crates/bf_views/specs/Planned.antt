@@ -10,12 +10,18 @@ use Rattle.bf_views.specs.declared.planned.Planned.{Planned}
 
 -- the bytes of the graph file, and the plan that they say
 abbrev pub IsPlanned : Files → GraphAsked → Planned → Type 0
-IsPlanned files asked planned = OfFiles files asked (λ graph zone. (planned.graph.items ≡ graph) × IsPlanOf graph zone planned.plan)
+IsPlanned files asked planned =
+    OfFiles files asked (λ graph zone. (planned.graph.items ≡ graph)
+    × IsPlanOf graph zone planned.plan)
 
 -- the first fault of the files and of the graph; or memory is wanting
 abbrev pub IsPlanningFault : Files → GraphAsked → CommandFault → Type 0
 IsPlanningFault files asked OutOfMemory = Unit {0}
 IsPlanningFault files asked (CannotRead path) = IsFirstUntold files (graph_paths asked) path
-IsPlanningFault files asked (Read fault) = AreReadable files (graph_paths asked) × OfFiles files asked (λ graph zone. IsFaultIn graph zone (Read fault))
-IsPlanningFault files asked (Check fault) = AreReadable files (graph_paths asked) × OfFiles files asked (λ graph zone. IsFaultIn graph zone (Check fault))
+IsPlanningFault files asked (Read fault) =
+    AreReadable files (graph_paths asked)
+    × OfFiles files asked (λ graph zone. IsFaultIn graph zone (Read fault))
+IsPlanningFault files asked (Check fault) =
+    AreReadable files (graph_paths asked)
+    × OfFiles files asked (λ graph zone. IsFaultIn graph zone (Check fault))
 IsPlanningFault files asked _ = ⊥

@@ -15,12 +15,16 @@ use Rattle.bf_views.specs.Matching.{is_of_graph}
 use Rattle.bf_views.specs.Planned.{IsPlanningFault}
 
 -- so it is with whatever the files are told to hold; the report's is the one of this path
-abbrev pub OfReported : Files → GraphAsked → List ℕ → (List ℕ → Option (List ℕ) → List ℕ → Type 0) → Type 0
-OfReported files asked path P = OfFiles files asked (λ graph zone. (held : List ℕ) → IsHeld (files path) held → P graph zone held)
+abbrev pub OfReported : Files → GraphAsked → List ℕ → (List ℕ → Option (List ℕ) → List ℕ → Type 0)
+    → Type 0
+OfReported files asked path P =
+    OfFiles files asked (λ graph zone. (held : List ℕ) → IsHeld (files path) held
+    → P graph zone held)
 
 -- the files can be read
 abbrev pub AreReportedReadable : Files → GraphAsked → List ℕ → Type 0
-AreReportedReadable files asked path = AreReadable files (graph_paths asked) × IsReadable (files path)
+AreReportedReadable files asked path =
+    AreReadable files (graph_paths asked) × IsReadable (files path)
 
 -- the bytes say a graph without a fault and a report, which isn't one of that graph
 pub record IsMismatch (graph : List ℕ) (zone : Option (List ℕ)) (held : List ℕ) : Type 0 where
@@ -39,6 +43,8 @@ IsReportedFault files asked report (CannotRead path) = IsFirstUntold files (grap
     ⊎ (AreReadable files (graph_paths asked) × (path ≡ report) × IsUntold (files report))
 IsReportedFault files asked report (Read fault) = IsPlanningFault files asked (Read fault)
 IsReportedFault files asked report (Check fault) = IsPlanningFault files asked (Check fault)
-IsReportedFault files asked report (BadReport fault) = AreReadable files (graph_paths asked) × IsReportFault report (files report) (BadReport fault)
-IsReportedFault files asked report (Clear ClearFault.ReportMismatch) = AreReportedReadable files asked report × OfReported files asked report IsMismatch
+IsReportedFault files asked report (BadReport fault) =
+    AreReadable files (graph_paths asked) × IsReportFault report (files report) (BadReport fault)
+IsReportedFault files asked report (Clear ClearFault.ReportMismatch) =
+    AreReportedReadable files asked report × OfReported files asked report IsMismatch
 IsReportedFault files asked report _ = ⊥

@@ -14,14 +14,18 @@ AreTimesTold dag intervals (Some journal) times = AreTimesOf dag intervals journ
 
 -- the journal is none of the graph and the runs; or memory is wanting
 abbrev pub IsJournalFault : Dag → List Interval → Option (List ℕ) → CommandFault → Type 0
-IsJournalFault dag intervals (Some journal) (Journal fault) = IsTimesFault dag intervals journal fault
+IsJournalFault dag intervals (Some journal) (Journal fault) =
+    IsTimesFault dag intervals journal fault
 IsJournalFault dag intervals journal OutOfMemory = Unit {0}
 IsJournalFault dag intervals journal _ = ⊥
 
 -- the same of the one that is named, or it can't be read
-abbrev pub IsNamedJournalFault : Files → Option (List ℕ) → Dag → List Interval → CommandFault → Type 0
+abbrev pub IsNamedJournalFault : Files → Option (List ℕ) → Dag → List Interval → CommandFault
+    → Type 0
 IsNamedJournalFault files path dag intervals OutOfMemory = Unit {0}
-IsNamedJournalFault files path dag intervals (CannotRead p) = IsFirstUntold files (named_paths path) p
+IsNamedJournalFault files path dag intervals (CannotRead p) =
+    IsFirstUntold files (named_paths path) p
 IsNamedJournalFault files path dag intervals (Journal fault) = AreReadable files (named_paths path)
-    × ((journal : Option (List ℕ)) → IsHeldIfNamed files path journal → IsJournalFault dag intervals journal (Journal fault))
+    × ((journal : Option (List ℕ)) → IsHeldIfNamed files path journal
+    → IsJournalFault dag intervals journal (Journal fault))
 IsNamedJournalFault files path dag intervals _ = ⊥

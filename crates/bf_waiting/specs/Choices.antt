@@ -12,22 +12,29 @@ use Rattle.bf_core.specs.Events.{place_in}
 
 -- the total weight of each task
 abbrev pub AreWeights : Dag → Limits → List ℕ → Type 0
-AreWeights dag limits weights = (task : ℕ) → task < length dag.tasks → slice_index weights task ≡ total_weight_of dag limits task
+AreWeights dag limits weights =
+    (task : ℕ) → task < length dag.tasks → slice_index weights task
+    ≡ total_weight_of dag limits task
 
 -- by run, then in the order of the file, then by map index
 abbrev pub NameComesBefore : Dag → JobName → JobName → Type 0
-NameComesBefore dag name other = (name.run < other.run) ⊎ ((name.run ≡ other.run) × ((name.task < other.task) ⊎ ((name.task ≡ other.task) × (place_in dag name ≤ place_in dag other))))
+NameComesBefore dag name other =
+    (name.run < other.run) ⊎ ((name.run ≡ other.run)
+    × ((name.task < other.task) ⊎ ((name.task ≡ other.task)
+    × (place_in dag name ≤ place_in dag other))))
 
 -- it weighs more than the other, or as much and comes before it, or is it
 abbrev pub IsPreferred : Dag → Limits → JobName → JobName → Type 0
 IsPreferred dag limits name other =
     (total_weight_of dag limits other.task < total_weight_of dag limits name.task)
-    ⊎ ((total_weight_of dag limits other.task ≡ total_weight_of dag limits name.task) × NameComesBefore dag name other)
+    ⊎ ((total_weight_of dag limits other.task ≡ total_weight_of dag limits name.task)
+    × NameComesBefore dag name other)
 
 -- of the tries that may begin now the one of the greatest total weight, and of several the first
 pub record IsFirstTry (backfill : Backfill) (name : JobName) : Type 0 where
   pub may_begin : MayCome backfill (Event.Begin name)
-  pub first : (other : JobName) → MayCome backfill (Event.Begin other) → IsPreferred backfill.dag backfill.limits name other
+  pub first : (other : JobName) → MayCome backfill (Event.Begin other)
+      → IsPreferred backfill.dag backfill.limits name other
 
 -- none may begin now: each that waits lacks room in its pool, or waits for a later moment
 abbrev pub NoTry : Backfill → Type 0

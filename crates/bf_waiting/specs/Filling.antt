@@ -21,30 +21,48 @@ abbrev pub IsLater : ℕ → ℕ → ℕ → ℕ → Type 0
 IsLater run task other_run other = (other_run < run) ⊎ ((other_run ≡ run) × (other < task))
 
 -- the class is kept for the backfill, as far as the tasks go that come before the task in the run
-pub record KeepsEarlier (backfill : Backfill) (weights class_of : List ℕ) (run task class : ℕ) (waits : Waits) : Type 0 where
-  pub batches : (batch : Batch) → Contains waits.batches.items batch → IsOfClass weights class_of class batch
-  pub ready : (earlier_run earlier place : ℕ) → IsLater run task earlier_run earlier → slice_index class_of earlier ≡ class → IsReadyAt backfill earlier_run earlier place → HasBatch waits.batches.items earlier_run earlier place
-  pub delays : (delay : Delay) → Contains waits.delays.items delay → (slice_index class_of delay.task ≡ class) × IsDelayedAt backfill delay.run delay.task delay.place delay.moment.0
-  pub delayed : (earlier_run earlier place : ℕ) (moment : ℤ) → IsLater run task earlier_run earlier → slice_index class_of earlier ≡ class → IsDelayedAt backfill earlier_run earlier place moment → Contains waits.delays.items (delay_of earlier_run earlier place moment)
+pub record KeepsEarlier (backfill : Backfill) (weights class_of : List ℕ) (run task class : ℕ)
+    (waits : Waits) : Type 0 where
+  pub batches : (batch : Batch) → Contains waits.batches.items batch
+      → IsOfClass weights class_of class batch
+  pub ready : (earlier_run earlier place : ℕ) → IsLater run task earlier_run earlier
+      → slice_index class_of earlier ≡ class → IsReadyAt backfill earlier_run earlier place
+      → HasBatch waits.batches.items earlier_run earlier place
+  pub delays : (delay : Delay) → Contains waits.delays.items delay
+      → (slice_index class_of delay.task ≡ class)
+      × IsDelayedAt backfill delay.run delay.task delay.place delay.moment.0
+  pub delayed : (earlier_run earlier place : ℕ) (moment : ℤ) → IsLater run task earlier_run earlier
+      → slice_index class_of earlier ≡ class → IsDelayedAt backfill earlier_run earlier place moment
+      → Contains waits.delays.items (delay_of earlier_run earlier place moment)
   pub live : IsLive backfill waits.batches.items
 
 -- a class takes up the task in the run, where that is of it
 abbrev pub TakesIn : Backfill → List ℕ → ℕ → ℕ → Waits → Waits → Type 0
-TakesIn backfill weights run task old new = (class_of : List ℕ) (class : ℕ) → slice_index class_of task ≡ class → KeepsEarlier backfill weights class_of run task class old → KeepsEarlier backfill weights class_of run (task + 1) class new
+TakesIn backfill weights run task old new =
+    (class_of : List ℕ) (class : ℕ) → slice_index class_of task ≡ class
+    → KeepsEarlier backfill weights class_of run task class old
+    → KeepsEarlier backfill weights class_of run (task + 1) class new
 
 -- each class is
 pub record AreFilled (backfill : Backfill) (waiting : Waiting) (run task : ℕ) : Type 0 where
   pub weighted : AreWeights backfill.dag backfill.limits waiting.weights.items
   pub one_each : length waiting.class_of.items ≡ length backfill.dag.tasks
-  pub classed : (other : ℕ) → other < length backfill.dag.tasks → IsClassOf backfill.dag backfill.limits waiting.classes.items (slice_index waiting.class_of.items other) other
-  pub filled : (number : ℕ) (class : Waits) → slice_get waiting.classes.items number ≡ Some class → KeepsEarlier backfill waiting.weights.items waiting.class_of.items run task number class
+  pub classed : (other : ℕ) → other < length backfill.dag.tasks
+      → IsClassOf backfill.dag backfill.limits waiting.classes.items
+      (slice_index waiting.class_of.items other) other
+  pub filled : (number : ℕ) (class : Waits) → slice_get waiting.classes.items number ≡ Some class
+      → KeepsEarlier backfill waiting.weights.items waiting.class_of.items run task number class
 
 -- the classes have tasks that are there, and hold nothing
 abbrev pub AreEmpty : Dag → List Waits → Type 0
-AreEmpty dag classes = (number : ℕ) (class : Waits) → slice_get classes number ≡ Some class → (class.task < length dag.tasks) × (class.batches.items ≡ []) × (class.delays.items ≡ [])
+AreEmpty dag classes =
+    (number : ℕ) (class : Waits) → slice_get classes number ≡ Some class
+    → (class.task < length dag.tasks) × (class.batches.items ≡ []) × (class.delays.items ≡ [])
 
 -- so many tasks, from the first on, have a class each
-pub record AreClassedTo (dag : Dag) (limits : Limits) (tasks : ℕ) (class_of : List ℕ) (classes : List Waits) : Type 0 where
+pub record AreClassedTo (dag : Dag) (limits : Limits) (tasks : ℕ) (class_of : List ℕ)
+    (classes : List Waits) : Type 0 where
   pub count : length class_of ≡ tasks
-  pub classed : (task : ℕ) → task < tasks → IsClassOf dag limits classes (slice_index class_of task) task
+  pub classed : (task : ℕ) → task < tasks
+      → IsClassOf dag limits classes (slice_index class_of task) task
   pub empty : AreEmpty dag classes

@@ -13,17 +13,28 @@ pub record Heap (X : Type 0) : Type 0 where
 
 -- in the order of runs, of the file and of map indices
 abbrev pub StandsFirst : Batch → Batch → Type 0
-StandsFirst batch other = (batch.run.0 < other.run.0) ⊎ ((batch.run.0 ≡ other.run.0) × ((batch.task.0 < other.task.0) ⊎ ((batch.task.0 ≡ other.task.0) × (batch.first.0 ≤ other.first.0))))
+StandsFirst batch other =
+    (batch.run.0 < other.run.0) ⊎ ((batch.run.0 ≡ other.run.0)
+    × ((batch.task.0 < other.task.0)
+    ⊎ ((batch.task.0 ≡ other.task.0) × (batch.first.0 ≤ other.first.0))))
 
 -- the batch begins before the other, or as it does
 abbrev pub Leads : Batch → Batch → Type 0
-Leads batch other = (other.weight < batch.weight) ⊎ ((other.weight ≡ batch.weight) × StandsFirst batch other)
+Leads batch other =
+    (other.weight < batch.weight) ⊎ ((other.weight ≡ batch.weight) × StandsFirst batch other)
 
 abbrev pub later_cmp : Reverse ℕ → Reverse ℕ → Ordering
 later_cmp one other = nat_cmp other.0 one.0
 
 abbrev pub batch_cmp : Batch → Batch → Ordering
-batch_cmp = then_cmp (on (λ batch. batch.weight) nat_cmp) (then_cmp (on (λ batch. batch.run) later_cmp) (then_cmp (on (λ batch. batch.task) later_cmp) (then_cmp (on (λ batch. batch.first) later_cmp) (on (λ batch. batch.last) nat_cmp))))
+batch_cmp =
+    then_cmp (on (λ batch. batch.weight) nat_cmp)
+    (then_cmp (on (λ batch. batch.run) later_cmp)
+    (then_cmp (on (λ batch. batch.task) later_cmp)
+    (then_cmp (on (λ batch. batch.first) later_cmp) (on (λ batch. batch.last) nat_cmp))))
 
 abbrev pub delay_cmp : Delay → Delay → Ordering
-delay_cmp = then_cmp (on (λ delay. delay.moment) (λ one other. int_cmp other.0 one.0)) (then_cmp (on (λ delay. delay.run) nat_cmp) (then_cmp (on (λ delay. delay.task) nat_cmp) (on (λ delay. delay.place) nat_cmp)))
+delay_cmp =
+    then_cmp (on (λ delay. delay.moment) (λ one other. int_cmp other.0 one.0))
+    (then_cmp (on (λ delay. delay.run) nat_cmp)
+    (then_cmp (on (λ delay. delay.task) nat_cmp) (on (λ delay. delay.place) nat_cmp)))

@@ -17,12 +17,15 @@ pub record IsOfClass (weights class_of : List ℕ) (class : ℕ) (batch : Batch)
 
 -- the greatest of the batches begins with an instance that is ready
 abbrev pub IsLive : Backfill → List Batch → Type 0
-IsLive backfill items = IfSome (slice_get items 0) (λ batch. IsReadyAt backfill batch.run.0 batch.task.0 batch.first.0)
+IsLive backfill items =
+    IfSome (slice_get items 0) (λ batch. IsReadyAt backfill batch.run.0 batch.task.0 batch.first.0)
 
 -- instances of the batches are passed over, none of them ready
 pub record ArePassed (backfill : Backfill) (old new : List Batch) : Type 0 where
-  pub kept : (run task place : ℕ) → IsReadyAt backfill run task place → HasBatch old run task place → HasBatch new run task place
-  pub part : (batch : Batch) → Contains new batch → (whole : Batch) × Contains old whole × (batch.weight ≡ whole.weight) × (batch.task.0 ≡ whole.task.0)
+  pub kept : (run task place : ℕ) → IsReadyAt backfill run task place → HasBatch old run task place
+      → HasBatch new run task place
+  pub part : (batch : Batch) → Contains new batch → (whole : Batch) × Contains old whole
+      × (batch.weight ≡ whole.weight) × (batch.task.0 ≡ whole.task.0)
 
 -- so that the greatest of the batches is live
 pub record IsCleaned (backfill : Backfill) (old new : List Batch) : Type 0 where
@@ -30,21 +33,31 @@ pub record IsCleaned (backfill : Backfill) (old new : List Batch) : Type 0 where
   pub live : IsLive backfill new
 
 -- what the class holds of a backfill: batches with each of its instances that is ready, and just those that are delayed
-pub record HoldsWaiting (backfill : Backfill) (weights class_of : List ℕ) (class : ℕ) (waits : Waits) : Type 0 where
-  pub batches : (batch : Batch) → Contains waits.batches.items batch → IsOfClass weights class_of class batch
-  pub ready : (run task place : ℕ) → slice_index class_of task ≡ class → IsReadyAt backfill run task place → HasBatch waits.batches.items run task place
-  pub delays : (delay : Delay) → Contains waits.delays.items delay → (slice_index class_of delay.task ≡ class) × IsDelayedAt backfill delay.run delay.task delay.place delay.moment.0
-  pub delayed : (run task place : ℕ) (moment : ℤ) → slice_index class_of task ≡ class → IsDelayedAt backfill run task place moment → Contains waits.delays.items (delay_of run task place moment)
+pub record HoldsWaiting (backfill : Backfill) (weights class_of : List ℕ) (class : ℕ)
+    (waits : Waits) : Type 0 where
+  pub batches : (batch : Batch) → Contains waits.batches.items batch
+      → IsOfClass weights class_of class batch
+  pub ready : (run task place : ℕ) → slice_index class_of task ≡ class
+      → IsReadyAt backfill run task place → HasBatch waits.batches.items run task place
+  pub delays : (delay : Delay) → Contains waits.delays.items delay
+      → (slice_index class_of delay.task ≡ class)
+      × IsDelayedAt backfill delay.run delay.task delay.place delay.moment.0
+  pub delayed : (run task place : ℕ) (moment : ℤ) → slice_index class_of task ≡ class
+      → IsDelayedAt backfill run task place moment
+      → Contains waits.delays.items (delay_of run task place moment)
 
 -- the same, and its greatest batch is live
-pub record KeepsWaiting (backfill : Backfill) (weights class_of : List ℕ) (class : ℕ) (waits : Waits) : Type 0 where
+pub record KeepsWaiting (backfill : Backfill) (weights class_of : List ℕ) (class : ℕ)
+    (waits : Waits) : Type 0 where
   pub holds : HoldsWaiting backfill weights class_of class waits
   pub live : IsLive backfill waits.batches.items
 
 -- a class that is kept for a backfill is kept so for the one after the event
 abbrev pub KeepsOver : Event → Backfill → List ℕ → List ℕ → ℕ → Waits → Waits → Type 0
 KeepsOver event now weights class_of class old new =
-    (backfill : Backfill) → MayCome backfill event → now ≡ moved backfill event → IsReplay backfill → KeepsWaiting backfill weights class_of class old → KeepsWaiting now weights class_of class new
+    (backfill : Backfill) → MayCome backfill event → now ≡ moved backfill event → IsReplay backfill
+    → KeepsWaiting backfill weights class_of class old
+    → KeepsWaiting now weights class_of class new
 
 -- ---- what a class takes up
 
@@ -56,17 +69,24 @@ abbrev pub At : ℕ → ℕ → Type 0
 At place here = here ≡ place
 
 -- batches with those of the instances of the task in the run that are ready, of those of These
-pub record HasTakenUp (backfill : Backfill) (weights : List ℕ) (run task : ℕ) (These : ℕ → Type 0) (old new : List Batch) : Type 0 where
+pub record HasTakenUp (backfill : Backfill) (weights : List ℕ) (run task : ℕ) (These : ℕ
+    → Type 0) (old new : List Batch) : Type 0 where
   pub kept : (batch : Batch) → Contains old batch → Contains new batch
-  pub no_more : (batch : Batch) → Contains new batch → Contains old batch ⊎ ((batch.weight ≡ slice_index weights task) × (batch.task.0 ≡ task))
-  pub ready : (place : ℕ) → These place → IsReadyAt backfill run task place → HasBatch new run task place
+  pub no_more : (batch : Batch) → Contains new batch → Contains old batch
+      ⊎ ((batch.weight ≡ slice_index weights task) × (batch.task.0 ≡ task))
+  pub ready : (place : ℕ) → These place → IsReadyAt backfill run task place
+      → HasBatch new run task place
 
 -- and those that are delayed
-pub record HasDelayed (backfill : Backfill) (run task : ℕ) (These : ℕ → Type 0) (old new : List Delay) : Type 0 where
+pub record HasDelayed (backfill : Backfill) (run task : ℕ) (These : ℕ
+    → Type 0) (old new : List Delay) : Type 0 where
   pub kept : (delay : Delay) → Contains old delay → Contains new delay
-  pub no_more : (delay : Delay) → Contains new delay → Contains old delay ⊎ ((delay.task ≡ task) × IsDelayedAt backfill delay.run delay.task delay.place delay.moment.0)
-  pub delayed : (place : ℕ) (moment : ℤ) → These place → IsDelayedAt backfill run task place moment → Contains new (delay_of run task place moment)
+  pub no_more : (delay : Delay) → Contains new delay → Contains old delay
+      ⊎ ((delay.task ≡ task) × IsDelayedAt backfill delay.run delay.task delay.place delay.moment.0)
+  pub delayed : (place : ℕ) (moment : ℤ) → These place → IsDelayedAt backfill run task place moment
+      → Contains new (delay_of run task place moment)
 
 -- the name is of the instance at the place of the task in the run
 abbrev pub IsOfPlace : Dag → JobName → ℕ → ℕ → ℕ → Type 0
-IsOfPlace dag name run task place = (name.run ≡ run) × (name.task ≡ task) × (place_in dag name ≡ place)
+IsOfPlace dag name run task place =
+    (name.run ≡ run) × (name.task ≡ task) × (place_in dag name ≡ place)

@@ -21,18 +21,26 @@ pub record IsReadyAt (backfill : Backfill) (run task place : ℕ) : Type 0 where
   pub held : Instance
   pub is_held : instance_of (cell_at backfill.state run task) place ≡ Some held
   pub waits : held.phase ≡ Phase.Waiting
-  pub timely : IsTimely backfill.clock (Event.Begin (name_of backfill.dag run task place held.attempt))
+  pub timely : IsTimely backfill.clock
+      (Event.Begin (name_of backfill.dag run task place held.attempt))
 
 -- the instance at the place of the task in the run waits for the moment, which is later than now
 pub record IsDelayedAt (backfill : Backfill) (run task place : ℕ) (moment : ℤ) : Type 0 where
   pub held : Instance
   pub is_held : instance_of (cell_at backfill.state run task) place ≡ Some held
   pub waits : held.phase ≡ Phase.Waiting
-  pub is_moment : map.get backfill.clock.moments (name_of backfill.dag run task place held.attempt) ≡ Some moment
+  pub is_moment : map.get backfill.clock.moments (name_of backfill.dag run task place held.attempt)
+      ≡ Some moment
   pub is_later : backfill.clock.time <ℤ moment
 
 -- so the instance stands
 abbrev pub Stands : Backfill → ℕ → ℕ → ℕ → Standing → Type 0
-Stands backfill run task place Standing.Away = ¬ (IsReadyAt backfill run task place) × ((moment : ℤ) → ¬ (IsDelayedAt backfill run task place moment))
-Stands backfill run task place Standing.Ready = IsReadyAt backfill run task place × ((moment : ℤ) → ¬ (IsDelayedAt backfill run task place moment))
-Stands backfill run task place (Standing.Delayed moment) = ¬ (IsReadyAt backfill run task place) × IsDelayedAt backfill run task place moment × ((other : ℤ) → IsDelayedAt backfill run task place other → other ≡ moment)
+Stands backfill run task place Standing.Away =
+    ¬ (IsReadyAt backfill run task place)
+    × ((moment : ℤ) → ¬ (IsDelayedAt backfill run task place moment))
+Stands backfill run task place Standing.Ready =
+    IsReadyAt backfill run task place
+    × ((moment : ℤ) → ¬ (IsDelayedAt backfill run task place moment))
+Stands backfill run task place (Standing.Delayed moment) =
+    ¬ (IsReadyAt backfill run task place) × IsDelayedAt backfill run task place moment
+    × ((other : ℤ) → IsDelayedAt backfill run task place other → other ≡ moment)

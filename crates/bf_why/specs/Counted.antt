@@ -11,5 +11,6 @@ part n state = if n == 0 then [] else (number_text n ++ 32 ∷ state) ∷ []
 -- the states that are there, as `2 success, 1 failed`
 abbrev pub counts_text_of : Counts → List ℕ
 counts_text_of counts = join_by (λ text. text) (codes ", ")
-    ((((part counts.success (codes "success") ++ part counts.failed (codes "failed")) ++ part counts.upstream_failed (codes "upstream_failed"))
+    ((((part counts.success (codes "success") ++ part counts.failed (codes "failed"))
+    ++ part counts.upstream_failed (codes "upstream_failed"))
     ++ part counts.skipped (codes "skipped")) ++ part counts.blocked (codes "no_status"))

@@ -23,43 +23,55 @@ id_of dag task = (task_of dag task).id
 
 abbrev pub branch_sentence_of : Dag → List TaskReport → ℕ → List ℕ
 branch_sentence_of dag tasks branch =
-    codes "The branch " ++ (id_of dag branch ++ (codes " succeeded and doesn't follow it: it pushed "
+    codes "The branch " ++ (id_of dag branch
+    ++ (codes " succeeded and doesn't follow it: it pushed "
     ++ (value_text_of 200 (pushed_alone_in (results_of (value_among tasks branch))) ++ codes ".")))
 
 -- where it is a branch that succeeded and doesn't follow the task
 abbrev pub branch_where : Dag → List TaskReport → ℕ → ℕ → List (List ℕ)
 branch_where dag tasks task branch =
-    if branch_is dag (branch_skips dag task branch) branch (Some (value_among tasks branch)) then branch_sentence_of dag tasks branch ∷ [] else []
+    if branch_is dag (branch_skips dag task branch) branch (Some (value_among tasks branch))
+    then branch_sentence_of dag tasks branch ∷ [] else []
 
 abbrev pub have_no_status_of : List (List ℕ) → List ℕ
-have_no_status_of names = listed_of 5 names ++ (if length names == 1 then codes " has no status." else codes " have no status.")
+have_no_status_of names =
+    listed_of 5 names ++ (if length names == 1 then codes " has no status."
+    else codes " have no status.")
 
 abbrev pub branches_sentence_of : List (List ℕ) → List ℕ
 branches_sentence_of names =
-    codes "Directly upstream, the " ++ ((if length names == 1 then codes "branch " else codes "branches ") ++ have_no_status_of names)
+    codes "Directly upstream, the "
+    ++ ((if length names == 1 then codes "branch " else codes "branches ")
+    ++ have_no_status_of names)
 
 abbrev pub upstreams_sentence_of : List (List ℕ) → List ℕ
 upstreams_sentence_of names = codes "Directly upstream, " ++ have_no_status_of names
 
 -- the upstreams of the task that are so, by their ids
 abbrev pub ids_where : Dag → ℕ → (ℕ → Bool) → List (List ℕ)
-ids_where dag task holds = flat_map (λ u. if holds u then id_of dag u ∷ [] else []) (task_of dag task).upstreams
+ids_where dag task holds =
+    flat_map (λ u. if holds u then id_of dag u ∷ [] else []) (task_of dag task).upstreams
 
 -- ---- the rule
 
 -- as `3 upstream instances (2 success, 1 failed)`
 abbrev pub over_text_of : Counts → List ℕ
-over_text_of counts = plural_of (total_of counts) (codes "upstream instance") ++ (codes " (" ++ (counts_text_of counts ++ codes ")"))
+over_text_of counts =
+    plural_of (total_of counts) (codes "upstream instance")
+    ++ (codes " (" ++ (counts_text_of counts ++ codes ")"))
 
 abbrev pub rule_sentence_of : Dag → List TaskReport → ℕ → Verdict → List ℕ
 rule_sentence_of dag tasks task verdict =
     codes "Its rule " ++ (rule_text_of (task_of dag task).rule ++ (codes ", over "
     ++ (over_text_of (counts_over (seen_among tasks) (task_of dag task).upstreams)
-    ++ (codes ", says " ++ (verdict_text_of verdict ++ (codes ", " ++ (since_text_of dag tasks task (since (task_of dag task).rule verdict) ++ codes ".")))))))
+    ++ (codes ", says " ++ (verdict_text_of verdict
+    ++ (codes ", " ++ (since_text_of dag tasks task (since (task_of dag task).rule verdict)
+    ++ codes ".")))))))
 
 abbrev pub ruled_of : Dag → List TaskReport → ℕ → Verdict → List ℕ
 ruled_of dag tasks task verdict =
-    if length (task_of dag task).upstreams == 0 then codes "It has no upstream tasks, so no rule holds it back."
+    if length (task_of dag task).upstreams == 0
+    then codes "It has no upstream tasks, so no rule holds it back."
     else rule_sentence_of dag tasks task verdict
 
 -- ---- the past
@@ -71,7 +83,9 @@ came_of_outcome_of Outcome.Skipped = codes "was skipped"
 
 -- of an expanded one
 abbrev pub came_to_of : ℕ → Counts → List ℕ
-came_to_of instances counts = codes "came to " ++ (plural_of instances (codes "instance") ++ (codes " (" ++ (counts_text_of counts ++ codes ")")))
+came_to_of instances counts =
+    codes "came to " ++ (plural_of instances (codes "instance")
+    ++ (codes " (" ++ (counts_text_of counts ++ codes ")")))
 
 -- what came of a task in a run; one that isn't there had no status
 abbrev pub came_of : Option TaskReport → List ℕ
@@ -80,32 +94,41 @@ came_of (Some TaskReport.NoStatus) = codes "had no status"
 came_of (Some TaskReport.Skipped) = codes "was skipped"
 came_of (Some TaskReport.UpstreamFailed) = codes "was upstream_failed"
 came_of (Some (TaskReport.Ran instance)) = came_of_outcome_of instance.result.outcome
-came_of (Some (TaskReport.Mapped instances)) = came_to_of (length instances) (counts_of_results_of (map (λ instance. instance.result) instances))
+came_of (Some (TaskReport.Mapped instances)) =
+    came_to_of (length instances) (counts_of_results_of
+    (map (λ instance. instance.result) instances))
 
 -- of a task that depends on its past, by the run before
 abbrev pub past_sentence_of : Option RunReport → ℕ → List ℕ
 past_sentence_of None task = codes "It depends on its past, and this is the first run."
 past_sentence_of (Some before) task =
-    codes "It depends on its past, and in the run of " ++ (moment_text before.interval.start.nanosecond ++ (codes " it " ++ (came_of (slice_get before.tasks task) ++ codes ".")))
+    codes "It depends on its past, and in the run of "
+    ++ (moment_text before.interval.start.nanosecond
+    ++ (codes " it " ++ (came_of (slice_get before.tasks task) ++ codes ".")))
 
 -- ---- the items
 
 -- what the source of the items gave
 abbrev pub items_text_of : Bool → Option TaskReport → StateCause → List ℕ
-items_text_of each source StateCause.ItemsAreMissing = codes ", which pushed no list: it " ++ (came_of source ++ codes ".")
-items_text_of true source (StateCause.Runs count) = codes ": " ++ (plural_of count (codes "value") ++ codes " that its instances pushed.")
-items_text_of false source (StateCause.Runs count) = codes ": " ++ (plural_of count (codes "item") ++ codes " of the list that it pushed.")
+items_text_of each source StateCause.ItemsAreMissing =
+    codes ", which pushed no list: it " ++ (came_of source ++ codes ".")
+items_text_of true source (StateCause.Runs count) =
+    codes ": " ++ (plural_of count (codes "value") ++ codes " that its instances pushed.")
+items_text_of false source (StateCause.Runs count) =
+    codes ": " ++ (plural_of count (codes "item") ++ codes " of the list that it pushed.")
 items_text_of true source cause = codes ", whose instances pushed nothing."
 items_text_of false source cause = codes ", which pushed an empty list."
 
 abbrev pub expanded_sentence_of : Dag → List TaskReport → StateCause → ℕ → List ℕ
 expanded_sentence_of dag tasks cause source =
-    codes "It is expanded over " ++ (id_of dag source ++ items_text_of (is_some (task_of dag source).expand) (slice_get tasks source) cause)
+    codes "It is expanded over " ++ (id_of dag source
+    ++ items_text_of (is_some (task_of dag source).expand) (slice_get tasks source) cause)
 
 -- ---- all sentences
 
 abbrev pub past_sentences : Dag → Option RunReport → ℕ → List (List ℕ)
-past_sentences dag before task = if (task_of dag task).depends_on_past then past_sentence_of before task ∷ [] else []
+past_sentences dag before task =
+    if (task_of dag task).depends_on_past then past_sentence_of before task ∷ [] else []
 
 abbrev pub source_sentences : Dag → List TaskReport → StateCause → Option ℕ → List (List ℕ)
 source_sentences dag tasks cause None = []
@@ -116,10 +139,16 @@ abbrev pub decided_of : Dag → List TaskReport → Option RunReport → ℕ →
 decided_of dag tasks before task StateCause.NotFollowed =
     flat_map (branch_where dag tasks task) (task_of dag task).upstreams
 decided_of dag tasks before task StateCause.BranchIsBlocked =
-    branches_sentence_of (ids_where dag task (λ u. branch_is dag is_blocked_in u (Some (value_among tasks u)))) ∷ []
-decided_of dag tasks before task StateCause.UpstreamIsBlocked = upstreams_sentence_of (ids_where dag task (λ u. is_blocked_in (value_among tasks u))) ∷ []
+    branches_sentence_of (ids_where dag task
+    (λ u. branch_is dag is_blocked_in u (Some (value_among tasks u)))) ∷ []
+decided_of dag tasks before task StateCause.UpstreamIsBlocked =
+    upstreams_sentence_of (ids_where dag task (λ u. is_blocked_in (value_among tasks u))) ∷ []
 decided_of dag tasks before task StateCause.RuleSkips = ruled_of dag tasks task Verdict.Skip ∷ []
-decided_of dag tasks before task StateCause.RuleFails = ruled_of dag tasks task Verdict.UpstreamFailed ∷ []
-decided_of dag tasks before task StateCause.PastHasNotPassed = ruled_of dag tasks task Verdict.Run ∷ past_sentences dag before task
+decided_of dag tasks before task StateCause.RuleFails =
+    ruled_of dag tasks task Verdict.UpstreamFailed ∷ []
+decided_of dag tasks before task StateCause.PastHasNotPassed =
+    ruled_of dag tasks task Verdict.Run ∷ past_sentences dag before task
 decided_of dag tasks before task cause =
-    ruled_of dag tasks task Verdict.Run ∷ (past_sentences dag before task ++ source_sentences dag tasks cause (task_of dag task).expand)
+    ruled_of dag tasks task Verdict.Run
+    ∷ (past_sentences dag before task
+    ++ source_sentences dag tasks cause (task_of dag task).expand)

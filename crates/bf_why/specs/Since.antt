@@ -51,7 +51,8 @@ since Rule.AllFailed verdict = words (codes "since all are failed or upstream_fa
 since Rule.AllSkipped Verdict.Skip = because_of_states (record failures { success = true })
 since Rule.AllSkipped verdict = words (codes "since all are skipped")
 since Rule.AllDone verdict = words (codes "since all are done")
-since Rule.OneSuccess Verdict.UpstreamFailed = words (codes "since none is a success and not all are skipped")
+since Rule.OneSuccess Verdict.UpstreamFailed =
+    words (codes "since none is a success and not all are skipped")
 since Rule.OneSuccess Verdict.Skip = words (codes "since all are skipped")
 since Rule.OneSuccess verdict = because_of_states successes
 since Rule.OneFailed Verdict.Skip = words (codes "since none is failed or upstream_failed")
@@ -62,7 +63,8 @@ since Rule.NoneFailed Verdict.UpstreamFailed = because_of_states failures
 since Rule.NoneFailed verdict = words (codes "since none is failed or upstream_failed")
 since Rule.NoneFailedMinOneSuccess Verdict.UpstreamFailed = because_of_states failures
 since Rule.NoneFailedMinOneSuccess Verdict.Skip = words (codes "since none is a success")
-since Rule.NoneFailedMinOneSuccess verdict = words (codes "since none is failed or upstream_failed and not all are skipped")
+since Rule.NoneFailedMinOneSuccess verdict =
+    words (codes "since none is failed or upstream_failed and not all are skipped")
 since Rule.NoneSkipped Verdict.Skip = because_of_states skips
 since Rule.NoneSkipped verdict = words (codes "since none is skipped")
 since Rule.Always verdict = words (codes "whatever came of them")
@@ -73,13 +75,15 @@ since Rule.Always verdict = words (codes "whatever came of them")
 abbrev pub count_of : States → Counts → ℕ
 count_of states counts =
     (if states.success then counts.success else 0) + (if states.failed then counts.failed else 0)
-    + (if states.upstream_failed then counts.upstream_failed else 0) + (if states.skipped then counts.skipped else 0)
+    + (if states.upstream_failed then counts.upstream_failed else 0) + (if states.skipped
+    then counts.skipped else 0)
 
 abbrev pub has_of : List TaskReport → States → ℕ → Bool
 has_of tasks states task = nat_lt 0 (count_of states (counts_in (value_among tasks task)))
 
 abbrev pub shared : List ℕ → ℕ → ℕ → List ℕ
-shared id n all = id ++ (codes " (" ++ (number_text n ++ (codes " of " ++ (number_text all ++ codes ")"))))
+shared id n all =
+    id ++ (codes " (" ++ (number_text n ++ (codes " of " ++ (number_text all ++ codes ")"))))
 
 -- of an expanded task with how many of its instances, as `load (1 of 3)`
 abbrev pub with_share : List ℕ → ℕ → Option TaskReport → List ℕ
@@ -87,11 +91,14 @@ with_share id n (Some (TaskReport.Mapped instances)) = shared id n (length insta
 with_share id n task = id
 
 abbrev pub name_in : Dag → List TaskReport → States → ℕ → List ℕ
-name_in dag tasks states task = with_share (task_of dag task).id (count_of states (counts_in (value_among tasks task))) (slice_get tasks task)
+name_in dag tasks states task =
+    with_share (task_of dag task).id (count_of states (counts_in (value_among tasks task)))
+    (slice_get tasks task)
 
 -- an upstream with an instance in these states
 abbrev pub name_where : Dag → List TaskReport → States → ℕ → List (List ℕ)
-name_where dag tasks states task = if has_of tasks states task then name_in dag tasks states task ∷ [] else []
+name_where dag tasks states task =
+    if has_of tasks states task then name_in dag tasks states task ∷ [] else []
 
 -- those upstreams of the task
 abbrev pub names_in : Dag → List TaskReport → ℕ → States → List (List ℕ)
@@ -99,4 +106,5 @@ names_in dag tasks task states = flat_map (name_where dag tasks states) (task_of
 
 abbrev pub since_text_of : Dag → List TaskReport → ℕ → Since → List ℕ
 since_text_of dag tasks task (words text) = text
-since_text_of dag tasks task (because_of_states states) = codes "because of " ++ listed_of 5 (names_in dag tasks task states)
+since_text_of dag tasks task (because_of_states states) =
+    codes "because of " ++ listed_of 5 (names_in dag tasks task states)

@@ -15,7 +15,9 @@ use Rattle.bf_why.specs.Tried.{tried_of}
 -- ---- what doesn't follow from the graph
 
 abbrev pub would_run_of : Bool → ℕ → List ℕ
-would_run_of true count = codes "By this graph it would have run, with " ++ (plural_of count (codes "instance") ++ codes ":")
+would_run_of true count =
+    codes "By this graph it would have run, with "
+    ++ (plural_of count (codes "instance") ++ codes ":")
 would_run_of false count = codes "By this graph it would have run, as one instance:"
 
 -- what the graph makes of it
@@ -32,12 +34,15 @@ would_be_of expanded cause = codes "By this graph it would be no_status:"
 abbrev pub foreign : Bool → StateCause → TaskReport → List (List ℕ)
 foreign expanded cause told =
     if is_ascii_digit (letter_for expanded cause told)
-    then codes "What the report has doesn't follow from this graph." ∷ would_be_of expanded cause ∷ [] else []
+    then codes "What the report has doesn't follow from this graph." ∷ would_be_of expanded cause
+    ∷ [] else []
 
 -- ---- what came of it
 
 abbrev pub came_line_of : ℕ → Counts → List ℕ
-came_line_of instances counts = codes "It came to " ++ (plural_of instances (codes "instance") ++ (codes ": " ++ (counts_text_of counts ++ codes ".")))
+came_line_of instances counts =
+    codes "It came to " ++ (plural_of instances (codes "instance")
+    ++ (codes ": " ++ (counts_text_of counts ++ codes ".")))
 
 abbrev pub tried_if_there : Dag → ℕ → Option TaskResult → List (List ℕ)
 tried_if_there dag task None = []
@@ -45,15 +50,19 @@ tried_if_there dag task (Some result) = tried_of dag task result
 
 -- of all instances of an expanded task, or of the one of this map index
 abbrev pub came_to_lines_of : Dag → ℕ → List TaskResult → Option ℕ → List (List ℕ)
-came_to_lines_of dag task results None = came_line_of (length results) (counts_of_results_of results) ∷ []
+came_to_lines_of dag task results None =
+    came_line_of (length results) (counts_of_results_of results) ∷ []
 came_to_lines_of dag task results (Some index) = tried_if_there dag task (slice_get results index)
 
 abbrev pub ended_of : Dag → ℕ → TaskReport → Option ℕ → List (List ℕ)
 ended_of dag task (TaskReport.Ran instance) index = tried_of dag task instance.result
-ended_of dag task (TaskReport.Mapped instances) index = came_to_lines_of dag task (map (λ instance. instance.result) instances) index
+ended_of dag task (TaskReport.Mapped instances) index =
+    came_to_lines_of dag task (map (λ instance. instance.result) instances) index
 ended_of dag task told index = []
 
 -- of the task, which the report has so, or of one of its instances
-abbrev pub why_of : Dag → List TaskReport → Option RunReport → ℕ → StateCause → TaskReport → Option ℕ → List (List ℕ)
+abbrev pub why_of : Dag → List TaskReport → Option RunReport → ℕ → StateCause → TaskReport
+    → Option ℕ → List (List ℕ)
 why_of dag tasks before task cause told index =
-    (foreign (is_some (task_of dag task).expand) cause told ++ decided_of dag tasks before task cause) ++ ended_of dag task told index
+    (foreign (is_some (task_of dag task).expand) cause told
+    ++ decided_of dag tasks before task cause) ++ ended_of dag task told index

@@ -16,7 +16,8 @@ joined (first ∷ rest) = first ++ behind_first rest
 -- of two or more above so many just these, and how many more there are
 abbrev pub shortened_of : ℕ → List (List ℕ) → List (List ℕ)
 shortened_of most names =
-    if nat_lt (most + 1) (length names) then take most names ++ (number_text (length names - most) ++ codes " more") ∷ [] else names
+    if nat_lt (most + 1) (length names) then take most names
+    ++ (number_text (length names - most) ++ codes " more") ∷ [] else names
 
 abbrev pub listed_of : ℕ → List (List ℕ) → List ℕ
 listed_of most names = joined (shortened_of most names)

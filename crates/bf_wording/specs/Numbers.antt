@@ -5,7 +5,8 @@ use Rattle.std.specs.Prelude.{ℕ, ◌%◌, ◌==◌, ◌&&◌, not, if◌then�
 abbrev pub with_commas : List ℕ → List ℕ
 with_commas [] = []
 with_commas (digit ∷ digits) =
-    if length digits % 3 == 0 && not (length digits == 0) then digit ∷ 44 ∷ with_commas digits else digit ∷ with_commas digits
+    if length digits % 3 == 0 && not (length digits == 0) then digit ∷ 44 ∷ with_commas digits
+    else digit ∷ with_commas digits
 
 -- as 8,192,000
 abbrev pub number_text : ℕ → List ℕ

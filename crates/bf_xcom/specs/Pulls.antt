@@ -32,12 +32,16 @@ all_pushed_in results = filter_map pushed_of results
 
 -- what a pull from a task gives
 abbrev pub pull_of : Task → TaskValue → Option Xval
-pull_of source (Ran results) = if is_some source.expand then Some (list_of (all_pushed_in results)) else pushed_alone_in results
+pull_of source (Ran results) =
+    if is_some source.expand then Some (list_of (all_pushed_in results))
+    else pushed_alone_in results
 pull_of source _ = None
 
 -- what a source has for the task that is expanded over it
 abbrev pub source_values : Task → TaskValue → SourceValues
-source_values source (Ran results) = if is_some source.expand then SourceValues.Each (map pushed_of results) else SourceValues.Pushed (pushed_alone_in results)
+source_values source (Ran results) =
+    if is_some source.expand then SourceValues.Each (map pushed_of results)
+    else SourceValues.Pushed (pushed_alone_in results)
 source_values source _ = SourceValues.Absent
 
 -- the items of an expansion, which may be missing

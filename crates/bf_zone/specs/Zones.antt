@@ -26,11 +26,14 @@ offset_or_rule (Some n) text = offset n
 
 -- `UTC`, `file`, an offset, or else a rule
 abbrev pub asked : List ℕ → Asked
-asked text = if bytes_eq text (codes "UTC") then utc else (if bytes_eq text (codes "file") then file_asked else offset_or_rule (offset_of text) text)
+asked text =
+    if bytes_eq text (codes "UTC") then utc
+    else (if bytes_eq text (codes "file") then file_asked else offset_or_rule (offset_of text) text)
 
 -- the zone of a file: the table that the bytes are read as, with a rule that agrees with its last row
 abbrev pub IsFileZone : List ℕ → TimeZone → Type 0
-IsFileZone bytes (Tzif z) = (length bytes ≤ 1_048_576) × (read_tzif bytes ≡ Ok (tzif_view z.now)) × RuleAgrees z.now
+IsFileZone bytes (Tzif z) =
+    (length bytes ≤ 1_048_576) × (read_tzif bytes ≡ Ok (tzif_view z.now)) × RuleAgrees z.now
 IsFileZone bytes zone = ⊥
 
 -- the zone is one that the text and the file's bytes mean
